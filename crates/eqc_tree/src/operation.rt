@@ -1,0 +1,36 @@
+/// An operation on two functions. Its number is the tag of a cached result.
+#[derive(Clone, Copy, Debug, PartialEq, Eq)]
+pub enum Op {
+    /// Both.
+    And = 1,
+    /// At least one.
+    Or = 2,
+    /// Exactly one.
+    Xor = 3,
+    /// The first and not the second.
+    AndNot = 4,
+}
+
+impl Op {
+    ghost use Rattle.std.specs.Prelude.{◌≡◌};
+    ghost use Rattle.eqc_tree.specs.Operation.{tag_of};
+
+    /// The operation's number, from 1 to 4.
+    pub fn tag(self) -> u8
+        ensures { result ≡ tag_of self }
+    {
+        self as u8
+    }
+}
+
+#[cfg(test)]
+mod tests {
+    use super::*;
+
+    #[test]
+    fn operations_have_their_numbers(rt: HostRuntime) {
+        for (op, tag) in [(Op::And, 1), (Op::Or, 2), (Op::Xor, 3), (Op::AndNot, 4)] {
+            assert_eq!(rt; op.tag(), tag, "{op:?}");
+        }
+    }
+}

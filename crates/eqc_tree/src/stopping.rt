@@ -1,0 +1,46 @@
+/// Why an operation gave up. What its object holds is then as before.
+#[derive(Clone, Copy, Debug, PartialEq, Eq)]
+pub enum Stop {
+    /// All slots for nodes are taken.
+    NodeLimit,
+    /// The allocator refused.
+    Memory,
+    /// A count of references has reached its limit.
+    References,
+    /// A thread could not be started.
+    Threads,
+}
+
+impl Stop {
+    ghost use Rattle.std.specs.Prelude.{◌≡◌};
+    ghost use Rattle.eqc_tree.specs.Stopping.{code_of};
+
+    /// The number that a report shows: 71, 72, 73 or 74 in the order of the variants.
+    pub fn code(self) -> u8
+        ensures { result ≡ code_of self }
+    {
+        match self {
+            Stop::NodeLimit => 71,
+            Stop::Memory => 72,
+            Stop::References => 73,
+            Stop::Threads => 74,
+        }
+    }
+}
+
+#[cfg(test)]
+mod tests {
+    use super::*;
+
+    #[test]
+    fn stops_have_their_codes(rt: HostRuntime) {
+        for (stop, code) in [
+            (Stop::NodeLimit, 71),
+            (Stop::Memory, 72),
+            (Stop::References, 73),
+            (Stop::Threads, 74),
+        ] {
+            assert_eq!(rt; stop.code(), code, "{stop:?}");
+        }
+    }
+}
