@@ -1,0 +1,122 @@
+ghost use Rattle.std.specs.Prelude.{◌≡◌, ◌<◌, ◌+◌, ◌⊎◌, length, IfSome, IfNone, IfOk, IfErr};
+
+use crate::plain::Plain;
+use crate::task::{Task, Turn};
+use crate::terminal::decide;
+use eqc_tree::{Op, Stop};
+use std::snapshot::Snapshot;
+
+impl Plain {
+    ghost use Rattle.eqc_plain.specs.Combining.{IsResult};
+    ghost use Rattle.eqc_plain.specs.Extending.{Extends};
+    ghost use Rattle.eqc_plain.specs.Tasks.{LeadsTo, StepsTo, TurnsTo};
+
+    /// The number of an operation's result (Bryant 1986, section 4.3), with a stack of tasks in
+    /// place of the recursion.
+    pub(crate) fn combine(&mut self, op: Op, f: u32, g: u32) -> Result<u32, Stop>
+        requires f { f < length self.old.store.nodes + 2 }
+        requires g { g < length self.old.store.nodes + 2 }
+        ensures store { Extends self.old.store self.new.store }
+        ensures ok { IfOk result (λ x. IsResult self.new.store.variables op self.new.store.nodes f g x) }
+        ensures full { result ≡ Err Stop.NodeLimit → length self.new.store.nodes ≡ self.new.store.limit }
+        ensures only { IfErr result (λ s. (s ≡ Stop.NodeLimit) ⊎ (s ≡ Stop.Memory)) }
+    {
+        let whole = Snapshot::of(&(f, g));
+        self.tasks.clear();
+        let mut next = (f, g);
+        loop {
+            let (f, g) = next;
+            let Some(x) = self.known(op, f, g) else {
+                next = self.halve(f, g)?;
+                continue;
+            };
+            match self.resume(op, x, &whole)? {
+                Turn::Done(x) => return Ok(x),
+                Turn::Next(f, g) => next = (f, g),
+            }
+        }
+    }
+
+    /// A result that no node is made for.
+    fn known(&self, op: Op, f: u32, g: u32) -> Option<u32>
+        requires f { f < length self.now.store.nodes + 2 }
+        requires g { g < length self.now.store.nodes + 2 }
+        ensures right { IfSome result (IsResult self.now.store.variables op self.now.store.nodes f g) }
+        ensures inner { IfNone result (¬ ((f < 2) × (g < 2))) }
+    {
+        if let Some(x) = decide(op, f, g) {
+            return Some(x);
+        }
+        self.cache.find(op, f, g)
+    }
+
+    /// Puts a task for f and g, and answers their low halves.
+    fn halve(&mut self, f: u32, g: u32) -> Result<(u32, u32), Stop>
+        requires f { f < length self.old.store.nodes + 2 }
+        requires g { g < length self.old.store.nodes + 2 }
+        requires inner { ¬ ((f < 2) × (g < 2)) }
+        ensures steps { IfOk result (λ low. StepsTo self.old.store.variables self.old.store.nodes self.old.tasks.items self.new.tasks.items f g low.0 low.1) }
+        ensures store { self.new.store ≡ self.old.store }
+        ensures only { IfErr result (λ s. s ≡ Stop.Memory) }
+    {
+        let variable = self.store.root(f).min(self.store.root(g));
+        let (f_low, f_high) = self.store.split(variable, f);
+        let (g_low, g_high) = self.store.split(variable, g);
+        let task = Task::Low {
+            f,
+            g,
+            variable,
+            f_high,
+            g_high,
+        };
+        match self.tasks.push(task) {
+            Ok(()) => Ok((f_low, g_low)),
+            Err(_) => Err(Stop::Memory),
+        }
+    }
+
+    /// Ends the tasks on top that `x` is the last missing result of, up to one whose high halves
+    /// come next. `whole` has the operands of the whole operation, in proofs alone.
+    fn resume(&mut self, op: Op, x: u32, whole: &Snapshot<(u32, u32)>) -> Result<Turn, Stop>
+        requires { LeadsTo self.old.store.variables op self.old.store.nodes self.old.tasks.items whole.now.value.0 whole.now.value.1 x }
+        ensures store { Extends self.old.store self.new.store }
+        ensures turn { IfOk result (TurnsTo self.new.store.variables op self.new.store.nodes self.old.tasks.items self.new.tasks.items whole.now.value.0 whole.now.value.1) }
+        ensures full { result ≡ Err Stop.NodeLimit → length self.new.store.nodes ≡ self.new.store.limit }
+        ensures only { IfErr result (λ s. (s ≡ Stop.NodeLimit) ⊎ (s ≡ Stop.Memory)) }
+    {
+        let mut x = x;
+        while let Some(task) = self.tasks.pop() {
+            match task {
+                Task::Low {
+                    f,
+                    g,
+                    variable,
+                    f_high,
+                    g_high,
+                } => {
+                    let task = Task::High {
+                        f,
+                        g,
+                        variable,
+                        low: x,
+                    };
+                    return match self.tasks.push(task) {
+                        Ok(()) => Ok(Turn::Next(f_high, g_high)),
+                        Err(_) => Err(Stop::Memory),
+                    };
+                }
+                Task::High {
+                    f,
+                    g,
+                    variable,
+                    low,
+                } => {
+                    x = self.store.node(variable, low, x)?;
+                    self.cache.widen(self.store.nodes.len());
+                    self.cache.keep(op, f, g, x);
+                }
+            }
+        }
+        Ok(Turn::Done(x))
+    }
+}

@@ -1,0 +1,25 @@
+//! Shared decision diagrams on one thread.
+//!
+//! `Plain` is a lawful implementation of `eqc_tree`'s traits: a node store that only grows, with
+//! a unique table, a count of references per slot and an operation cache of bounded size. No call
+//! waits for anybody, and none recurses: an apply keeps its open halves on a stack of its own, so
+//! it passes through any number of variables in little of the thread's stack.
+//!
+//! - `plain`, the public type and its calls; `reference`, what is handed out
+//! - `store`, the nodes and counts; `unique_table`, the list of node words that finds a word
+//! - `apply`, the loop; `task`, its stack; `terminal`, what needs no nodes; `cache`
+#![tactic(auto)]
+
+mod apply;
+mod cache;
+mod plain;
+mod reference;
+mod store;
+mod task;
+mod terminal;
+#[cfg(test)]
+mod tests;
+mod unique_table;
+
+pub use plain::Plain;
+pub use reference::Ref;

@@ -1,0 +1,164 @@
+ghost use Rattle.std.specs.Prelude.{◌≡◌};
+ghost use Rattle.eqc_plain.specs.Cache.{IsCache};
+
+use crate::cache::Cache;
+use crate::reference::Ref;
+use crate::store::Store;
+use crate::task::Task;
+use eqc_tree::{Diagrams, Op, References, Stop};
+use std::alloc::Global;
+
+/// Shared decision diagrams on one thread. Nodes are never given back.
+#[derive(Drop)]
+pub struct Plain {
+    pub(crate) store: Store,
+    pub(crate) cache: Cache,
+    pub(crate) tasks: Vec<Task>,
+    ghost cached: { IsCache store.variables store.nodes cache.cells.items },
+}
+
+impl Plain {
+    ghost use Rattle.std.specs.Prelude.{◌≤◌, IfOk, IfErr};
+    ghost use Rattle.eqc_tree.specs.Holding.{IsNew};
+
+    /// Diagrams over `vars` variables with room for `nodes` nodes, of which there are none yet.
+    ///
+    /// `nodes` is from 1 to 1,048,574. The error is 72 alone.
+    pub fn new(alloc: Global, vars: u16, nodes: u32) -> Result<Plain, Stop>
+        requires some { 1 ≤ nodes }
+        requires few { nodes ≤ 1048574 }
+        ensures empty { IfOk result (λ p. IsNew vars (⟦<Plain as References>⟧.holding p)) }
+        ensures room { IfOk result (λ p. p.store.limit ≡ nodes) }
+        ensures only { IfErr result (λ s. s ≡ Stop.Memory) }
+    {
+        Ok(Plain {
+            store: Store::new(alloc, vars, nodes)?,
+            cache: Cache::new(alloc),
+            tasks: Vec::new(alloc),
+        })
+    }
+}
+
+impl References for Plain {
+    ghost use Rattle.std.specs.Prelude.{ℕ, ◌+◌, ◌-◌, ◌^◌, IsOk, OnErr, IfOk, IfErr};
+    ghost use Rattle.eqc_tree.specs.Holding.{IsHeld, Gains, Keeps, Loses, copies, says};
+    ghost use Rattle.eqc_plain.specs.Referring.{entry_of};
+    ghost use Rattle.eqc_plain.specs.Extending.{holding_in};
+
+    type Ref = Ref;
+
+    ghost entry = { entry_of };
+
+    ghost holding = { λ p. holding_in p.store };
+
+    /// Never stops.
+    fn constant(&mut self, b: bool) -> Result<Ref, Stop>
+        ensures ok { IfOk result (λ r. Gains (holding_in self.old.store) (holding_in self.new.store) (entry_of r) (λ _. b)) }
+        ensures stop { OnErr result (Keeps (holding_in self.old.store) (holding_in self.new.store)) }
+        ensures never { IsOk result }
+        ensures room { self.new.store.limit ≡ self.old.store.limit }
+    {
+        self.store.hold(b as u32)
+    }
+
+    /// Stops only at 2^32 - 1 references to one node.
+    fn copy(&mut self, f: &Ref) -> Result<Ref, Stop>
+        requires { IsHeld (holding_in self.old.store) (entry_of f.now) }
+        ensures ok { IfOk result (λ r. Gains (holding_in self.old.store) (holding_in self.new.store) (entry_of r) (says (entry_of f.now))) }
+        ensures stop { OnErr result (Keeps (holding_in self.old.store) (holding_in self.new.store)) }
+        ensures only { IfErr result (λ s. s ≡ Stop.References) }
+        ensures full { OnErr result (copies (holding_in self.old.store) (entry_of f.now) ≡ 2 ^ 32 - 1) }
+        ensures room { self.new.store.limit ≡ self.old.store.limit }
+    {
+        self.store.hold(f.node)
+    }
+
+    fn give_back(&mut self, f: Ref)
+        requires { IsHeld (holding_in self.old.store) (entry_of f) }
+        ensures loses { Loses (holding_in self.old.store) (holding_in self.new.store) (entry_of f) }
+        ensures nodes { self.new.store.nodes ≡ self.old.store.nodes }
+        ensures room { self.new.store.limit ≡ self.old.store.limit }
+    {
+        self.store.release(f);
+    }
+
+    fn same(&self, f: &Ref, g: &Ref) -> bool {
+        f.node == g.node
+    }
+
+    fn as_constant(&self, f: &Ref) -> Option<bool> {
+        if f.node == 0 {
+            return Some(false);
+        }
+        if f.node == 1 {
+            return Some(true);
+        }
+        None
+    }
+}
+
+impl<R> Diagrams<R> for Plain {
+    ghost use Rattle.std.specs.Prelude.{ℕ, ◌<◌, ◌≤◌, ◌≢◌, ◌-◌, ◌^◌, Bool, if◌then◌else◌, OnErr, IfOk, IfErr, length};
+    ghost use Rattle.eqc_tree.specs.Operation.{operate};
+    ghost use Rattle.eqc_tree.specs.Holding.{Entry, IsHeld, Gains, Keeps, copies, says};
+    ghost use Rattle.eqc_plain.specs.Extending.{holding_in, IsFull};
+    ghost use Rattle.eqc_plain.specs.Referring.{entry_of};
+
+    /// Stops for nodes only where all slots are taken, and for references only at 2^32 - 1 to one
+    /// node.
+    fn literal(&mut self, _rt: &R, var: u16) -> Result<Ref, Stop>
+        requires { var < (holding_in self.old.store).variables }
+        ensures ok { IfOk result (λ r. Gains (holding_in self.old.store) (holding_in self.new.store) (entry_of r) (λ a. a var)) }
+        ensures stop { OnErr result (Keeps (holding_in self.old.store) (holding_in self.new.store)) }
+        ensures only { IfErr result (λ s. s ≢ Stop.Threads) }
+        ensures nodes { result ≡ Err Stop.NodeLimit → IsFull self.new.store }
+        ensures references { result ≡ Err Stop.References → (e : Entry) × (2 ^ 32 - 1 ≤ copies (holding_in self.old.store) e) }
+        ensures room { self.new.store.limit ≡ self.old.store.limit }
+    {
+        let x = self.store.node(var, 0, 1)?;
+        self.store.hold(x)
+    }
+
+    /// Stops as `literal` does.
+    fn apply(&mut self, _rt: &R, op: Op, f: &Ref, g: &Ref) -> Result<Ref, Stop>
+        requires f { IsHeld (holding_in self.old.store) (entry_of f.now) }
+        requires g { IsHeld (holding_in self.old.store) (entry_of g.now) }
+        ensures ok { IfOk result (λ r. Gains (holding_in self.old.store) (holding_in self.new.store) (entry_of r) (λ a. operate op (says (entry_of f.now) a) (says (entry_of g.now) a))) }
+        ensures stop { OnErr result (Keeps (holding_in self.old.store) (holding_in self.new.store)) }
+        ensures only { IfErr result (λ s. s ≢ Stop.Threads) }
+        ensures nodes { result ≡ Err Stop.NodeLimit → IsFull self.new.store }
+        ensures references { result ≡ Err Stop.References → (e : Entry) × (2 ^ 32 - 1 ≤ copies (holding_in self.old.store) e) }
+        ensures room { self.new.store.limit ≡ self.old.store.limit }
+    {
+        let x = self.combine(op, f.node, g.node)?;
+        self.store.hold(x)
+    }
+
+    /// Stops for nodes only where all slots are taken, and for references only at 2^32 - 3 or more
+    /// to one node, to which two more may come on the way.
+    #[tactic(auto, using(eqc_tree::proofs::HoldingLemmas::counts_itself))]
+    fn ite(&mut self, rt: &R, f: &Ref, g: &Ref, h: &Ref) -> Result<Ref, Stop>
+        requires f { IsHeld (holding_in self.old.store) (entry_of f.now) }
+        requires g { IsHeld (holding_in self.old.store) (entry_of g.now) }
+        requires h { IsHeld (holding_in self.old.store) (entry_of h.now) }
+        ensures ok { IfOk result (λ r. Gains (holding_in self.old.store) (holding_in self.new.store) (entry_of r) (λ a. if says (entry_of f.now) a then says (entry_of g.now) a else says (entry_of h.now) a)) }
+        ensures stop { OnErr result (Keeps (holding_in self.old.store) (holding_in self.new.store)) }
+        ensures only { IfErr result (λ s. s ≢ Stop.Threads) }
+        ensures nodes { result ≡ Err Stop.NodeLimit → IsFull self.new.store }
+        ensures references { result ≡ Err Stop.References → (e : Entry) × (2 ^ 32 - 3 ≤ copies (holding_in self.old.store) e) }
+        ensures room { self.new.store.limit ≡ self.old.store.limit }
+    {
+        let both = self.apply(rt, Op::And, f, g)?;
+        let other = match self.apply(rt, Op::AndNot, h, f) {
+            Ok(other) => other,
+            Err(stop) => {
+                self.give_back(both);
+                return Err(stop);
+            }
+        };
+        let either = self.apply(rt, Op::Or, &both, &other);
+        self.give_back(both);
+        self.give_back(other);
+        either
+    }
+}

@@ -1,0 +1,67 @@
+ghost use Rattle.std.specs.Prelude.{◌≡◌, ◌≢◌, ℕ, ◌<◌, [], ◌∷◌, ◌++◌, length, slice_index, IfSome, IfNone, OnOk, OnErr};
+
+use indexmap::IndexSet;
+use std::alloc::{AllocError, Global};
+use std::marker::Model;
+
+/// The words of the nodes, each once, in the order in which they came.
+#[derive(Drop)]
+pub struct UniqueTable {
+    words: IndexSet<u64>,
+}
+
+impl Model for UniqueTable {
+    ghost use Rattle.std.specs.Prelude.{ℕ, List};
+
+    ghost Value = { List ℕ };
+
+    ghost view = { λ t. t.words.keys };
+}
+
+impl UniqueTable {
+    pub fn new(alloc: Global) -> UniqueTable
+        ensures { result ≡ [] }
+    {
+        UniqueTable {
+            words: IndexSet::new(alloc),
+        }
+    }
+
+    pub fn allocator(&self) -> Global {
+        *self.words.allocator()
+    }
+
+    pub fn len(&self) -> usize
+        ensures { result ≡ length self.now }
+    {
+        self.words.len()
+    }
+
+    /// The word in a slot, counted from 0.
+    pub fn word(&self, slot: usize) -> u64
+        requires { slot < length self.now }
+        ensures { result ≡ slice_index self.now slot }
+    {
+        self.words.as_slice()[slot]
+    }
+
+    /// The slot of a word.
+    pub fn find(&self, word: u64) -> Option<usize>
+        ensures found { IfSome result (λ k. (k < length self.now) × (slice_index self.now k ≡ word)) }
+        ensures absent { IfNone result ((k : ℕ) → k < length self.now → slice_index self.now k ≢ word) }
+    {
+        self.words.get_index_of(&word)
+    }
+
+    /// Puts a new word into the next slot.
+    pub fn push(&mut self, word: u64) -> Result<(), AllocError>
+        requires { (k : ℕ) → k < length self.old → slice_index self.old k ≢ word }
+        ensures ok { OnOk result (self.new ≡ self.old ++ word ∷ []) }
+        ensures err { OnErr result (self.new ≡ self.old) }
+    {
+        match self.words.insert_full(word) {
+            Ok(_) => Ok(()),
+            Err(_) => Err(AllocError),
+        }
+    }
+}
