@@ -1,0 +1,127 @@
+-- The views that stored workers stand for.
+use Rattle.std.proofs.Common.{◌≡◌, ℕ, zero, suc, ◌<◌, ◌≤◌, List, [], ◌∷◌, length, set, get_or, map, Bool, true, false, if◌then◌else◌, refl, sym, ap, subst, ◌∙◌, arith}
+use Rattle.std.proofs.lemmas.List.{map-set}
+use mathlib.Core.Option.{some, some-injective, some-ne-none}
+use lib.ListN.{get_elem?}
+use Rattle.eqc_core.specs.declared.sizes.Sizes.{Sizes}
+use Rattle.eqc_core.specs.declared.phase.Phase.{Phase}
+use Rattle.eqc_core.specs.declared.worker.Worker.{Worker}
+use Rattle.eqc_core.specs.declared.machine.Machine.{Machine}
+use Rattle.eqc_core.specs.View.{View, unused, spent, view_at}
+use Rattle.eqc_core.specs.Words.{Words, announced_words, word_at, times}
+use Rattle.eqc_core.specs.Owners.{owned}
+use Rattle.eqc_core.specs.State.{State}
+use Rattle.eqc_core.specs.Lawful.{Fits}
+use Rattle.eqc_core.specs.Machine.{active_view, view_of, words_of, state_of, Turns, IsKept, IsTurn}
+use Rattle.eqc_core.specs.Moves.{IsQuiet}
+use Rattle.eqc_core.specs.Seating.{IsAtRest}
+use Rattle.eqc_core.proofs.Lists.{get_at, at_get, at_below}
+use Rattle.eqc_core.proofs.Places.{below}
+use Rattle.eqc_core.proofs.Sums.{at_le_sum}
+use Rattle.eqc_core.proofs.Tables.{owned_is}
+use Rattle.eqc_core.proofs.Runs.{active_there}
+
+-- the one phase of a worker with one announcement word
+pub one_phase : (a p : Phase) (k : ℕ) → get_elem? (a ∷ []) k ≡ some p → a ≡ p
+one_phase a p zero e = some-injective a p e
+one_phase a p (suc k) e = absurd (some-ne-none p (sym e))
+
+pub at_rest : (z : Sizes) (w : Worker) → w.position ≡ 0 → IsQuiet w.phase → IsAtRest (active_view z w)
+at_rest z w ready quiet = record { ready = ready; quiet = λ k p e. (let P : Phase → Type 0 = λ q. IsQuiet q in subst P (one_phase w.phase p k e) quiet); no_draft = refl; no_hand = refl }
+
+pub active_is : (z : Sizes) (w : Worker) → w.active ≡ true → view_of z w ≡ active_view z w
+active_is z w on = rw on refl
+
+-- only an active worker has an active view
+pub is_active_worker : (z : Sizes) (w : Worker) → (view_of z w).active ≡ true → w.active ≡ true
+is_active_worker z w on = go w.active w.over refl (on)
+  where
+    go : (a o : Bool) → w.active ≡ a → (if a then active_view z w else (if o then spent else unused)).active ≡ true → w.active ≡ true
+    go true o is e = is
+    go false true is e = absurd (cc)
+    go false false is e = absurd (cc)
+
+at_read : {A : Type 0} (l : List A) (i : ℕ) (a : A) → i < length l → a ≡ get_or l i a → get_elem? l i ≡ some a
+at_read l i a lt e = get_at l i a lt ∙ ap some (sym e)
+
+at_map : {A B : Type 0} (f : A → B) (l : List A) (i : ℕ) (a : A) → get_elem? l i ≡ some a → get_elem? (map f l) i ≡ some (f a)
+at_map f [] i a e = absurd (some-ne-none a (sym e))
+at_map f (x ∷ xs) zero a e = ap (λ (y : _). some (f y)) (some-injective x a e)
+at_map f (x ∷ xs) (suc i) a e = at_map f xs i a e
+
+-- what stands in the views for a stored worker
+pub view_is : (z : Sizes) (ws : List Worker) (id : ℕ) (w : Worker) → id < length ws → w ≡ get_or ws id w → view_at (map (view_of z) ws) id ≡ view_of z w
+view_is z ws id w lt e = at_get (map (view_of z) ws) id (view_of z w) unused (at_map (view_of z) ws id w (at_read ws id w lt e))
+
+-- a worker's change is its view's
+pub turned_at : (z : Sizes) (ws : List Worker) (id : ℕ) (w w' : Worker) (f : View → View) → id < length ws → w ≡ get_or ws id w → (view_at (map (view_of z) ws) id).active ≡ true → w'.active ≡ w.active → active_view z w' ≡ f (active_view z w)
+    → map (view_of z) (set ws id w') ≡ set (map (view_of z) ws) id (f (view_at (map (view_of z) ws) id))
+turned_at z ws id w w' f lt e on same change =
+    let is = view_is z ws id w lt e in
+    let live : w.active ≡ true = is_active_worker z w (ap (λ (v : View). v.active) (sym is) ∙ on) in
+    let new : view_of z w' ≡ f (view_at (map (view_of z) ws) id) =
+    active_is z w' (same ∙ live) ∙ (change ∙ ap f (sym (is ∙ active_is z w live))) in
+    map-set (view_of z) ws id w' ∙ ap (set (map (view_of z) ws) id) new
+
+pub turned : (z : Sizes) (ws : List Worker) (id : ℕ) (w w' : Worker) (f : View → View) → id < length ws → w ≡ get_or ws id w → (view_at (map (view_of z) ws) id).active ≡ true → Turns w w' f
+    → map (view_of z) (set ws id w') ≡ set (map (view_of z) ws) id (f (view_at (map (view_of z) ws) id))
+turned z ws id w w' f lt e on change = turned_at z ws id w w' f lt e on change.active (change.view z)
+
+-- the view of the worker whose turn it is fits the words
+pub turn_there : (m : Machine) (id : ℕ) → IsTurn m id → get_elem? (state_of m).views id ≡ some (view_at (state_of m).views id)
+turn_there m id turn = active_there (state_of m).views id turn.active
+
+pub turn_fits : (m : Machine) (id : ℕ) → IsTurn m id → Fits m.sizes (words_of m) (state_of m).views id (view_at (state_of m).views id)
+turn_fits m id turn = turn.kept.lawful.views id (view_at (state_of m).views id) (turn_there m id turn) turn.active
+
+pub turn_sizes : (m : Machine) (id : ℕ) → IsTurn m id → (view_at (state_of m).views id).sizes ≡ m.sizes
+turn_sizes m id turn = (turn_fits m id turn).sizes
+
+-- a state after a step: its words and its views
+abbrev pub changed : State → Words → List View → State
+changed s w vs = record s { words = w; views = vs }
+
+pub stepped : (s : State) (w w' : Words) (vs vs' : List View) → w ≡ w' → vs ≡ vs' → changed s w vs ≡ changed s w' vs'
+stepped s w w' vs vs' p q = λ i. changed s (p i) (q i)
+
+-- the words that the worker reads are there
+pub cell_there : (m : Machine) (id c : ℕ) → IsTurn m id → c < (view_at (state_of m).views id).sizes.cells → c < length m.cells.items
+cell_there m id c turn lt = let z = ap (λ (z : Sizes). z.cells) (turn_sizes m id turn) in let n = turn.kept.lawful.sized.cells in omega arith
+
+pub count_there : (m : Machine) (id x : ℕ) → IsTurn m id → x < (view_at (state_of m).views id).sizes.names → (x < m.sizes.names) × (x < length m.counts.items)
+count_there m id x turn lt = let z = ap (λ (z : Sizes). z.names) (turn_sizes m id turn) in let n = turn.kept.lawful.sized.counts in (omega arith, omega arith)
+
+-- with one announcement word each, a worker's has its number
+pub own_word : (m : Machine) (id : ℕ) → IsKept m → word_at m.sizes id 0 ≡ id
+unfolding word_at
+own_word m id kept = let one = kept.one_word in rw one (omega arith)
+
+pub announced_there : (m : Machine) (id : ℕ) → IsTurn m id → id < length m.announced.items
+announced_there m id turn =
+    let one = turn.kept.one_word in
+    let law = turn.kept.lawful.sized in
+    let b = below m.sizes id 0 (let v = law.views in let l = at_below (state_of m).views id (view_at (state_of m).views id) (turn_there m id turn) in omega arith) law.some_announcements in
+    omega (arith, law.announced, own_word m id turn.kept)
+
+-- a held name is counted
+pub held_counted : (m : Machine) (id x : ℕ) → IsTurn m id → 2 ≤ x → x < m.sizes.names → 0 < times x (view_at (state_of m).views id).held → 0 < get_or m.counts.items x 0
+held_counted m id x turn two lt holds =
+    let v = view_at (state_of m).views id in
+    omega (arith, turn.kept.lawful.counted.counts x two lt, at_le_sum (owned x) (state_of m).views id v (turn_there m id turn), owned_is x v)
+
+-- the worker's own fields, as its view has them
+pub turn_view : (m : Machine) (id : ℕ) (w : Worker) → IsTurn m id → w ≡ get_or m.workers.items id w → view_at (state_of m).views id ≡ active_view m.sizes w
+turn_view m id w turn e =
+    let is = view_is m.sizes m.workers.items id w turn.there e in
+    is ∙ active_is m.sizes w (is_active_worker m.sizes w (ap (λ (v : View). v.active) (sym is) ∙ turn.active))
+
+-- the scan reads a word that is there
+pub place_there : (m : Machine) (id : ℕ) (w : Worker) → IsTurn m id → w ≡ get_or m.workers.items id w → w.position < announced_words m.sizes
+place_there m id w turn e = subst (λ (v : View). v.position < announced_words m.sizes) (turn_view m id w turn e) (turn_fits m id turn).place
+
+-- each worker's announcement word is there
+pub silence_there : (m : Machine) (id : ℕ) → IsKept m → id < m.sizes.workers → id < length m.announced.items
+silence_there m id kept lt =
+    let law = kept.lawful.sized in
+    let b = below m.sizes id 0 lt law.some_announcements in
+    omega (arith, law.announced, own_word m id kept)

@@ -1,0 +1,62 @@
+-- The state that the stored words and workers stand for.
+use Rattle.std.specs.Prelude.{◌≡◌, ℕ, ◌*◌, ◌<◌, List, [], ◌∷◌, map, if◌then◌else◌, Bool, true, false, length}
+use mathlib.Core.Option.{some}
+use lib.ListN.{get_elem?}
+use Rattle.eqc_core.specs.declared.event.Event.{Event}
+use Rattle.eqc_core.specs.declared.playback.Ending.{Ending}
+use Rattle.eqc_core.specs.declared.playback.Ending.TheVariants.{Done, Stopped}
+use Rattle.eqc_core.specs.declared.sizes.Sizes.{Sizes}
+use Rattle.eqc_core.specs.declared.worker.Worker.{Worker}
+use Rattle.eqc_core.specs.declared.machine.Machine.{Machine}
+use Rattle.eqc_core.specs.View.{View, fresh, unused, spent, phase_at, view_at}
+use Rattle.eqc_core.specs.Words.{Words, announced_words, cell_names}
+use Rattle.eqc_core.specs.Moves.{IsReady, IsQuiet, AreHeld}
+use Rattle.eqc_core.specs.Run.{IsAllowed, after, Runs, IsStoppedAt}
+use Rattle.eqc_core.specs.State.{State, IsLawful, repeated, literal_homes}
+
+-- the view of an active worker
+abbrev pub active_view : Sizes → Worker → View
+active_view z w = record (fresh z w.number) { held = w.held.items; phases = w.phase ∷ []; retired = w.retired.items; position = w.position; noted = w.noted.items; given = w.given; out = w.out.items }
+
+-- the worker's view has changed in this way
+pub record Turns (old new : Worker) (change : View → View) : Type 0 where
+  pub active : new.active ≡ old.active
+  pub view : (z : Sizes) → active_view z new ≡ change (active_view z old)
+
+abbrev pub view_of : Sizes → Worker → View
+view_of z w = if w.active then active_view z w else (if w.over then spent else unused)
+
+abbrev pub words_of : Machine → Words
+words_of m = record { announced = m.announced.items; counts = m.counts.items; nodes = m.nodes.items; cells = m.cells.items; boxes = repeated 0 (16 * m.sizes.workers); locks = repeated 0 16 }
+
+abbrev pub state_of : Machine → State
+state_of m = record { sizes = m.sizes; words = words_of m; homes = literal_homes m.sizes.variables; views = map (view_of m.sizes) m.workers.items }
+
+-- the state is lawful, and each worker has one announcement word
+pub record IsKept (m : Machine) : Type 0 where
+  pub one_word : m.sizes.announcements ≡ 1
+  pub lawful : IsLawful (state_of m)
+
+-- the worker is active in this machine
+pub record IsTurn (m : Machine) (id : ℕ) : Type 0 where
+  pub kept : IsKept m
+  pub there : id < length m.workers.items
+  pub active : (view_at (state_of m).views id).active ≡ true
+
+-- the view is one of the machine's
+abbrev pub Stands : Machine → View → Type 0
+Stands m v = (id : ℕ) × (get_elem? (state_of m).views id ≡ some v)
+
+-- the event was allowed and taken, or it is not allowed
+abbrev pub Takes : State → Event → State → Bool → Type 0
+Takes s e t true = IsAllowed s e × (t ≡ after s e)
+Takes s e t false = IsAllowed s e → ⊥
+
+-- how a run ends: with a machine in the state after all events, or at the first event that is not allowed
+abbrev pub EndsAs : State → List Event → Ending → Type 0
+EndsAs s es (Done m) = Runs s es (state_of m) × IsKept m × (m.sizes ≡ s.sizes)
+EndsAs s es (Stopped i) = IsStoppedAt s es i
+
+-- a worker may store this word into the cell, where the word is right
+abbrev pub MayStore : View → ℕ → ℕ → Type 0
+MayStore v c word = IsReady v × (c < v.sizes.cells) × IsQuiet (phase_at v 0) × AreHeld (cell_names word) v.held × (length v.retired < 2 * announced_words v.sizes)

@@ -1,0 +1,55 @@
+-- A node's life: a free slot is claimed, its word is written and stands in its stripe's table, its children are read, and a node that only the table owns is taken back.
+use Rattle.std.specs.Prelude.{◌≡◌, ℕ, ◌<◌, ◌≤◌, List, [], ◌∷◌, ◌++◌, get_or, if◌then◌else◌, eqb, Some, None}
+use Rattle.eqc_core.specs.View.{View, Hand}
+use Rattle.eqc_core.specs.Words.{Words, times, children, stripe_of, slots_of}
+use Rattle.eqc_core.specs.Tables.{Entries, table_has, table_word}
+use Rattle.eqc_core.specs.Trees.{IsShaped}
+use Rattle.eqc_core.specs.Moves.{IsReady, AreHeld, with_held, without_each, note}
+
+-- a try, which is won exactly where the slot's count is 0
+abbrev pub MayClaim : View → ℕ → Type 0
+MayClaim v x = IsReady v × (2 ≤ x) × (x < v.sizes.names) × (v.draft ≡ None)
+
+abbrev pub claimed : View → ℕ → View
+claimed v x = record v { draft = Some x; turn = [] }
+
+abbrev pub found_taken : View → ℕ → View
+found_taken v x = record v { turn = note x v.turn }
+
+abbrev pub MayUnclaim : View → ℕ → Type 0
+MayUnclaim v d = IsReady v × (v.draft ≡ Some d)
+
+abbrev pub unclaimed : View → View
+unclaimed v = record v { draft = None }
+
+-- a new word, in order over held children, in the stripe that is in hand
+pub record MayWrite (nodes : List ℕ) (v : View) (d : ℕ) (h : Hand) (word : ℕ) : Type 0 where
+  pub ready : IsReady v
+  pub draft : v.draft ≡ Some d
+  pub hand : v.hand ≡ Some h
+  pub stripe : h.stripe ≡ stripe_of word
+  pub new : table_word word h.entries ≡ 0
+  pub shaped : IsShaped v.sizes.variables nodes word
+  pub held : AreHeld (children word) v.held
+
+-- the table has the word, the draft is held once, and the children are the node's
+abbrev pub wrote : View → ℕ → Hand → ℕ → View
+wrote v d h word =
+    record (with_held v (without_each (slots_of (children word)) v.held ++ d ∷ [])) { draft = None; hand = Some (record h { entries = h.entries ++ (word, d) ∷ [] }) }
+
+abbrev pub MayRead : View → ℕ → Type 0
+MayRead v x = IsReady v × (0 < times x v.held)
+
+abbrev pub read_node : View → ℕ → ℕ → View
+read_node v x word = record v { read = Some (record { name = x; word = word }) }
+
+-- the table without the slot
+abbrev pub without_slot : ℕ → Entries → Entries
+without_slot x [] = []
+without_slot x (e ∷ es) = if eqb e.1 x then es else e ∷ without_slot x es
+
+abbrev pub MayReclaim : Words → View → Hand → ℕ → Type 0
+MayReclaim w v h x = IsReady v × (v.hand ≡ Some h) × (0 < table_has x h.entries) × (get_or w.counts x 0 ≡ 1)
+
+abbrev pub reclaimed : View → Hand → ℕ → ℕ → View
+reclaimed v h x word = record (with_held v (v.held ++ slots_of (children word))) { hand = Some (record h { entries = without_slot x h.entries }) }

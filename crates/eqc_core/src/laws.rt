@@ -1,0 +1,65 @@
+//! The laws of the machine. Each function is a fact about the definitions, with nothing to run.
+ghost use Rattle.eqc_core.specs.Laws.{LookKeeps, AnnounceKeeps, RecheckKeeps, UpKeeps, DownKeeps, SwapCellKeeps, ScanOneKeeps, SplitKeeps, JoinKeeps, RunIsLawful, NoCountWraps, TreesAreOne};
+
+/// Every state of every run is lawful, and the count of a confirmed name is at least 2.
+///
+/// A run begins with the empty forest, or with one that has a literal for each of some variables.
+/// It may have up to 1,048,576 workers, 1,048,574 slots, 65,536 variables and 1,048,576 cells.
+pub fn run_is_lawful()
+    ensures { RunIsLawful }
+{}
+
+/// A look at a cell leaves the state lawful.
+pub fn look_keeps()
+    ensures { LookKeeps }
+{}
+
+/// A store to an announcement word leaves the state lawful.
+pub fn announce_keeps()
+    ensures { AnnounceKeeps }
+{}
+
+/// A second look at a cell leaves the state lawful: what it confirms is supported by the cell.
+pub fn recheck_keeps()
+    ensures { RecheckKeeps }
+{}
+
+/// One more count of a name that is known to stay leaves the state lawful.
+pub fn up_keeps()
+    ensures { UpKeeps }
+{}
+
+/// One count less of a held name leaves the state lawful.
+pub fn down_keeps()
+    ensures { DownKeeps }
+{}
+
+/// A swap of a cell leaves the state lawful: the old result is retired before any scan.
+pub fn swap_cell_keeps()
+    ensures { SwapCellKeeps }
+{}
+
+/// A step of a scan leaves the state lawful, whatever the scanning worker itself announces.
+pub fn scan_one_keeps()
+    ensures { ScanOneKeeps }
+{}
+
+/// A split leaves the state lawful.
+pub fn split_keeps()
+    ensures { SplitKeeps }
+{}
+
+/// A join leaves the state lawful.
+pub fn join_keeps()
+    ensures { JoinKeeps }
+{}
+
+/// No count wraps its word.
+pub fn no_count_wraps()
+    ensures { NoCountWraps }
+{}
+
+/// Each tabled slot stands for one ordered reduced tree, and no two stand for the same.
+pub fn trees_are_one()
+    ensures { TreesAreOne }
+{}

@@ -1,0 +1,306 @@
+//! The words and the workers, as stored, and the steps on them.
+ghost use Rattle.std.specs.Prelude.{◌≡◌, IfOk};
+
+use crate::event::{Event, Step};
+use crate::multiset;
+use crate::sizes::Sizes;
+use crate::worker::{self, Worker};
+use std::alloc::{AllocError, Global};
+use std::mem;
+
+// The words, and what each worker knows. Boxes, locks and tables stay as they were at the opening.
+#[derive(Drop)]
+pub(crate) struct Machine {
+    pub(crate) sizes: Sizes,
+    pub(crate) announced: Vec<u32>,
+    pub(crate) counts: Vec<u64>,
+    pub(crate) nodes: Vec<u64>,
+    pub(crate) cells: Vec<u64>,
+    pub(crate) workers: Vec<Worker>,
+}
+
+impl Machine {
+    ghost use Rattle.std.specs.Prelude.{◌≡◌, ◌<◌, ◌≤◌, ◌^◌, ◌↔◌, OnOk, IfOk, IsTrue, length};
+    ghost use Rattle.eqc_core.specs.declared.event.Step.TheVariants.{Announce, Look, Recheck, Up, Down, SwapCell, ScanOne, Split, Join};
+    ghost use Rattle.eqc_core.specs.Machine.{state_of, active_view, IsKept, IsTurn, Stands, Takes};
+    ghost use Rattle.eqc_core.specs.Run.{after, May};
+    ghost use Rattle.eqc_core.specs.Seating.{MaySplit, MayJoin};
+    ghost use Rattle.eqc_core.specs.Caching.{MaySwapCell};
+    ghost use Rattle.eqc_core.specs.View.{view_at, phase_at, unused};
+    ghost use Rattle.eqc_core.specs.Announcing.{announced_cell};
+
+    fn look(&mut self, id: usize, c: u32)
+        requires turn { IsTurn self.old id }
+        requires may { May (state_of self.old) (view_at (state_of self.old).views id) (Look c) }
+        ensures { state_of self.new ≡ after (state_of self.old) (record { worker = id; step = Look c }) }
+    {
+        let found = self.cells[c as usize];
+        let worker = &mut self.workers[id];
+        worker.look(c, found);
+    }
+
+    fn announce(&mut self, id: usize, x: u32)
+        requires turn { IsTurn self.old id }
+        ensures { state_of self.new ≡ after (state_of self.old) (record { worker = id; step = Announce x }) }
+    {
+        let worker = &mut self.workers[id];
+        worker.announce();
+        self.announced[id] = x;
+    }
+
+    fn recheck(&mut self, id: usize, c: u32)
+        requires turn { IsTurn self.old id }
+        requires cell { c ≡ announced_cell (phase_at (view_at (state_of self.old).views id) 0) }
+        requires there { c < self.old.sizes.cells }
+        ensures { state_of self.new ≡ after (state_of self.old) (record { worker = id; step = Recheck }) }
+    {
+        let found = self.cells[c as usize];
+        let worker = &mut self.workers[id];
+        worker.recheck(found);
+    }
+
+    fn up(&mut self, id: usize, x: u32) -> Result<(), AllocError>
+        requires turn { IsTurn self.old id }
+        requires may { May (state_of self.old) (view_at (state_of self.old).views id) (Up x) }
+        ensures { OnOk result (state_of self.new ≡ after (state_of self.old) (record { worker = id; step = Up x })) }
+    {
+        let worker = &mut self.workers[id];
+        worker.up(x)?;
+        self.counts[x as usize] += 1;
+        Ok(())
+    }
+
+    fn down(&mut self, id: usize, x: u32)
+        requires turn { IsTurn self.old id }
+        requires may { May (state_of self.old) (view_at (state_of self.old).views id) (Down x) }
+        ensures { state_of self.new ≡ after (state_of self.old) (record { worker = id; step = Down x }) }
+    {
+        let worker = &mut self.workers[id];
+        worker.down(x);
+        self.counts[x as usize] -= 1;
+    }
+
+    fn swap_cell(&mut self, alloc: Global, id: usize, c: u32, word: u64) -> Result<(), AllocError>
+        requires turn { IsTurn self.old id }
+        requires may { May (state_of self.old) (view_at (state_of self.old).views id) (SwapCell c word) }
+        ensures { OnOk result (state_of self.new ≡ after (state_of self.old) (record { worker = id; step = SwapCell c word })) }
+    {
+        let old = self.cells[c as usize];
+        let worker = &mut self.workers[id];
+        worker.swap_cell(alloc, old, word)?;
+        self.cells[c as usize] = word;
+        Ok(())
+    }
+
+    fn scan_one(&mut self, alloc: Global, id: usize) -> Result<(), AllocError>
+        requires { IsTurn self.old id }
+        ensures { OnOk result (state_of self.new ≡ after (state_of self.old) (record { worker = id; step = ScanOne })) }
+    {
+        let sizes = self.sizes;
+        let position = self.workers[id].position;
+        let name = self.announced[position as usize];
+        let worker = &mut self.workers[id];
+        worker.scan(alloc, sizes, name)?;
+        Ok(())
+    }
+
+    fn split(&mut self, alloc: Global, id: usize, to: u32) -> Result<(), AllocError>
+        requires turn { IsTurn self.old id }
+        requires may { May (state_of self.old) (view_at (state_of self.old).views id) (Split to) }
+        ensures { OnOk result (state_of self.new ≡ after (state_of self.old) (record { worker = id; step = Split to })) }
+    {
+        worker::grow(&mut self.workers, alloc, to as usize + 1)?;
+        self.workers[to as usize] = Worker::fresh(alloc, to);
+        let worker = &mut self.workers[id];
+        worker.split_off(to)?;
+        Ok(())
+    }
+
+    fn join(&mut self, alloc: Global, id: usize, from: u32) -> Result<(), AllocError>
+        requires turn { IsTurn self.old id }
+        requires may { May (state_of self.old) (view_at (state_of self.old).views id) (Join from) }
+        ensures { OnOk result (state_of self.new ≡ after (state_of self.old) (record { worker = id; step = Join from })) }
+    {
+        let other = mem::replace(
+            &mut self.workers[from as usize],
+            Worker::absent(alloc, true),
+        );
+        let worker = &mut self.workers[id];
+        worker.join(from, &other)?;
+        Ok(())
+    }
+
+    // Whether this number was never active.
+    fn is_unused(&self, id: u32) -> bool
+        ensures { IsTrue result ↔ (view_at (state_of self.now).views id ≡ unused) }
+    {
+        let id = id as usize;
+        if id >= self.workers.len() {
+            return true;
+        }
+        !self.workers[id].active && !self.workers[id].over
+    }
+
+    fn may_split(&self, worker: &Worker, to: u32) -> bool
+        ensures { IsTrue result ↔ MaySplit (state_of self.now).views (active_view self.now.sizes worker.now) to }
+    {
+        if worker.position != 0 || worker.number != 0 || to >= self.sizes.workers {
+            return false;
+        }
+        self.is_unused(to)
+    }
+
+    fn may_join(&self, worker: &Worker, from: u32) -> bool
+        requires { self.now.sizes.announcements ≡ 1 }
+        ensures { IsTrue result ↔ MayJoin (active_view self.now.sizes worker.now) from (view_at (state_of self.now).views from) }
+    {
+        let place = from as usize;
+        if place >= self.workers.len() {
+            return false;
+        }
+        worker.may_join(self.sizes, from, &self.workers[place])
+    }
+
+    fn may_swap(&self, worker: &Worker, c: u32, word: u64) -> bool
+        requires kept { IsKept self.now }
+        requires stands { Stands self.now (active_view self.now.sizes worker.now) }
+        ensures { IsTrue result ↔ MaySwapCell self.now.nodes.items (active_view self.now.sizes worker.now) c word }
+    {
+        if !worker.may_store(self.sizes, c, word) {
+            return false;
+        }
+        if word == 0 {
+            return true;
+        }
+        self.is_filled(word)
+    }
+
+    // Whether this worker, which is active, may take the step.
+    fn worker_may(&self, worker: &Worker, step: Step) -> bool
+        requires kept { IsKept self.now }
+        requires stands { Stands self.now (active_view self.now.sizes worker.now) }
+        ensures { IsTrue result ↔ May (state_of self.now) (active_view self.now.sizes worker.now) step }
+    {
+        match step {
+            Step::Split(to) => self.may_split(worker, to),
+            Step::Join(from) => self.may_join(worker, from),
+            Step::Announce(x) => worker.may_announce(self.sizes, x),
+            Step::Look(c) => worker.may_look(self.sizes, c),
+            Step::Recheck => worker.may_recheck(self.sizes),
+            Step::Up(x) => worker.may_up(self.sizes, x),
+            Step::Down(x) => worker.may_down(self.sizes, x),
+            Step::SwapCell(c, word) => self.may_swap(worker, c, word),
+            Step::ScanOne => worker.may_scan(self.sizes),
+        }
+    }
+
+    // Whether the worker with this number, which is active, may take the step.
+    fn may(&self, id: usize, step: Step) -> bool
+        requires { IsTurn self.now id }
+        ensures { IsTrue result ↔ May (state_of self.now) (view_at (state_of self.now).views id) step }
+    {
+        self.worker_may(&self.workers[id], step)
+    }
+
+    // A second look at the cell whose result is announced.
+    fn recheck_own(&mut self, id: usize)
+        requires turn { IsTurn self.old id }
+        requires may { May (state_of self.old) (view_at (state_of self.old).views id) Recheck }
+        ensures { state_of self.new ≡ after (state_of self.old) (record { worker = id; step = Recheck }) }
+    {
+        let cell = self.workers[id].phase.cell();
+        if let Some(c) = cell {
+            self.recheck(id, c);
+        }
+    }
+
+    // Takes a step that is allowed.
+    fn apply(&mut self, alloc: Global, id: usize, step: Step) -> Result<(), AllocError>
+        requires turn { IsTurn self.old id }
+        requires may { May (state_of self.old) (view_at (state_of self.old).views id) step }
+        ensures { OnOk result (state_of self.new ≡ after (state_of self.old) (record { worker = id; step = step })) }
+    {
+        match step {
+            Step::Split(to) => self.split(alloc, id, to),
+            Step::Join(from) => self.join(alloc, id, from),
+            Step::Announce(x) => {
+                self.announce(id, x);
+                Ok(())
+            }
+            Step::Look(c) => {
+                self.look(id, c);
+                Ok(())
+            }
+            Step::Recheck => {
+                self.recheck_own(id);
+                Ok(())
+            }
+            Step::Up(x) => self.up(id, x),
+            Step::Down(x) => {
+                self.down(id, x);
+                Ok(())
+            }
+            Step::SwapCell(c, word) => self.swap_cell(alloc, id, c, word),
+            Step::ScanOne => self.scan_one(alloc, id),
+        }
+    }
+
+    // Whether the worker holds no more names than a step may leave.
+    fn has_room(&self, id: usize) -> bool
+        ensures { IsTrue result ↔ (length (view_at (state_of self.now).views id).held ≤ 2 ^ 40) }
+    {
+        if id >= self.workers.len() {
+            return true;
+        }
+        let worker = &self.workers[id];
+        if !worker.active {
+            return true;
+        }
+        worker.held.len() <= 1 << 40
+    }
+
+    // Takes the event, if it is allowed. Otherwise the machine is of no more use.
+    pub(crate) fn take(&mut self, alloc: Global, event: Event) -> Result<bool, AllocError>
+        requires { IsKept self.old }
+        ensures { IfOk result (λ taken. Takes (state_of self.old) event (state_of self.new) taken) }
+    {
+        let id = event.worker as usize;
+        if id >= self.workers.len() {
+            return Ok(false);
+        }
+        if !self.workers[id].active {
+            return Ok(false);
+        }
+        if !self.may(id, event.step) {
+            return Ok(false);
+        }
+        self.apply(alloc, id, event.step)?;
+        if !self.has_room(id) {
+            return Ok(false);
+        }
+        Ok(true)
+    }
+
+    // The same machine, in memory of its own.
+    pub(crate) fn copy(&self, alloc: Global) -> Result<Machine, AllocError>
+        ensures { IfOk result (λ m. state_of m ≡ state_of self.now) }
+    {
+        Ok(Machine {
+            sizes: self.sizes,
+            announced: multiset::copy(alloc, &self.announced)?,
+            counts: copy_words(alloc, &self.counts)?,
+            nodes: copy_words(alloc, &self.nodes)?,
+            cells: copy_words(alloc, &self.cells)?,
+            workers: worker::copy_all(alloc, &self.workers)?,
+        })
+    }
+}
+
+// The same words, in memory of their own.
+fn copy_words(alloc: Global, words: &[u64]) -> Result<Vec<u64>, AllocError>
+    ensures { IfOk result (λ v. v.items ≡ words.now) }
+{
+    let mut all = Vec::new(alloc);
+    all.extend_from_slice(words)?;
+    Ok(all)
+}

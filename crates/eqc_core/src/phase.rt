@@ -1,0 +1,110 @@
+//! How far a counted load has come.
+
+use crate::cell;
+
+/// How far a counted load by one announcement word has come: a look at a cell, an announcement of
+/// the result that was seen there, and a second look.
+#[derive(Clone, Copy)]
+pub enum Phase {
+    Idle,
+    /// The cell, and the word that was seen in it.
+    Seen(u32, u64),
+    /// The same, and the word's result stands in the announcement word.
+    Announced(u32, u64),
+    /// The second look found the same word. Its result is announced.
+    Confirmed(u32),
+    /// The second look found another word. The result of the first is still announced.
+    Missed(u32),
+}
+
+impl Phase {
+    ghost use Rattle.std.specs.Prelude.{◌≡◌, ◌↔◌, IsTrue, IfSome, IsNone, IsSome};
+    ghost use Rattle.eqc_core.specs.Moves.{IsQuiet};
+    ghost use Rattle.eqc_core.specs.Announcing.{LetsAnnounce, announced_phase, IsAnnounced, announced_cell, rechecked_phase};
+
+    // Whether nothing is announced.
+    pub(crate) fn is_quiet(self) -> bool
+        ensures { IsTrue result ↔ IsQuiet self }
+    {
+        match self {
+            Phase::Idle => true,
+            Phase::Seen(_, _) => true,
+            Phase::Announced(_, _) => false,
+            Phase::Confirmed(_) => false,
+            Phase::Missed(_) => false,
+        }
+    }
+
+    // Whether x may be stored: the result that was seen, or 0 where a name is announced.
+    pub(crate) fn lets_announce(self, x: u32) -> bool
+        ensures { IsTrue result ↔ LetsAnnounce self x }
+    {
+        match self {
+            Phase::Idle => false,
+            Phase::Seen(_, word) => x >= 2 && x == cell::result(word),
+            Phase::Announced(_, _) => x == 0,
+            Phase::Confirmed(_) => x == 0,
+            Phase::Missed(_) => x == 0,
+        }
+    }
+
+    // The phase after such a store.
+    pub(crate) fn announced(self) -> Phase
+        ensures { result ≡ announced_phase self }
+    {
+        match self {
+            Phase::Idle => Phase::Idle,
+            Phase::Seen(c, word) => Phase::Announced(c, word),
+            Phase::Announced(_, _) => Phase::Idle,
+            Phase::Confirmed(_) => Phase::Idle,
+            Phase::Missed(_) => Phase::Idle,
+        }
+    }
+
+    // The cell that a second look loads.
+    pub(crate) fn cell(self) -> Option<u32>
+        ensures some { IsSome result ↔ IsAnnounced self }
+        ensures cell { IfSome result (λ c. c ≡ announced_cell self) }
+    {
+        match self {
+            Phase::Announced(c, _) => Some(c),
+            Phase::Idle => None,
+            Phase::Seen(_, _) => None,
+            Phase::Confirmed(_) => None,
+            Phase::Missed(_) => None,
+        }
+    }
+
+    // The phase after a second look that found this word.
+    pub(crate) fn rechecked(self, found: u64) -> Phase
+        ensures { result ≡ rechecked_phase self found }
+    {
+        match self {
+            Phase::Announced(_, word) => {
+                let x = cell::result(word);
+                if found == word {
+                    Phase::Confirmed(x)
+                } else {
+                    Phase::Missed(x)
+                }
+            }
+            Phase::Idle => self,
+            Phase::Seen(_, _) => self,
+            Phase::Confirmed(_) => self,
+            Phase::Missed(_) => self,
+        }
+    }
+
+    // Whether this name is confirmed.
+    pub(crate) fn confirms(self, x: u32) -> bool
+        ensures { IsTrue result ↔ (self ≡ Phase.Confirmed x) }
+    {
+        match self {
+            Phase::Confirmed(y) => y == x,
+            Phase::Idle => false,
+            Phase::Seen(_, _) => false,
+            Phase::Announced(_, _) => false,
+            Phase::Missed(_) => false,
+        }
+    }
+}

@@ -1,0 +1,107 @@
+//! Whether a cell's word is right: its operation on the functions of its operands gives the function of its result.
+//!
+//! The three diagrams are walked together, variable by variable (Bryant 1986, Shannon's expansion).
+ghost use Rattle.std.specs.Prelude.{◌≡◌, ◌<◌, ◌^◌, ◌↔◌, IsTrue};
+ghost use Rattle.eqc_tree.specs.Operation.{operate};
+ghost use Rattle.eqc_core.specs.Words.{first_of, second_of, result_of};
+ghost use Rattle.eqc_core.specs.Tables.{IsName};
+ghost use Rattle.eqc_core.specs.Trees.{operation, variable_at, IsFilled};
+ghost use Rattle.eqc_core.specs.Agreement.{Agrees, cofactor};
+ghost use Rattle.eqc_core.specs.Machine.{state_of, IsKept};
+
+use crate::cell;
+use crate::machine::Machine;
+
+// The variable of a constant: above all others.
+const NO_VARIABLE: u32 = 1 << 16;
+
+// The operation with this number on two values.
+fn compute(op: u32, p: bool, q: bool) -> bool
+    ensures { result ≡ operate (operation op) p q }
+{
+    match op {
+        1 => p && q,
+        2 => p || q,
+        3 => p != q,
+        _ => p && !q,
+    }
+}
+
+impl Machine {
+    // The variable of a name.
+    fn variable(&self, x: u32) -> u32
+        requires kept { IsKept self.now }
+        requires name { IsName (state_of self.now).homes (state_of self.now).views x }
+        ensures { result ≡ variable_at self.now.nodes.items x }
+    {
+        if x < 2 {
+            return NO_VARIABLE;
+        }
+        cell::variable(self.nodes[x as usize])
+    }
+
+    // The name where the variable v is 0, or 1.
+    fn side(&self, v: u32, high: bool, x: u32) -> u32
+        requires kept { IsKept self.now }
+        requires name { IsName (state_of self.now).homes (state_of self.now).views x }
+        requires below { v < 2 ^ 16 }
+        ensures { result ≡ cofactor self.now.nodes.items v high x }
+    {
+        if self.variable(x) != v {
+            return x;
+        }
+        if x < 2 {
+            return x;
+        }
+        let word = self.nodes[x as usize];
+        if high {
+            cell::high(word)
+        } else {
+            cell::low(word)
+        }
+    }
+
+    // Whether the operation on the functions of f and g gives the function of r.
+    fn agrees(&self, op: u32, f: u32, g: u32, r: u32) -> bool
+        requires kept { IsKept self.now }
+        requires f { IsName (state_of self.now).homes (state_of self.now).views f }
+        requires g { IsName (state_of self.now).homes (state_of self.now).views g }
+        requires r { IsName (state_of self.now).homes (state_of self.now).views r }
+        ensures { IsTrue result ↔ Agrees self.now.nodes.items op f g r }
+    {
+        let v = self.variable(f).min(self.variable(g)).min(self.variable(r));
+        if v >= NO_VARIABLE {
+            return compute(op, f == 1, g == 1) == (r == 1);
+        }
+        let f_low = self.side(v, false, f);
+        let g_low = self.side(v, false, g);
+        let r_low = self.side(v, false, r);
+        if !self.agrees(op, f_low, g_low, r_low) {
+            return false;
+        }
+        let f_high = self.side(v, true, f);
+        let g_high = self.side(v, true, g);
+        let r_high = self.side(v, true, r);
+        self.agrees(op, f_high, g_high, r_high)
+    }
+
+    // Whether the word is right. Its names are there.
+    pub(crate) fn is_filled(&self, word: u64) -> bool
+        requires kept { IsKept self.now }
+        requires first { IsName (state_of self.now).homes (state_of self.now).views (first_of word) }
+        requires second { IsName (state_of self.now).homes (state_of self.now).views (second_of word) }
+        requires outcome { IsName (state_of self.now).homes (state_of self.now).views (result_of word) }
+        ensures { IsTrue result ↔ IsFilled self.now.nodes.items word }
+    {
+        let op = cell::operation(word);
+        if op == 0 || op > 4 {
+            return false;
+        }
+        self.agrees(
+            op,
+            cell::first(word),
+            cell::second(word),
+            cell::result(word),
+        )
+    }
+}

@@ -1,0 +1,90 @@
+//! The machine with which a replay begins.
+ghost use Rattle.std.specs.Prelude.{◌≡◌, ◌≤◌, ◌^◌, IfOk};
+ghost use Rattle.eqc_core.specs.State.{stocked, repeated, literals, slots_from};
+ghost use Rattle.eqc_core.specs.Machine.{state_of};
+
+use crate::machine::Machine;
+use crate::sizes::Sizes;
+use crate::worker::Worker;
+use std::alloc::{AllocError, Global};
+
+// A word n times.
+fn repeat(alloc: Global, word: u64, n: u32) -> Result<Vec<u64>, AllocError>
+    ensures { IfOk result (λ v. v.items ≡ repeated word n) }
+{
+    let mut words = Vec::new(alloc);
+    for _k in 0..n {
+        words.push(word)?;
+    }
+    Ok(words)
+}
+
+// As many announcements of nothing.
+fn silence(alloc: Global, n: u32) -> Result<Vec<u32>, AllocError>
+    ensures { IfOk result (λ v. v.items ≡ repeated 0 n) }
+{
+    let mut names = Vec::new(alloc);
+    for _k in 0..n {
+        names.push(0)?;
+    }
+    Ok(names)
+}
+
+// The node words of the literals of the first n variables.
+fn literal_words(alloc: Global, n: u32) -> Result<Vec<u64>, AllocError>
+    requires { n ≤ 2 ^ 16 }
+    ensures { IfOk result (λ v. v.items ≡ literals 0 n) }
+{
+    let mut words = Vec::new(alloc);
+    for k in 0..n {
+        words.push(u64::from(k) * (1 << 40) + 1)?;
+    }
+    Ok(words)
+}
+
+// The first n slots.
+fn first_slots(alloc: Global, n: u32) -> Result<Vec<u32>, AllocError>
+    requires { n ≤ 2 ^ 16 }
+    ensures { IfOk result (λ v. v.items ≡ slots_from 2 n) }
+{
+    let mut slots = Vec::new(alloc);
+    for k in 0..n {
+        slots.push(k + 2)?;
+    }
+    Ok(slots)
+}
+
+// Each variable's literal has a slot, which worker 0 holds once. Worker 0 is alone.
+pub(crate) fn stock(
+    alloc: Global,
+    workers: u32,
+    nodes: u32,
+    cells: u32,
+) -> Result<Machine, AllocError>
+    requires { nodes ≤ 2 ^ 16 }
+    ensures { IfOk result (λ m. state_of m ≡ stocked workers nodes cells) }
+{
+    let mut counts = repeat(alloc, 0, 2)?;
+    let counted = repeat(alloc, 2, nodes)?;
+    counts.extend_from_slice(&counted)?;
+    let mut words = repeat(alloc, 0, 2)?;
+    let literals = literal_words(alloc, nodes)?;
+    words.extend_from_slice(&literals)?;
+    let held = first_slots(alloc, nodes)?;
+    let mut all = Vec::new(alloc);
+    all.push(Worker::first(alloc, held))?;
+    Ok(Machine {
+        sizes: Sizes {
+            workers,
+            announcements: 1,
+            names: nodes + 2,
+            cells,
+            variables: nodes,
+        },
+        announced: silence(alloc, workers)?,
+        counts,
+        nodes: words,
+        cells: repeat(alloc, 0, cells)?,
+        workers: all,
+    })
+}
