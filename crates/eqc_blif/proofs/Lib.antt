@@ -1,0 +1,9 @@
+pub mod LineLemmas
+pub mod NameLemmas
+pub mod WordLemmas
+pub mod RowLemmas
+pub mod ReaderLemmas
+pub mod FollowLaws
+pub mod CleanLaws
+pub mod FaultLaws
+pub mod TwiceLaws

@@ -1,0 +1,122 @@
+-- No name stands twice in what was read without a fault.
+use Rattle.std.proofs.Common.{◌≡◌, ℕ, Bool, true, false, ◌&&◌, not, cond, List, [], ◌∷◌, ◌++◌, map, Option, Some, None, Ok, Err, refl, sym, ◌∙◌, ap, inl, inr}
+use Rattle.std.specs.List.{list_all, list_any}
+use Rattle.std.proofs.lemmas.List.{map_push}
+use Rattle.std.proofs.lemmas.List.Folds.{list_all-append}
+use Rattle.std.proofs.lemmas.Bool.{cases_Bool, and_parts, not-true}
+use Rattle.eqc_blif.specs.Netlist.{ModelOf}
+use Rattle.eqc_blif.specs.Lines.{logical_lines}
+use Rattle.eqc_blif.specs.Words.{first_of, arguments, without_blanks}
+use Rattle.eqc_blif.specs.Names.{is_named, has_twice}
+use Rattle.eqc_blif.specs.Kind.{kind_of_line}
+use Rattle.eqc_blif.specs.Reading.{After, OpenModel, Outcome, outcome_of_lines, begun, models_of, models, opened, stands_in_model, is_bad_byte, statement_code, then_statement, line_code, then_line, after, first_fault, start, outcome_by, is_too_long, library_or_none, or_behind}
+use Rattle.eqc_blif.specs.Laws.{lists_are_distinct, LibrariesHaveNoNameTwice}
+use Rattle.eqc_blif.specs.declared.kind.Kind.{Kind}
+use Rattle.eqc_blif.specs.declared.kind.Kind.TheVariants.{Model, Inputs, Outputs, Names, Subckt, End, Latch, Skipped, Unknown, Row}
+use Rattle.eqc_blif.proofs.NameLemmas.{once_more}
+
+-- no model name stands twice, and no name in a list
+record Sound (ms : List ModelOf) : Type 0 where
+  pub names : has_twice (map (λ m. m.name) ms) ≡ false
+  pub lists : lists_are_distinct ms ≡ true
+
+is_distinct : ModelOf → Bool
+is_distinct m = not (has_twice m.inputs) && not (has_twice m.outputs)
+
+lists_pushed : (ms : List ModelOf) (m : ModelOf) → lists_are_distinct (ms ++ m ∷ []) ≡ (lists_are_distinct ms && (is_distinct m && true))
+unfolding is_distinct
+lists_pushed ms m = list_all-append is_distinct ms (m ∷ [])
+
+-- a model behind those that are sound
+sound_pushed : (ms : List ModelOf) (m : ModelOf) → Sound ms → is_named (map (λ c. c.name) ms) m.name ≡ false → has_twice m.inputs ≡ false → has_twice m.outputs ≡ false → Sound (ms ++ m ∷ [])
+unfolding is_distinct
+sound_pushed ms m sound new inputs outputs = record {
+  names = rw (map_push (λ c. c.name) ms m) (once_more (map (λ c. c.name) ms) m.name sound.names new);
+  lists = lists_pushed ms m ∙ rw (sound.lists, inputs, outputs) refl;
+}
+
+-- the last model with another of its name
+sound_changed : (ms : List ModelOf) (m new : ModelOf) → Sound (ms ++ m ∷ []) → new.name ≡ m.name → has_twice new.inputs ≡ false → has_twice new.outputs ≡ false → Sound (ms ++ new ∷ [])
+unfolding is_distinct
+sound_changed ms m new sound name inputs outputs =
+    let before = and_parts (lists_are_distinct ms) (is_distinct m && true) (sym (lists_pushed ms m) ∙ sound.lists) in
+    record {
+      names = ap has_twice (map_push (λ c. c.name) ms new ∙ (ap (λ n. map (λ c. c.name) ms ++ n ∷ []) name ∙ sym (map_push (λ c. c.name) ms m))) ∙ sound.names;
+      lists = lists_pushed ms new ∙ rw (before.0, inputs, outputs) refl;
+    }
+
+last_lists : (ms : List ModelOf) (m : ModelOf) → Sound (ms ++ m ∷ []) → (has_twice m.inputs ≡ false) × (has_twice m.outputs ≡ false)
+unfolding is_distinct
+last_lists ms m sound =
+    let last = and_parts (is_distinct m) true (and_parts (lists_are_distinct ms) (is_distinct m && true) (sym (lists_pushed ms m) ∙ sound.lists)).1 in
+    let both = and_parts (not (has_twice m.inputs)) (not (has_twice m.outputs)) last.0 in
+    (not-true (has_twice m.inputs) both.0, not-true (has_twice m.outputs) both.1)
+
+-- what has no code does not meet its condition
+unmet : (b : Bool) (code : ℕ) → cond b (Some code) None ≡ None → b ≡ false
+unmet true code none = cc
+unmet false code none = refl
+
+sound_statement : (kind : Kind) (ws : List (List ℕ)) (row : List ℕ) (closed : List ModelOf) (o : Option OpenModel) → statement_code (record { closed = closed; open_model = o }) kind ws row ≡ None → Sound (models_of closed o) → Sound (models (then_statement kind ws row (record { closed = closed; open_model = o })))
+sound_statement Model ws row closed o none sound = sound_pushed (models_of closed o) (begun (first_of ws)).model sound (unmet (is_named (map (λ m. m.name) (models_of closed o)) (first_of ws)) 11 none) refl refl
+sound_statement Inputs ws row closed None none sound = sound
+sound_statement Inputs ws row closed (Some m) none sound = sound_changed closed m.model _ sound refl (unmet (has_twice (m.model.inputs ++ ws)) 12 none) (last_lists closed m.model sound).1
+sound_statement Outputs ws row closed None none sound = sound
+sound_statement Outputs ws row closed (Some m) none sound = sound_changed closed m.model _ sound refl (last_lists closed m.model sound).0 (unmet (has_twice (m.model.outputs ++ ws)) 12 none)
+sound_statement Names ws row closed None none sound = sound
+sound_statement Names ws row closed (Some m) none sound = let last = last_lists closed m.model sound in sound_changed closed m.model _ sound refl last.0 last.1
+sound_statement Subckt ws row closed None none sound = sound
+sound_statement Subckt ws row closed (Some m) none sound = let last = last_lists closed m.model sound in sound_changed closed m.model _ sound refl last.0 last.1
+sound_statement End ws row closed o none sound = sound
+sound_statement Row ws row closed None none sound = sound
+sound_statement Row ws row closed (Some m) none sound = let last = last_lists closed m.model sound in sound_changed closed m.model _ sound refl last.0 last.1
+sound_statement Latch ws row closed o none sound = sound
+sound_statement Skipped ws row closed o none sound = sound
+sound_statement Unknown ws row closed o none sound = sound
+
+nothing_twice : Sound ((begun []).model ∷ [])
+nothing_twice = record { names = refl; lists = refl }
+
+sound_cond : (b : Bool) (st : After) → Sound (models st) → Sound (models (cond b (record { closed = []; open_model = Some (begun []) }) st))
+sound_cond true st sound = nothing_twice
+sound_cond false st sound = sound
+
+sound_opened : (kind : Kind) (st : After) → Sound (models st) → Sound (models (opened kind st))
+sound_opened kind st sound = sound_cond _ st sound
+
+no_bad_byte : (b : Bool) (code : Option ℕ) → cond b (Some 1) code ≡ None → code ≡ None
+no_bad_byte true code none = cc
+no_bad_byte false code none = none
+
+sound_line : (line : List ℕ) (st : After) → line_code st line ≡ None → Sound (models st) → Sound (models (then_line line st))
+sound_line line st none sound =
+    let kind = kind_of_line line in
+    let before = opened kind st in
+    sound_statement kind (arguments line) (without_blanks line) before.closed before.open_model (no_bad_byte (list_any is_bad_byte line) _ none) (sound_opened kind st sound)
+
+sound_lines : (lines : List (ℕ × List ℕ)) (st : After) → first_fault st lines ≡ None → Sound (models st) → Sound (models (after st lines))
+sound_lines [] st none sound = sound
+sound_lines (line ∷ lines) st none sound =
+    let parts = neither line.0 (line_code st line.1) (first_fault (then_line line.1 st) lines) none in
+    sound_lines lines (then_line line.1 st) parts.1 (sound_line line.1 st parts.0 sound)
+  where
+    neither : (n : ℕ) (code : Option ℕ) (behind : Option (ℕ × ℕ)) → or_behind n code behind ≡ None → (code ≡ None) × (behind ≡ None)
+    neither n None behind none = (refl, none)
+    neither n (Some code) behind none = cc
+
+-- a library is what stands after all lines, none of which has a code
+read_without_fault : (fault : Option (ℕ × ℕ)) (ms library : List ModelOf) → outcome_by fault ms ≡ Ok library → (fault ≡ None) × (ms ≡ library)
+read_without_fault (Some fault) ms library is = cc
+read_without_fault None [] library is = cc
+read_without_fault None (m ∷ ms) library is = (refl, cc)
+
+short_enough : (b : Bool) (given : Outcome) (library : List ModelOf) → cond b (Err (0, 2)) given ≡ Ok library → given ≡ Ok library
+short_enough true given library is = cc
+short_enough false given library is = is
+
+pub libraries_have_no_name_twice : LibrariesHaveNoNameTwice
+libraries_have_no_name_twice text library is =
+    let lines = logical_lines text in
+    let parts = read_without_fault (first_fault start lines) (models (after start lines)) library (short_enough (is_too_long text) (outcome_of_lines lines) library is) in
+    let sound = sound_lines lines start parts.0 (record { names = refl; lists = refl }) in
+    (ap (λ ms. has_twice (map (λ m. m.name) ms)) (sym parts.1) ∙ sound.names, ap lists_are_distinct (sym parts.1) ∙ sound.lists)

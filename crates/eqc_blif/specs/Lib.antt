@@ -1,0 +1,9 @@
+pub mod Netlist
+pub mod Cover
+pub mod Lines
+pub mod Words
+pub mod Names
+pub mod Kind
+pub mod Reading
+pub mod Steps
+pub mod Laws

@@ -1,0 +1,111 @@
+ghost use Rattle.std.specs.Prelude.{◌≡◌, IfOk, length, MatchOption, [], nat_lt, IsTrue};
+ghost use Rattle.std.specs.List.{list_all};
+ghost use Rattle.eqc_blif.specs.Words.{words, without_blanks, cover_of};
+ghost use Rattle.eqc_blif.specs.Reading.{is_column_value, is_output_value, row_output, has_row_shape, differs_from_first};
+ghost use Rattle.eqc_blif.specs.Steps.{TakesRow};
+
+use crate::name::Name;
+use crate::sparing::push_sparing;
+use crate::words::names_in;
+use std::alloc::{AllocError, Global};
+use std::marker::Model;
+
+/// A cover (`.names`): the names of its columns, the name that it drives, and its rows without blanks.
+#[derive(Drop)]
+pub struct Cover {
+    pub columns: Vec<Name>,
+    pub output: Name,
+    pub rows: Vec<Name>,
+}
+
+impl Model for Cover {
+    ghost use Rattle.eqc_blif.specs.Netlist.{CoverOf};
+
+    ghost Value = { CoverOf };
+
+    ghost view = { λ a. record { columns = a.columns.items; output = a.output; rows = a.rows.items } };
+}
+
+fn is_column_value(byte: u8) -> bool
+    ensures { result ≡ is_column_value byte }
+{
+    byte == b'0' || byte == b'1' || byte == b'-'
+}
+
+fn is_output_value(byte: u8) -> bool
+    ensures { result ≡ is_output_value byte }
+{
+    byte == b'0' || byte == b'1'
+}
+
+fn are_column_values(bytes: &[u8]) -> bool
+    ensures { result ≡ list_all is_column_value bytes.now }
+{
+    bytes.iter().all(|byte| is_column_value(*byte))
+}
+
+/// Whether a row has `columns` values of columns and then a value of the output.
+fn has_row_shape(columns: usize, row: &[u8]) -> bool
+    ensures { result ≡ has_row_shape columns row.now }
+{
+    let Some((output, values)) = row.split_last() else {
+        return false;
+    };
+    if values.len() != columns || !are_column_values(values) {
+        return false;
+    }
+    is_output_value(*output)
+}
+
+/// The last byte of a row, or 0 where there is none.
+fn row_output(row: &[u8]) -> u8
+    ensures { result ≡ row_output row.now }
+{
+    match row.last() {
+        Some(byte) => *byte,
+        None => 0,
+    }
+}
+
+/// Whether a row ends otherwise than the first of the rows before it.
+fn differs_from_first(rows: &[Name], row: &[u8]) -> bool
+    ensures { result ≡ differs_from_first rows.now row.now }
+{
+    match rows.first() {
+        Some(first) => row_output(row) != row_output(first.as_bytes()),
+        None => false,
+    }
+}
+
+impl Cover {
+    /// The cover that `.names` opens with the words of `line`, or `None` where there is no word.
+    pub(crate) fn opened(alloc: Global, line: &[u8]) -> Result<Option<Cover>, AllocError>
+        ensures { IfOk result (λ cover. MatchOption cover (words line.now ≡ []) (λ c. IsTrue (nat_lt 0 (length (words line.now))) × (c ≡ cover_of (words line.now)))) }
+    {
+        let mut columns = names_in(alloc, line)?;
+        let Some(output) = columns.pop() else {
+            return Ok(None);
+        };
+        Ok(Some(Cover {
+            columns,
+            output,
+            rows: Vec::new(alloc),
+        }))
+    }
+
+    /// Takes a row, with its blanks, and answers its code where it has one: 7 for another shape, 8 for another output
+    /// than that of the first row.
+    pub(crate) fn take_row(&mut self, alloc: Global, line: &[u8]) -> Result<Option<u8>, AllocError>
+        ensures { IfOk result (λ code. TakesRow self.old (without_blanks line.now) code self.new) }
+    {
+        let row = Name::without_blanks(alloc, line)?;
+        if !has_row_shape(self.columns.len(), row.as_bytes()) {
+            return Ok(Some(7));
+        }
+        if differs_from_first(self.rows.as_slice(), row.as_bytes()) {
+            return Ok(Some(8));
+        }
+        push_sparing(&mut self.rows, row)?;
+        Ok(None)
+    }
+}

@@ -1,0 +1,43 @@
+//! Laws of the definitions that `read` is proved against. The functions do nothing: their contracts are the laws.
+ghost use Rattle.eqc_blif.specs.Laws.{TextsFollow, FirstFaultStays, FoundIsFirst, FirstIsFound, CommentsChangeNothing, TrailingBlanksChangeNothing, BlankLinesOnlyRenumber, NumbersPlayNoPart, SkippedLinesChangeNothing, LineNumbersRise, LinesMakeTheText, LinesAreCutAgain, LibrariesHaveNoNameTwice};
+
+/// The lines of a text stay, whatever text follows it, and so does its first faulty line.
+pub fn first_fault_stays()
+    ensures lines { TextsFollow }
+    ensures fault { FirstFaultStays }
+{}
+
+/// The fault that a text is refused for is a line with a code before which no line has one, and there is at most one.
+pub fn first_fault_is_one()
+    ensures first { FoundIsFirst }
+    ensures one { FirstIsFound }
+{}
+
+/// Comments, trailing blanks and skipped commands change no library.
+pub fn what_changes_nothing()
+    ensures comments { CommentsChangeNothing }
+    ensures blanks { TrailingBlanksChangeNothing }
+    ensures skipped { SkippedLinesChangeNothing }
+{}
+
+/// Inserted blank lines only renumber the lines behind them, and numbers play no part in a library.
+pub fn blank_lines_only_renumber()
+    ensures renumbered { BlankLinesOnlyRenumber }
+    ensures same { NumbersPlayNoPart }
+{}
+
+/// The numbers of a text's lines rise from 1 on.
+pub fn line_numbers_rise()
+    ensures { LineNumbersRise }
+{}
+
+/// A text is its lines put together, and lines that are put together are cut again.
+pub fn lines_are_cut_again()
+    ensures text { LinesMakeTheText }
+    ensures lines { LinesAreCutAgain }
+{}
+
+/// A library has distinct model names, and no name twice in a list of inputs or outputs.
+pub fn libraries_have_no_name_twice()
+    ensures { LibrariesHaveNoNameTwice }
+{}

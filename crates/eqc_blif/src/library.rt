@@ -1,0 +1,98 @@
+ghost use Rattle.std.specs.Prelude.{◌≡◌, ◌<◌, length, map, position, bytes_eq, slice_index_or};
+ghost use Rattle.eqc_blif.specs.Netlist.{no_model};
+ghost use Rattle.eqc_blif.specs.Steps.{model_of};
+
+use crate::cover::Cover;
+use crate::declarations::Declarations;
+use crate::instance::Instance;
+use crate::name::Name;
+use indexmap::IndexMap;
+use std::marker::Model;
+
+/// The models of a text, in order.
+#[derive(Drop)]
+pub struct Library {
+    models: IndexMap<Name, Declarations>,
+}
+
+impl Model for Library {
+    ghost use Rattle.std.specs.Prelude.{List, map};
+    ghost use Rattle.eqc_blif.specs.Netlist.{ModelOf};
+    ghost use Rattle.eqc_blif.specs.Steps.{model_of};
+
+    ghost Value = { List ModelOf };
+
+    ghost view = { λ a. map (λ e. model_of e.0 e.1) a.models.entries };
+}
+
+impl Library {
+    pub(crate) fn new(models: IndexMap<Name, Declarations>) -> Library
+        ensures { result ≡ map (λ e. model_of e.0 e.1) models.entries }
+    {
+        Library { models }
+    }
+
+    /// The number of models.
+    pub fn models(&self) -> usize
+        ensures { result ≡ length self.now }
+    {
+        self.models.len()
+    }
+
+    /// The position of the model with this name, if there is one.
+    pub fn find(&self, name: &Name) -> Option<usize>
+        ensures { result ≡ position (λ m. bytes_eq name.now m.name) self.now }
+    {
+        self.models.get_index_of(name)
+    }
+
+    /// The name of model `m`, which is below the number of models.
+    pub fn name(&self, m: usize) -> &[u8]
+        requires { m < length self.now }
+        ensures { result.now ≡ (slice_index_or self.now m no_model).name }
+    {
+        let (name, _) = self.models.get_index(m).unwrap();
+        name.as_bytes()
+    }
+
+    /// What model `m` declares.
+    fn declarations(&self, m: usize) -> &Declarations
+        requires { m < length self.now }
+        ensures { model_of (slice_index_or self.now m no_model).name result.now ≡ slice_index_or self.now m no_model }
+    {
+        let (_, declarations) = self.models.get_index(m).unwrap();
+        declarations
+    }
+
+    /// The inputs that model `m` declares, in order.
+    pub fn inputs(&self, m: usize) -> &[Name]
+        requires { m < length self.now }
+        ensures { result.now ≡ (slice_index_or self.now m no_model).inputs }
+    {
+        self.declarations(m).inputs.as_slice()
+    }
+
+    /// The outputs that model `m` declares, in order.
+    pub fn outputs(&self, m: usize) -> &[Name]
+        requires { m < length self.now }
+        ensures { result.now ≡ (slice_index_or self.now m no_model).outputs }
+    {
+        self.declarations(m).outputs.as_slice()
+    }
+
+    /// The covers of model `m`, in order.
+    pub fn covers(&self, m: usize) -> &[Cover]
+        requires { m < length self.now }
+        ensures { result.now ≡ (slice_index_or self.now m no_model).covers }
+    {
+        self.declarations(m).covers.as_slice()
+    }
+
+    /// The instances in model `m`, in order.
+    pub fn instances(&self, m: usize) -> &[Instance]
+        requires { m < length self.now }
+        ensures { result.now ≡ (slice_index_or self.now m no_model).instances }
+    {
+        self.declarations(m).instances.as_slice()
+    }
+}

@@ -1,0 +1,81 @@
+ghost use Rattle.std.specs.Prelude.{◌≡◌, IfOk, bytes_eq, [], ◌∷◌};
+ghost use Rattle.std.specs.Cmp.{partial_equiv_from_equiv};
+ghost use Rattle.std.specs.Cmp.Lexicographic.{nat_list_eq_equiv, bytes_decides};
+ghost use Rattle.std.specs.Hash.{same_Alike};
+ghost use Rattle.eqc_blif.specs.Lines.{is_blank};
+ghost use Rattle.eqc_blif.specs.Words.{without_blanks};
+
+use crate::words::split_word;
+use smallvec::SmallVec;
+use std::alloc::{AllocError, Global};
+use std::hash::{Hash, Hasher};
+use std::marker::Model;
+
+/// A name of a netlist, or a row of a cover: its bytes. Up to sixteen bytes need no allocation.
+#[derive(Drop)]
+pub struct Name {
+    bytes: SmallVec<u8, 16>,
+}
+
+impl Model for Name {
+    ghost use Rattle.std.specs.Prelude.{List, ℕ};
+
+    ghost Value = { List ℕ };
+
+    ghost view = { λ a. a.bytes.items };
+}
+
+impl Name {
+    /// A name with these bytes. Fails where memory is refused.
+    pub fn new(alloc: Global, bytes: &[u8]) -> Result<Name, AllocError>
+        ensures { IfOk result (λ name. name ≡ bytes.now) }
+    {
+        Ok(Name {
+            bytes: SmallVec::from_slice(alloc, bytes)?,
+        })
+    }
+
+    /// The bytes of a line that are no spaces and tabs. Fails where memory is refused.
+    pub(crate) fn without_blanks(alloc: Global, line: &[u8]) -> Result<Name, AllocError>
+        ensures { IfOk result (λ name. name ≡ without_blanks line.now) }
+    {
+        let mut bytes = SmallVec::with_capacity(alloc, line.len())?;
+        let mut rest = line;
+        'words: while let Some((word, others)) = split_word(rest) {
+            bytes.extend_from_slice(word)?;
+            rest = others;
+        }
+        Ok(Name { bytes })
+    }
+
+    /// The bytes of the name.
+    pub fn as_bytes(&self) -> &[u8]
+        ensures { result.now ≡ self.now }
+    {
+        self.bytes.as_slice()
+    }
+}
+
+impl PartialEq for Name {
+    ghost eq = { λ a b. bytes_eq a b };
+
+    ghost laws = { partial_equiv_from_equiv nat_list_eq_equiv };
+
+    fn eq(&self, other: &Name) -> bool {
+        self.as_bytes() == other.as_bytes()
+    }
+}
+
+impl Eq for Name {
+    ghost laws = { nat_list_eq_equiv };
+}
+
+impl Hash for Name {
+    ghost hash_input = { λ a. a ∷ [] };
+
+    ghost respects_eq = { (same_Alike {E = bytes_eq} (λ a. a ∷ []) bytes_decides).fed };
+
+    fn hash<H: Hasher>(&self, state: &mut H) {
+        state.write(self.as_bytes());
+    }
+}

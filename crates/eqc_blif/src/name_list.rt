@@ -1,0 +1,129 @@
+ghost use Rattle.std.specs.Prelude.{◌≡◌, [], ◌∷◌, ◌++◌, IfOk, not, if◌then◌else◌, true, false};
+ghost use Rattle.std.specs.List.{list_any};
+ghost use Rattle.eqc_blif.specs.Words.{words};
+ghost use Rattle.eqc_blif.specs.Names.{is_named, has_twice};
+
+use crate::name::Name;
+use crate::sparing::push_sparing;
+use crate::words::{room_for_words, split_word};
+use indexmap::IndexSet;
+use std::alloc::{AllocError, Global};
+use std::marker::Model;
+
+/// How many names are searched one by one; more of them stand in a set.
+const FEW: usize = 16;
+
+/// Names in order, none of them twice: a few in a vector, or many in a set.
+#[derive(Drop)]
+pub(crate) struct NameList {
+    few: Vec<Name>,
+    many: Option<Box<IndexSet<Name>>>,
+}
+
+impl Model for NameList {
+    ghost use Rattle.std.specs.Prelude.{List, ℕ, ◌≡◌, false};
+    ghost use Rattle.std.specs.Option.{option_map};
+    ghost use Rattle.eqc_blif.specs.Names.{has_twice};
+    ghost use Rattle.eqc_blif.specs.Steps.{few_or_many};
+
+    ghost Value = { List (List ℕ) };
+
+    ghost view = { λ a. few_or_many a.few.items (option_map (λ b. b.value.keys) a.many) };
+
+    ghost invariant = { λ a. has_twice (few_or_many a.few.items (option_map (λ b. b.value.keys) a.many)) ≡ false };
+}
+
+/// Whether a name is among others, which are searched one by one.
+fn is_among(names: &[Name], name: &Name) -> bool
+    ensures { result ≡ is_named names.now name.now }
+{
+    names
+        .iter()
+        .any(|other| name.as_bytes() == other.as_bytes())
+}
+
+/// A set of names, none of which stands twice. Fails where memory is refused.
+fn set_of(alloc: Global, names: &[Name]) -> Result<IndexSet<Name>, AllocError>
+    requires { has_twice names.now ≡ false }
+    ensures { IfOk result (λ set. set.keys ≡ names.now) }
+{
+    let mut set = IndexSet::new(alloc);
+    'names: for name in names {
+        let copy = Name::new(alloc, name.as_bytes())?;
+        set.insert(copy)?;
+    }
+    Ok(set)
+}
+
+impl NameList {
+    pub(crate) fn new(alloc: Global) -> NameList
+        ensures { result ≡ [] }
+    {
+        NameList {
+            few: Vec::new(alloc),
+            many: None,
+        }
+    }
+
+    /// Adds a name at the end, and answers whether it was new. One that is there already is not added.
+    fn add(&mut self, alloc: Global, name: Name) -> Result<bool, AllocError>
+        ensures fresh { IfOk result (λ fresh. fresh ≡ not (is_named self.old name)) }
+        ensures added { IfOk result (λ fresh. self.new ≡ (if fresh then self.old ++ name ∷ [] else self.old)) }
+    {
+        if let Some(set) = &mut self.many {
+            let fresh = set.insert(name)?;
+            return Ok(fresh);
+        }
+        if is_among(&self.few, &name) {
+            return Ok(false);
+        }
+        if self.few.len() < FEW {
+            push_sparing(&mut self.few, name)?;
+            return Ok(true);
+        }
+        let mut set = set_of(alloc, &self.few)?;
+        let _ = set.insert(name)?;
+        self.many = Some(Box::new(alloc, set)?);
+        self.few = Vec::new(alloc);
+        Ok(true)
+    }
+
+    /// Makes room for the words of a line where there are many names.
+    fn make_room(&mut self, line: &[u8]) -> Result<(), AllocError>
+        ensures { self.new ≡ self.old }
+    {
+        if let Some(set) = &mut self.many {
+            set.reserve(room_for_words(line))?;
+        }
+        Ok(())
+    }
+
+    /// Adds the words of a line, and answers whether no name then stands twice. Where one does, only those before it
+    /// were added.
+    pub(crate) fn add_words(&mut self, alloc: Global, line: &[u8]) -> Result<bool, AllocError>
+        ensures once { IfOk result (λ once. once ≡ not (has_twice (self.old ++ words line.now))) }
+        ensures added { IfOk result (λ once. once ≡ true → self.new ≡ self.old ++ words line.now) }
+    {
+        self.make_room(line)?;
+        let mut rest = line;
+        'words: while let Some((word, others)) = split_word(rest) {
+            let name = Name::new(alloc, word)?;
+            if !self.add(alloc, name)? {
+                return Ok(false);
+            }
+            rest = others;
+        }
+        let _ = self.as_slice();
+        Ok(true)
+    }
+
+    pub(crate) fn as_slice(&self) -> &[Name]
+        ensures value { result.now ≡ self.now }
+        ensures once { has_twice self.now ≡ false }
+    {
+        match &self.many {
+            Some(set) => set.as_slice(),
+            None => self.few.as_slice(),
+        }
+    }
+}

@@ -1,0 +1,56 @@
+ghost use Rattle.std.specs.Prelude.{◌≡◌, [], ◌++◌, IfOk, not, true};
+ghost use Rattle.eqc_blif.specs.Words.{words};
+ghost use Rattle.eqc_blif.specs.Names.{has_twice};
+
+use crate::name::Name;
+use crate::name_list::NameList;
+use std::alloc::{AllocError, Global};
+use std::marker::Model;
+
+/// Names in order, none of them twice. No memory is taken before the first.
+#[derive(Drop)]
+pub(crate) struct Names {
+    list: Option<Box<NameList>>,
+}
+
+impl Model for Names {
+    ghost use Rattle.std.specs.Prelude.{List, ℕ};
+    ghost use Rattle.std.specs.Option.{option_map};
+    ghost use Rattle.eqc_blif.specs.Steps.{names_or_none};
+
+    ghost Value = { List (List ℕ) };
+
+    ghost view = { λ a. names_or_none (option_map (λ b. b.value) a.list) };
+}
+
+impl Names {
+    pub(crate) fn new() -> Names
+        ensures { result ≡ [] }
+    {
+        Names { list: None }
+    }
+
+    /// Adds the words of a line, and answers whether no name then stands twice. Where one does, or where memory is
+    /// refused, the names are lost.
+    pub(crate) fn add_words(&mut self, alloc: Global, line: &[u8]) -> Result<bool, AllocError>
+        ensures once { IfOk result (λ once. once ≡ not (has_twice (self.old ++ words line.now))) }
+        ensures added { IfOk result (λ once. once ≡ true → self.new ≡ self.old ++ words line.now) }
+    {
+        let mut list = match self.list.take() {
+            Some(list) => list,
+            None => Box::new(alloc, NameList::new(alloc))?,
+        };
+        let once = list.add_words(alloc, line)?;
+        self.list = Some(list);
+        Ok(once)
+    }
+
+    pub(crate) fn as_slice(&self) -> &[Name]
+        ensures { result.now ≡ self.now }
+    {
+        match &self.list {
+            Some(list) => list.as_slice(),
+            None => &[],
+        }
+    }
+}

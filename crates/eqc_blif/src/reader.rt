@@ -1,0 +1,185 @@
+ghost use Rattle.std.specs.Prelude.{◌≡◌, IfOk, OnOk, IsTrue, None, []};
+ghost use Rattle.std.specs.List.{list_any};
+ghost use Rattle.eqc_blif.specs.Words.{words, without_blanks};
+ghost use Rattle.eqc_blif.specs.Reading.{start, models, opened, stands_in_model, is_bad_byte};
+ghost use Rattle.eqc_blif.specs.Steps.{Takes, TakesLine, declares};
+
+use crate::declarations::Declarations;
+use crate::kind::{Kind, kind_of};
+use crate::library::Library;
+use crate::name::Name;
+use crate::open_model::OpenModel;
+use crate::words::split_first;
+use indexmap::IndexMap;
+use std::alloc::{AllocError, Global};
+use std::marker::Model;
+
+/// What was read so far: the closed models by their names, and the open one.
+#[derive(Drop)]
+pub(crate) struct Reader {
+    closed: IndexMap<Name, Declarations>,
+    open_model: Option<OpenModel>,
+}
+
+impl Model for Reader {
+    ghost use Rattle.std.specs.Prelude.{◌≡◌, map, true};
+    ghost use Rattle.eqc_blif.specs.Reading.{After};
+    ghost use Rattle.eqc_blif.specs.Steps.{model_of, is_new_name};
+
+    ghost Value = { After };
+
+    ghost view = { λ a. record { closed = map (λ e. model_of e.0 e.1) a.closed.entries; open_model = a.open_model } };
+
+    ghost invariant = { λ a. is_new_name (map (λ e. model_of e.0 e.1) a.closed.entries) a.open_model ≡ true };
+}
+
+fn is_bad_byte(byte: u8) -> bool
+    ensures { result ≡ is_bad_byte byte }
+{
+    ((byte < 32) & (byte != b'\t')) | (byte == 127)
+}
+
+/// Whether a byte of the line is no part of a text. All bytes are looked at, which is faster than to stop at the first.
+fn has_bad_byte(line: &[u8]) -> bool
+    ensures { result ≡ list_any is_bad_byte line.now }
+{
+    let mut found = false;
+    'bytes: for byte in line {
+        found |= is_bad_byte(*byte);
+    }
+    found
+}
+
+fn stands_in_model(kind: Kind) -> bool
+    ensures { result ≡ stands_in_model kind }
+{
+    match kind {
+        Kind::Model | Kind::Skipped => false,
+        _ => true,
+    }
+}
+
+impl Reader {
+    pub(crate) fn new(alloc: Global) -> Reader
+        ensures { result ≡ start }
+    {
+        Reader {
+            closed: IndexMap::new(alloc),
+            open_model: None,
+        }
+    }
+
+    /// Opens a model without a name before a first statement of another kind than `.model`.
+    fn open_before(&mut self, alloc: Global, kind: Kind) -> Result<(), AllocError>
+        ensures { OnOk result (self.new ≡ opened kind self.old) }
+    {
+        if !stands_in_model(kind) || self.open_model.is_some() || !self.closed.is_empty() {
+            return Ok(());
+        }
+        let name = Name::new(alloc, &[])?;
+        self.open_model = Some(OpenModel::new(alloc, name));
+        Ok(())
+    }
+
+    /// Puts the open model, if there is one, to the closed ones.
+    fn close(&mut self) -> Result<(), AllocError>
+        ensures { OnOk result (self.new ≡ record { closed = models self.old; open_model = None }) }
+    {
+        let Some(mut model) = self.open_model.take() else {
+            return Ok(());
+        };
+        model.close_cover()?;
+        let (name, declarations) = model.into_parts();
+        let _ = self.closed.insert(name, declarations)?;
+        Ok(())
+    }
+
+    /// `.model` with the words of `line`: code 11 where the name was used before.
+    fn take_model(&mut self, alloc: Global, line: &[u8]) -> Result<Option<u8>, AllocError>
+        ensures { IfOk result (λ code. Takes self.old Kind.Model (words line.now) [] code self.new) }
+    {
+        let (word, _) = split_first(line);
+        let name = Name::new(alloc, word)?;
+        self.close()?;
+        if self.closed.contains_key(&name) {
+            return Ok(Some(11));
+        }
+        self.open_model = Some(OpenModel::new(alloc, name));
+        Ok(None)
+    }
+
+    /// `.end`: code 5 where no model is open.
+    fn take_end(&mut self) -> Result<Option<u8>, AllocError>
+        ensures { IfOk result (λ code. Takes self.old Kind.End [] [] code self.new) }
+    {
+        if self.open_model.is_none() {
+            return Ok(Some(5));
+        }
+        self.close()?;
+        Ok(None)
+    }
+
+    /// A statement in the open model; code 5 where none is open. `rest` stands behind the command, `line` is all.
+    fn take_in_model(
+        &mut self,
+        alloc: Global,
+        kind: Kind,
+        rest: &[u8],
+        line: &[u8],
+    ) -> Result<Option<u8>, AllocError>
+        requires { IsTrue (declares kind) }
+        ensures { IfOk result (λ code. Takes self.old kind (words rest.now) (without_blanks line.now) code self.new) }
+    {
+        let Some(model) = &mut self.open_model else {
+            return Ok(Some(5));
+        };
+        let code = model.take(alloc, kind, rest, line)?;
+        Ok(code)
+    }
+
+    /// A statement of some kind; `rest` stands behind the command, `line` is all.
+    fn take_statement(
+        &mut self,
+        alloc: Global,
+        kind: Kind,
+        rest: &[u8],
+        line: &[u8],
+    ) -> Result<Option<u8>, AllocError>
+        ensures { IfOk result (λ code. Takes self.old kind (words rest.now) (without_blanks line.now) code self.new) }
+    {
+        match kind {
+            Kind::Model => self.take_model(alloc, rest),
+            Kind::End => self.take_end(),
+            Kind::Unknown => Ok(Some(3)),
+            Kind::Latch => Ok(Some(4)),
+            Kind::Skipped => Ok(None),
+            _ => self.take_in_model(alloc, kind, rest, line),
+        }
+    }
+
+    /// Takes a logical line, and answers its code where it has one.
+    pub(crate) fn take_line(&mut self, alloc: Global, line: &[u8]) -> Result<Option<u8>, AllocError>
+        ensures { IfOk result (λ code. TakesLine self.old line.now code self.new) }
+    {
+        if has_bad_byte(line) {
+            return Ok(Some(1));
+        }
+        let (word, rest) = split_first(line);
+        let kind = kind_of(word);
+        self.open_before(alloc, kind)?;
+        let code = self.take_statement(alloc, kind, rest, line)?;
+        Ok(code)
+    }
+
+    /// The library of all models that were read.
+    pub(crate) fn finish(mut self) -> Result<Library, AllocError>
+        ensures { IfOk result (λ library. library ≡ models self) }
+    {
+        self.close()?;
+        let Reader {
+            closed,
+            open_model: _,
+        } = self;
+        Ok(Library::new(closed))
+    }
+}

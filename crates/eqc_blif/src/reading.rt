@@ -1,0 +1,38 @@
+ghost use Rattle.std.specs.Prelude.{◌≡◌, ◌⊎◌, IfOk, IfErr, Ok, Err};
+ghost use Rattle.eqc_blif.specs.Reading.{outcome};
+
+use crate::library::Library;
+use crate::lines::Lines;
+use crate::reader::Reader;
+use crate::refusal::Refusal;
+use std::alloc::Global;
+
+/// How many bytes a text may have.
+const MAX_BYTES: usize = 16_777_216;
+
+/// Reads a netlist (BLIF 1992, in the profile of `docs/blif.md`).
+///
+/// The library has the models of the text in their order. Else the refusal is the first fault: code 2 on line 0 for a
+/// text of over 16,777,216 bytes, before all else; codes 1 and 3 to 12 on the first line that has one, with the lowest
+/// of its codes; code 13 on line 0 for a text without a statement. Line 0 with code 72 says that memory was refused.
+pub fn read(alloc: Global, text: &[u8]) -> Result<Library, Refusal>
+    ensures library { IfOk result (λ library. outcome text.now ≡ Ok library) }
+    ensures fault { IfErr result (λ refusal. (refusal ≡ record { line = 0; code = 72 }) ⊎ (outcome text.now ≡ Err (refusal.line, refusal.code))) }
+{
+    if text.len() > MAX_BYTES {
+        return Err(Refusal { line: 0, code: 2 });
+    }
+    let mut lines = Lines::new(text);
+    let mut line = Vec::new(alloc);
+    let mut reader = Reader::new(alloc);
+    'lines: while let Some(number) = lines.next_logical(&mut line)? {
+        if let Some(code) = reader.take_line(alloc, &line)? {
+            return Err(Refusal { line: number, code });
+        }
+    }
+    let library = reader.finish()?;
+    if library.models() == 0 {
+        return Err(Refusal { line: 0, code: 13 });
+    }
+    Ok(library)
+}

@@ -1,0 +1,146 @@
+ghost use Rattle.std.specs.Prelude.{◌≡◌, ◌<◌, ◌++◌, [], ◌∷◌, length, IfOk, IfSome, MatchOption, map};
+ghost use Rattle.std.specs.List.{position_or_len};
+ghost use Rattle.std.specs.Option.{option_map};
+ghost use Rattle.eqc_blif.specs.Lines.{is_blank};
+ghost use Rattle.eqc_blif.specs.Words.{words, first_of, arguments, without_blanks, is_equals_sign};
+ghost use Rattle.eqc_blif.specs.Steps.{ArePairs, IsPair};
+
+use crate::name::Name;
+use std::alloc::{AllocError, Global};
+
+pub(crate) fn is_blank(byte: u8) -> bool
+    ensures { result ≡ is_blank byte }
+{
+    byte == b' ' || byte == b'\t'
+}
+
+/// Where the first blank stands, or the length.
+fn find_blank(bytes: &[u8]) -> usize
+    ensures { result ≡ position_or_len is_blank bytes.now }
+{
+    for (i, byte) in bytes.iter().enumerate() {
+        if is_blank(*byte) {
+            return i;
+        }
+    }
+    bytes.len()
+}
+
+/// The first word of a line, and what stands behind it.
+pub(crate) fn split_word(line: &[u8]) -> Option<(&[u8], &[u8])>
+    ensures words { MatchOption result (words line.now ≡ []) (λ p. words line.now ≡ p.0.now ∷ words p.1.now) }
+    ensures blanks { MatchOption result (without_blanks line.now ≡ []) (λ p. without_blanks line.now ≡ p.0.now ++ without_blanks p.1.now) }
+    ensures shorter { IfSome result (λ p. length p.1.now < length line.now) }
+{
+    let mut rest = line;
+    'blanks: loop {
+        let end = find_blank(rest);
+        if end >= rest.len() {
+            break;
+        }
+        if end > 0 {
+            return Some((&rest[..end], &rest[end + 1..]));
+        }
+        rest = &rest[1..];
+    }
+    if rest.is_empty() {
+        return None;
+    }
+    Some((rest, &[]))
+}
+
+/// The first word of a line, which is empty where there is none, and what stands behind it.
+pub(crate) fn split_first(line: &[u8]) -> (&[u8], &[u8])
+    ensures first { result.0.now ≡ first_of (words line.now) }
+    ensures behind { words result.1.now ≡ arguments line.now }
+{
+    match split_word(line) {
+        Some((word, rest)) => (word, rest),
+        None => (&[], &[]),
+    }
+}
+
+/// The number of words in a line.
+fn count_words(line: &[u8]) -> usize
+    ensures { result ≡ length (words line.now) }
+{
+    let mut count = 0;
+    let mut rest = line;
+    'words: while let Some((_, others)) = split_word(rest) {
+        count += 1;
+        rest = others;
+    }
+    count
+}
+
+/// Room for the words of a line: for a few, one more than the blanks, and else as many as there are.
+pub(crate) fn room_for_words(line: &[u8]) -> usize {
+    let mut blanks = 0usize;
+    'bytes: for byte in line {
+        blanks = blanks.saturating_add(is_blank(*byte) as usize);
+    }
+    if blanks < 16 {
+        blanks + 1
+    } else {
+        count_words(line)
+    }
+}
+
+/// The words of a line, as names. Fails where memory is refused.
+pub(crate) fn names_in(alloc: Global, line: &[u8]) -> Result<Vec<Name>, AllocError>
+    ensures { IfOk result (λ names. names.items ≡ words line.now) }
+{
+    let mut names = Vec::with_capacity(alloc, room_for_words(line))?;
+    let mut rest = line;
+    'words: while let Some((word, others)) = split_word(rest) {
+        names.push(Name::new(alloc, word)?)?;
+        rest = others;
+    }
+    Ok(names)
+}
+
+/// Where the first `=` stands, or the length.
+fn find_equals_sign(word: &[u8]) -> usize
+    ensures { result ≡ position_or_len is_equals_sign word.now }
+{
+    for (i, byte) in word.iter().enumerate() {
+        if *byte == b'=' {
+            return i;
+        }
+    }
+    word.len()
+}
+
+/// The formal and the actual of a pair, split at its first `=`, or `None` where there is no `=` or one of them is empty.
+fn split_pair(word: &[u8]) -> Option<(&[u8], &[u8])>
+    ensures { IsPair word.now (option_map (λ p. (p.0.now, p.1.now)) result) }
+{
+    let end = find_equals_sign(word);
+    if end >= word.len() {
+        return None;
+    }
+    let formal = &word[..end];
+    let actual = &word[end + 1..];
+    if formal.is_empty() || actual.is_empty() {
+        return None;
+    }
+    Some((formal, actual))
+}
+
+/// The words of a line as pairs of formal and actual, or `None` where one of them is no pair. Fails where memory is
+/// refused.
+pub(crate) fn pairs_in(alloc: Global, line: &[u8]) -> Result<Option<Vec<(Name, Name)>>, AllocError>
+    ensures { IfOk result (λ pairs. ArePairs (words line.now) (option_map (λ v. v.items) pairs)) }
+{
+    let mut pairs = Vec::with_capacity(alloc, room_for_words(line))?;
+    let mut rest = line;
+    'words: while let Some((word, others)) = split_word(rest) {
+        let Some((formal, actual)) = split_pair(word) else {
+            return Ok(None);
+        };
+        let pair = (Name::new(alloc, formal)?, Name::new(alloc, actual)?);
+        pairs.push(pair)?;
+        rest = others;
+    }
+    Ok(Some(pairs))
+}
