@@ -1,0 +1,95 @@
+-- A flat netlist: numbered signals, each with what drives it, and the value of each under values of the inputs.
+use Rattle.std.specs.Prelude.{◌≡◌, ℕ, zero, suc, ◌<◌, ◌≤◌, Bool, true, false, ◌||◌, ◌&&◌, List, [], ◌∷◌, length, map, slice_index_or, ◌==◌}
+use Rattle.std.specs.List.{list_all}
+use Rattle.eqc_blif.specs.Cover.{cover_value}
+use Rattle.eqc_blif.specs.Names.{has_twice}
+
+-- what drives a signal: the input at a position, the signal at the other end of a tie, or a cover over
+-- signals with the rows of a number
+pub data DriverOf : Type 0 where
+  input : (position : ℕ) → DriverOf
+  tie : (other : ℕ) → DriverOf
+  cover : (columns : List ℕ) (rows : ℕ) → DriverOf
+
+-- a flat netlist: the names of its inputs and outputs, the signals of the outputs, each signal's instance and
+-- name, each instance's parent and position there (instance 0, the main model, has none), each signal's
+-- driver, the rows of covers, and an order of the signals
+pub record FlatOf : Type 0 where
+  pub inputs : List (List ℕ)
+  pub outputs : List (List ℕ)
+  pub output_signals : List ℕ
+  pub signals : List (ℕ × List ℕ)
+  pub places : List (ℕ × ℕ)
+  pub drivers : List DriverOf
+  pub rows : List (List (List ℕ))
+  pub steps : List ℕ
+
+-- the driver of a signal
+abbrev pub driver_at : FlatOf → ℕ → DriverOf
+driver_at f s = slice_index_or f.drivers s (input 0)
+
+-- the signals that a driver depends on
+abbrev pub dependencies : DriverOf → List ℕ
+dependencies (input position) = []
+dependencies (tie other) = other ∷ []
+dependencies (cover columns rows) = columns
+
+-- what a driver makes of the values a of the inputs and v of the signals
+abbrev pub driven : List (List (List ℕ)) → (ℕ → Bool) → (ℕ → Bool) → DriverOf → Bool
+driven rows a v (input position) = a position
+driven rows a v (tie other) = v other
+driven rows a v (cover columns r) = cover_value (slice_index_or rows r []) (map v columns)
+
+-- the values after some rounds, in each of which every signal follows its driver
+unfoldable pub settled : FlatOf → (ℕ → Bool) → ℕ → ℕ → Bool
+settled f a zero s = false
+settled f a (suc rounds) s = driven f.rows a (settled f a rounds) (driver_at f s)
+
+-- the value of a signal: after as many rounds as there are signals
+unfoldable pub value_of : FlatOf → (ℕ → Bool) → ℕ → Bool
+value_of f a s = settled f a (length f.drivers) s
+
+-- whether a number is in a list
+abbrev pub among : List ℕ → ℕ → Bool
+among [] x = false
+among (y ∷ ys) x = (y == x) || among ys x
+
+-- whether each signal stands after all that it depends on, those of `done` standing before
+abbrev pub in_order : (ℕ → List ℕ) → List ℕ → List ℕ → Bool
+in_order deps done [] = true
+in_order deps done (s ∷ ss) = list_all (among done) (deps s) && in_order deps (s ∷ done) ss
+
+-- whether all that a signal depends on, that depends on, and so on, ends within so many steps
+abbrev pub ends_within : (ℕ → List ℕ) → ℕ → ℕ → Bool
+ends_within deps zero s = false
+ends_within deps (suc steps) s = list_all (ends_within deps steps) (deps s)
+
+-- whether a driver speaks of inputs, signals and rows that are there
+abbrev pub IsWithin : FlatOf → DriverOf → Type 0
+IsWithin f (input position) = position < length f.inputs
+IsWithin f (tie other) = other < length f.drivers
+IsWithin f (cover columns rows) = ((k : ℕ) → k < length columns → slice_index_or columns k 0 < length f.drivers) × (rows < length f.rows)
+
+-- what holds of every flat netlist
+pub record IsFlat (f : FlatOf) : Type 0 where
+  -- its sizes
+  pub few_inputs : length f.inputs ≤ 2048
+  pub few_signals : length f.drivers ≤ 1048576
+  pub each_named : length f.signals ≡ length f.drivers
+  pub each_output : length f.output_signals ≡ length f.outputs
+  -- no name stands twice among its inputs, nor among its outputs
+  pub inputs_differ : has_twice f.inputs ≡ false
+  pub outputs_differ : has_twice f.outputs ≡ false
+  -- each signal that it speaks of is there
+  pub outputs_within : (o : ℕ) → o < length f.outputs → slice_index_or f.output_signals o 0 < length f.drivers
+  pub drivers_within : (s : ℕ) → s < length f.drivers → IsWithin f (driver_at f s)
+  pub steps_within : (k : ℕ) → k < length f.steps → slice_index_or f.steps k 0 < length f.drivers
+  -- the steps have each signal once, after those that it depends on
+  pub ordered : in_order (λ s. dependencies (driver_at f s)) [] f.steps ≡ true
+  pub each_step : (s : ℕ) → s < length f.drivers → among f.steps s ≡ true
+  pub step_count : length f.steps ≡ length f.drivers
+  pub once : (i j : ℕ) → i < length f.steps → j < length f.steps → slice_index_or f.steps i 0 ≡ slice_index_or f.steps j 0 → i ≡ j
+
+-- every signal's value is what its driver makes of the values
+abbrev pub FollowsDrivers : FlatOf → Type 0
+FollowsDrivers f = (a : ℕ → Bool) (s : ℕ) → s < length f.drivers → value_of f a s ≡ driven f.rows a (value_of f a) (driver_at f s)

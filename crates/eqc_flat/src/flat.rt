@@ -1,0 +1,145 @@
+ghost use Rattle.std.specs.Prelude.{◌≡◌, ◌<◌, ◌≤◌, ◌-◌, length, slice_index_or, [], map};
+ghost use Rattle.eqc_flat.specs.Graph.{driver_at, FollowsDrivers, IsFlat};
+ghost use Rattle.eqc_flat.specs.Drivers.{driver_of};
+
+use crate::driver::Driver;
+use eqc_blif::Name;
+use std::marker::Model;
+
+/// A flat netlist over the names and rows of a library: numbered signals, each with its driver.
+#[derive(Drop)]
+pub struct Flat<'a> {
+    inputs: &'a [Name],
+    outputs: &'a [Name],
+    output_signals: Vec<u32>,
+    signals: Vec<(u32, &'a [u8])>,
+    places: Vec<(u32, u32)>,
+    drivers: Vec<Driver>,
+    rows: Vec<&'a [Name]>,
+    steps: Vec<u32>,
+}
+
+impl<'a> Model for Flat<'a> {
+    ghost use Rattle.std.specs.Prelude.{map};
+    ghost use Rattle.eqc_flat.specs.Graph.{FlatOf, IsFlat};
+
+    ghost Value = { FlatOf };
+
+    ghost use Rattle.eqc_flat.specs.Drivers.{driver_of};
+
+    ghost view = { λ a. record {
+      inputs = a.inputs.now;
+      outputs = a.outputs.now;
+      output_signals = a.output_signals.items;
+      signals = map (λ p. (p.0, p.1.now)) a.signals.items;
+      places = a.places.items;
+      drivers = map driver_of a.drivers.items;
+      rows = map (λ r. r.now) a.rows.items;
+      steps = a.steps.items;
+    } };
+
+    ghost invariant = { λ a. IsFlat (record {
+      inputs = a.inputs.now;
+      outputs = a.outputs.now;
+      output_signals = a.output_signals.items;
+      signals = map (λ p. (p.0, p.1.now)) a.signals.items;
+      places = a.places.items;
+      drivers = map driver_of a.drivers.items;
+      rows = map (λ r. r.now) a.rows.items;
+      steps = a.steps.items;
+    }) };
+}
+
+impl<'a> Flat<'a> {
+    /// A flat netlist of these parts.
+    #[allow(clippy::too_many_arguments)]
+    pub(crate) fn new(
+        inputs: &'a [Name],
+        outputs: &'a [Name],
+        output_signals: Vec<u32>,
+        signals: Vec<(u32, &'a [u8])>,
+        places: Vec<(u32, u32)>,
+        drivers: Vec<Driver>,
+        rows: Vec<&'a [Name]>,
+        steps: Vec<u32>,
+    ) -> Flat<'a>
+        requires { IsFlat (record {
+          inputs = inputs.now;
+          outputs = outputs.now;
+          output_signals = output_signals.items;
+          signals = map (λ p. (p.0, p.1.now)) signals.items;
+          places = places.items;
+          drivers = map driver_of drivers.items;
+          rows = map (λ r. r.now) rows.items;
+          steps = steps.items;
+        }) }
+        ensures { result ≡ record {
+          inputs = inputs.now;
+          outputs = outputs.now;
+          output_signals = output_signals.items;
+          signals = map (λ p. (p.0, p.1.now)) signals.entry.items;
+          places = places.items;
+          drivers = map driver_of drivers.items;
+          rows = map (λ r. r.now) rows.entry.items;
+          steps = steps.items;
+        } }
+    {
+        Flat {
+            inputs,
+            outputs,
+            output_signals,
+            signals,
+            places,
+            drivers,
+            rows,
+            steps,
+        }
+    }
+
+    /// The names of the main model's inputs, in its order.
+    pub fn inputs(&self) -> &[Name]
+        ensures names { result.now ≡ self.now.inputs }
+        ensures lawful { IsFlat self.now }
+    {
+        self.inputs
+    }
+
+    /// The names of the main model's outputs, in its order.
+    pub fn outputs(&self) -> &[Name]
+        ensures { result.now ≡ self.now.outputs }
+    {
+        self.outputs
+    }
+
+    /// The signal of each output.
+    pub fn output_signals(&self) -> &[u32]
+        ensures { result.now ≡ self.now.output_signals }
+    {
+        self.output_signals.as_slice()
+    }
+
+    /// The signals, each once and after those that it depends on.
+    pub fn steps(&self) -> &[u32]
+        ensures steps { result.now ≡ self.now.steps }
+        ensures lawful { IsFlat self.now }
+        ensures follows { FollowsDrivers self.now }
+    {
+        self.steps.as_slice()
+    }
+
+    /// What drives signal `s`, which is one of this netlist.
+    pub fn driver(&self, s: u32) -> &Driver
+        requires { s < length self.now.drivers }
+        ensures { driver_of result.now ≡ driver_at self.now s }
+    {
+        &self.drivers[s as usize]
+    }
+
+    /// The rows of number `r`, which the driver of a signal of this netlist names.
+    pub fn rows(&self, r: u32) -> &[Name]
+        requires { r < length self.now.rows }
+        ensures { result.now ≡ slice_index_or self.now.rows r [] }
+    {
+        self.rows[r as usize]
+    }
+}

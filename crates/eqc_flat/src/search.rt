@@ -1,0 +1,101 @@
+ghost use Rattle.std.specs.Prelude.{◌≡◌, ℕ, ◌+◌, ◌^◌, ◌<◌, ◌≤◌, List, [], ◌∷◌, length, vec_len, IfOk, OnOk, true, false, ◌++◌, ◌-◌, ◌↔◌, take, slice_set, IsTrue};
+ghost use Rattle.eqc_flat.specs.Graph.{among, ends_within};
+ghost use Rattle.eqc_flat.specs.Searching.{stage_at, IsClosed, IsSearch};
+
+use crate::graph::Graph;
+use std::alloc::{AllocError, Global};
+
+/// How far the search is with a node.
+#[derive(Clone, Copy)]
+pub(crate) enum Stage {
+    Fresh,
+    Open,
+    Done,
+}
+
+/// A search in depth along dependencies, which puts each node behind all that it depends on.
+#[derive(Drop)]
+pub(crate) struct Search {
+    stages: Vec<Stage>,
+    order: Vec<u32>,
+}
+
+impl Search {
+    pub(crate) fn new(alloc: Global, nodes: usize) -> Result<Search, AllocError>
+        ensures { IfOk result (λ search. (deps : ℕ → List ℕ) → IsSearch deps nodes search.stages.items [] search.order.items) }
+    {
+        Ok(Search {
+            stages: vec![in alloc; Stage::Fresh; nodes]?,
+            order: Vec::with_capacity(alloc, nodes)?,
+        })
+    }
+
+    /// Puts `root` and all that it leads to into the order. Answers false where one of these depends on itself.
+    pub(crate) fn visit<G: Graph>(
+        &mut self,
+        alloc: Global,
+        graph: &G,
+        root: u32,
+    ) -> Result<bool, AllocError>
+        requires within { root < G.size graph.now }
+        requires closed { IsClosed (G.deps graph.now) (G.size graph.now) }
+        requires searching { IsSearch (G.deps graph.now) (G.size graph.now) self.old.stages.items [] self.old.order.items }
+        ensures searching { IfOk result (λ ends. ends ≡ true → IsSearch (G.deps graph.now) (G.size graph.now) self.new.stages.items [] self.new.order.items) }
+        ensures placed { IfOk result (λ ends. ends ≡ true → among self.new.order.items root ≡ true) }
+        ensures kept { IfOk result (λ ends. ends ≡ true → (s : ℕ) → among self.old.order.items s ≡ true → among self.new.order.items s ≡ true) }
+        ensures cyclic { IfOk result (λ ends. ends ≡ false → (steps : ℕ) → ends_within (G.deps graph.now) steps root ≡ false) }
+    {
+        let mut path: Vec<(u32, usize)> = Vec::new(alloc);
+        if self.is_done(root) {
+            return Ok(true);
+        }
+        self.enter(&mut path, root)?;
+        'path: while !path.is_empty() {
+            let top = path.len() - 1;
+            let (node, k) = path[top];
+            let Some(next) = graph.dependency(node, k) else {
+                self.leave(&mut path, node)?;
+                continue;
+            };
+            match self.stages[next as usize] {
+                Stage::Fresh => self.enter(&mut path, next)?,
+                Stage::Open => return Ok(false),
+                Stage::Done => path[top] = (node, k + 1),
+            }
+        }
+        Ok(true)
+    }
+
+    /// Whether the search is done with a node.
+    fn is_done(&self, node: u32) -> bool
+        requires { node < vec_len self.now.stages }
+        ensures { IsTrue result ↔ (stage_at self.now.stages.items node ≡ Stage.Done) }
+    {
+        matches!(self.stages[node as usize], Stage::Done)
+    }
+
+    /// Puts a node onto the path.
+    fn enter(&mut self, path: &mut Vec<(u32, usize)>, node: u32) -> Result<(), AllocError>
+        requires { node < vec_len self.old.stages }
+        ensures stages { OnOk result (self.new.stages.items ≡ slice_set self.old.stages.items node Stage.Open) }
+        ensures path { OnOk result (path.new.items ≡ path.old.items ++ (node, 0) ∷ []) }
+        ensures order { self.new.order.items ≡ self.old.order.items }
+    {
+        path.push((node, 0))?;
+        self.stages[node as usize] = Stage::Open;
+        Ok(())
+    }
+
+    /// Takes the last node from the path and puts it at the end of the order.
+    fn leave(&mut self, path: &mut Vec<(u32, usize)>, node: u32) -> Result<(), AllocError>
+        requires { node < vec_len self.old.stages }
+        ensures stages { OnOk result (self.new.stages.items ≡ slice_set self.old.stages.items node Stage.Done) }
+        ensures path { OnOk result (path.new.items ≡ take (vec_len path.old - 1) path.old.items) }
+        ensures order { OnOk result (self.new.order.items ≡ self.old.order.items ++ node ∷ []) }
+    {
+        self.order.push(node)?;
+        self.stages[node as usize] = Stage::Done;
+        let _ = path.pop();
+        Ok(())
+    }
+}
