@@ -1,0 +1,117 @@
+-- The functions of matched netlists' outputs, and what of them differs.
+use Rattle.std.proofs.Common.{◌≡◌, ◌≢◌, ℕ, zero, suc, ◌+◌, ◌<◌, ◌≤◌, Bool, true, false, not, List, [], ◌∷◌, ◌++◌, length, map, find, get_or, take, refl, sym, ◌∙◌, ap, arith, Option, Some, None, subst, Vec, Global, IfSome}
+use Rattle.std.specs.Option.{option_map, option_or}
+use Rattle.std.specs.List.{All}
+use Rattle.std.proofs.lemmas.List.{take_more, get_or_default}
+use Rattle.eqc_tree.specs.Holding.{Entry, says}
+use Rattle.eqc_tree.specs.Operation.{operate}
+use Rattle.eqc_tree.specs.declared.operation.Op.TheVariants.{Xor}
+use Rattle.eqc_blif.specs.Cover.{cover_value}
+use Rattle.eqc_flat.specs.Graph.{FlatOf, IsFlat, IsWithin, DriverOf, input, tie, cover, driver_at, dependencies, driven, settled, value_of}
+use Rattle.eqc_check.specs.Building.{IsBuilt, AreVariables, inputs_under, reference_of}
+use Rattle.eqc_check.specs.Assigned.{assigned, AreDistinct, DependsOnlyOn}
+use Rattle.eqc_check.specs.Verdict.{NetlistOf, assignments, position_of, values_for, is_different, first_value, second_value, differs_under, least_difference, first_difference}
+use Rattle.eqc_check.specs.Sides.{AreMatched, netlist_of, differ_at, found_at}
+use Rattle.eqc_check.proofs.MatchedLemmas.{place_of_name, assigned_value}
+use Rattle.eqc_check.proofs.FindLemmas.{find_agrees}
+
+pub xor_differs : (x y : Bool) → is_different x y ≡ operate Xor x y
+xor_differs true y = refl
+xor_differs false y = refl
+
+-- the values of columns that agree
+map_agrees : (v w : ℕ → Bool) (n : ℕ) (columns : List ℕ) → ((x : ℕ) → x < n → v x ≡ w x) → ((k : ℕ) → k < length columns → get_or columns k 0 < n) → map v columns ≡ map w columns
+map_agrees v w n [] same within = refl
+map_agrees v w n (x ∷ columns) same within =
+    let here : v x ≡ w x = same x (within 0 (omega arith)) in
+    let others = map_agrees v w n columns same (λ k h. within (suc k) (omega arith)) in
+    cc
+
+driven_agrees : (f : FlatOf) (a b v w : ℕ → Bool) (driver : DriverOf) → ((p : ℕ) → p < length f.inputs → a p ≡ b p) → ((x : ℕ) → x < length f.drivers → v x ≡ w x) → IsWithin f driver → driven f.rows a v driver ≡ driven f.rows b w driver
+driven_agrees f a b v w (input position) ab vw within = ab position within
+driven_agrees f a b v w (tie other) ab vw within = vw other within
+driven_agrees f a b v w (cover columns rows) ab vw within = ap (cover_value (get_or f.rows rows [])) (map_agrees v w (length f.drivers) columns vw within.0)
+
+settled_agrees : (f : FlatOf) (a b : ℕ → Bool) (rounds s : ℕ) → IsFlat f → ((p : ℕ) → p < length f.inputs → a p ≡ b p) → s < length f.drivers → settled f a rounds s ≡ settled f b rounds s
+unfolding settled
+settled_agrees f a b zero s h ab inside = refl
+settled_agrees f a b (suc rounds) s h ab inside = driven_agrees f a b (settled f a rounds) (settled f b rounds) (driver_at f s) ab (λ x within. settled_agrees f a b rounds x h ab within) (h.drivers_within s inside)
+
+-- values depend on the inputs alone
+pub value_agrees : (f : FlatOf) (a b : ℕ → Bool) (s : ℕ) → IsFlat f → ((p : ℕ) → p < length f.inputs → a p ≡ b p) → s < length f.drivers → value_of f a s ≡ value_of f b s
+unfolding value_of
+value_agrees f a b s h ab inside = settled_agrees f a b (length f.drivers) s h ab inside
+
+-- a signal's function depends on the variables of the inputs alone
+pub first_depends : {X : Type 0} (entry : X → Entry) (f g : FlatOf) (variables second_variables second_signals : List ℕ) (n : ℕ) (table : List (Option X)) (s : ℕ) (r : X) → IsFlat f → AreMatched f g variables second_variables second_signals n → IsBuilt entry f variables table → s < length f.drivers → reference_of table s ≡ Some r → DependsOnlyOn variables (says (entry r))
+first_depends entry f g variables second_variables second_signals n table s r h m b inside is x y same =
+    b.values s r is x ∙ (value_agrees f (inputs_under variables x) (inputs_under variables y) s h (λ p within. same p (omega (arith, m.first.size))) inside ∙ sym (b.values s r is y))
+
+pub second_depends : {X : Type 0} (entry : X → Entry) (f g : FlatOf) (variables second_variables second_signals : List ℕ) (n : ℕ) (table : List (Option X)) (s : ℕ) (r : X) → IsFlat g → AreMatched f g variables second_variables second_signals n → IsBuilt entry g second_variables table → s < length g.drivers → reference_of table s ≡ Some r → DependsOnlyOn variables (says (entry r))
+second_depends entry f g variables second_variables second_signals n table s r h m b inside is x y same =
+    b.values s r is x ∙ (value_agrees g (inputs_under second_variables x) (inputs_under second_variables y) s h
+    (λ p within. rw (m.same p within) (same (position_of f.inputs (get_or g.inputs p [])) (omega (arith, m.first.size, m.inputs p within)))) inside ∙ sym (b.values s r is y))
+
+-- an output of the first netlist under an assignment, and the second's of its name
+first_value_is : (f g : FlatOf) (variables second_variables second_signals : List ℕ) (n o : ℕ) (a : List Bool) → IsFlat f → AreMatched f g variables second_variables second_signals n → o < length f.outputs → first_value (netlist_of f) (get_or f.outputs o []) a ≡ value_of f (inputs_under variables (assigned variables a)) (get_or f.output_signals o 0)
+first_value_is f g variables second_variables second_signals n o a h m inside =
+    ap (λ k. value_of f (values_for f.inputs a f.inputs) (get_or f.output_signals k 0)) (place_of_name f.outputs o h.outputs_differ inside)
+    ∙ value_agrees f (values_for f.inputs a f.inputs) (inputs_under variables (assigned variables a)) (get_or f.output_signals o 0) h (λ p within. sym (own p within)) (h.outputs_within o inside)
+  where
+    own : (p : ℕ) → p < length f.inputs → assigned variables a (get_or variables p 0) ≡ values_for f.inputs a f.inputs p
+    own p within =
+        let place : position_of f.inputs (get_or f.inputs p []) ≡ p = place_of_name f.inputs p h.inputs_differ within in
+        let P : ℕ → Type 0 = λ k. k < length variables → assigned variables a (get_or variables k 0) ≡ values_for f.inputs a f.inputs p in
+        subst P place (assigned_value variables f.inputs f.inputs a p m.distinct) (omega (arith, m.first.size))
+
+second_value_is : (f g : FlatOf) (variables second_variables second_signals : List ℕ) (n o : ℕ) (a : List Bool) → IsFlat g → AreMatched f g variables second_variables second_signals n → o < length f.outputs → second_value (netlist_of f) (netlist_of g) (get_or f.outputs o []) a ≡ value_of g (inputs_under second_variables (assigned variables a)) (get_or second_signals o 0)
+second_value_is f g variables second_variables second_signals n o a h m inside =
+    ap (value_of g (values_for f.inputs a g.inputs)) (sym (m.signals o inside))
+    ∙ value_agrees g (values_for f.inputs a g.inputs) (inputs_under second_variables (assigned variables a)) (get_or second_signals o 0) h
+    (λ p within. rw (m.same p within) (sym (assigned_value variables f.inputs g.inputs a p m.distinct (omega (arith, m.first.size, m.inputs p within))))) (m.within o inside)
+
+-- where two diagrams differ is where the output does
+pub difference_is : {X : Type 0} (entry : X → Entry) (f g : FlatOf) (variables second_variables second_signals : List ℕ) (n o : ℕ) (first second : List (Option X)) (x y : X) → IsFlat f → IsFlat g → AreMatched f g variables second_variables second_signals n → o < length f.outputs → IsBuilt entry f variables first → IsBuilt entry g second_variables second → reference_of first (get_or f.output_signals o 0) ≡ Some x → reference_of second (get_or second_signals o 0) ≡ Some y
+    → find (λ a. is_different (says (entry x) (assigned variables a)) (says (entry y) (assigned variables a))) (assignments (length variables)) ≡ least_difference (netlist_of f) (netlist_of g) (get_or f.outputs o [])
+difference_is entry f g variables second_variables second_signals n o first second x y hf hg m inside bf bg ix iy =
+    rw m.first.size (find_agrees (length f.inputs) (λ a. is_different (says (entry x) (assigned variables a)) (says (entry y) (assigned variables a))) (differs_under (netlist_of f) (netlist_of g) (get_or f.outputs o []))
+    (λ a long.
+    let p : says (entry x) (assigned variables a) ≡ first_value (netlist_of f) (get_or f.outputs o []) a = bf.values (get_or f.output_signals o 0) x ix (assigned variables a) ∙ sym (first_value_is f g variables second_variables second_signals n o a hf m inside) in
+    let q : says (entry y) (assigned variables a) ≡ second_value (netlist_of f) (netlist_of g) (get_or f.outputs o []) a = bg.values (get_or second_signals o 0) y iy (assigned variables a) ∙ sym (second_value_is f g variables second_variables second_signals n o a hg m inside) in
+    rw (p, q) refl))
+
+-- the first difference of one output more
+first_push : (f g : NetlistOf) (outputs : List (List ℕ)) (output : List ℕ) → first_difference f g (outputs ++ output ∷ []) ≡ option_or (first_difference f g outputs) (option_map (λ a. (output, a)) (least_difference f g output))
+first_push f g [] output = or_none (option_map (λ a. (output, a)) (least_difference f g output))
+  where
+    or_none : {A : Type 0} (o : Option A) → option_or o None ≡ o
+    or_none None = refl
+    or_none (Some x) = refl
+first_push f g (p ∷ outputs) output = ap (option_or (option_map (λ a. (p, a)) (least_difference f g p))) (first_push f g outputs output) ∙ or_assoc (option_map (λ a. (p, a)) (least_difference f g p)) (first_difference f g outputs) (option_map (λ a. (output, a)) (least_difference f g output))
+  where
+    or_assoc : {A : Type 0} (x y z : Option A) → option_or x (option_or y z) ≡ option_or (option_or x y) z
+    or_assoc None y z = refl
+    or_assoc (Some x) y z = refl
+
+found_or : (f : FlatOf) (x y : Option (ℕ × Vec Bool Global)) → found_at f (option_or x y) ≡ option_or (found_at f x) (found_at f y)
+found_or f None y = refl
+found_or f (Some p) y = refl
+
+found_map : (f : FlatOf) (o : ℕ) (here : Option (Vec Bool Global)) → found_at f (option_map (λ v. (o, v)) here) ≡ option_map (λ a. (get_or f.outputs o [], a)) (option_map (λ v. v.items) here)
+found_map f o None = refl
+found_map f o (Some v) = refl
+
+-- what was found before, or else here, is the first of one output more
+pub found_next : (f g : FlatOf) (o : ℕ) (found next : Option (ℕ × Vec Bool Global)) (here : Option (Vec Bool Global)) → o < length f.outputs → next ≡ option_or found (option_map (λ v. (o, v)) here) → found_at f found ≡ first_difference (netlist_of f) (netlist_of g) (take o f.outputs) → option_map (λ v. v.items) here ≡ least_difference (netlist_of f) (netlist_of g) (get_or f.outputs o []) → found_at f next ≡ first_difference (netlist_of f) (netlist_of g) (take (o + 1) f.outputs)
+found_next f g o found next here h n e is =
+    ap (found_at f) n ∙ (found_or f found (option_map (λ v. (o, v)) here) ∙ (rw (found_map f o here, e, is) refl
+    ∙ sym (ap (first_difference (netlist_of f) (netlist_of g)) (take_more f.outputs o [] h) ∙ first_push (netlist_of f) (netlist_of g) (take o f.outputs) (get_or f.outputs o []))))
+
+pub within_next : (o : ℕ) (found next : Option (ℕ × Vec Bool Global)) (here : Option (Vec Bool Global)) → next ≡ option_or found (option_map (λ v. (o, v)) here) → IfSome found (λ p. p.0 < o) → IfSome next (λ p. p.0 < o + 1)
+within_next o (Some p) next here n h = rw n (omega arith)
+within_next o None next None n h = rw n tt
+within_next o None next (Some v) n h = rw n (omega arith)
+
+-- variables that are below a number
+pub below_all : (variables : List ℕ) (n : ℕ) → ((p : ℕ) → p < length variables → get_or variables p 0 < n) → All (λ v. v < n) variables
+below_all variables n below = λ k d h. rw (get_or_default variables k d 0 h) (below k h)

@@ -1,0 +1,163 @@
+-- Lists of names: whether one is among them, where it stands, and whether one stands twice.
+use Rattle.std.proofs.Common.{◌≡◌, ℕ, suc, Bool, true, false, not, ◌||◌, cond, List, [], ◌∷◌, ◌++◌, map, refl, sym, ◌∙◌, ap, nat_eq, nat_lt, inl, inr, arith, ◌+◌, ◌<◌, length, take, drop, get_or, ltb, Some, None, position, Bor, if◌then◌else◌}
+use Rattle.std.specs.List.{list_any, position_or_len}
+use Rattle.std.specs.Str.{bytes_eq}
+use Rattle.std.proofs.Math.Seq.{split_at}
+use Rattle.std.proofs.lemmas.List.{map-append, take_more, get_or-map, length-map}
+use Rattle.std.proofs.lemmas.List.Folds.{list_any-append, list_all-append, list_all_at}
+use Rattle.std.proofs.lemmas.Bool.{cases_eq, cases_lt, or_parts, or_cases, ne_eqb, eq-eqb, true≢false, false≢true, lt-ltb, le-ltb}
+use Rattle.eqc_blif.specs.Names.{is_named, has_twice}
+use Rattle.eqc_check.specs.Verdict.{position_of}
+use Rattle.eqc_check.specs.Matched.{has_all}
+
+-- the bytes of slices
+abbrev pub bytes_in : List (Bor (List ℕ)) → List (List ℕ)
+bytes_in names = map (λ (name : Bor (List ℕ)). name.now) names
+
+nat_eq-sym : (a b : ℕ) → nat_eq a b ≡ nat_eq b a
+nat_eq-sym a b = elim (cases_eq a b) [
+  | inl same ↦ rw (eq-eqb a b same, eq-eqb b a (sym same)) refl
+  | inr other ↦ rw (ne_eqb a b other, ne_eqb b a (λ e. other (sym e))) refl
+]
+
+pub bytes_eq-sym : (xs ys : List ℕ) → bytes_eq xs ys ≡ bytes_eq ys xs
+bytes_eq-sym [] [] = refl
+bytes_eq-sym [] (y ∷ ys) = refl
+bytes_eq-sym (x ∷ xs) [] = refl
+bytes_eq-sym (x ∷ xs) (y ∷ ys) = rw (nat_eq-sym x y, bytes_eq-sym xs ys) refl
+
+named_append : (names more : List (List ℕ)) (name : List ℕ) → is_named (names ++ more) name ≡ (is_named names name || is_named more name)
+named_append names more name = list_any-append (λ other. bytes_eq name other) names more
+
+-- a new name at the end of names none of which stands twice
+pub once_more : (names : List (List ℕ)) (name : List ℕ) → has_twice names ≡ false → is_named names name ≡ false → has_twice (names ++ name ∷ []) ≡ false
+once_more [] name once fresh = refl
+once_more (x ∷ xs) name once fresh =
+    let parts = or_parts (is_named xs x) (has_twice xs) once in
+    let others = or_parts (bytes_eq name x) (is_named xs name) fresh in
+    rw (named_append xs (name ∷ []) x, parts.0, bytes_eq-sym x name, others.0, once_more xs name parts.1 others.1) refl
+
+-- a name that is among those before it stands twice
+pub twice_there : (names more : List (List ℕ)) (name : List ℕ) → is_named names name ≡ true → has_twice (names ++ name ∷ more) ≡ true
+twice_there [] more name e = absurd (true≢false (sym e))
+twice_there (x ∷ xs) more name e = elim (or_cases (bytes_eq name x) (is_named xs name) e) [
+  | inl here ↦ rw (named_append xs (name ∷ more) x, bytes_eq-sym x name, here) (first_of_or (is_named xs x) (is_named more x) (has_twice (xs ++ name ∷ more)))
+  | inr there ↦ rw (twice_there xs more name there) (last_of_or (is_named (xs ++ name ∷ more) x))
+]
+  where
+    first_of_or : (a b c : Bool) → ((a || (true || b)) || c) ≡ true
+    first_of_or true b c = refl
+    first_of_or false b c = refl
+
+    last_of_or : (a : Bool) → (a || true) ≡ true
+    last_of_or true = refl
+    last_of_or false = refl
+
+-- ---- where a name stands
+
+-- one more slice
+pub bytes_more : (names : List (Bor (List ℕ))) (i : ℕ) (d : Bor (List ℕ)) → i < length names → bytes_in (take (i + 1) names) ≡ bytes_in (take i names) ++ (get_or names i d).now ∷ []
+bytes_more names i d inside = ap bytes_in (take_more names i d inside) ∙ map-append (λ (name : Bor (List ℕ)). name.now) (take i names) (get_or names i d ∷ [])
+
+any_mapped : {A B : Type 0} (p : B → Bool) (f : A → B) (xs : List A) → list_any p (map f xs) ≡ list_any (λ x. p (f x)) xs
+any_mapped p f [] = refl
+any_mapped p f (x ∷ xs) = ap (λ b. p (f x) || b) (any_mapped p f xs)
+
+first_mapped : {A B : Type 0} (p : B → Bool) (f : A → B) (xs : List A) → position_or_len p (map f xs) ≡ position_or_len (λ x. p (f x)) xs
+first_mapped p f [] = refl
+first_mapped p f (x ∷ xs) = ap (λ n. cond (not (p (f x))) (1 + n) 0) (first_mapped p f xs)
+
+-- a place among slices is the place among their bytes
+pub position_mapped : (test : List ℕ → Bool) (names : List (Bor (List ℕ))) → position (λ (name : Bor (List ℕ)). test name.now) names ≡ position test (bytes_in names)
+position_mapped test names = sym (rw (first_mapped test (λ (name : Bor (List ℕ)). name.now) names, length-map names (λ (name : Bor (List ℕ)). name.now)) refl)
+
+ltb-suc : (a b : ℕ) → ltb (1 + a) (1 + b) ≡ ltb a b
+ltb-suc a b = elim (cases_lt a b) [
+  | inl less ↦ rw (lt-ltb a b less, lt-ltb (1 + a) (1 + b) (omega arith)) refl
+  | inr more ↦ rw (le-ltb a b more, le-ltb (1 + a) (1 + b) (omega arith)) refl
+]
+
+-- a name is among others exactly where its place is
+pub named_at : (names : List (List ℕ)) (name : List ℕ) → is_named names name ≡ nat_lt (position_of names name) (length names)
+named_at [] name = refl
+named_at (x ∷ xs) name = by (bytes_eq name x) refl (named_at xs name)
+  where
+    by : (b : Bool) → bytes_eq name x ≡ b → is_named xs name ≡ nat_lt (position_of xs name) (length xs) → is_named (x ∷ xs) name ≡ nat_lt (position_of (x ∷ xs) name) (length (x ∷ xs))
+    by true e rest = rw (e, lt-ltb 0 (length (x ∷ xs)) (omega arith)) refl
+    by false e rest = rw e (rest ∙ sym (ap (λ n. ltb (1 + position_of xs name) n) (omega arith) ∙ ltb-suc (position_of xs name) (length xs)))
+
+-- what a search for a name found
+pub named_found : (names : List (List ℕ)) (name : List ℕ) (n : ℕ) → position (λ other. bytes_eq name other) names ≡ Some n → (is_named names name ≡ true) × (position_of names name ≡ n)
+named_found names name n e = by (nat_lt (position_of names name) (length names)) refl
+  where
+    by : (b : Bool) → nat_lt (position_of names name) (length names) ≡ b → (is_named names name ≡ true) × (position_of names name ≡ n)
+    by true h = (named_at names name ∙ h, let f : Some (position_of names name) ≡ Some n = rw h at e in cc)
+    by false h = absurd (let f : None ≡ Some n = rw h at e in cc)
+
+pub named_missing : (names : List (List ℕ)) (name : List ℕ) → position (λ other. bytes_eq name other) names ≡ None → is_named names name ≡ false
+named_missing names name e = by (nat_lt (position_of names name) (length names)) refl
+  where
+    by : (b : Bool) → nat_lt (position_of names name) (length names) ≡ b → is_named names name ≡ false
+    by true h = absurd (let f : Some (position_of names name) ≡ None = rw h at e in cc)
+    by false h = named_at names name ∙ h
+
+-- ---- the set of names so far
+
+-- the set has a name exactly when the names have it
+seen_named : (keys : List (Bor (List ℕ))) (names : List (List ℕ)) (name : List ℕ) → bytes_in keys ≡ names → list_any (λ (key : Bor (List ℕ)). bytes_eq name key.now) keys ≡ is_named names name
+seen_named keys names name e = sym (any_mapped (λ other. bytes_eq name other) (λ (key : Bor (List ℕ)). key.now) keys) ∙ ap (λ xs. list_any (λ other. bytes_eq name other) xs) e
+
+-- a name that the set has stands twice
+pub seen_twice : (keys names : List (Bor (List ℕ))) (i : ℕ) (d : Bor (List ℕ)) (fresh : Bool) → i < length names → bytes_in keys ≡ bytes_in (take i names)
+    → fresh ≡ not (list_any (λ (key : Bor (List ℕ)). bytes_eq (get_or names i d).now key.now) keys) → fresh ≡ false → has_twice (bytes_in names) ≡ true
+seen_twice keys names i d fresh inside e f stale =
+    let name = (get_or names i d).now in
+    let seen : is_named (bytes_in (take i names)) name ≡ true = sym (seen_named keys (bytes_in (take i names)) name e) ∙ by (list_any (λ (key : Bor (List ℕ)). bytes_eq name key.now) keys) (sym f ∙ stale) in
+    let split : bytes_in names ≡ bytes_in (take i names) ++ name ∷ bytes_in (drop (suc i) names) = ap bytes_in (split_at names i d inside) ∙ map-append (λ (name : Bor (List ℕ)). name.now) (take i names) (get_or names i d ∷ drop (suc i) names) in
+    ap has_twice split ∙ twice_there (bytes_in (take i names)) (bytes_in (drop (suc i) names)) name seen
+  where
+    by : (b : Bool) → not b ≡ false → b ≡ true
+    by true h = refl
+    by false h = absurd (true≢false h)
+
+-- a name that the set didn't have
+pub seen_more : (keys new names : List (Bor (List ℕ))) (i : ℕ) (d : Bor (List ℕ)) (fresh : Bool) → i < length names → bytes_in keys ≡ bytes_in (take i names) → has_twice (bytes_in (take i names)) ≡ false
+    → fresh ≡ not (list_any (λ (key : Bor (List ℕ)). bytes_eq (get_or names i d).now key.now) keys) → fresh ≡ true
+    → new ≡ (if list_any (λ (key : Bor (List ℕ)). bytes_eq (get_or names i d).now key.now) keys then keys else keys ++ get_or names i d ∷ [])
+    → (bytes_in new ≡ bytes_in (take (i + 1) names)) × (has_twice (bytes_in (take (i + 1) names)) ≡ false)
+seen_more keys new names i d fresh inside e once f is n =
+    let name = (get_or names i d).now in
+    let absent : list_any (λ (key : Bor (List ℕ)). bytes_eq name key.now) keys ≡ false = by (list_any (λ (key : Bor (List ℕ)). bytes_eq name key.now) keys) (sym f ∙ is) in
+    let unnamed : is_named (bytes_in (take i names)) name ≡ false = sym (seen_named keys (bytes_in (take i names)) name e) ∙ absent in
+    let more = bytes_more names i d inside in
+    let grown : new ≡ keys ++ get_or names i d ∷ [] = n ∙ ap (λ b. if b then keys else keys ++ get_or names i d ∷ []) absent in (
+      ap bytes_in grown ∙ (map-append (λ (name : Bor (List ℕ)). name.now) keys (get_or names i d ∷ []) ∙ (ap (λ l. l ++ name ∷ []) e ∙ sym more)),
+      ap has_twice more ∙ once_more (bytes_in (take i names)) name once unnamed,
+    )
+  where
+    by : (b : Bool) → not b ≡ true → b ≡ false
+    by true h = absurd (false≢true h)
+    by false h = refl
+
+-- ---- the places of names among others
+
+-- one more name whose place was found
+pub place_more : (names : List (List ℕ)) (words : List (Bor (List ℕ))) (i : ℕ) (d : Bor (List ℕ)) (places more : List ℕ) (n : ℕ) → i < length words
+    → has_all names (bytes_in (take i words)) ≡ true → places ≡ map (position_of names) (bytes_in (take i words))
+    → position (λ other. bytes_eq (get_or words i d).now other) names ≡ Some n → more ≡ places ++ n ∷ []
+    → (has_all names (bytes_in (take (i + 1) words)) ≡ true) × (more ≡ map (position_of names) (bytes_in (take (i + 1) words)))
+place_more names words i d places more n inside all is found grown =
+    let word = (get_or words i d).now in
+    let at = named_found names word n found in
+    let one = bytes_more words i d inside in (
+      ap (has_all names) one ∙ (list_all-append (λ name. is_named names name) (bytes_in (take i words)) (word ∷ []) ∙ rw (all, at.0) refl),
+      grown ∙ (ap (λ l. l ++ n ∷ []) is ∙ (ap (λ m. map (position_of names) (bytes_in (take i words)) ++ m ∷ []) (sym at.1) ∙ sym (ap (map (position_of names)) one ∙ map-append (position_of names) (bytes_in (take i words)) (word ∷ [])))),
+    )
+
+-- a name that isn't there
+pub place_missing : (names : List (List ℕ)) (words : List (Bor (List ℕ))) (i : ℕ) (d : Bor (List ℕ)) → i < length words
+    → position (λ other. bytes_eq (get_or words i d).now other) names ≡ None → has_all names (bytes_in words) ≡ false
+place_missing names words i d inside none =
+    let word = (get_or words i d).now in
+    let here : get_or (bytes_in words) i d.now ≡ word = get_or-map (λ (name : Bor (List ℕ)). name.now) words i d d.now inside in
+    list_all_at (λ name. is_named names name) (bytes_in words) i d.now (omega (arith, length-map words (λ (name : Bor (List ℕ)). name.now))) (ap (is_named names) here ∙ named_missing names word none)

@@ -1,0 +1,36 @@
+use Rattle.std.proofs.Common.{sym, ◌∙◌, ap, arith, rules, ℕ, ◌≡◌, length, subst, ◌<◌, get_or}
+use Rattle.eqc_check.specs.Building.{IsBuilding, AreReady}
+use Rattle.eqc_check.proofs.PlanLaws.{read_positive, read_none}
+use Rattle.eqc_check.proofs.BuildLaws.{building_start, building_ready, building_more, building_skip, building_done}
+use Rattle.eqc_check.proofs.build.build.Goals as goal
+use Rattle.eqc_check.proofs.build.build.Goals.{then-index-gt0+in-Ok-build_signal, else-index-gt0}
+
+pub loop-k-init : goal.loop-k-init
+loop-k-init g c = building_start g.D.References.entry c.args.flat.now c.args.variables.now _ _ c.in-Ok-empty_table.table.items (c.in-Ok-empty_table.ensures.size ∙ (ap length c.steps-steps.ensures.steps ∙ c.steps-steps.ensures.lawful.step_count)) c.in-Ok-empty_table.ensures.none
+
+pub build_signal-requires-clause-ready : goal.build_signal-requires-clause-ready
+build_signal-requires-clause-ready g c =
+    let steps = c.steps-steps.ensures.steps in
+    let lawful = c.steps-steps.ensures.lawful in
+    let inside : c.loop-k.k < length c.args.flat.now.steps = omega (arith, ap length steps) in
+    let used = read_positive c.in-Ok.last.items (get_or c.steps-steps.result.now c.loop-k.k 0) c.index.result.now (rw steps (omega (arith, lawful.steps_within c.loop-k.k inside, c.in-Ok.ensures.size))) c.index.ensures c.if-index-gt0.true in
+    rw steps (building_ready g.D.References.entry c.args.flat.now c.args.variables.now c.args.roots.now c.in-Ok.last.items _ _ c.loop-k.table.items c.loop-k.k lawful c.in-Ok.ensures inside (rw steps at used) c.loop-k.invariant)
+
+pub loop-k-preserved : goal.loop-k-preserved
+loop-k-preserved g c =
+    let steps = c.steps-steps.ensures.steps in
+    elim c.if-index-gt0.branch [
+      | then-index-gt0+in-Ok-build_signal w ↦
+          let added = rw steps at w.in-Ok-build_signal.ensures.ok in
+          let released = rw w.deref.ensures.value at w.release.ensures in
+          rw (w.d-is, w.table-is) (building_more g.D.References.entry c.args.flat.now c.args.variables.now c.in-Ok.last.items _ _ _ _ _ _ _ c.loop-k.k c.loop-k.invariant added released)
+      | else-index-gt0 w ↦
+          let inside : c.loop-k.k < length c.args.flat.now.steps = omega (arith, ap length steps) in
+          let none = read_none c.in-Ok.last.items (get_or c.steps-steps.result.now c.loop-k.k 0) c.index.result.now (rw steps (omega (arith, c.steps-steps.ensures.lawful.steps_within c.loop-k.k inside, c.in-Ok.ensures.size))) c.index.ensures w.if-index-gt0.false in
+          rw (w.d-is, w.table-is) (building_skip g.D.References.entry c.args.flat.now c.args.variables.now c.in-Ok.last.items _ _ c.loop-k.table.items c.loop-k.k (rw steps at none) c.loop-k.invariant)
+    ]
+
+pub returns-clause-ready : goal.returns-clause-ready
+returns-clause-ready g c =
+    let at_end : c.loop-k.k ≡ length c.args.flat.now.steps = omega (arith, ap length c.steps-steps.ensures.steps) in
+    building_done g.D.References.entry c.args.flat.now c.args.variables.now c.args.roots.now c.in-Ok.last.items _ _ c.loop-k.table.items c.steps-steps.ensures.lawful c.requires.roots c.in-Ok.ensures (subst (IsBuilding g.D.References.entry c.args.flat.now c.args.variables.now c.in-Ok.last.items _ _ c.loop-k.table.items) at_end c.loop-k.invariant)

@@ -1,0 +1,97 @@
+-- The diagrams of the signals of a flat netlist, while they are built.
+use Rattle.std.specs.Prelude.{◌≡◌, ℕ, ◌+◌, ◌<◌, ◌≤◌, Bool, List, length, Option, Some, None, slice_index, slice_index_or, sum_by, IsSome, slice_set, ◌⊎◌}
+use Rattle.eqc_tree.specs.Holding.{Entry, Holding, copies, weight, says}
+use Rattle.eqc_flat.specs.Graph.{FlatOf, driver_at, dependencies, value_of}
+
+-- the values of the inputs, where an input at a position has the value of its variable
+abbrev pub inputs_under : List ℕ → (ℕ → Bool) → ℕ → Bool
+inputs_under variables a p = a (slice_index variables p)
+
+-- how often an entry is held by what may be a reference
+abbrev pub held_by : {X : Type 0} → (X → Entry) → Entry → Option X → ℕ
+held_by entry e None = 0
+held_by entry e (Some r) = weight (entry r) e
+
+-- how often an entry is held by the references of a table
+abbrev pub tally : {X : Type 0} → (X → Entry) → List (Option X) → Entry → ℕ
+tally entry table e = sum_by (held_by entry e) table
+
+-- what an object holds is what it held before and the references of a table
+pub record Holds {X : Type 0} (entry : X → Entry) (before now : Holding) (table : List (Option X)) : Type 0 where
+  pub variables : now.variables ≡ before.variables
+  pub held : (e : Entry) → copies now e ≡ copies before e + tally entry table e
+
+-- the references of a table are held
+pub record OwnsTable {X : Type 0} (entry : X → Entry) (d : Holding) (table : List (Option X)) : Type 0 where
+  pub held : (e : Entry) → tally entry table e ≤ copies d e
+
+-- an object and a table: what one gains the other gains
+pub record Moves {X : Type 0} (entry : X → Entry) (old : Holding) (old_table : List (Option X)) (new : Holding) (new_table : List (Option X)) : Type 0 where
+  pub variables : new.variables ≡ old.variables
+  pub held : (e : Entry) → copies new e + tally entry old_table e ≡ copies old e + tally entry new_table e
+
+abbrev pub reference_of : {X : Type 0} → List (Option X) → ℕ → Option X
+reference_of table s = slice_index_or table s None
+
+-- the references of a table say the values of their signals
+pub record IsBuilt {X : Type 0} (entry : X → Entry) (f : FlatOf) (variables : List ℕ) (table : List (Option X)) : Type 0 where
+  pub size : length table ≡ length f.drivers
+  pub values : (s : ℕ) (r : X) → reference_of table s ≡ Some r → (a : ℕ → Bool) → says (entry r) a ≡ value_of f (inputs_under variables a) s
+
+-- each of these signals has a reference
+pub record AreReady {X : Type 0} (table : List (Option X)) (signals : List ℕ) : Type 0 where
+  pub each : (k : ℕ) → k < length signals → IsSome (reference_of table (slice_index signals k))
+
+-- each of these signals is there
+pub record AreSignals (f : FlatOf) (signals : List ℕ) : Type 0 where
+  pub each : (k : ℕ) → k < length signals → slice_index signals k < length f.drivers
+
+-- the variables of a netlist's inputs
+pub record AreVariables (f : FlatOf) (variables : List ℕ) (n : ℕ) : Type 0 where
+  pub size : length variables ≡ length f.inputs
+  pub below : (p : ℕ) → p < length variables → slice_index variables p < n
+
+-- for each signal the step, counted from 1, after which it isn't used any more: 0 where it isn't used at all,
+-- one past the steps for a root
+pub record IsPlan (f : FlatOf) (roots last : List ℕ) : Type 0 where
+  pub size : length last ≡ length f.drivers
+  pub of_roots : (k : ℕ) → k < length roots → slice_index last (slice_index roots k) ≡ length f.drivers + 1
+  pub closed : (k c : ℕ) → k < length f.steps → 0 < slice_index last (slice_index f.steps k) → c < length (dependencies (driver_at f (slice_index f.steps k))) → k + 1 ≤ slice_index last (slice_index (dependencies (driver_at f (slice_index f.steps k))) c)
+
+-- a reference came into the table for a signal
+pub record Fills {X : Type 0} (entry : X → Entry) (old : Holding) (old_table : List (Option X)) (new : Holding) (new_table : List (Option X)) (s : ℕ) (r : X) : Type 0 where
+  pub table : new_table ≡ slice_set old_table s (Some r)
+  pub variables : new.variables ≡ old.variables
+  pub held : (e : Entry) → copies new e + tally entry old_table e + weight (entry r) e ≡ copies old e + tally entry new_table e
+
+-- the reference of a signal was given back
+pub record Empties {X : Type 0} (entry : X → Entry) (old : Holding) (old_table : List (Option X)) (new : Holding) (new_table : List (Option X)) (s : ℕ) : Type 0 where
+  pub table : new_table ≡ slice_set old_table s None
+  pub moves : Moves entry old old_table new new_table
+
+-- references of signals whose last use is this step were given back, and no others
+pub record Releases {X : Type 0} (entry : X → Entry) (old : Holding) (old_table : List (Option X)) (new : Holding) (new_table : List (Option X)) (last : List ℕ) (at : ℕ) : Type 0 where
+  pub size : length new_table ≡ length old_table
+  pub moves : Moves entry old old_table new new_table
+  pub kept : (s : ℕ) → (slice_index last s ≡ at → ⊥) → reference_of new_table s ≡ reference_of old_table s
+  pub none_new : (s : ℕ) (r : X) → reference_of new_table s ≡ Some r → reference_of old_table s ≡ Some r
+
+-- a step was noted for those of the first n signals that had none
+pub record IsMarked (old new signals : List ℕ) (n at : ℕ) : Type 0 where
+  pub size : length new ≡ length old
+  pub kept : (s : ℕ) → 0 < slice_index old s → slice_index new s ≡ slice_index old s
+  pub others : (s : ℕ) → slice_index old s ≡ 0 → (slice_index new s ≡ 0) ⊎ ((slice_index new s ≡ at) × ((k : ℕ) × (k < n) × (slice_index signals k ≡ s)))
+  pub noted : (k : ℕ) → k < n → slice_index old (slice_index signals k) ≡ 0 → slice_index new (slice_index signals k) ≡ at
+
+-- a signal has a reference now, and those that had one still have it
+pub record Adds {X : Type 0} (entry : X → Entry) (f : FlatOf) (variables : List ℕ) (old : Holding) (old_table : List (Option X)) (new : Holding) (new_table : List (Option X)) (s : ℕ) : Type 0 where
+  pub moves : Moves entry old old_table new new_table
+  pub built : IsBuilt entry f variables new_table
+  pub here : IsSome (reference_of new_table s)
+  pub kept : (i : ℕ) → IsSome (reference_of old_table i) → IsSome (reference_of new_table i)
+
+-- the first k steps are done: signals that are still used have a reference
+pub record IsBuilding {X : Type 0} (entry : X → Entry) (f : FlatOf) (variables last : List ℕ) (before now : Holding) (table : List (Option X)) (k : ℕ) : Type 0 where
+  pub holds : Holds entry before now table
+  pub built : IsBuilt entry f variables table
+  pub ready : (i : ℕ) → i < k → k + 1 ≤ slice_index last (slice_index f.steps i) → IsSome (reference_of table (slice_index f.steps i))

@@ -1,0 +1,41 @@
+-- Rows of a cover under the value of their first column, and the columns of a cover as diagrams.
+use Rattle.std.specs.Prelude.{◌≡◌, ℕ, ◌<◌, Bool, true, false, List, [], ◌∷◌, map, if◌then◌else◌, ◌==◌, ◌+◌}
+use Rattle.std.specs.List.{list_any, AllByRecursion}
+use Rattle.std.specs.Borrow.{Bor}
+use Rattle.eqc_blif.specs.Cover.{allows, row_matches}
+use Rattle.eqc_tree.specs.Holding.{Entry, Holding, IsHeld, says, copies, weight}
+
+-- whether one of the rows matches
+abbrev pub some_match : List (List ℕ) → List Bool → Bool
+some_match rows vs = list_any (λ r. row_matches r vs) rows
+
+-- the rows that allow this value of their first column, without it
+abbrev pub cofactor : Bool → List (List ℕ) → List (List ℕ)
+cofactor v [] = []
+cofactor v ([] ∷ rows) = [] ∷ cofactor v rows
+cofactor v ((byte ∷ row) ∷ rows) = if allows byte v then row ∷ cofactor v rows else cofactor v rows
+
+-- whether a value is the one that is wanted
+abbrev pub agrees : Bool → Bool → Bool
+agrees true b = b
+agrees false true = false
+agrees false false = true
+
+-- each reference of a list is held
+pub record AreHeld {X : Type 0} (entry : X → Entry) (d : Holding) (rs : List (Bor X)) : Type 0 where
+  pub each : AllByRecursion (λ (r : Bor X). IsHeld d (entry r.now)) rs
+
+-- what references say under an assignment
+abbrev pub said : {X : Type 0} → (X → Entry) → List (Bor X) → (ℕ → Bool) → List Bool
+said entry rs a = map (λ r. says (entry r.now) a) rs
+
+-- the function of two values that has these values where both are false, where only the second is true, where
+-- only the first is, and where both are
+abbrev pub of_two : Bool → Bool → Bool → Bool → Bool → Bool → Bool
+of_two neither one other both x y = if x then (if y then both else other) else (if y then one else neither)
+
+-- one reference in place of another, with this function
+pub record Swaps (old new : Holding) (gone come : Entry) (f : (ℕ → Bool) → Bool) : Type 0 where
+  pub variables : new.variables ≡ old.variables
+  pub held : (e : Entry) → copies new e + weight gone e ≡ copies old e + weight come e
+  pub function : (a : ℕ → Bool) → says come a ≡ f a

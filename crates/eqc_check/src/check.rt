@@ -1,0 +1,86 @@
+ghost use Rattle.std.specs.Prelude.{◌≡◌, ◌≢◌, ◌<◌, ◌≤◌, Bool, true, false, List, length, Some, IfOk, IfErr, slice_index_or, not, []};
+ghost use Rattle.std.specs.List.{zip};
+ghost use Rattle.eqc_check.specs.Verdict.{first_value, differs_under, first_difference};
+ghost use Rattle.eqc_check.specs.Report.{difference_report, comparison, differs};
+ghost use Rattle.eqc_check.specs.ReportView.{report_of};
+ghost use Rattle.eqc_check.specs.Sides.{netlist_of};
+ghost use Rattle.eqc_check.specs.Evaluating.{values_of};
+
+use crate::compare::{Sides, compare_outputs};
+use crate::evaluate::evaluate;
+use crate::pair::Pair;
+use crate::report::Report;
+use eqc_blif::Name;
+use eqc_flat::Flat;
+use eqc_plain::Plain;
+use eqc_tree::Stop;
+use std::alloc::{AllocError, Global};
+
+/// The inputs with their values.
+fn with_values(
+    alloc: Global,
+    inputs: &[Name],
+    values: &[bool],
+) -> Result<Vec<(Name, bool)>, AllocError>
+    requires { length values.now ≡ length inputs.now }
+    ensures { IfOk result (λ pairs. pairs.items ≡ zip inputs.now values.now) }
+{
+    let mut pairs = Vec::with_capacity(alloc, inputs.len())?;
+    for (i, input) in inputs.iter().enumerate() {
+        pairs.push((Name::new(alloc, input.as_bytes())?, values[i]))?;
+    }
+    Ok(pairs)
+}
+
+/// The report on an output that differs under these values of the first netlist's inputs.
+fn differs_report(
+    alloc: Global,
+    first: &Flat<'_>,
+    output: usize,
+    values: &[bool],
+) -> Result<Report, AllocError>
+    requires within { output < length first.now.outputs }
+    requires size { length values.now ≡ length first.now.inputs }
+    ensures { IfOk result (λ report. report_of report ≡ differs (slice_index_or first.now.outputs output []) (zip first.now.inputs values.now)
+        (first_value (netlist_of first.now) (slice_index_or first.now.outputs output []) values.now)
+        (not (first_value (netlist_of first.now) (slice_index_or first.now.outputs output []) values.now))) }
+{
+    let _lawful = first.steps();
+    let signal = first.output_signals()[output];
+    let value = evaluate(alloc, first, values)?[signal as usize];
+    Ok(Report::Differs {
+        name: Name::new(alloc, first.outputs()[output].as_bytes())?,
+        inputs: with_values(alloc, first.inputs(), values)?,
+        first: value,
+        second: !value,
+    })
+}
+
+/// Compares a pair on this thread with a store of `nodes` nodes, 1 to 1,048,574: the report, or why it stopped:
+/// the node limit 71, want of memory 72, the limit of references 73.
+pub fn check_plain<R>(alloc: Global, rt: &R, pair: &Pair<'_>, nodes: u32) -> Result<Report, Stop>
+    requires some { 1 ≤ nodes }
+    requires few { nodes ≤ 1048574 }
+    ensures report { IfOk result (λ report. report_of report ≡ comparison (netlist_of pair.now.first) (netlist_of pair.now.second)) }
+{
+    let first = pair.first();
+    let second = pair.second();
+    let _lawful = second.steps();
+    let sides = Sides {
+        first,
+        second,
+        variables: pair.variables(),
+        second_variables: pair.second_variables(),
+        second_signals: pair.second_signals(),
+    };
+    let inputs = first.inputs().len() as u16;
+    let mut d = Plain::new(alloc, inputs, nodes)?;
+    let found = compare_outputs(alloc, rt, &mut d, sides)?;
+    match found {
+        None => Ok(Report::Equivalent),
+        Some((output, values)) => match differs_report(alloc, first, output, &values) {
+            Ok(report) => Ok(report),
+            Err(_) => Err(Stop::Memory),
+        },
+    }
+}

@@ -1,0 +1,35 @@
+//! Compares two netlists and reports: pairs of flat netlists matched by name, the diagrams of their outputs
+//! over any `Diagrams`, the first differing output with its least assignment, and the report's bytes.
+#![tactic(auto, using(eqc_tree::proofs::HoldingLemmas::counts_itself))]
+
+mod build;
+mod check;
+mod compare;
+mod cover;
+mod ends;
+mod evaluate;
+mod laws;
+mod least;
+mod name_index;
+mod options;
+mod order;
+mod pair;
+mod plan;
+mod report;
+mod reports;
+mod running;
+mod table;
+#[cfg(test)]
+mod tests_ends;
+
+pub use check::check_plain;
+pub use ends::{RunFault, read_text};
+pub use laws::{
+    difference_is_of_values, first_difference_is_first, first_difference_is_none_where_equal,
+    inputs_are_matched_by_name, least_difference_is_least, least_difference_is_none_where_equal,
+    least_difference_is_unique,
+};
+pub use options::{Options, options_fault};
+pub use pair::Pair;
+pub use report::{Refused, Report, Side, Status, write_report};
+pub use running::{Texts, run};

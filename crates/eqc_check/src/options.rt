@@ -1,0 +1,54 @@
+ghost use Rattle.std.specs.Prelude.{◌≡◌};
+ghost use Rattle.eqc_check.specs.Options.{options_code, is_cell_count};
+
+const MAX_WORKERS: u32 = 64;
+
+const MAX_NODES: u32 = 1_048_574;
+
+const MAX_CELLS: u32 = 1_048_576;
+
+const MAX_FORKS: u32 = 16;
+
+/// What a comparison may use. None of it changes the answer.
+#[derive(Clone, Copy, Debug, PartialEq, Eq)]
+pub struct Options {
+    /// Workers, 1 to 64.
+    pub workers: u32,
+    /// Nodes of the diagrams, 1 to 1,048,574.
+    pub nodes: u32,
+    /// Cells of the operation cache, a power of two from 1 to 1,048,576.
+    pub cells: u32,
+    /// Levels of an operation that are shared among workers, 0 to 16.
+    pub forks: u32,
+}
+
+/// The code of the first option that is out of its range: 81 workers, 82 nodes, 83 cells, 84 forks.
+pub fn options_fault(options: &Options) -> Option<u8>
+    ensures { result ≡ options_code options.now }
+{
+    let Options {
+        workers,
+        nodes,
+        cells,
+        forks,
+    } = *options;
+    if !(1..=MAX_WORKERS).contains(&workers) {
+        return Some(81);
+    }
+    if !(1..=MAX_NODES).contains(&nodes) {
+        return Some(82);
+    }
+    if !is_cell_count(cells) {
+        return Some(83);
+    }
+    if forks > MAX_FORKS {
+        return Some(84);
+    }
+    None
+}
+
+fn is_cell_count(cells: u32) -> bool
+    ensures { result ≡ is_cell_count cells }
+{
+    cells.is_power_of_two() && cells <= MAX_CELLS
+}

@@ -1,0 +1,177 @@
+ghost use Rattle.std.specs.Prelude.{◌≡◌, ◌≢◌, ◌≤◌, IfOk, IfErr, OnErr, Err};
+ghost use Rattle.std.specs.Option.{option_map, option_copied};
+ghost use Rattle.eqc_check.specs.Sources.{MayBeRead, AreRead};
+ghost use Rattle.eqc_check.specs.ReportView.{report_of};
+ghost use Rattle.eqc_check.specs.Ends.{AppendsPrefix};
+ghost use Rattle.eqc_check.specs.Report.{text, stopped};
+ghost use Rattle.eqc_check.specs.Options.{options_code};
+ghost use Rattle.eqc_check.specs.Running.{IsReport, IsReportFor, IsShown, IsWritten, IsCutShort, IsAnswered, IsCutOff};
+
+use crate::ends::{RunFault, read_text};
+use crate::options::{Options, options_fault};
+use crate::report::{Refused, Report, Side, Status, write_report};
+use crate::reports::texts_report;
+use eqc_tree::Stop;
+use std::alloc::Global;
+use std::io::{Read, Write};
+
+/// The texts of a run: one, of which the first two models are compared, or two, of which the main (first) models
+/// are.
+#[derive(Drop)]
+pub enum Texts<R> {
+    One(R),
+    Two(R, R),
+}
+
+/// The bytes that were read of the texts and of the order text.
+#[derive(Drop)]
+struct Sources {
+    first: Vec<u8>,
+    second: Option<Vec<u8>>,
+    order: Option<Vec<u8>>,
+}
+
+/// A text that may be missing.
+fn read_some<R: Read + Drop>(alloc: Global, text: Option<R>) -> Result<Option<Vec<u8>>, RunFault>
+    ensures some { IfOk result (λ read. MayBeRead R.remaining text (option_map (λ v. v.items) read)) }
+    ensures fault { IfErr result (λ fault. fault ≢ RunFault.Write) }
+{
+    match text {
+        None => Ok(None),
+        Some(mut text) => Ok(Some(read_text(alloc, &mut text)?)),
+    }
+}
+
+/// Reads the first text whole, then the second, then the order text.
+fn read_sources<R: Read + Drop>(
+    alloc: Global,
+    texts: Texts<R>,
+    order: Option<R>,
+) -> Result<Sources, RunFault>
+    ensures read { IfOk result (λ sources. AreRead R.remaining texts order sources.first.items (option_map (λ v. v.items) sources.second) (option_map (λ v. v.items) sources.order)) }
+    ensures fault { IfErr result (λ fault. fault ≢ RunFault.Write) }
+{
+    let (mut first, second) = match texts {
+        Texts::One(text) => (text, None),
+        Texts::Two(first, second) => (first, Some(second)),
+    };
+    let first = read_text(alloc, &mut first)?;
+    let second = read_some(alloc, second)?;
+    let order = read_some(alloc, order)?;
+    Ok(Sources {
+        first,
+        second,
+        order,
+    })
+}
+
+/// The bytes of a text that may be missing.
+fn bytes_of(text: &Option<Vec<u8>>) -> Option<&[u8]>
+    ensures { option_copied result ≡ option_map (λ v. v.items) text.now }
+{
+    match text {
+        Some(text) => Some(text.as_slice()),
+        None => None,
+    }
+}
+
+/// The report of a run whose options are in their ranges.
+fn read_report<RT, R: Read + Drop>(
+    alloc: Global,
+    rt: &RT,
+    texts: Texts<R>,
+    order: Option<R>,
+    nodes: u32,
+) -> Result<Report, RunFault>
+    requires some { 1 ≤ nodes }
+    requires few { nodes ≤ 1048574 }
+    ensures report { IfOk result (λ report. IsReport R.remaining texts order (report_of report)) }
+    ensures fault { IfErr result (λ fault. fault ≡ RunFault.Read) }
+{
+    let sources = match read_sources(alloc, texts, order) {
+        Ok(sources) => sources,
+        Err(RunFault::Read) => return Err(RunFault::Read),
+        Err(_) => return Ok(Report::Stopped(Stop::Memory)),
+    };
+    let second = bytes_of(&sources.second);
+    let order = bytes_of(&sources.order);
+    Ok(texts_report(alloc, rt, &sources.first, second, order, nodes))
+}
+
+/// Writes `stopped 72`, which takes no memory.
+fn write_stopped<W: Write>(alloc: Global, out: &mut W) -> Result<Status, RunFault>
+    ensures written { IfOk result (λ status. IsShown (stopped 72) (W.contents out.old) (W.contents out.new) status) }
+    ensures part { OnErr result (AppendsPrefix (W.contents out.old) (W.contents out.new) (text (stopped 72))) }
+    ensures fault { IfErr result (λ fault. fault ≡ RunFault.Write) }
+{
+    let report = Report::Stopped(Stop::Memory);
+    match write_report(alloc, &report, out) {
+        Ok(()) => Ok(Status::Stopped),
+        Err(_) => Err(RunFault::Write),
+    }
+}
+
+/// Writes a report, or `stopped 72` where its text takes memory that is refused, and answers its kind.
+fn write_or_stop<W: Write>(alloc: Global, report: &Report, out: &mut W) -> Result<Status, RunFault>
+    ensures written { IfOk result (λ status. IsWritten (report_of report.now) (W.contents out.old) (W.contents out.new) status) }
+    ensures part { OnErr result (IsCutShort (report_of report.now) (W.contents out.old) (W.contents out.new)) }
+    ensures fault { IfErr result (λ fault. fault ≡ RunFault.Write) }
+{
+    match write_report(alloc, report, out) {
+        Ok(()) => Ok(report.status()),
+        Err(RunFault::Memory) => write_stopped(alloc, out),
+        Err(_) => Err(RunFault::Write),
+    }
+}
+
+/// The report of a run: a refusal of its options before any text is read, else that on its texts.
+fn report_for<RT, R: Read + Drop>(
+    alloc: Global,
+    rt: &RT,
+    texts: Texts<R>,
+    order: Option<R>,
+    options: &Options,
+) -> Result<Report, RunFault>
+    ensures report { IfOk result (λ report. IsReportFor (options_code options.now) R.remaining texts order (report_of report)) }
+    ensures fault { IfErr result (λ fault. fault ≡ RunFault.Read) }
+{
+    let nodes = options.nodes;
+    match options_fault(options) {
+        Some(code) => Ok(Report::Refused(Refused {
+            side: Side::Options,
+            line: 0,
+            code,
+        })),
+        None => read_report(alloc, rt, texts, order, nodes),
+    }
+}
+
+/// Compares two netlists and writes the report: the first two models of one text, or the main models of two, over
+/// the variable order of an order text or, without one, the order in which the first netlist declares its inputs.
+///
+/// The options are looked at first. Then the texts are read whole: the first, the second, the order text. A read
+/// that fails is `Read`, 91, and then nothing is written. Want of memory anywhere before the writing is reported as
+/// `stopped 72`. A write that fails or takes nothing, or a flush that fails, is `Write`, 92, and then a part of a
+/// report was written. Nothing is tried again. The answer is the kind of the report.
+pub fn run<RT, R: Read + Drop, W: Write>(
+    alloc: Global,
+    rt: &RT,
+    texts: Texts<R>,
+    order: Option<R>,
+    options: &Options,
+    out: &mut W,
+) -> Result<Status, RunFault>
+    ensures answered { IfOk result (λ status. IsAnswered R.remaining texts order options.now (W.contents out.old) (W.contents out.new) status) }
+    ensures write { result ≡ Err RunFault.Write → IsCutOff R.remaining texts order options.now (W.contents out.old) (W.contents out.new) }
+    ensures read { result ≡ Err RunFault.Read → out.new ≡ out.old }
+    ensures memory { IfErr result (λ fault. fault ≢ RunFault.Memory) }
+{
+    let report = match report_for(alloc, rt, texts, order, options) {
+        Ok(report) => report,
+        Err(_) => return Err(RunFault::Read),
+    };
+    match write_or_stop(alloc, &report, out) {
+        Ok(status) => Ok(status),
+        Err(_) => Err(RunFault::Write),
+    }
+}
