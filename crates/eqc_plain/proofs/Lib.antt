@@ -6,3 +6,4 @@ pub mod Combining
 pub mod Caching
 pub mod Tasks
 pub mod Extending
+pub mod Deciding

@@ -5,3 +5,4 @@ pub mod Terminal
 pub mod Combining
 pub mod Cache
 pub mod Tasks
+pub mod Standing

@@ -1,4 +1,4 @@
-ghost use Rattle.std.specs.Prelude.{◌≡◌, ◌<◌, ◌+◌, ◌⊎◌, length, IfSome, IfNone, IfOk, IfErr};
+ghost use Rattle.std.specs.Prelude.{◌≡◌, ℕ, ◌<◌, ◌+◌, ◌⊎◌, length, IfSome, IfNone, IfOk, IfErr};
 
 use crate::plain::Plain;
 use crate::task::{Task, Turn};
@@ -10,6 +10,7 @@ impl Plain {
     ghost use Rattle.eqc_plain.specs.Combining.{IsResult};
     ghost use Rattle.eqc_plain.specs.Extending.{Extends};
     ghost use Rattle.eqc_plain.specs.Tasks.{LeadsTo, StepsTo, TurnsTo};
+    ghost use Rattle.eqc_plain.specs.Terminal.{Decides};
 
     /// The number of an operation's result (Bryant 1986, section 4.3), with a stack of tasks in
     /// place of the recursion.
@@ -18,12 +19,16 @@ impl Plain {
         requires g { g < length self.old.store.nodes + 2 }
         ensures store { Extends self.old.store self.new.store }
         ensures ok { IfOk result (λ x. IsResult self.new.store.variables op self.new.store.nodes f g x) }
+        ensures undecided { IfErr result (λ _. (x : ℕ) → ¬ Decides op f g x) }
         ensures full { result ≡ Err Stop.NodeLimit → length self.new.store.nodes ≡ self.new.store.limit }
         ensures only { IfErr result (λ s. (s ≡ Stop.NodeLimit) ⊎ (s ≡ Stop.Memory)) }
     {
+        if let Some(x) = self.known(op, f, g) {
+            return Ok(x);
+        }
         let whole = Snapshot::of(&(f, g));
         self.tasks.clear();
-        let mut next = (f, g);
+        let mut next = self.halve(f, g)?;
         loop {
             let (f, g) = next;
             let Some(x) = self.known(op, f, g) else {
@@ -42,6 +47,7 @@ impl Plain {
         requires f { f < length self.now.store.nodes + 2 }
         requires g { g < length self.now.store.nodes + 2 }
         ensures right { IfSome result (IsResult self.now.store.variables op self.now.store.nodes f g) }
+        ensures undecided { IfNone result ((x : ℕ) → ¬ Decides op f g x) }
         ensures inner { IfNone result (¬ ((f < 2) × (g < 2))) }
     {
         if let Some(x) = decide(op, f, g) {

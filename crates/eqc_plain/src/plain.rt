@@ -18,7 +18,7 @@ pub struct Plain {
 }
 
 impl Plain {
-    ghost use Rattle.std.specs.Prelude.{◌≤◌, IfOk, IfErr};
+    ghost use Rattle.std.specs.Prelude.{◌≤◌, [], IfOk, IfErr};
     ghost use Rattle.eqc_tree.specs.Holding.{IsNew};
 
     /// Diagrams over `vars` variables with room for `nodes` nodes, of which there are none yet.
@@ -28,6 +28,7 @@ impl Plain {
         requires some { 1 ≤ nodes }
         requires few { nodes ≤ 1048574 }
         ensures empty { IfOk result (λ p. IsNew vars (⟦<Plain as References>⟧.holding p)) }
+        ensures none { IfOk result (λ p. p.store.nodes ≡ []) }
         ensures room { IfOk result (λ p. p.store.limit ≡ nodes) }
         ensures only { IfErr result (λ s. s ≡ Stop.Memory) }
     {
@@ -44,6 +45,7 @@ impl References for Plain {
     ghost use Rattle.eqc_tree.specs.Holding.{IsHeld, Gains, Keeps, Loses, copies, says};
     ghost use Rattle.eqc_plain.specs.Referring.{entry_of};
     ghost use Rattle.eqc_plain.specs.Extending.{holding_in};
+    ghost use Rattle.eqc_plain.specs.Standing.{OnlyRecounts};
 
     type Ref = Ref;
 
@@ -51,33 +53,33 @@ impl References for Plain {
 
     ghost holding = { λ p. holding_in p.store };
 
-    /// Never stops.
+    /// Never stops, and takes no memory.
     fn constant(&mut self, b: bool) -> Result<Ref, Stop>
         ensures ok { IfOk result (λ r. Gains (holding_in self.old.store) (holding_in self.new.store) (entry_of r) (λ _. b)) }
         ensures stop { OnErr result (Keeps (holding_in self.old.store) (holding_in self.new.store)) }
         ensures never { IsOk result }
-        ensures room { self.new.store.limit ≡ self.old.store.limit }
+        ensures still { OnlyRecounts self.old self.new }
     {
         self.store.hold(b as u32)
     }
 
-    /// Stops only at 2^32 - 1 references to one node.
+    /// Stops only at 2^32 - 1 references to one node, and takes no memory.
     fn copy(&mut self, f: &Ref) -> Result<Ref, Stop>
         requires { IsHeld (holding_in self.old.store) (entry_of f.now) }
         ensures ok { IfOk result (λ r. Gains (holding_in self.old.store) (holding_in self.new.store) (entry_of r) (says (entry_of f.now))) }
         ensures stop { OnErr result (Keeps (holding_in self.old.store) (holding_in self.new.store)) }
         ensures only { IfErr result (λ s. s ≡ Stop.References) }
         ensures full { OnErr result (copies (holding_in self.old.store) (entry_of f.now) ≡ 2 ^ 32 - 1) }
-        ensures room { self.new.store.limit ≡ self.old.store.limit }
+        ensures still { OnlyRecounts self.old self.new }
     {
         self.store.hold(f.node)
     }
 
+    /// Takes no memory.
     fn give_back(&mut self, f: Ref)
         requires { IsHeld (holding_in self.old.store) (entry_of f) }
         ensures loses { Loses (holding_in self.old.store) (holding_in self.new.store) (entry_of f) }
-        ensures nodes { self.new.store.nodes ≡ self.old.store.nodes }
-        ensures room { self.new.store.limit ≡ self.old.store.limit }
+        ensures still { OnlyRecounts self.old self.new }
     {
         self.store.release(f);
     }
@@ -98,20 +100,25 @@ impl References for Plain {
 }
 
 impl<R> Diagrams<R> for Plain {
-    ghost use Rattle.std.specs.Prelude.{ℕ, ◌<◌, ◌≤◌, ◌≢◌, ◌-◌, ◌^◌, Bool, if◌then◌else◌, OnErr, IfOk, IfErr, length};
+    ghost use Rattle.std.specs.Prelude.{ℕ, ◌<◌, ◌≤◌, ◌≢◌, ◌-◌, ◌^◌, Bool, if◌then◌else◌, OnErr, IfOk, IfErr, length, slice_index};
+    ghost use Rattle.eqc_tree.specs.Word.{node_word};
     ghost use Rattle.eqc_tree.specs.Operation.{operate};
     ghost use Rattle.eqc_tree.specs.Holding.{Entry, IsHeld, Gains, Keeps, copies, says};
     ghost use Rattle.eqc_plain.specs.Extending.{holding_in, IsFull};
+    ghost use Rattle.eqc_plain.specs.Store.{Grows};
+    ghost use Rattle.eqc_plain.specs.Terminal.{Decides};
     ghost use Rattle.eqc_plain.specs.Referring.{entry_of};
 
     /// Stops for nodes only where all slots are taken, and for references only at 2^32 - 1 to one
-    /// node.
+    /// node. Where the variable has its node it stops for references alone.
     fn literal(&mut self, _rt: &R, var: u16) -> Result<Ref, Stop>
         requires { var < (holding_in self.old.store).variables }
         ensures ok { IfOk result (λ r. Gains (holding_in self.old.store) (holding_in self.new.store) (entry_of r) (λ a. a var)) }
         ensures stop { OnErr result (Keeps (holding_in self.old.store) (holding_in self.new.store)) }
         ensures only { IfErr result (λ s. s ≢ Stop.Threads) }
+        ensures absent { IfErr result (λ s. s ≢ Stop.References → (k : ℕ) → k < length self.old.store.nodes → slice_index self.old.store.nodes k ≢ node_word var 0 1) }
         ensures nodes { result ≡ Err Stop.NodeLimit → IsFull self.new.store }
+        ensures grows { Grows self.old.store.nodes self.new.store.nodes }
         ensures references { result ≡ Err Stop.References → (e : Entry) × (2 ^ 32 - 1 ≤ copies (holding_in self.old.store) e) }
         ensures room { self.new.store.limit ≡ self.old.store.limit }
     {
@@ -119,14 +126,17 @@ impl<R> Diagrams<R> for Plain {
         self.store.hold(x)
     }
 
-    /// Stops as `literal` does.
+    /// Stops for nodes and for references as `literal` does, and for references alone where the
+    /// result is an operand or a constant whatever the functions.
     fn apply(&mut self, _rt: &R, op: Op, f: &Ref, g: &Ref) -> Result<Ref, Stop>
         requires f { IsHeld (holding_in self.old.store) (entry_of f.now) }
         requires g { IsHeld (holding_in self.old.store) (entry_of g.now) }
         ensures ok { IfOk result (λ r. Gains (holding_in self.old.store) (holding_in self.new.store) (entry_of r) (λ a. operate op (says (entry_of f.now) a) (says (entry_of g.now) a))) }
         ensures stop { OnErr result (Keeps (holding_in self.old.store) (holding_in self.new.store)) }
         ensures only { IfErr result (λ s. s ≢ Stop.Threads) }
+        ensures undecided { IfErr result (λ s. s ≢ Stop.References → (x : ℕ) → ¬ Decides op f.now.node g.now.node x) }
         ensures nodes { result ≡ Err Stop.NodeLimit → IsFull self.new.store }
+        ensures grows { Grows self.old.store.nodes self.new.store.nodes }
         ensures references { result ≡ Err Stop.References → (e : Entry) × (2 ^ 32 - 1 ≤ copies (holding_in self.old.store) e) }
         ensures room { self.new.store.limit ≡ self.old.store.limit }
     {
@@ -145,6 +155,7 @@ impl<R> Diagrams<R> for Plain {
         ensures stop { OnErr result (Keeps (holding_in self.old.store) (holding_in self.new.store)) }
         ensures only { IfErr result (λ s. s ≢ Stop.Threads) }
         ensures nodes { result ≡ Err Stop.NodeLimit → IsFull self.new.store }
+        ensures grows { Grows self.old.store.nodes self.new.store.nodes }
         ensures references { result ≡ Err Stop.References → (e : Entry) × (2 ^ 32 - 3 ≤ copies (holding_in self.old.store) e) }
         ensures room { self.new.store.limit ≡ self.old.store.limit }
     {

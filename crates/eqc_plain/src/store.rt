@@ -1,4 +1,5 @@
-ghost use Rattle.std.specs.Prelude.{◌≡◌, ◌<◌, ◌≤◌, ◌+◌, ◌-◌, ◌^◌, ◌⊎◌, length, IsOk, IfOk, IfErr, OnErr};
+ghost use Rattle.std.specs.Prelude.{◌≡◌, ◌≢◌, ℕ, ◌<◌, ◌≤◌, ◌+◌, ◌-◌, ◌^◌, ◌⊎◌, [], length, slice_index, vec_capacity, IsOk, IfOk, IfErr, OnErr};
+ghost use Rattle.eqc_tree.specs.Word.{node_word};
 ghost use Rattle.eqc_plain.specs.Store.{IsStore};
 
 use crate::reference::Ref;
@@ -29,6 +30,7 @@ impl Store {
         requires { limit < 2 ^ 20 - 1 }
         ensures empty { IfOk result (λ s. IsNew variables (holding_in s)) }
         ensures limit { IfOk result (λ s. s.limit ≡ limit) }
+        ensures nodes { IfOk result (λ s. s.nodes ≡ []) }
         ensures only { IfErr result (λ s. s ≡ Stop.Memory) }
     {
         let Ok(counts) = vec![in alloc; 0u32; 2] else {
@@ -50,6 +52,7 @@ impl Store {
         requires above_high { variable < root self.old.variables (tree_at self.old.nodes high) }
         ensures store { Extends self.old self.new }
         ensures ok { IfOk result (λ x. IsNode self.new.variables self.new.nodes variable low high x) }
+        ensures absent { IfErr result (λ _. (k : ℕ) → k < length self.old.nodes → slice_index self.old.nodes k ≢ node_word variable low high) }
         ensures full { result ≡ Err Stop.NodeLimit → length self.new.nodes ≡ self.new.limit }
         ensures only { IfErr result (λ s. (s ≡ Stop.NodeLimit) ⊎ (s ≡ Stop.Memory)) }
     {
@@ -114,6 +117,7 @@ impl Store {
         ensures nodes { self.new.nodes ≡ self.old.nodes }
         ensures limit { self.new.limit ≡ self.old.limit }
         ensures variables { self.new.variables ≡ self.old.variables }
+        ensures room { vec_capacity self.new.counts ≡ vec_capacity self.old.counts }
     {
         let at = Snapshot::of(&self.nodes);
         if x < 2 {
@@ -134,6 +138,7 @@ impl Store {
         ensures nodes { self.new.nodes ≡ self.old.nodes }
         ensures limit { self.new.limit ≡ self.old.limit }
         ensures variables { self.new.variables ≡ self.old.variables }
+        ensures room { vec_capacity self.new.counts ≡ vec_capacity self.old.counts }
     {
         let Ref { node, at } = r;
         drop(at);

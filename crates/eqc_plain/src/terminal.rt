@@ -1,4 +1,4 @@
-ghost use Rattle.std.specs.Prelude.{◌≡◌, ◌<◌, IfSome, IfNone};
+ghost use Rattle.std.specs.Prelude.{ℕ, ◌<◌, IfSome, IfNone};
 ghost use Rattle.eqc_plain.specs.Terminal.{Decides, IsArranged};
 
 use eqc_tree::Op;
@@ -7,6 +7,7 @@ use eqc_tree::Op;
 /// decides, or equal operands.
 pub fn decide(op: Op, f: u32, g: u32) -> Option<u32>
     ensures decided { IfSome result (Decides op f g) }
+    ensures undecided { IfNone result ((x : ℕ) → ¬ Decides op f g x) }
     ensures inner { IfNone result (¬ ((f < 2) × (g < 2))) }
 {
     match op {
@@ -19,6 +20,7 @@ pub fn decide(op: Op, f: u32, g: u32) -> Option<u32>
 
 fn decide_and(f: u32, g: u32) -> Option<u32>
     ensures decided { IfSome result (Decides Op.And f g) }
+    ensures undecided { IfNone result ((x : ℕ) → ¬ Decides Op.And f g x) }
     ensures inner { IfNone result (¬ ((f < 2) × (g < 2))) }
 {
     if f == 0 || g == 0 {
@@ -35,6 +37,7 @@ fn decide_and(f: u32, g: u32) -> Option<u32>
 
 fn decide_or(f: u32, g: u32) -> Option<u32>
     ensures decided { IfSome result (Decides Op.Or f g) }
+    ensures undecided { IfNone result ((x : ℕ) → ¬ Decides Op.Or f g x) }
     ensures inner { IfNone result (¬ ((f < 2) × (g < 2))) }
 {
     if f == 1 || g == 1 {
@@ -51,6 +54,7 @@ fn decide_or(f: u32, g: u32) -> Option<u32>
 
 fn decide_xor(f: u32, g: u32) -> Option<u32>
     ensures decided { IfSome result (Decides Op.Xor f g) }
+    ensures undecided { IfNone result ((x : ℕ) → ¬ Decides Op.Xor f g x) }
     ensures inner { IfNone result (¬ ((f < 2) × (g < 2))) }
 {
     if f == g {
@@ -67,6 +71,7 @@ fn decide_xor(f: u32, g: u32) -> Option<u32>
 
 fn decide_and_not(f: u32, g: u32) -> Option<u32>
     ensures decided { IfSome result (Decides Op.AndNot f g) }
+    ensures undecided { IfNone result ((x : ℕ) → ¬ Decides Op.AndNot f g x) }
     ensures inner { IfNone result (¬ ((f < 2) × (g < 2))) }
 {
     if f == 0 || g == 1 || f == g {

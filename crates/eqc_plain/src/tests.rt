@@ -6,6 +6,7 @@ ghost use Rattle.eqc_tree.specs.Holding.{Entry, IsHeld, Gains, Keeps, copies, we
 ghost use Rattle.eqc_tree.specs.Operation.{operate};
 
 use crate::Plain;
+use crate::cache::Cache;
 use eqc_tree::{Diagrams, Op, References, Stop};
 
 /// The exclusive or by two operations.
@@ -168,6 +169,8 @@ fn an_apply_passes_all_variables(rt: HostRuntime) {
     d.give_back(all);
 }
 
+/// Run with each allocation refused in turn, by `rt try --test --fail-alloc N`: what is held stays,
+/// and the next try succeeds.
 #[test]
 fn a_refusal_keeps_what_is_held(rt: HostRuntime) {
     let Ok(mut d) = Plain::new(rt.alloc(), 40, 10_000) else {
@@ -180,7 +183,24 @@ fn a_refusal_keeps_what_is_held(rt: HostRuntime) {
     let tried = makes_all_of(&rt, &mut d, Op::Xor, 40);
     assert!(rt; d.same(&x, &again));
     assert_eq!(rt; d.as_constant(&x), None);
+    if tried.is_err() {
+        assert_eq!(rt; tried, Err(Stop::Memory));
+        assert_eq!(rt; makes_all_of(&rt, &mut d, Op::Xor, 40), Ok(()));
+    }
     d.give_back(again);
     d.give_back(x);
-    assert!(rt; matches!(tried, Ok(()) | Err(Stop::Memory)));
+}
+
+#[test]
+fn a_kept_result_is_found(rt: HostRuntime) {
+    let mut cache = Cache::new(rt.alloc());
+    cache.widen(1);
+    for op in [Op::And, Op::Or, Op::Xor, Op::AndNot] {
+        assert_eq!(rt; cache.find(op, 7, 9), None, "{op:?}");
+        cache.keep(op, 7, 9, 12);
+        assert_eq!(rt; cache.find(op, 7, 9), Some(12), "{op:?}");
+    }
+    cache.keep(Op::Xor, 9, 7, 12);
+    assert_eq!(rt; cache.find(Op::Xor, 7, 9), Some(12));
+    assert_eq!(rt; cache.find(Op::AndNot, 9, 7), None);
 }

@@ -27,10 +27,6 @@ impl UniqueTable {
         }
     }
 
-    pub fn allocator(&self) -> Global {
-        *self.words.allocator()
-    }
-
     pub fn len(&self) -> usize
         ensures { result ≡ length self.now }
     {

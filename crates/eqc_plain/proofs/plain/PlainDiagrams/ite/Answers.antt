@@ -1,10 +1,11 @@
 use Rattle.std.proofs.Common.{arith}
 use Rattle.eqc_plain.specs.Referring.{entry_of}
+use Rattle.eqc_plain.proofs.Growing.{grows_trans}
 use Rattle.eqc_plain.proofs.Laws.{weight_le}
 use Rattle.eqc_plain.proofs.plain.PlainDiagrams.ite.Goals as goal
 
 pub returns-in-Err-clause-nodes : goal.returns-in-Err-clause-nodes
-returns-in-Err-clause-nodes g c e = rw (c.give_back.ensures.nodes, c.give_back.ensures.room) (c.in-Err.ensures.nodes e)
+returns-in-Err-clause-nodes g c e = rw (c.give_back.ensures.still.nodes, c.give_back.ensures.still.limit) (c.in-Err.ensures.nodes e)
 
 pub returns-in-Err-clause-references : goal.returns-in-Err-clause-references
 returns-in-Err-clause-references g c e =
@@ -12,9 +13,15 @@ returns-in-Err-clause-references g c e =
     (x.0, omega (arith, x.1, c.in_ok-both.ensures.ok.held x.0, weight_le (entry_of c.in_ok-both.both) x.0))
 
 pub returns-clause-nodes : goal.returns-clause-nodes
-returns-clause-nodes g c e = rw (c.give_back-3.ensures.nodes, c.give_back-3.ensures.room, c.give_back-2.ensures.nodes, c.give_back-2.ensures.room) (c.apply-either.ensures.nodes e)
+returns-clause-nodes g c e = rw (c.give_back-3.ensures.still.nodes, c.give_back-3.ensures.still.limit, c.give_back-2.ensures.still.nodes, c.give_back-2.ensures.still.limit) (c.apply-either.ensures.nodes e)
 
 pub returns-clause-references : goal.returns-clause-references
 returns-clause-references g c e =
     let x = c.apply-either.ensures.references e in
     (x.0, omega (arith, x.1, c.in_ok-both.ensures.ok.held x.0, c.in-Ok.ensures.ok.held x.0, weight_le (entry_of c.in_ok-both.both) x.0, weight_le (entry_of c.in-Ok.other) x.0))
+
+pub returns-in-Err-clause-grows : goal.returns-in-Err-clause-grows
+returns-in-Err-clause-grows g c = rw c.give_back.ensures.still.nodes (grows_trans _ _ _ c.apply.ensures.grows c.in-Err.ensures.grows)
+
+pub returns-clause-grows : goal.returns-clause-grows
+returns-clause-grows g c = rw (c.give_back-3.ensures.still.nodes, c.give_back-2.ensures.still.nodes) (grows_trans _ _ _ (grows_trans _ _ _ c.apply.ensures.grows c.in-Ok.ensures.grows) c.apply-either.ensures.grows)

@@ -1,0 +1,7 @@
+use Rattle.std.proofs.Common.{arith}
+use Rattle.eqc_tree.specs.declared.operation.Op.TheVariants.{And}
+use Rattle.eqc_plain.proofs.Deciding.{two_nodes}
+use Rattle.eqc_plain.proofs.terminal.decide_and.Goals as goal
+
+pub returns-clause-undecided : goal.returns-clause-undecided
+returns-clause-undecided c x d = two_nodes And c.args.f c.args.g x (omega arith) (omega arith) c.if-f-g.false d
