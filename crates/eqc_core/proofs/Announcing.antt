@@ -61,6 +61,7 @@ module _ (z : Sizes) (w : Words) (hs : Homes) (vs : List View) (id : ℕ) (v : V
         room = f.room;
         slots = f.slots;
         place = f.place;
+        others = f.others;
         read = f.read;
       })
     where

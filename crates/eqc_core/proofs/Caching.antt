@@ -72,6 +72,7 @@ module _ (z : Sizes) (w : Words) (hs : Homes) (vs : List View) (id : ℕ) (v : V
         room = room;
         slots = λ x some_owned. slot x some_owned;
         place = f.place;
+        others = f.others;
         read = λ r is. let g = forgets u.held v.read r is in record { held_still = g.1; word_is = (f.read r g.0).word_is };
       })
     where

@@ -168,6 +168,7 @@ module _ (hs : Homes) (vs : List View) (id : ℕ) (v u : View) (at : get_elem? v
         room = f.room;
         slots = f.slots;
         place = f.place;
+        others = f.others;
         read = λ r is. let g = f.read r is in record { held_still = g.held_still; word_is = ap (λ (ns : List ℕ). get_or ns r.name 0) same.nodes ∙ g.word_is };
       })
       (at_set vs id j u t e)

@@ -12,10 +12,10 @@ use Rattle.eqc_core.specs.Owners.{owned, drafts, is_draft}
 use Rattle.eqc_core.specs.Support.{Keeps, Supported}
 use Rattle.eqc_core.specs.Lawful.{IsSized, IsTabled, Fits, AreSeated, Lawful, is_active, is_taken, numbers_out}
 use Rattle.eqc_core.specs.Moves.{without_each}
-use Rattle.eqc_core.specs.Seating.{MayJoin, joined, join}
+use Rattle.eqc_core.specs.Seating.{MayJoin, joined, join, out_after}
 use Rattle.eqc_core.proofs.Lists.{at_set, at_below, at_get, get_at, set_else, set_here, same_at}
 use Rattle.eqc_core.proofs.Sums.{sum_set, at_le_sum}
-use Rattle.eqc_core.proofs.Names.{times-append, times-nil, times-cons, times-without_each, times_without_each_le}
+use Rattle.eqc_core.proofs.Names.{times-other, times-append, times-nil, times-cons, times-without_each, times_without_each_le}
 use Rattle.eqc_core.proofs.Tables.{owned_is}
 use Rattle.eqc_core.proofs.Frames.{forgets}
 use Rattle.eqc_core.proofs.Announcing.{quiet_announces}
@@ -245,6 +245,7 @@ module _ (z : Sizes) (w : Words) (hs : Homes) (vs : List View) (id from : ℕ) (
     room = old.room;
     slots = old.slots;
     place = old.place;
+    others = old.others;
     read = old.read;
   }
 
@@ -261,12 +262,22 @@ module _ (z : Sizes) (w : Words) (hs : Homes) (vs : List View) (id from : ℕ) (
     room = room;
     slots = λ x some_owned. slot x some_owned (dec_le 1 (times x v.held + times x v.retired));
     place = f.place;
+    others = others (ℕ_discrete v.number 0);
     read = λ r is. let q = forgets (v.held ++ o.held) v.read r is in record { held_still = q.1; word_is = (f.read r q.0).word_is };
   }
     where
       slot : (x : ℕ) → 0 < times x (v.held ++ o.held) + times x (v.retired ++ o.retired) → Dec (1 ≤ times x v.held + times x v.retired) → 2 ≤ x
       slot x some_owned (yes h) = f.slots x h
       slot x some_owned (no n) = g.slots x (omega (arith, times-append x v.held o.held, times-append x v.retired o.retired))
+
+      others : Dec (v.number ≡ 0) → times 0 (out_after v from o) ≡ 0
+      others (yes e) =
+          let is : times 0 (out_after v from o) ≡ times 0 (without_each (from ∷ o.out) v.out) = ap {B = ℕ} (λ (b : Bool). times 0 (if b then without_each (from ∷ o.out) v.out else v.out ++ from ∷ o.out)) (eq-eqb v.number 0 e) in
+          omega (arith, times_without_each_le 0 (from ∷ o.out) v.out, f.others)
+      others (no ne) =
+          let is : times 0 (out_after v from o) ≡ times 0 (v.out ++ from ∷ o.out) = ap {B = ℕ} (λ (b : Bool). times 0 (if b then without_each (from ∷ o.out) v.out else v.out ++ from ∷ o.out)) (ne_eqb v.number 0 ne) in
+          let t = times-other 0 from o.out (λ e. let p = may.2 in omega arith) in
+          omega (arith, times-append 0 v.out (from ∷ o.out), f.others, g.others)
 
   views_after : (j : ℕ) (t : View) → get_elem? after j ≡ some t → t.active ≡ true → Fits z w after j t
   views_after j t e act = ⊎_elim

@@ -164,6 +164,7 @@ module _ (z : Sizes) (n : ℕ) (limits : IsWithinLimits z) (fits : n + 2 ≤ z.n
         room = let b = limits.few_names in omega (arith, slots_length 2 n);
         slots = λ x h. let a = tabled_slot x (omega (arith, times-nil x)) in let e = a.2 in omega arith;
         place = f.place;
+        others = f.others;
         read = λ r is. absurd (cc);
       }
 

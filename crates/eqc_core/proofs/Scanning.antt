@@ -100,6 +100,7 @@ module _ (z : Sizes) (w : Words) (hs : Homes) (vs : List View) (id : ℕ) (v : V
         room = room;
         slots = λ x some_owned. f.slots x (omega (arith, names x));
         place = place;
+        others = ap (times 0) own.out ∙ f.others;
         read = λ r is. let g = reads r is in record { held_still = g.1; word_is = (f.read r g.0).word_is };
       })
     where

@@ -82,6 +82,7 @@ fresh_fits z w vs id there some_words silent = record {
   room = omega arith;
   slots = λ x h. absurd (let n = times-nil x in omega arith);
   place = let b = below z id 0 there some_words in omega arith;
+  others = times-nil 0;
   read = λ r is. absurd (cc);
 }
 
@@ -315,6 +316,7 @@ module _ (z : Sizes) (w : Words) (hs : Homes) (vs : List View) (id to : ℕ) (v 
     room = g.room;
     slots = g.slots;
     place = g.place;
+    others = g.others;
     read = g.read;
   }
 
@@ -331,6 +333,7 @@ module _ (z : Sizes) (w : Words) (hs : Homes) (vs : List View) (id to : ℕ) (v 
     room = g.room;
     slots = g.slots;
     place = g.place;
+    others = let t = times-other 0 to [] (λ e. apart (e ∙ sym zero_is)) in let none = times-nil 0 in omega (arith, times-append 0 v.out (to ∷ []), f.others);
     read = g.read;
   }
 

@@ -81,6 +81,8 @@ pub record Fits (z : Sizes) (w : Words) (vs : List View) (id : ℕ) (v : View) :
   pub slots : (x : ℕ) → 0 < times x v.held + times x v.retired → 2 ≤ x
   -- the scan reads an announcement word next
   pub place : v.position < announced_words z
+  -- worker 0 is neither split off nor taken in
+  pub others : times 0 v.out ≡ 0
   pub read : (r : Read) → v.read ≡ Some r → IsRead w.nodes v.held r
 
 -- 1 where the view is that of the active worker n
