@@ -1,9 +1,9 @@
 -- What is cut off a line.
-use Rattle.std.proofs.Common.{◌≡◌, ℕ, zero, suc, ◌+◌, ◌-◌, ◌≤◌, Bool, true, false, ◌&&◌, not, List, [], ◌∷◌, ◌++◌, length, take, reverse, eqb, refl, sym, ◌∙◌, ap, arith, inl, inr, append_assoc}
+use Rattle.std.proofs.Common.{◌≡◌, ℕ, zero, suc, ◌+◌, ◌-◌, ◌≤◌, Bool, true, List, [], ◌∷◌, ◌++◌, length, take, eqb, refl, sym, ◌∙◌, ap, arith, inl, inr, append_assoc}
 use Rattle.std.specs.List.{prefix_len, position_or_len, before_first, suffix_len, list_all}
 use Rattle.std.proofs.lemmas.List.{reverse-append, length_push, take-append-le, append-nil}
 use Rattle.std.proofs.lemmas.Bool.{cases_Bool, and_parts}
-use Rattle.eqc_blif.specs.Lines.{is_trailing, trimmed, clean}
+use Rattle.eqc_blif.specs.Lines.{is_trailing, trimmed}
 use Rattle.eqc_blif.specs.Laws.{CommentsChangeNothing, TrailingBlanksChangeNothing}
 
 -- what follows the first byte that passes plays no part

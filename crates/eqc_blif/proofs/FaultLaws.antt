@@ -1,14 +1,10 @@
 -- Runs over lines, the first fault of a text, and lines that change nothing.
-use Rattle.std.proofs.Common.{◌≡◌, ℕ, ◌+◌, Bool, true, false, List, [], ◌∷◌, ◌++◌, length, map, Option, Some, None, Ok, Err, Result, refl, sym, ◌∙◌, ap, inl, inr}
-use Rattle.std.specs.List.{list_any}
+use Rattle.std.proofs.Common.{◌≡◌, ℕ, ◌+◌, List, [], ◌∷◌, ◌++◌, length, Option, Some, None, Err, refl, sym, ◌∙◌, ap}
 use Rattle.std.specs.Option.{option_map}
-use Rattle.std.proofs.lemmas.Bool.{cases_Bool}
 use Rattle.eqc_blif.specs.Netlist.{ModelOf}
 use Rattle.eqc_blif.specs.Lines.{physical, numbered, logical, logical_lines}
-use Rattle.eqc_blif.specs.Kind.{kind_of_line}
-use Rattle.eqc_blif.specs.Reading.{After, Outcome, start, models, is_bad_byte, line_code, then_line, after, or_behind, first_fault, outcome_by, outcome_of_lines, is_too_long, library_or_none}
-use Rattle.eqc_blif.specs.Laws.{contents, unnumbered, IsFirstFault, FirstFaultStays, FoundIsFirst, FirstIsFound, NumbersPlayNoPart, SkippedLinesChangeNothing}
-use Rattle.eqc_blif.specs.declared.kind.Kind.TheVariants.{Skipped}
+use Rattle.eqc_blif.specs.Reading.{After, start, models, line_code, then_line, after, or_behind, first_fault, outcome_by}
+use Rattle.eqc_blif.specs.Laws.{contents, unnumbered, FirstFaultStays, FoundIsFirst, FirstIsFound, NumbersPlayNoPart, SkippedLinesChangeNothing}
 use Rattle.eqc_blif.proofs.FollowLaws.{texts_follow}
 
 -- a fault, or else another

@@ -1,11 +1,11 @@
 -- Texts put one behind the other, and the numbers of their lines.
-use Rattle.std.proofs.Common.{◌≡◌, ℕ, zero, suc, ◌+◌, ◌-◌, ◌≤◌, Bool, true, false, ◌||◌, not, cond, List, [], ◌∷◌, ◌++◌, length, map, filter, get_or, eqb, refl, sym, ◌∙◌, ap, arith, inl, inr}
+use Rattle.std.proofs.Common.{◌≡◌, ℕ, zero, suc, ◌+◌, ◌-◌, ◌≤◌, Bool, true, false, not, cond, List, [], ◌∷◌, ◌++◌, length, map, filter, get_or, eqb, refl, sym, ◌∙◌, ap, arith, inl, inr}
 use Rattle.std.specs.List.{slice_split, onto_first, enumerate_from, list_any, list_all}
 use Rattle.std.proofs.lemmas.List.{map-append, length-map}
 use Rattle.std.proofs.lemmas.List.Elements.{filter-append}
 use Rattle.std.proofs.lemmas.Bool.{cases_Bool, or_parts, eqb-true, and_parts, true≢false}
 use Rattle.eqc_blif.specs.Lines.{is_seen, is_blank, physical, clean, continues, spaced, onto_next, joined, numbered, logical, logical_lines}
-use Rattle.eqc_blif.specs.Laws.{ends_open, is_continued, contents, rises, with_line_ends, TextsFollow, BlankLinesOnlyRenumber, LineNumbersRise, LinesMakeTheText, LinesAreCutAgain}
+use Rattle.eqc_blif.specs.Laws.{ends_open, contents, rises, with_line_ends, TextsFollow, BlankLinesOnlyRenumber, LineNumbersRise, LinesMakeTheText, LinesAreCutAgain}
 
 abbrev is_lf : ℕ → Bool
 is_lf byte = eqb byte 10

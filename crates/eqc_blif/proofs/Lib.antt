@@ -1,4 +1,5 @@
 pub mod LineLemmas
+pub mod SearchLemmas
 pub mod NameLemmas
 pub mod WordLemmas
 pub mod RowLemmas

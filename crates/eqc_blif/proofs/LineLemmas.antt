@@ -1,6 +1,6 @@
 -- Cutting and joining lines.
-use Rattle.std.proofs.Common.{◌≡◌, ℕ, zero, suc, ◌+◌, ◌-◌, ◌<◌, ◌≤◌, Bool, true, false, List, [], ◌∷◌, ◌++◌, length, take, drop, get_or, refl, sym, ◌∙◌, ap, subst, arith, cond, eqb, append_assoc, add-one}
-use Rattle.std.specs.List.{All, position_or_len, slice_split, enumerate_from, list_all}
+use Rattle.std.proofs.Common.{◌≡◌, ℕ, ◌+◌, ◌-◌, ◌<◌, ◌≤◌, Bool, true, false, List, [], ◌∷◌, ◌++◌, length, take, drop, refl, sym, ◌∙◌, ap, arith, eqb, append_assoc}
+use Rattle.std.specs.List.{position_or_len}
 use Rattle.std.proofs.lemmas.List.{take_all}
 use Rattle.std.proofs.lemmas.List.Sums.{fails_before_first}
 use Rattle.std.proofs.lemmas.List.Splits.{slice_split_none, slice_split_first}
@@ -11,7 +11,7 @@ use Rattle.std.specs.Prelude.{Option, Some}
 use Rattle.std.specs.Borrow.{Bor}
 use Rattle.std.proofs.lemmas.List.{take_rest}
 use Rattle.eqc_blif.specs.Steps.{numbered_rest}
-use Rattle.eqc_blif.specs.Lines.{clean, continues, spaced, onto_next, joined, numbered, physical}
+use Rattle.eqc_blif.specs.Lines.{clean, continues, spaced, onto_next, joined, numbered}
 
 is_lf : ℕ → Bool
 is_lf b = eqb b 10

@@ -1,5 +1,5 @@
 -- Names in a list, and a name that stands twice.
-use Rattle.std.proofs.Common.{◌≡◌, Bool, true, false, not, cond, ◌||◌, List, [], ◌∷◌, ◌++◌, nat_eq, ℕ, ◌+◌, ◌<◌, length, take, drop, get_or, Option, Some, None, refl, sym, ◌∙◌, ap, eqb, inl, inr}
+use Rattle.std.proofs.Common.{◌≡◌, Bool, true, false, not, cond, ◌||◌, List, [], ◌∷◌, ◌++◌, nat_eq, ℕ, ◌+◌, ◌<◌, length, take, drop, get_or, Option, Some, None, refl, sym, ◌∙◌, ap, inl, inr}
 use Rattle.std.specs.Str.{bytes_eq}
 use Rattle.std.specs.Option.{option_map}
 use Rattle.std.proofs.lemmas.List.{take_more, drop_more, take-append-drop}

@@ -1,13 +1,13 @@
 -- Models in a map by their names: which are there, and what opens and closes one.
-use Rattle.std.proofs.Common.{◌≡◌, ℕ, ◌+◌, Bool, true, false, not, cond, ◌||◌, List, [], ◌∷◌, ◌++◌, map, length, position, nat_lt, Option, Some, None, is_some, refl, sym, ◌∙◌, ap, inl, inr}
+use Rattle.std.proofs.Common.{◌≡◌, ℕ, ◌+◌, Bool, true, false, not, cond, List, [], ◌∷◌, ◌++◌, map, length, position, nat_lt, Option, Some, None, is_some, refl, sym, ◌∙◌, ap, inl, inr}
 use Rattle.std.specs.Str.{bytes_eq}
-use Rattle.std.specs.List.{position_or_len}
+use Rattle.std.specs.List.{position_or_len, IsDistinct, AllByRecursion}
 use Rattle.std.specs.Map.{lookup}
 use Rattle.std.proofs.lemmas.List.{map_push, length-map}
 use Rattle.std.proofs.lemmas.Bool.{cases_Bool, or_parts, not-true}
 use Rattle.indexmap.specs.IndexMap.{insert_entry}
 use Rattle.eqc_blif.specs.Netlist.{ModelOf}
-use Rattle.eqc_blif.specs.Names.{is_named}
+use Rattle.eqc_blif.specs.Names.{is_named, has_twice}
 use Rattle.eqc_blif.specs.Words.{first_of}
 use Rattle.eqc_blif.specs.Reading.{After, OpenModel, begun, models}
 use Rattle.eqc_blif.specs.Steps.{Takes, DeclarationsOf, model_of, is_new_name}
@@ -75,3 +75,21 @@ model_opened entries old ws name there m closed first answer new opened = (rw (a
 
 pub new_named : (entries : Entries) (name : List ℕ) (there : Bool) (m : OpenModel) → there ≡ is_some (lookup (bytes_eq name) entries) → there ≡ false → m ≡ begun name → is_new_name (models_in entries) (Some m) ≡ true
 new_named entries name there m answer new opened = rw (opened, sym (found_named entries name) ∙ (sym answer ∙ new)) refl
+
+-- keys of which none equals a later one have none twice
+once_distinct : (names : List (List ℕ)) → IsDistinct bytes_eq names → has_twice names ≡ false
+unfolding IsDistinct
+once_distinct [] distinct = refl
+once_distinct (name ∷ names) distinct = rw (none_equal names distinct.0, once_distinct names distinct.1) refl
+  where
+    none_equal : (others : List (List ℕ)) → AllByRecursion (λ other. bytes_eq name other ≡ false) others → is_named others name ≡ false
+    none_equal [] differ = refl
+    none_equal (other ∷ others) differ = rw (differ.0, none_equal others differ.1) refl
+
+-- distinct keys are distinct names of models
+pub names_once : (entries : Entries) → IsDistinct bytes_eq (map (λ e. e.0) entries) → has_twice (map (λ m. m.name) (models_in entries)) ≡ false
+names_once entries distinct = ap has_twice (same_names entries) ∙ once_distinct (map (λ e. e.0) entries) distinct
+  where
+    same_names : (es : Entries) → map (λ m. m.name) (models_in es) ≡ map (λ e. e.0) es
+    same_names [] = refl
+    same_names (e ∷ es) = ap (λ names. e.0 ∷ names) (same_names es)

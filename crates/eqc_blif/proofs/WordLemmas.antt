@@ -1,12 +1,12 @@
 -- The words of a line, and the line without its blanks.
-use Rattle.std.proofs.Common.{◌≡◌, ℕ, zero, suc, ◌+◌, ◌-◌, ◌<◌, ◌≤◌, Bool, true, false, not, List, [], ◌∷◌, ◌++◌, length, take, drop, filter, refl, sym, ◌∙◌, ap, arith, eqb, inl, inr}
-use Rattle.std.specs.List.{position_or_len, slice_split, before_first, after_first}
+use Rattle.std.proofs.Common.{◌≡◌, ℕ, suc, ◌+◌, ◌-◌, ◌<◌, ◌≤◌, Bool, false, not, List, [], ◌∷◌, ◌++◌, length, take, drop, filter, refl, sym, ◌∙◌, ap, arith, eqb, inl, inr}
+use Rattle.std.specs.List.{position_or_len, before_first, after_first}
 use Rattle.std.proofs.lemmas.List.{take_rest, take_all, drop_all, length-take-le}
 use Rattle.std.proofs.lemmas.List.Sums.{fails_before_first}
 use Rattle.std.proofs.lemmas.List.Splits.{slice_split_none, slice_split_first}
 use Rattle.std.proofs.lemmas.Bool.{cases_Bool, ne_eqb}
 use Rattle.eqc_blif.specs.Lines.{is_blank}
-use Rattle.eqc_blif.specs.Words.{is_word, words, without_blanks}
+use Rattle.eqc_blif.specs.Words.{words, without_blanks}
 
 -- the first word of a line, where a blank stands behind it
 pub first_word : (line : List ℕ) (end : ℕ) → end ≡ position_or_len is_blank line → end < length line → 0 < end → words line ≡ take end line ∷ words (take (length line - (end + 1)) (drop (end + 1) line))

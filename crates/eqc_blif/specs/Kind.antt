@@ -1,6 +1,6 @@
 -- What kind of statement a logical line is, by its first word (BLIF 1992; which commands are skipped is this
 -- project's choice).
-use Rattle.std.specs.Prelude.{ℕ, Bool, not, List, [], ◌∷◌, slice_index, if◌then◌else◌, ◌==◌, codes}
+use Rattle.std.specs.Prelude.{ℕ, not, List, [], ◌∷◌, slice_index, if◌then◌else◌, ◌==◌, codes}
 use Rattle.std.specs.Str.{bytes_eq}
 use Rattle.eqc_blif.specs.Words.{words, first_of}
 use Rattle.eqc_blif.specs.Names.{is_named}

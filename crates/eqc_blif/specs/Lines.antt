@@ -1,6 +1,6 @@
 -- The logical lines of a text (BLIF 1992, section 1; the blanks that are cut are this project's choice): the whole
 -- text is cut at each LF, numbered, cleaned, joined at its backslashes, and freed of blank lines, step by step.
-use Rattle.std.specs.Prelude.{ℕ, ◌-◌, Bool, true, false, ◌||◌, ◌&&◌, not, List, [], ◌∷◌, ◌++◌, length, take, map, filter, slice_index, nat_lt, if◌then◌else◌, ◌==◌}
+use Rattle.std.specs.Prelude.{ℕ, ◌-◌, Bool, ◌||◌, not, List, [], ◌∷◌, ◌++◌, length, take, map, filter, slice_index, if◌then◌else◌, ◌==◌}
 use Rattle.std.specs.List.{list_all, before_first, enumerate_from, slice_split, suffix_len}
 
 -- a space or a tab

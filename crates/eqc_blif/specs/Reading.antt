@@ -1,6 +1,6 @@
 -- What a text means (BLIF 1992; the codes are this project's): what stands after its first lines, the code of a line
 -- against that, the first fault, and the library of a text without a fault.
-use Rattle.std.specs.Prelude.{ℕ, ◌+◌, ◌-◌, Bool, true, false, ◌||◌, ◌&&◌, not, List, [], ◌∷◌, ◌++◌, length, take, map, slice_set, slice_index, slice_index_or, nat_lt, if◌then◌else◌, ◌==◌, Option, Some, None, is_some, Result, Ok, Err, ◌^◌}
+use Rattle.std.specs.Prelude.{ℕ, ◌+◌, ◌-◌, Bool, true, false, ◌||◌, ◌&&◌, not, List, [], ◌∷◌, ◌++◌, length, take, map, slice_set, slice_index, slice_index_or, nat_lt, if◌then◌else◌, ◌==◌, Option, Some, None, is_some, Result, Ok, Err}
 use Rattle.std.specs.List.{list_all, list_any}
 use Rattle.std.specs.Option.{option_map}
 use Rattle.eqc_blif.specs.Netlist.{CoverOf, ModelOf, no_model, no_cover}

@@ -8,7 +8,7 @@ use Rattle.eqc_blif.specs.Words.{is_pair, pair_of, behind_first}
 use Rattle.eqc_blif.specs.Names.{is_named, has_twice}
 use Rattle.eqc_blif.specs.Reading.{After, OpenModel, first_code, last_cover, has_row_shape, differs_from_first, statement_code, then_statement, line_code, then_line, declared, with_inputs, with_outputs, with_new_cover, with_instance, with_new_row}
 use Rattle.eqc_blif.specs.declared.kind.Kind.{Kind}
-use Rattle.eqc_blif.specs.declared.kind.Kind.TheVariants.{Model, Inputs, Outputs, Names, Subckt, End, Latch, Skipped, Unknown, Row}
+use Rattle.eqc_blif.specs.declared.kind.Kind.TheVariants.{Inputs, Outputs, Names, Subckt, Row}
 
 -- the clean lines of what is left of a text, which may have ended
 abbrev pub numbered_rest : ℕ → Option (List ℕ) → List (ℕ × List ℕ)

@@ -1,5 +1,5 @@
 -- The words of a logical line, and what they are cut into (BLIF 1992, section 1).
-use Rattle.std.specs.Prelude.{ℕ, ◌-◌, Bool, ◌||◌, ◌&&◌, not, List, [], ◌∷◌, length, take, map, filter, slice_index_or, nat_lt, ◌==◌}
+use Rattle.std.specs.Prelude.{ℕ, ◌-◌, Bool, ◌&&◌, not, List, [], ◌∷◌, length, take, map, filter, slice_index_or, nat_lt, ◌==◌}
 use Rattle.std.specs.List.{slice_split, before_first, after_first}
 use Rattle.eqc_blif.specs.Lines.{is_blank}
 use Rattle.eqc_blif.specs.Netlist.{CoverOf, InstanceOf}

@@ -29,7 +29,7 @@ impl Model for Cover {
 fn is_column_value(byte: u8) -> bool
     ensures { result ≡ is_column_value byte }
 {
-    byte == b'0' || byte == b'1' || byte == b'-'
+    (byte == b'0') | (byte == b'1') | (byte == b'-')
 }
 
 fn is_output_value(byte: u8) -> bool
@@ -38,10 +38,15 @@ fn is_output_value(byte: u8) -> bool
     byte == b'0' || byte == b'1'
 }
 
+/// Whether all bytes are values of columns. All are looked at, which is faster than to stop at the first that is none.
 fn are_column_values(bytes: &[u8]) -> bool
     ensures { result ≡ list_all is_column_value bytes.now }
 {
-    bytes.iter().all(|byte| is_column_value(*byte))
+    let mut valid = true;
+    'bytes: for byte in bytes {
+        valid &= is_column_value(*byte);
+    }
+    valid
 }
 
 /// Whether a row has `columns` values of columns and then a value of the output.

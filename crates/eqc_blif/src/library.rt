@@ -1,4 +1,5 @@
-ghost use Rattle.std.specs.Prelude.{◌≡◌, ◌<◌, length, map, position, bytes_eq, slice_index_or};
+ghost use Rattle.std.specs.Prelude.{◌≡◌, ◌<◌, false, length, map, position, bytes_eq, slice_index_or};
+ghost use Rattle.eqc_blif.specs.Names.{has_twice};
 ghost use Rattle.eqc_blif.specs.Netlist.{no_model};
 ghost use Rattle.eqc_blif.specs.Steps.{model_of};
 
@@ -32,9 +33,10 @@ impl Library {
         Library { models }
     }
 
-    /// The number of models.
+    /// The number of models. No two of them have the same name.
     pub fn models(&self) -> usize
-        ensures { result ≡ length self.now }
+        ensures count { result ≡ length self.now }
+        ensures once { has_twice (map (λ m. m.name) self.now) ≡ false }
     {
         self.models.len()
     }
@@ -64,18 +66,20 @@ impl Library {
         declarations
     }
 
-    /// The inputs that model `m` declares, in order.
+    /// The inputs that model `m` declares, in order. None of them stands twice.
     pub fn inputs(&self, m: usize) -> &[Name]
         requires { m < length self.now }
-        ensures { result.now ≡ (slice_index_or self.now m no_model).inputs }
+        ensures names { result.now ≡ (slice_index_or self.now m no_model).inputs }
+        ensures once { has_twice result.now ≡ false }
     {
         self.declarations(m).inputs.as_slice()
     }
 
-    /// The outputs that model `m` declares, in order.
+    /// The outputs that model `m` declares, in order. None of them stands twice.
     pub fn outputs(&self, m: usize) -> &[Name]
         requires { m < length self.now }
-        ensures { result.now ≡ (slice_index_or self.now m no_model).outputs }
+        ensures names { result.now ≡ (slice_index_or self.now m no_model).outputs }
+        ensures once { has_twice result.now ≡ false }
     {
         self.declarations(m).outputs.as_slice()
     }

@@ -5,6 +5,7 @@ ghost use Rattle.eqc_blif.specs.Lines.{is_trailing, is_blank, trimmed, clean, co
 ghost use Rattle.eqc_blif.specs.Steps.{TakesFirst};
 
 use crate::words::is_blank;
+use memchr::memchr;
 use std::alloc::AllocError;
 use std::marker::Model;
 
@@ -18,12 +19,10 @@ fn is_trailing(byte: u8) -> bool
 fn find(bytes: &[u8], wanted: u8) -> usize
     ensures { result ≡ position_or_len (λ byte. byte == wanted) bytes.now }
 {
-    for (i, byte) in bytes.iter().enumerate() {
-        if *byte == wanted {
-            return i;
-        }
+    match memchr(wanted, bytes) {
+        Some(i) => i,
+        None => bytes.len(),
     }
-    bytes.len()
 }
 
 fn without_comment(line: &[u8]) -> &[u8]

@@ -1,4 +1,4 @@
-ghost use Rattle.std.specs.Prelude.{◌≡◌, [], ◌++◌, IfOk, not, true};
+ghost use Rattle.std.specs.Prelude.{◌≡◌, [], ◌++◌, IfOk, not, true, false};
 ghost use Rattle.eqc_blif.specs.Words.{words};
 ghost use Rattle.eqc_blif.specs.Names.{has_twice};
 
@@ -46,7 +46,8 @@ impl Names {
     }
 
     pub(crate) fn as_slice(&self) -> &[Name]
-        ensures { result.now ≡ self.now }
+        ensures value { result.now ≡ self.now }
+        ensures once { has_twice result.now ≡ false }
     {
         match &self.list {
             Some(list) => list.as_slice(),

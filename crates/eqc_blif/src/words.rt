@@ -6,6 +6,7 @@ ghost use Rattle.eqc_blif.specs.Words.{words, first_of, arguments, without_blank
 ghost use Rattle.eqc_blif.specs.Steps.{ArePairs, IsPair};
 
 use crate::name::Name;
+use memchr::memchr2;
 use std::alloc::{AllocError, Global};
 
 pub(crate) fn is_blank(byte: u8) -> bool
@@ -18,12 +19,10 @@ pub(crate) fn is_blank(byte: u8) -> bool
 fn find_blank(bytes: &[u8]) -> usize
     ensures { result ≡ position_or_len is_blank bytes.now }
 {
-    for (i, byte) in bytes.iter().enumerate() {
-        if is_blank(*byte) {
-            return i;
-        }
+    match memchr2(b' ', b'\t', bytes) {
+        Some(i) => i,
+        None => bytes.len(),
     }
-    bytes.len()
 }
 
 /// The first word of a line, and what stands behind it.

@@ -1,15 +1,14 @@
 -- Building the diagrams of signals, step by step.
-use Rattle.std.proofs.Common.{◌≡◌, ◌≢◌, ℕ, zero, suc, ◌+◌, ◌<◌, ◌≤◌, Bool, List, [], ◌∷◌, ◌++◌, length, map, get_or, set, sum_by, take, refl, sym, ◌∙◌, ap, arith, Option, Some, None, inl, inr, subst, IsSome}
+use Rattle.std.proofs.Common.{◌≡◌, ℕ, zero, suc, ◌+◌, ◌<◌, ◌≤◌, Bool, List, [], ◌∷◌, ◌++◌, length, map, get_or, take, refl, sym, ◌∙◌, ap, arith, Option, Some, None, inl, inr, subst, IsSome}
 use Rattle.std.specs.Borrow.{Bor}
 use Rattle.std.proofs.lemmas.List.{get_or-set_same, get_or-set_other, take_more, map-append}
-use Rattle.std.proofs.lemmas.Bool.{cases_eq, cases_lt}
+use Rattle.std.proofs.lemmas.Bool.{cases_eq}
 use Rattle.std.proofs.Math.ListN.{length-set}
-use Rattle.eqc_tree.specs.Holding.{Entry, Holding, IsHeld, says, copies, weight, Keeps, Gains, Loses}
-use Rattle.eqc_tree.proofs.HoldingLemmas.{counts_itself}
+use Rattle.eqc_tree.specs.Holding.{Entry, Holding, says, Keeps, Gains}
 use Rattle.eqc_flat.specs.Graph.{FlatOf, IsFlat, driver_at, dependencies, value_of, FollowsDrivers, driven, cover}
 use Rattle.eqc_blif.specs.Cover.{cover_value}
 use Rattle.eqc_check.specs.Matching.{AreHeld, said}
-use Rattle.eqc_check.specs.Building.{held_by, tally, Holds, OwnsTable, Moves, Fills, Adds, Releases, IsBuilt, IsBuilding, IsPlan, AreReady, AreSignals, reference_of, inputs_under}
+use Rattle.eqc_check.specs.Building.{held_by, tally, Holds, HoldsBoth, OwnsTable, Moves, Fills, Adds, Releases, IsBuilt, IsBuilding, IsPlan, AreReady, AreSignals, reference_of, inputs_under}
 use Rattle.eqc_check.proofs.TableLaws.{owned_held}
 use Rattle.std.proofs.lemmas.List.Sums.{sum_by-cons}
 use Rattle.eqc_check.proofs.PlanLaws.{dep_before, step_of}
@@ -81,6 +80,25 @@ holds_owned entry before now table h = record { held = λ e. omega (arith, h.hel
 
 pub holds_moves : {X : Type 0} (entry : X → Entry) (before d0 d1 : Holding) (t0 t1 : List (Option X)) → Holds entry before d0 t0 → Moves entry d0 t0 d1 t1 → Holds entry before d1 t1
 holds_moves entry before d0 d1 t0 t1 h m = record { variables = m.variables ∙ h.variables; held = λ e. omega (arith, h.held e, m.held e) }
+
+-- what holds a table, and then another, holds both
+pub holds_both : {X : Type 0} (entry : X → Entry) (d0 d1 d2 : Holding) (first second : List (Option X)) → Holds entry d0 d1 first → Holds entry d1 d2 second → HoldsBoth entry d0 d2 first second
+holds_both entry d0 d1 d2 first second h k = record { variables = k.variables ∙ h.variables; held = λ e. omega (arith, h.held e, k.held e) }
+
+-- one signal that is there
+pub one_signal : (f : FlatOf) (s : ℕ) → s < length f.drivers → AreSignals f (s ∷ [])
+one_signal f s h = record { each = one }
+  where
+    one : (k : ℕ) → k < length (s ∷ []) → get_or (s ∷ []) k 0 < length f.drivers
+    one zero lt = h
+    one (suc k) lt = absurd (omega arith)
+
+-- one signal that has a reference
+pub one_ready : {X : Type 0} (table other : List (Option X)) (signals : List ℕ) (s t : ℕ) → other ≡ table → AreReady table signals → signals ≡ s ∷ [] → s ≡ t → IsSome (reference_of other t)
+one_ready table other signals s t is h e same =
+    let ready : AreReady table (s ∷ []) = subst (AreReady table) e h in
+    let there : IsSome (reference_of table s) = ready.each 0 (omega arith) in
+    rw (is, ← same) there
 
 -- a table that was given back
 pub holds_none : {X : Type 0} (entry : X → Entry) (before d0 d1 : Holding) (t0 : List (Option X)) → Holds entry before d0 t0 → Moves entry d0 t0 d1 [] → Keeps before d1

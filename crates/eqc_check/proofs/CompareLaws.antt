@@ -1,17 +1,18 @@
 -- The functions of matched netlists' outputs, and what of them differs.
-use Rattle.std.proofs.Common.{◌≡◌, ◌≢◌, ℕ, zero, suc, ◌+◌, ◌<◌, ◌≤◌, Bool, true, false, not, List, [], ◌∷◌, ◌++◌, length, map, find, get_or, take, refl, sym, ◌∙◌, ap, arith, Option, Some, None, subst, Vec, Global, IfSome}
+use Rattle.std.proofs.Common.{◌≡◌, ℕ, zero, suc, ◌+◌, ◌<◌, ◌≤◌, Bool, true, false, List, [], ◌∷◌, ◌++◌, length, map, find, get_or, take, refl, sym, ◌∙◌, ap, arith, Option, Some, None, subst, Vec, Global, IfSome}
 use Rattle.std.specs.Option.{option_map, option_or}
 use Rattle.std.specs.List.{All}
 use Rattle.std.proofs.lemmas.List.{take_more, get_or_default}
+use Rattle.std.proofs.lemmas.Option.{same_Some}
 use Rattle.eqc_tree.specs.Holding.{Entry, says}
 use Rattle.eqc_tree.specs.Operation.{operate}
 use Rattle.eqc_tree.specs.declared.operation.Op.TheVariants.{Xor}
 use Rattle.eqc_blif.specs.Cover.{cover_value}
-use Rattle.eqc_flat.specs.Graph.{FlatOf, IsFlat, IsWithin, DriverOf, input, tie, cover, driver_at, dependencies, driven, settled, value_of}
-use Rattle.eqc_check.specs.Building.{IsBuilt, AreVariables, inputs_under, reference_of}
-use Rattle.eqc_check.specs.Assigned.{assigned, AreDistinct, DependsOnlyOn}
+use Rattle.eqc_flat.specs.Graph.{FlatOf, IsFlat, IsWithin, DriverOf, input, tie, cover, driver_at, driven, settled, value_of}
+use Rattle.eqc_check.specs.Building.{IsBuilt, inputs_under, reference_of}
+use Rattle.eqc_check.specs.Assigned.{assigned, DependsOnlyOn}
 use Rattle.eqc_check.specs.Verdict.{NetlistOf, assignments, position_of, values_for, is_different, first_value, second_value, differs_under, least_difference, first_difference}
-use Rattle.eqc_check.specs.Sides.{AreMatched, netlist_of, differ_at, found_at}
+use Rattle.eqc_check.specs.Sides.{AreMatched, netlist_of, found_at, listed, at_output, IsNext}
 use Rattle.eqc_check.proofs.MatchedLemmas.{place_of_name, assigned_value}
 use Rattle.eqc_check.proofs.FindLemmas.{find_agrees}
 
@@ -93,24 +94,67 @@ first_push f g (p ∷ outputs) output = ap (option_or (option_map (λ a. (p, a))
     or_assoc None y z = refl
     or_assoc (Some x) y z = refl
 
-found_or : (f : FlatOf) (x y : Option (ℕ × Vec Bool Global)) → found_at f (option_or x y) ≡ option_or (found_at f x) (found_at f y)
-found_or f None y = refl
-found_or f (Some p) y = refl
+-- an output by its position, as an output by its name
+abbrev named_at : FlatOf → ℕ × List Bool → List ℕ × List Bool
+named_at f q = (get_or f.outputs q.0 [], q.1)
 
-found_map : (f : FlatOf) (o : ℕ) (here : Option (Vec Bool Global)) → found_at f (option_map (λ v. (o, v)) here) ≡ option_map (λ a. (get_or f.outputs o [], a)) (option_map (λ v. v.items) here)
-found_map f o None = refl
-found_map f o (Some v) = refl
+found_items : (f : FlatOf) (found : Option (ℕ × Vec Bool Global)) → found_at f found ≡ option_map (named_at f) (listed found)
+found_items f None = refl
+found_items f (Some p) = refl
+
+named_here : (f : FlatOf) (o : ℕ) (here : Option (List Bool)) → option_map (named_at f) (at_output o here) ≡ option_map (λ a. (get_or f.outputs o [], a)) here
+named_here f o None = refl
+named_here f o (Some a) = refl
 
 -- what was found before, or else here, is the first of one output more
-pub found_next : (f g : FlatOf) (o : ℕ) (found next : Option (ℕ × Vec Bool Global)) (here : Option (Vec Bool Global)) → o < length f.outputs → next ≡ option_or found (option_map (λ v. (o, v)) here) → found_at f found ≡ first_difference (netlist_of f) (netlist_of g) (take o f.outputs) → option_map (λ v. v.items) here ≡ least_difference (netlist_of f) (netlist_of g) (get_or f.outputs o []) → found_at f next ≡ first_difference (netlist_of f) (netlist_of g) (take (o + 1) f.outputs)
-found_next f g o found next here h n e is =
-    ap (found_at f) n ∙ (found_or f found (option_map (λ v. (o, v)) here) ∙ (rw (found_map f o here, e, is) refl
-    ∙ sym (ap (first_difference (netlist_of f) (netlist_of g)) (take_more f.outputs o [] h) ∙ first_push (netlist_of f) (netlist_of g) (take o f.outputs) (get_or f.outputs o []))))
+pub found_next : (f g : FlatOf) (o : ℕ) (found next : Option (ℕ × Vec Bool Global)) → o < length f.outputs → IsNext found o (least_difference (netlist_of f) (netlist_of g) (get_or f.outputs o [])) next → found_at f found ≡ first_difference (netlist_of f) (netlist_of g) (take o f.outputs) → found_at f next ≡ first_difference (netlist_of f) (netlist_of g) (take (o + 1) f.outputs)
+found_next f g o found next h n e = by found n e ∙ sym (ap (first_difference (netlist_of f) (netlist_of g)) (take_more f.outputs o [] h) ∙ first_push (netlist_of f) (netlist_of g) (take o f.outputs) (get_or f.outputs o []))
+  where
+    here : Option (List ℕ × List Bool)
+    here = option_map (λ a. (get_or f.outputs o [], a)) (least_difference (netlist_of f) (netlist_of g) (get_or f.outputs o []))
 
-pub within_next : (o : ℕ) (found next : Option (ℕ × Vec Bool Global)) (here : Option (Vec Bool Global)) → next ≡ option_or found (option_map (λ v. (o, v)) here) → IfSome found (λ p. p.0 < o) → IfSome next (λ p. p.0 < o + 1)
+    by : (found : Option (ℕ × Vec Bool Global)) → IsNext found o (least_difference (netlist_of f) (netlist_of g) (get_or f.outputs o [])) next → found_at f found ≡ first_difference (netlist_of f) (netlist_of g) (take o f.outputs) → found_at f next ≡ option_or (first_difference (netlist_of f) (netlist_of g) (take o f.outputs)) here
+    by (Some p) n e = ap (found_at f) n ∙ ap (λ x. option_or x here) e
+    by None n e =
+        found_items f next ∙ (ap (option_map (named_at f)) n
+        ∙ (named_here f o (least_difference (netlist_of f) (netlist_of g) (get_or f.outputs o [])) ∙ ap (λ x. option_or x here) e))
+
+pub within_next : (o : ℕ) (found next : Option (ℕ × Vec Bool Global)) (here : Option (List Bool)) → IsNext found o here next → IfSome found (λ p. p.0 < o) → IfSome next (λ p. p.0 < o + 1)
 within_next o (Some p) next here n h = rw n (omega arith)
-within_next o None next None n h = rw n tt
-within_next o None next (Some v) n h = rw n (omega arith)
+within_next o None None here n h = tt
+within_next o None (Some q) None n h = absurd (let e : Some (q.0, q.1.items) ≡ None = n in cc)
+within_next o None (Some q) (Some a) n h =
+    let same : q.0 ≡ o = ap (λ (p : ℕ × List Bool). p.0) (same_Some (q.0, q.1.items) (o, a) n) in omega arith
+
+-- where nothing was found before, what is found here is next
+pub next_here : (before : Option (ℕ × Vec Bool Global)) (o : ℕ) (here : Option (List Bool)) (found : Option (Vec Bool Global)) → before ≡ None → option_map (λ v. v.items) found ≡ here → IsNext before o here (option_map (λ v. (o, v)) found)
+next_here before o here found none e =
+    let P : Option (ℕ × Vec Bool Global) → Type 0 = λ b. IsNext b o here (option_map (λ v. (o, v)) found) in
+    subst P (sym none) (items o found ∙ ap (at_output o) e)
+  where
+    items : (o : ℕ) (found : Option (Vec Bool Global)) → listed (option_map (λ v. (o, v)) found) ≡ at_output o (option_map (λ v. v.items) found)
+    items o None = refl
+    items o (Some v) = refl
+
+-- the values of what is found at one output
+pub next_values : (o : ℕ) (here : Option (List Bool)) (found : Option (ℕ × Vec Bool Global)) → IsNext None o here found → option_map (λ p. p.1.items) found ≡ here
+next_values o None None n = refl
+next_values o None (Some q) n = absurd (let e : Some (q.0, q.1.items) ≡ None = n in cc)
+next_values o (Some a) None n = absurd (let e : None ≡ Some (o, a) = n in cc)
+next_values o (Some a) (Some q) n = ap (λ (p : ℕ × List Bool). Some p.1) (same_Some (q.0, q.1.items) (o, a) n)
+
+-- over more variables
+pub matched_more : (f g : FlatOf) (variables second_variables second_signals : List ℕ) (n m : ℕ) → n ≤ m → AreMatched f g variables second_variables second_signals n → AreMatched f g variables second_variables second_signals m
+matched_more f g variables second_variables second_signals n m le h = record {
+  first = record { size = h.first.size; below = λ p lt. omega (arith, h.first.below p lt) };
+  distinct = h.distinct;
+  second = record { size = h.second.size; below = λ p lt. omega (arith, h.second.below p lt) };
+  inputs = h.inputs;
+  same = h.same;
+  size = h.size;
+  signals = h.signals;
+  within = h.within;
+}
 
 -- variables that are below a number
 pub below_all : (variables : List ℕ) (n : ℕ) → ((p : ℕ) → p < length variables → get_or variables p 0 < n) → All (λ v. v < n) variables

@@ -1,10 +1,10 @@
 -- Evaluating in an order gives the values.
-use Rattle.std.proofs.Common.{◌≡◌, ℕ, zero, suc, ◌+◌, ◌<◌, ◌≤◌, Bool, true, false, not, List, [], ◌∷◌, ◌++◌, length, map, get_or, set, take, refl, sym, ◌∙◌, ap, arith, inl, inr, subst}
-use Rattle.std.proofs.lemmas.List.{get_or-set_same, get_or-set_other, take_more, map-append}
+use Rattle.std.proofs.Common.{◌≡◌, ℕ, suc, ◌+◌, ◌<◌, Bool, false, List, [], ◌∷◌, length, map, get_or, set, refl, sym, ◌∙◌, ap, arith, inl, inr, subst}
+use Rattle.std.proofs.lemmas.List.{get_or-set_same, get_or-set_other}
 use Rattle.std.proofs.lemmas.Bool.{cases_eq}
 use Rattle.std.proofs.Math.ListN.{length-set}
 use Rattle.eqc_blif.specs.Cover.{cover_value}
-use Rattle.eqc_flat.specs.Graph.{FlatOf, IsFlat, IsWithin, DriverOf, input, tie, cover, driver_at, dependencies, driven, value_of, FollowsDrivers}
+use Rattle.eqc_flat.specs.Graph.{FlatOf, IsFlat, DriverOf, input, tie, cover, driver_at, dependencies, driven, value_of, FollowsDrivers}
 use Rattle.eqc_check.specs.Evaluating.{values_of, AreKnown}
 use Rattle.eqc_check.proofs.PlanLaws.{dep_before, step_of}
 

@@ -1,8 +1,8 @@
 -- Held references stay held.
-use Rattle.std.proofs.Common.{◌≡◌, ℕ, zero, suc, ◌+◌, ◌<◌, ◌≤◌, List, [], ◌∷◌, take, drop, Bool, arith, length, Result, Ok, Err, IfOk, refl, ◌∙◌, subst}
+use Rattle.std.proofs.Common.{◌≡◌, ℕ, zero, suc, ◌≤◌, List, [], ◌∷◌, take, drop, Bool, arith, Result, Ok, Err, IfOk, refl, ◌∙◌, subst}
 use Rattle.std.specs.Borrow.{Bor}
-use Rattle.eqc_tree.specs.Holding.{Entry, Holding, IsHeld, copies, weight, Keeps, Gains, Loses, says}
-use Rattle.eqc_check.specs.Matching.{AreHeld, Swaps}
+use Rattle.eqc_tree.specs.Holding.{Entry, Holding, copies, Keeps, Gains, Loses, says}
+use Rattle.eqc_check.specs.Matching.{AreHeld}
 
 pub held_take : {X : Type 0} (entry : X → Entry) (d : Holding) (n : ℕ) (rs : List (Bor X)) → AreHeld entry d rs → AreHeld entry d (take n rs)
 held_take entry d zero rs h = record { each = tt }

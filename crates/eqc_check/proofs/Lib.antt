@@ -21,5 +21,6 @@ pub mod PlaceLemmas
 pub mod OrderedLemmas
 pub mod PickLemmas
 pub mod PairLaws
+pub mod InputLemmas
 pub mod ReportsLaws
 pub mod RunLaws

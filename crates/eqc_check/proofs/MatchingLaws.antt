@@ -1,11 +1,10 @@
 -- Laws of rows, their columns and their values.
-use Rattle.std.proofs.Common.{◌≡◌, ℕ, zero, suc, ◌+◌, ◌-◌, ◌<◌, ◌≤◌, Bool, true, false, not, ◌&&◌, ◌||◌, cond, List, [], ◌∷◌, ◌++◌, length, map, take, drop, refl, sym, ◌∙◌, ap, arith, ◌==◌, eqb-true, get_or, append-nil}
+use Rattle.std.proofs.Common.{◌≡◌, ℕ, zero, suc, ◌+◌, ◌<◌, ◌≤◌, Bool, true, false, ◌&&◌, ◌||◌, cond, List, [], ◌∷◌, ◌++◌, length, map, take, drop, refl, sym, ◌∙◌, ap, arith, ◌==◌, eqb-true, get_or, append-nil}
 use Rattle.std.proofs.lemmas.Bool.{false≢true}
 use Rattle.std.proofs.lemmas.List.{take_more, map-append}
-use Rattle.std.specs.List.{list_any}
 use Rattle.std.specs.Borrow.{Bor}
-use Rattle.eqc_blif.specs.Cover.{allows, row_matches, is_on, cover_value}
-use Rattle.eqc_tree.specs.Holding.{Entry, Holding, says}
+use Rattle.eqc_blif.specs.Cover.{allows, row_matches}
+use Rattle.eqc_tree.specs.Holding.{Entry, says}
 use Rattle.eqc_check.specs.Matching.{some_match, cofactor, agrees, said, of_two}
 
 pub row_matches-nil : (vs : List Bool) → row_matches [] vs ≡ true

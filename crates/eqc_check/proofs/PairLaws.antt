@@ -1,23 +1,31 @@
 -- A pair's netlists are matched, and the report on a difference.
-use Rattle.std.proofs.Common.{◌≡◌, ℕ, zero, suc, ◌+◌, ◌<◌, ◌≤◌, Bool, true, false, not, List, [], ◌∷◌, ◌++◌, length, map, take, get_or, refl, sym, ◌∙◌, ap, arith, subst, Option, Some, None, true≢false}
-use Rattle.std.specs.List.{range_with_len, zip}
-use Rattle.std.specs.Option.{option_map}
+use Rattle.std.proofs.Common.{◌≡◌, ℕ, zero, suc, ◌+◌, ◌<◌, Bool, true, false, not, List, [], ◌∷◌, ◌++◌, length, take, get_or, refl, sym, ◌∙◌, ap, arith, subst, Some, true≢false}
+use Rattle.std.specs.List.{zip}
 use Rattle.std.proofs.lemmas.List.{get_or-map, length-map}
 use Rattle.std.proofs.lemmas.List.FromFn.{length-map-range_with_len, get_or-map-range_with_len}
 use Rattle.eqc_flat.specs.Graph.{FlatOf, IsFlat, value_of}
 use Rattle.eqc_check.specs.Verdict.{position_of, values_for, is_different, first_value, second_value, first_difference}
 use Rattle.eqc_check.specs.Report.{ReportOf, differs, difference_report, comparison}
+use Rattle.eqc_check.specs.Assigned.{AreDistinct}
 use Rattle.eqc_check.specs.Evaluating.{values_of}
 use Rattle.eqc_check.proofs.MatchedLemmas.{place_of_name}
 use Rattle.eqc_check.proofs.CompareLaws.{value_agrees}
 use Rattle.eqc_check.proofs.VerdictLemmas.{found_is_first}
-use Rattle.eqc_check.specs.PairOf.{PairOf, IsPair, IsOrder, variable_in, variables_in, first_variables, second_variables, second_signals, output_signal}
+use Rattle.eqc_check.specs.PairOf.{PairOf, IsPair, variable_in, variables_in, first_variables, second_variables, second_signals, output_signal}
 use Rattle.eqc_check.specs.Sides.{AreMatched, netlist_of}
 use Rattle.eqc_check.proofs.PlaceLemmas.{place_below, all_named}
 use Rattle.eqc_check.proofs.OrderedLemmas.{both_ways}
 
-variables_at : (n i : ℕ) (order : List ℕ) → i < n → get_or (variables_in n order) i 0 ≡ variable_in order i
+pub variables_at : (n i : ℕ) (order : List ℕ) → i < n → get_or (variables_in n order) i 0 ≡ variable_in order i
 variables_at n i order h = get_or-map-range_with_len (variable_in order) 0 n i i 0 h (omega arith)
+
+-- no two inputs have one variable
+pub variables_distinct : (p : PairOf) → IsPair p → AreDistinct (first_variables p)
+variables_distinct p h i j hi hj e =
+    let ii : i < length p.first.inputs = omega (arith, length-map-range_with_len (variable_in p.order) 0 (length p.first.inputs)) in
+    let jj : j < length p.first.inputs = omega (arith, length-map-range_with_len (variable_in p.order) 0 (length p.first.inputs)) in
+    let same : variable_in p.order i ≡ variable_in p.order j = sym (variables_at (length p.first.inputs) i p.order ii) ∙ (e ∙ variables_at (length p.first.inputs) j p.order jj) in
+    sym (h.ordered.at_variable i ii) ∙ (ap (λ v. get_or p.order v 0) same ∙ h.ordered.at_variable j jj)
 
 pub pair_matched : (p : PairOf) → IsFlat p.first → IsFlat p.second → IsPair p → AreMatched p.first p.second (first_variables p) (second_variables p) (second_signals p) (length p.first.inputs)
 pair_matched p hf hg h = record {
@@ -25,11 +33,7 @@ pair_matched p hf hg h = record {
     size = long;
     below = λ i lt. let inside : i < length p.first.inputs = omega (arith, long) in rw (variables_at (length p.first.inputs) i p.order inside) (h.ordered.variable_within i inside);
   };
-  distinct = λ i j hi hj e.
-      let ii : i < length p.first.inputs = omega (arith, long) in
-      let jj : j < length p.first.inputs = omega (arith, long) in
-      let same : variable_in p.order i ≡ variable_in p.order j = sym (variables_at (length p.first.inputs) i p.order ii) ∙ (e ∙ variables_at (length p.first.inputs) j p.order jj) in
-      sym (h.ordered.at_variable i ii) ∙ (ap (λ v. get_or p.order v 0) same ∙ h.ordered.at_variable j jj);
+  distinct = variables_distinct p h;
   second = record {
     size = length-map p.second.inputs (λ name. variable_in p.order (position_of p.first.inputs name));
     below = λ i lt.

@@ -1,28 +1,29 @@
 -- The reports on texts are those that they define.
-use Rattle.std.proofs.Common.{◌≡◌, ◌≢◌, ◌⊎◌, inl, inr, ℕ, zero, suc, ◌+◌, ◌<◌, ◌≤◌, Bool, true, false, not, ◌&&◌, List, [], ◌∷◌, length, get_or, refl, sym, ◌∙◌, ap, arith, subst, Option, Some, None, Result, Ok, Err, IfOk, nat_lt, cond, MatchResult}
-use Rattle.std.specs.List.{All}
+use Rattle.std.proofs.Common.{◌≡◌, ◌≢◌, ◌⊎◌, inl, inr, ℕ, ◌<◌, ◌≤◌, Bool, true, false, List, [], length, get_or, refl, sym, ◌∙◌, ap, subst, Option, Some, None, Result, Ok, Err, IfOk, IfErr, MatchResult}
 use Rattle.std.proofs.lemmas.List.{get_or_default}
 use Rattle.std.proofs.lemmas.Bool.{cases_Bool, lt-ltb, le-ltb}
-use Rattle.std.specs.Option.{option_map, option_map_or, option_copied}
+use Rattle.std.specs.Option.{option_map, option_copied}
 use Rattle.eqc_tree.specs.declared.stopping.Stop.{Stop}
-use Rattle.eqc_tree.specs.Stopping.{code_of}
-use Rattle.eqc_blif.specs.Netlist.{ModelOf, no_model}
+use Rattle.eqc_tree.specs.declared.stopping.Stop.TheVariants as stops
+use Rattle.eqc_blif.specs.Netlist.{ModelOf}
 use Rattle.eqc_blif.specs.Reading.{Outcome, outcome}
 use Rattle.eqc_blif.specs.declared.refusal.Refusal.{Refusal}
 use Rattle.eqc_flat.specs.Graph.{FlatOf, IsFlat, value_of}
-use Rattle.eqc_flat.specs.Simple.{is_simple, model_value, IsFlatOf}
+use Rattle.eqc_flat.specs.Signals.{output_value}
+use Rattle.eqc_flat.specs.Codes.{flat_code}
+use Rattle.eqc_flat.specs.Flattened.{IsFlatOf}
 use Rattle.eqc_check.specs.declared.report.Report.{Report}
 use Rattle.eqc_check.specs.declared.report.Report.TheVariants as kind
 use Rattle.eqc_check.specs.declared.report.Side.{Side}
 use Rattle.eqc_check.specs.declared.report.Side.TheVariants as side
 use Rattle.eqc_check.specs.declared.report.Refused.{Refused}
-use Rattle.eqc_check.specs.Verdict.{NetlistOf, position_of, values_for, is_different, first_value, second_value, differs_under, least_difference, first_difference}
-use Rattle.eqc_check.specs.Report.{ReportOf, equivalent, differs, refused, stopped, difference_report, comparison}
+use Rattle.eqc_check.specs.Verdict.{NetlistOf, position_of, values_for, first_value, second_value, first_difference}
+use Rattle.eqc_check.specs.Report.{ReportOf, refused, difference_report, comparison}
 use Rattle.eqc_check.specs.ReportView.{report_of}
 use Rattle.eqc_check.specs.Matched.{same_names, order_code}
-use Rattle.eqc_check.specs.PairOf.{pair_refusal, pair_refused, order_refusal, order_refused, no_memory}
+use Rattle.eqc_check.specs.PairOf.{pair_refusal, order_refused, no_memory}
 use Rattle.eqc_check.specs.Refusing.{IsRefused, refusal_report, flat_answer}
-use Rattle.eqc_check.specs.Answer.{netlist_of_model, order_answer, code_of_order, pair_answer, models_answer, second_answer, one_answer, two_answer, Answers, as_wanted, was_stopped, texts_answer, read_texts}
+use Rattle.eqc_check.specs.Answer.{MainOf, inputs_of, outputs_of, netlist_of_model, order_answer, code_of_order, pair_answer, models_answer, second_answer, one_answer, two_answer, IsComparison, MayStop, Answers, as_wanted, was_stopped, texts_answer, read_texts}
 use Rattle.std.specs.Borrow.{Bor}
 use Rattle.eqc_check.specs.Sides.{netlist_of}
 use Rattle.eqc_check.proofs.PlaceLemmas.{place_below, all_named, name_at}
@@ -43,30 +44,30 @@ flat_compared f g pf pg order report none ef eg e =
     e ∙ (ap (λ (x : FlatOf). comparison (netlist_of x) (netlist_of pg)) ef ∙ (ap (λ (x : FlatOf). comparison (netlist_of f) (netlist_of x)) eg ∙ sym (ap (λ o. refusal_report o (comparison (netlist_of f) (netlist_of g))) none)))
 
 -- an output of a model's flat netlist has its value
-flat_value : (m : ModelOf) (f : FlatOf) (output : List ℕ) (o : ℕ) (a : ℕ → Bool) → IsFlat f → IsFlatOf m f → o < length f.outputs → get_or f.outputs o [] ≡ output → (netlist_of f).value output a ≡ model_value m output a
+flat_value : (m : MainOf) (f : FlatOf) (output : List ℕ) (o : ℕ) (a : ℕ → Bool) → IsFlat f → IsFlatOf m.0 m.1 f → o < length f.outputs → get_or f.outputs o [] ≡ output → (netlist_of f).value output a ≡ output_value m.0 m.1 a output
 flat_value m f output o a h is inside at =
     let place : position_of f.outputs output ≡ o = ap (position_of f.outputs) (sym at) ∙ place_of_name f.outputs o h.outputs_differ inside in
     ap (λ k. value_of f a (get_or f.output_signals k 0)) place
-    ∙ (is.values a o (omega (arith, ap length is.outputs)) ∙ ap (λ n. model_value m n a) (ap (λ (names : List (List ℕ)). get_or names o []) (sym is.outputs) ∙ at))
+    ∙ (is.values a o inside ∙ ap (output_value m.0 m.1 a) at)
 
 -- values that agree make reports that agree
-alike : (f g : FlatOf) (m n : ModelOf) → IsFlat f → IsFlat g → IsFlatOf m f → IsFlatOf n g → same_names f.outputs g.outputs ≡ true → (o : ℕ) (a : List Bool) → o < length f.outputs
+alike : (f g : FlatOf) (m n : MainOf) → IsFlat f → IsFlat g → IsFlatOf m.0 m.1 f → IsFlatOf n.0 n.1 g → same_names f.outputs g.outputs ≡ true → (o : ℕ) (a : List Bool) → o < length f.outputs
     → (first_value (netlist_of f) (get_or f.outputs o []) a ≡ first_value (netlist_of_model m) (get_or f.outputs o []) a) × (second_value (netlist_of f) (netlist_of g) (get_or f.outputs o []) a ≡ second_value (netlist_of_model m) (netlist_of_model n) (get_or f.outputs o []) a)
 alike f g m n hf hg mf ng same o a inside =
     let named = all_named g.outputs f.outputs ((both_ways f.outputs g.outputs same).1) o inside in
     let below = place_below g.outputs (get_or f.outputs o []) named in (
-      flat_value m f (get_or f.outputs o []) o (values_for f.inputs a f.inputs) hf mf inside refl ∙ ap (λ (names : List (List ℕ)). model_value m (get_or f.outputs o []) (values_for names a names)) mf.inputs,
+      flat_value m f (get_or f.outputs o []) o (values_for f.inputs a f.inputs) hf mf inside refl ∙ ap (λ (names : List (List ℕ)). output_value m.0 m.1 (values_for names a names) (get_or f.outputs o [])) mf.inputs,
       flat_value n g (get_or f.outputs o []) (position_of g.outputs (get_or f.outputs o [])) (values_for f.inputs a g.inputs) hg ng below (name_at g.outputs (get_or f.outputs o []) named)
-          ∙ (ap (λ (names : List (List ℕ)). model_value n (get_or f.outputs o []) (values_for names a g.inputs)) mf.inputs ∙ ap (λ (names : List (List ℕ)). model_value n (get_or f.outputs o []) (values_for m.inputs a names)) ng.inputs),
+          ∙ (ap (λ (names : List (List ℕ)). output_value n.0 n.1 (values_for names a g.inputs) (get_or f.outputs o [])) mf.inputs ∙ ap (λ (names : List (List ℕ)). output_value n.0 n.1 (values_for (inputs_of m) a names) (get_or f.outputs o [])) ng.inputs),
     )
 
-found_alike : (f g : FlatOf) (m n : ModelOf) → IsFlat f → IsFlat g → IsFlatOf m f → IsFlatOf n g → same_names f.outputs g.outputs ≡ true → first_difference (netlist_of f) (netlist_of g) f.outputs ≡ first_difference (netlist_of_model m) (netlist_of_model n) f.outputs
+found_alike : (f g : FlatOf) (m n : MainOf) → IsFlat f → IsFlat g → IsFlatOf m.0 m.1 f → IsFlatOf n.0 n.1 g → same_names f.outputs g.outputs ≡ true → first_difference (netlist_of f) (netlist_of g) f.outputs ≡ first_difference (netlist_of_model m) (netlist_of_model n) f.outputs
 found_alike f g m n hf hg mf ng same =
     first_agrees (netlist_of f) (netlist_of g) (netlist_of_model m) (netlist_of_model n) f.outputs (ap length mf.inputs)
     (λ k d h. let P : List ℕ → Type 0 = DiffersAlike (netlist_of f) (netlist_of g) (netlist_of_model m) (netlist_of_model n) in
     subst P (get_or_default f.outputs k [] d h) (record { alike = λ a long. let v = alike f g m n hf hg mf ng same k a h in rw (v.0, v.1) refl }))
 
-report_alike : (f g : FlatOf) (m n : ModelOf) (d : Option (List ℕ × List Bool)) → IsFlat f → IsFlat g → IsFlatOf m f → IsFlatOf n g → same_names f.outputs g.outputs ≡ true → first_difference (netlist_of f) (netlist_of g) f.outputs ≡ d → difference_report (netlist_of f) (netlist_of g) d ≡ difference_report (netlist_of_model m) (netlist_of_model n) d
+report_alike : (f g : FlatOf) (m n : MainOf) (d : Option (List ℕ × List Bool)) → IsFlat f → IsFlat g → IsFlatOf m.0 m.1 f → IsFlatOf n.0 n.1 g → same_names f.outputs g.outputs ≡ true → first_difference (netlist_of f) (netlist_of g) f.outputs ≡ d → difference_report (netlist_of f) (netlist_of g) d ≡ difference_report (netlist_of_model m) (netlist_of_model n) d
 report_alike f g m n None hf hg mf ng same e = refl
 report_alike f g m n (Some d) hf hg mf ng same e =
     let first = found_is_first (netlist_of f) (netlist_of g) f.outputs d.0 d.1 e in
@@ -75,7 +76,7 @@ report_alike f g m n (Some d) hf hg mf ng same e =
     let y : second_value (netlist_of f) (netlist_of g) d.0 d.1 ≡ second_value (netlist_of_model m) (netlist_of_model n) d.0 d.1 = rw first.there at v.1 in
     rw (x, y, mf.inputs) refl
 
-pub comparison_alike : (f g : FlatOf) (m n : ModelOf) → IsFlat f → IsFlat g → IsFlatOf m f → IsFlatOf n g → same_names f.outputs g.outputs ≡ true → comparison (netlist_of f) (netlist_of g) ≡ comparison (netlist_of_model m) (netlist_of_model n)
+pub comparison_alike : (f g : FlatOf) (m n : MainOf) → IsFlat f → IsFlat g → IsFlatOf m.0 m.1 f → IsFlatOf n.0 n.1 g → same_names f.outputs g.outputs ≡ true → comparison (netlist_of f) (netlist_of g) ≡ comparison (netlist_of_model m) (netlist_of_model n)
 comparison_alike f g m n hf hg mf ng same =
     report_alike f g m n (first_difference (netlist_of f) (netlist_of g) f.outputs) hf hg mf ng same refl
     ∙ ap (difference_report (netlist_of_model m) (netlist_of_model n)) (found_alike f g m n hf hg mf ng same ∙ ap (first_difference (netlist_of_model m) (netlist_of_model n)) mf.outputs)
@@ -87,24 +88,24 @@ inputs_differ f g order e = rw e refl
 outputs_differ : (f g : FlatOf) (order : Option (List ℕ)) → same_names f.inputs g.inputs ≡ true → same_names f.outputs g.outputs ≡ false → flat_answer f g order ≡ refused side.Pair 0 42
 outputs_differ f g order e h = rw (e, h) refl
 
-by_order : (f g : FlatOf) (m n : ModelOf) (code : Option ℕ) → comparison (netlist_of f) (netlist_of g) ≡ comparison (netlist_of_model m) (netlist_of_model n) → refusal_report (option_map order_refused code) (comparison (netlist_of f) (netlist_of g)) ≡ order_answer m n code
+by_order : (f g : FlatOf) (m n : MainOf) (code : Option ℕ) → comparison (netlist_of f) (netlist_of g) ≡ comparison (netlist_of_model m) (netlist_of_model n) → refusal_report (option_map order_refused code) (comparison (netlist_of f) (netlist_of g)) ≡ order_answer m n code
 by_order f g m n None e = e
 by_order f g m n (Some code) e = refl
 
-ordered : (f g : FlatOf) (m n : ModelOf) (order : Option (List ℕ)) → same_names f.inputs g.inputs ≡ true → same_names f.outputs g.outputs ≡ true → comparison (netlist_of f) (netlist_of g) ≡ comparison (netlist_of_model m) (netlist_of_model n) → flat_answer f g order ≡ order_answer m n (code_of_order f.inputs order)
+ordered : (f g : FlatOf) (m n : MainOf) (order : Option (List ℕ)) → same_names f.inputs g.inputs ≡ true → same_names f.outputs g.outputs ≡ true → comparison (netlist_of f) (netlist_of g) ≡ comparison (netlist_of_model m) (netlist_of_model n) → flat_answer f g order ≡ order_answer m n (code_of_order f.inputs order)
 ordered f g m n None e h c = rw (e, h) c
 ordered f g m n (Some text) e h c = rw (e, h) (by_order f g m n (order_code f.inputs text) c)
 
 -- the answer of two models' flat netlists is that of the models
-pub flat_pair : (f g : FlatOf) (m n : ModelOf) (order : Option (List ℕ)) → IsFlat f → IsFlat g → IsFlatOf m f → IsFlatOf n g → flat_answer f g order ≡ pair_answer m n order
+flat_pair : (f g : FlatOf) (m n : MainOf) (order : Option (List ℕ)) → IsFlat f → IsFlat g → IsFlatOf m.0 m.1 f → IsFlatOf n.0 n.1 g → flat_answer f g order ≡ pair_answer m n order
 flat_pair f g m n order hf hg mf ng =
-    let same_inputs : same_names f.inputs g.inputs ≡ same_names m.inputs n.inputs = rw (mf.inputs, ng.inputs) refl in
-    let same_outputs : same_names f.outputs g.outputs ≡ same_names m.outputs n.outputs = rw (mf.outputs, ng.outputs) refl in
+    let same_inputs : same_names f.inputs g.inputs ≡ same_names (inputs_of m) (inputs_of n) = rw (mf.inputs, ng.inputs) refl in
+    let same_outputs : same_names f.outputs g.outputs ≡ same_names (outputs_of m) (outputs_of n) = rw (mf.outputs, ng.outputs) refl in
     elim (cases_Bool (same_names f.inputs g.inputs)) [
       | inl yes_inputs ↦ elim (cases_Bool (same_names f.outputs g.outputs)) [
         | inl yes_outputs ↦
-            let a : same_names m.inputs n.inputs ≡ true = sym same_inputs ∙ yes_inputs in
-            let b : same_names m.outputs n.outputs ≡ true = sym same_outputs ∙ yes_outputs in
+            let a : same_names (inputs_of m) (inputs_of n) ≡ true = sym same_inputs ∙ yes_inputs in
+            let b : same_names (outputs_of m) (outputs_of n) ≡ true = sym same_outputs ∙ yes_outputs in
             ordered f g m n order yes_inputs yes_outputs (comparison_alike f g m n hf hg mf ng yes_outputs)
             ∙ (ap (λ names. order_answer m n (code_of_order names order)) mf.inputs ∙ sym (taken m n order a b))
         | inr no_outputs ↦ outputs_differ f g order yes_inputs no_outputs ∙ sym (refused_42 m n order (sym same_inputs ∙ yes_inputs) (sym same_outputs ∙ no_outputs))
@@ -112,24 +113,36 @@ flat_pair f g m n order hf hg mf ng =
       | inr no_inputs ↦ inputs_differ f g order no_inputs ∙ sym (refused_41 m n order (sym same_inputs ∙ no_inputs))
     ]
   where
-    taken : (m n : ModelOf) (order : Option (List ℕ)) → same_names m.inputs n.inputs ≡ true → same_names m.outputs n.outputs ≡ true → pair_answer m n order ≡ order_answer m n (code_of_order m.inputs order)
+    taken : (m n : MainOf) (order : Option (List ℕ)) → same_names (inputs_of m) (inputs_of n) ≡ true → same_names (outputs_of m) (outputs_of n) ≡ true → pair_answer m n order ≡ order_answer m n (code_of_order (inputs_of m) order)
     taken m n order a b = rw (a, b) refl
 
-    refused_41 : (m n : ModelOf) (order : Option (List ℕ)) → same_names m.inputs n.inputs ≡ false → pair_answer m n order ≡ refused side.Pair 0 41
+    refused_41 : (m n : MainOf) (order : Option (List ℕ)) → same_names (inputs_of m) (inputs_of n) ≡ false → pair_answer m n order ≡ refused side.Pair 0 41
     refused_41 m n order a = rw a refl
 
-    refused_42 : (m n : ModelOf) (order : Option (List ℕ)) → same_names m.inputs n.inputs ≡ true → same_names m.outputs n.outputs ≡ false → pair_answer m n order ≡ refused side.Pair 0 42
+    refused_42 : (m n : MainOf) (order : Option (List ℕ)) → same_names (inputs_of m) (inputs_of n) ≡ true → same_names (outputs_of m) (outputs_of n) ≡ false → pair_answer m n order ≡ refused side.Pair 0 42
     refused_42 m n order a b = rw (a, b) refl
 
-pub models_simple : (m n : ModelOf) (order : Option (List ℕ)) → is_simple m ≡ true → is_simple n ≡ true → models_answer m n order ≡ pair_answer m n order
-models_simple m n order em en = rw (em, en) refl
+-- the answer of two main models' flat netlists
+pub flat_models : (f g : FlatOf) (m n : MainOf) (order : Option (List ℕ)) → IsFlat f → IsFlat g → flat_code m.0 m.1 ≡ None → flat_code n.0 n.1 ≡ None → IsFlatOf m.0 m.1 f → IsFlatOf n.0 n.1 g → flat_answer f g order ≡ models_answer m n order
+flat_models f g m n order hf hg em en mf ng = flat_pair f g m n order hf hg mf ng ∙ sym (accepted em en)
+  where
+    accepted : flat_code m.0 m.1 ≡ None → flat_code n.0 n.1 ≡ None → models_answer m n order ≡ pair_answer m n order
+    accepted em en = rw (em, en) refl
 
--- models that are not simple
-pub first_not_simple : (m n : ModelOf) (order : Option (List ℕ)) → is_simple m ≡ false → refused side.First 0 3 ≡ models_answer m n order
-first_not_simple m n order em = rw em refl
+-- hierarchies that are refused
+pub first_fault : (m n : MainOf) (order : Option (List ℕ)) (code : ℕ) (result : Result Report Stop) → IsRefused side.First (record { line = 0; code = code }) result → (code ≡ 72) ⊎ (flat_code m.0 m.1 ≡ Some code) → IfOk result (λ report. report_of report ≡ models_answer m n order)
+first_fault m n order code (Err stop) h e = tt
+first_fault m n order code (Ok report) h e = elim e [
+  | inl none ↦ absurd (h.0 none)
+  | inr is ↦ ap report_of h.1 ∙ rw is refl
+]
 
-pub second_not_simple : (m n : ModelOf) (order : Option (List ℕ)) → is_simple m ≡ true → is_simple n ≡ false → refused side.First 0 3 ≡ models_answer m n order
-second_not_simple m n order em en = rw (em, en) refl
+pub second_fault : (m n : MainOf) (order : Option (List ℕ)) (code : ℕ) (result : Result Report Stop) → flat_code m.0 m.1 ≡ None → IsRefused side.Second (record { line = 0; code = code }) result → (code ≡ 72) ⊎ (flat_code n.0 n.1 ≡ Some code) → IfOk result (λ report. report_of report ≡ models_answer m n order)
+second_fault m n order code (Err stop) none h e = tt
+second_fault m n order code (Ok report) none h e = elim e [
+  | inl memory ↦ absurd (h.0 memory)
+  | inr is ↦ ap report_of h.1 ∙ rw (none, is) refl
+]
 
 -- a text that was refused
 pub refusal_reported : (s : Side) (refusal : Refusal) (result : Result Report Stop) (wanted : ReportOf) (o : Outcome) → IsRefused s refusal result → (refusal ≡ record { line = 0; code = 72 }) ⊎ (o ≡ Err (refusal.line, refusal.code)) → (o ≡ Err (refusal.line, refusal.code) → refused s refusal.line refusal.code ≡ wanted) → IfOk result (λ report. report_of report ≡ wanted)
@@ -146,16 +159,16 @@ pub first_refused_too : (o p : Outcome) (line code : ℕ) (order : Option (List 
 first_refused_too o p line code order e = sym (ap (λ x. two_answer x p order) e)
 
 pub second_refused : (o p : Outcome) (models : List ModelOf) (line code : ℕ) (order : Option (List ℕ)) → o ≡ Ok models → p ≡ Err (line, code) → refused side.Second line code ≡ two_answer o p order
-second_refused o p models line code order e h = sym (ap (λ x. two_answer x p order) e ∙ ap (λ x. second_answer (get_or models 0 no_model) x order) h)
+second_refused o p models line code order e h = sym (ap (λ x. two_answer x p order) e ∙ ap (λ x. second_answer (models, 0) x order) h)
 
 pub second_missing : (o : Outcome) (models : List ModelOf) (order : Option (List ℕ)) → o ≡ Ok models → length models < 2 → refused side.Second 0 13 ≡ one_answer o order
 second_missing o models order e h = sym (ap (λ x. one_answer x order) e ∙ rw (lt-ltb (length models) 2 h) refl)
 
-pub one_compared : (o : Outcome) (models : List ModelOf) (order : Option (List ℕ)) → o ≡ Ok models → 2 ≤ length models → models_answer (get_or models 0 no_model) (get_or models 1 no_model) order ≡ one_answer o order
+pub one_compared : (o : Outcome) (models : List ModelOf) (order : Option (List ℕ)) → o ≡ Ok models → 2 ≤ length models → models_answer (models, 0) (models, 1) order ≡ one_answer o order
 one_compared o models order e h = sym (ap (λ x. one_answer x order) e ∙ rw (le-ltb (length models) 2 h) refl)
 
-pub two_compared : (o p : Outcome) (models others : List ModelOf) (order : Option (List ℕ)) → o ≡ Ok models → p ≡ Ok others → models_answer (get_or models 0 no_model) (get_or others 0 no_model) order ≡ two_answer o p order
-two_compared o p models others order e h = sym (ap (λ x. two_answer x p order) e ∙ ap (λ x. second_answer (get_or models 0 no_model) x order) h)
+pub two_compared : (o p : Outcome) (models others : List ModelOf) (order : Option (List ℕ)) → o ≡ Ok models → p ≡ Ok others → models_answer (models, 0) (others, 0) order ≡ two_answer o p order
+two_compared o p models others order e h = sym (ap (λ x. two_answer x p order) e ∙ ap (λ x. second_answer (models, 0) x order) h)
 
 -- what was reported answers
 pub answers : (wanted got : ReportOf) → got ≡ wanted → Answers wanted got
@@ -165,9 +178,37 @@ pub reported : (result : Result Report Stop) (a b : ReportOf) → IfOk result (�
 reported (Ok report) a b h e = h ∙ e
 reported (Err stop) a b h e = tt
 
-pub answered : (wanted : ReportOf) (result : Result Report Stop) (got : Report) → IfOk result (λ report. report_of report ≡ wanted) → MatchResult result (λ r. got ≡ r) (λ stop. got ≡ kind.Stopped stop) → Answers wanted (report_of got)
-answered wanted (Ok report) got h e = answers wanted (report_of got) (ap report_of e ∙ h)
-answered wanted (Err stop) got h e = subst (λ (r : Report). Answers wanted (report_of r)) (sym e) (was_stopped stop)
+pub answered : (wanted : ReportOf) (result : Result Report Stop) (got : Report) → IfOk result (λ report. report_of report ≡ wanted) → IfErr result (MayStop wanted) → MatchResult result (λ r. got ≡ r) (λ stop. got ≡ kind.Stopped stop) → Answers wanted (report_of got)
+answered wanted (Ok report) got h s e = answers wanted (report_of got) (ap report_of e ∙ h)
+answered wanted (Err stop) got h s e = subst (λ (r : Report). Answers wanted (report_of r)) (sym e) (was_stopped stop s)
+
+-- what may stop one report may stop an equal one
+pub stop_alike : (result : Result Report Stop) (a b : ReportOf) → IfErr result (MayStop a) → a ≡ b → IfErr result (MayStop b)
+stop_alike (Ok report) a b h e = tt
+stop_alike (Err stop) a b h e = subst (λ (wanted : ReportOf). MayStop wanted stop) e h
+
+-- what may stop a comparison
+compares : (f g : NetlistOf) (d : Option (List ℕ × List Bool)) → IsComparison (difference_report f g d)
+compares f g None = tt
+compares f g (Some d) = tt
+
+may_stop : (wanted : ReportOf) (stop : Stop) → IsComparison wanted → stop ≢ stops.Threads → MayStop wanted stop
+may_stop wanted stops.NodeLimit is other = is
+may_stop wanted stops.Memory is other = tt
+may_stop wanted stops.References is other = is
+may_stop wanted stops.Threads is other = absurd (other refl)
+
+-- a pair's comparison may stop at each limit
+pub flat_stopped : (f g : FlatOf) (order : Option (List ℕ)) (result : Result Report Stop) → pair_refusal f g order ≡ None → IfErr result (λ stop. stop ≢ stops.Threads) → IfErr result (MayStop (flat_answer f g order))
+flat_stopped f g order (Ok report) none other = tt
+flat_stopped f g order (Err stop) none other =
+    subst (λ (o : Option Refused). MayStop (refusal_report o (comparison (netlist_of f) (netlist_of g))) stop) (sym none)
+    (may_stop (comparison (netlist_of f) (netlist_of g)) stop (compares (netlist_of f) (netlist_of g) (first_difference (netlist_of f) (netlist_of g) f.outputs)) other)
+
+-- a refusal that is no report is want of memory
+pub refused_stop : (s : Side) (refusal : Refusal) (result : Result Report Stop) (wanted : ReportOf) → IsRefused s refusal result → IfErr result (MayStop wanted)
+refused_stop s refusal (Ok report) wanted h = tt
+refused_stop s refusal (Err stop) wanted h = subst (MayStop wanted) (sym h.1) tt
 
 pub none_second : (first : List ℕ) (second : Option (Bor (List ℕ))) (order : Option (List ℕ)) (got : ReportOf) → second ≡ None → Answers (one_answer (outcome first) order) got → Answers (texts_answer (read_texts first (option_copied second)) order) got
 none_second first second order got e h = subst (λ (s : Option (Bor (List ℕ))). Answers (texts_answer (read_texts first (option_copied s)) order) got) (sym e) h

@@ -1,13 +1,12 @@
 -- Runs over readers and a writer whose bytes are known.
-use Rattle.std.proofs.Common.{◌≡◌, ◌⊎◌, inl, inr, ℕ, zero, suc, ◌<◌, ◌≤◌, Bool, true, false, List, [], length, take, get_or, refl, sym, ◌∙◌, ap, arith, subst, Option, Some, None, Ok, Err, IfSome, cond, Result, IfOk, OnErr}
+use Rattle.std.proofs.Common.{◌≡◌, ◌⊎◌, inl, inr, ℕ, true, List, length, take, refl, ◌∙◌, ap, arith, subst, Option, Some, None, Ok, Err, IfSome, Result, IfOk, OnErr}
 use Rattle.eqc_check.specs.declared.ends.RunFault.{RunFault}
-use Rattle.std.proofs.lemmas.Bool.{cases_lt, lt-ltb, le-ltb}
+use Rattle.std.proofs.lemmas.Bool.{cases_lt, lt-ltb}
 use Rattle.std.proofs.lemmas.List.{take_all, length-take-le}
 use Rattle.std.specs.Io.KnownBytes.{Appends, Keeps}
 use Rattle.std.specs.Option.{option_map}
-use Rattle.eqc_tree.specs.declared.stopping.Stop.{Stop}
+use Rattle.eqc_tree.specs.declared.stopping.Stop.TheVariants.{Memory}
 use Rattle.eqc_tree.specs.Stopping.{code_of}
-use Rattle.eqc_blif.specs.Netlist.{ModelOf, no_model}
 use Rattle.eqc_blif.specs.Reading.{Outcome, outcome, is_too_long}
 use Rattle.eqc_check.specs.declared.report.Status.{Status}
 use Rattle.eqc_check.specs.declared.running.Texts.{Texts}
@@ -15,7 +14,7 @@ use Rattle.eqc_check.specs.declared.running.Texts.TheVariants.{One, Two}
 use Rattle.eqc_check.specs.Ends.{bytes_read, AppendsPrefix}
 use Rattle.eqc_check.specs.Matched.{order_code}
 use Rattle.eqc_check.specs.Report.{ReportOf, text, stopped}
-use Rattle.eqc_check.specs.Answer.{TextsOf, one_text, two_texts, code_of_order, models_answer, one_answer, second_answer, two_answer, texts_answer, read_texts, Answers, as_wanted, was_stopped}
+use Rattle.eqc_check.specs.Answer.{MainOf, inputs_of, TextsOf, one_text, two_texts, code_of_order, models_answer, one_answer, two_answer, texts_answer, read_texts, Answers, was_stopped}
 use Rattle.eqc_check.specs.Sources.{IsRead, MayBeRead, AreRead}
 use Rattle.eqc_check.specs.Running.{two_known, known_texts, known_order, IsReport, IsShown, IsWritten, IsCutShort}
 
@@ -23,9 +22,9 @@ if_some_all : {A : Type 0} (o : Option A) (P : A → Type 0) → ((x : A) → P 
 if_some_all None P h = tt
 if_some_all (Some x) P h = h x
 
--- a stop answers all texts
-pub stop_reports : {R : Type 0} (remaining : R → Option (List ℕ)) (texts : Texts R) (order : Option R) (stop : Stop) → IsReport remaining texts order (stopped (code_of stop))
-stop_reports remaining texts order stop = if_some_all (known_texts remaining texts) _ (λ t. if_some_all (known_order remaining order) _ (λ o. was_stopped stop))
+-- want of memory answers all texts
+pub memory_reports : {R : Type 0} (remaining : R → Option (List ℕ)) (texts : Texts R) (order : Option R) → IsReport remaining texts order (stopped (code_of Memory))
+memory_reports remaining texts order = if_some_all (known_texts remaining texts) _ (λ t. if_some_all (known_order remaining order) _ (λ o. was_stopped Memory tt))
 
 -- what is read of a text is the text, or both are too long
 whole_or_long : (bytes : List ℕ) → (bytes_read bytes ≡ bytes) ⊎ ((is_too_long (bytes_read bytes) ≡ true) × (is_too_long bytes ≡ true))
@@ -45,17 +44,17 @@ order_read inputs text = elim (whole_or_long text) [ inl whole ↦ ap (order_cod
 record SameCodes (o p : Option (List ℕ)) : Type 0 where
   each : (inputs : List (List ℕ)) → code_of_order inputs o ≡ code_of_order inputs p
 
-same_models : (m n : ModelOf) (o p : Option (List ℕ)) → SameCodes o p → models_answer m n o ≡ models_answer m n p
-same_models m n o p h = rw (h.each m.inputs) refl
+same_models : (m n : MainOf) (o p : Option (List ℕ)) → SameCodes o p → models_answer m n o ≡ models_answer m n p
+same_models m n o p h = rw (h.each (inputs_of m)) refl
 
 same_one : (x : Outcome) (o p : Option (List ℕ)) → SameCodes o p → one_answer x o ≡ one_answer x p
 same_one (Err fault) o p h = refl
-same_one (Ok models) o p h = rw (same_models (get_or models 0 no_model) (get_or models 1 no_model) o p h) refl
+same_one (Ok models) o p h = rw (same_models (models, 0) (models, 1) o p h) refl
 
 same_two : (x y : Outcome) (o p : Option (List ℕ)) → SameCodes o p → two_answer x y o ≡ two_answer x y p
 same_two (Err fault) y o p h = refl
 same_two (Ok models) (Err fault) o p h = refl
-same_two (Ok models) (Ok others) o p h = same_models (get_or models 0 no_model) (get_or others 0 no_model) o p h
+same_two (Ok models) (Ok others) o p h = same_models (models, 0) (others, 0) o p h
 
 -- an order text that was read
 order_known : {R : Type 0} (remaining : R → Option (List ℕ)) (order : Option R) (order_text : Option (List ℕ)) (P : Option (List ℕ) → Type 0) → MayBeRead remaining order order_text → ((o : Option (List ℕ)) → SameCodes order_text o → P o) → IfSome (known_order remaining order) P

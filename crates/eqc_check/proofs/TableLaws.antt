@@ -1,10 +1,10 @@
 -- Tables of references, and what an object holds beside them.
-use Rattle.std.proofs.Common.{◌≡◌, ◌≢◌, ℕ, zero, suc, ◌+◌, ◌<◌, ◌≤◌, List, [], ◌∷◌, ◌++◌, length, get_or, set, sum_by, refl, sym, ◌∙◌, ap, arith, Option, Some, None, inl, inr, subst}
+use Rattle.std.proofs.Common.{◌≡◌, ℕ, zero, suc, ◌+◌, ◌<◌, ◌≤◌, List, [], ◌∷◌, ◌++◌, length, get_or, set, refl, sym, ◌∙◌, ap, arith, Option, Some, None, inl, inr}
 use Rattle.std.proofs.lemmas.List.{get_or-set_same, get_or-set_other, get_or_default}
 use Rattle.std.proofs.lemmas.List.Sums.{sum_by-set, sum_by-cons, sum_by-append}
 use Rattle.std.proofs.lemmas.Bool.{cases_eq}
 use Rattle.std.proofs.Math.ListN.{length-set}
-use Rattle.eqc_tree.specs.Holding.{Entry, Holding, IsHeld, copies, weight, Loses, Keeps}
+use Rattle.eqc_tree.specs.Holding.{Entry, Holding, IsHeld, weight, Loses, Keeps}
 use Rattle.eqc_tree.proofs.HoldingLemmas.{counts_itself}
 use Rattle.eqc_check.specs.Building.{held_by, tally, OwnsTable, Moves, Fills, Empties, Releases, reference_of}
 

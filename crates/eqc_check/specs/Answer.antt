@@ -1,33 +1,44 @@
 -- The answer of a run: the refusal of the first check that fails, else the report on the two netlists. The
--- checks are, in this order: the options, the reading of the first text, that of the second, the models, the
+-- checks are, in this order: the options, the reading of the first text, that of the second, the hierarchies, the
 -- pair and the order text. The order of variables and the options otherwise play no part.
-use Rattle.std.specs.Prelude.{◌≡◌, ℕ, Bool, true, false, ◌&&◌, not, nat_lt, List, length, Option, Some, None, Result, Ok, Err, slice_index_or, if◌then◌else◌}
-use Rattle.std.specs.Option.{option_map}
-use Rattle.eqc_blif.specs.Netlist.{ModelOf, no_model}
+use Rattle.std.specs.Prelude.{ℕ, not, nat_lt, List, length, Option, Some, None, Ok, Err, if◌then◌else◌}
+use Rattle.eqc_blif.specs.Netlist.{ModelOf}
 use Rattle.eqc_blif.specs.Reading.{Outcome, outcome}
-use Rattle.eqc_flat.specs.Simple.{is_simple, model_value}
+use Rattle.eqc_flat.specs.Hierarchy.{model}
+use Rattle.eqc_flat.specs.Signals.{output_value}
+use Rattle.eqc_flat.specs.Codes.{flat_code}
 use Rattle.eqc_check.specs.declared.options.Options.{Options}
 use Rattle.eqc_check.specs.declared.report.Side.{Side}
 use Rattle.eqc_check.specs.declared.report.Side.TheVariants as side
-use Rattle.eqc_check.specs.declared.report.Refused.{Refused}
 use Rattle.eqc_check.specs.Options.{options_code}
 use Rattle.eqc_check.specs.Matched.{same_names, order_code}
 use Rattle.eqc_check.specs.Verdict.{NetlistOf}
-use Rattle.eqc_check.specs.Report.{ReportOf, refused, stopped, comparison}
+use Rattle.eqc_check.specs.Report.{ReportOf, equivalent, differs, refused, stopped, comparison}
 use Rattle.eqc_tree.specs.Stopping.{code_of}
 use Rattle.eqc_tree.specs.declared.stopping.Stop.{Stop}
+use Rattle.eqc_tree.specs.declared.stopping.Stop.TheVariants.{NodeLimit, Memory, References, Threads}
 
 -- the texts of a run: one, of which the first two models are compared, or two, of which the main models are
 pub data TextsOf : Type 0 where
   one_text : List ℕ → TextsOf
   two_texts : List ℕ → List ℕ → TextsOf
 
--- a model as its user sees it
-abbrev pub netlist_of_model : ModelOf → NetlistOf
-netlist_of_model m = record { inputs = m.inputs; outputs = m.outputs; value = model_value m }
+-- a main model: a library, and the number of one of its models
+abbrev pub MainOf : Type 0
+MainOf = List ModelOf × ℕ
+
+abbrev pub inputs_of : MainOf → List (List ℕ)
+inputs_of m = (model m.0 m.1).inputs
+
+abbrev pub outputs_of : MainOf → List (List ℕ)
+outputs_of m = (model m.0 m.1).outputs
+
+-- a main model as its user sees it: its outputs' values follow the hierarchy
+abbrev pub netlist_of_model : MainOf → NetlistOf
+netlist_of_model m = record { inputs = inputs_of m; outputs = outputs_of m; value = λ name a. output_value m.0 m.1 a name }
 
 -- the code of two models that make no pair, or of an order text, and its side
-abbrev pub order_answer : ModelOf → ModelOf → Option ℕ → ReportOf
+abbrev pub order_answer : MainOf → MainOf → Option ℕ → ReportOf
 order_answer m n None = comparison (netlist_of_model m) (netlist_of_model n)
 order_answer m n (Some code) = refused side.Order 0 code
 
@@ -35,30 +46,33 @@ abbrev pub code_of_order : List (List ℕ) → Option (List ℕ) → Option ℕ
 code_of_order inputs None = None
 code_of_order inputs (Some text) = order_code inputs text
 
-abbrev pub pair_answer : ModelOf → ModelOf → Option (List ℕ) → ReportOf
+abbrev pub pair_answer : MainOf → MainOf → Option (List ℕ) → ReportOf
 pair_answer m n order =
-    if not (same_names m.inputs n.inputs) then refused side.Pair 0 41
-    else if not (same_names m.outputs n.outputs) then refused side.Pair 0 42
-    else order_answer m n (code_of_order m.inputs order)
+    if not (same_names (inputs_of m) (inputs_of n)) then refused side.Pair 0 41
+    else if not (same_names (outputs_of m) (outputs_of n)) then refused side.Pair 0 42
+    else order_answer m n (code_of_order (inputs_of m) order)
 
--- models that are not simple are not taken
-abbrev pub models_answer : ModelOf → ModelOf → Option (List ℕ) → ReportOf
-models_answer m n order =
-    if is_simple m && is_simple n then pair_answer m n order else refused side.First 0 3
+-- the refusal of a hierarchy by its code, where it has one
+abbrev pub or_code : Side → Option ℕ → ReportOf → ReportOf
+or_code side None rest = rest
+or_code side (Some code) rest = refused side 0 code
 
-abbrev pub second_answer : ModelOf → Outcome → Option (List ℕ) → ReportOf
+abbrev pub models_answer : MainOf → MainOf → Option (List ℕ) → ReportOf
+models_answer m n order = or_code side.First (flat_code m.0 m.1) (or_code side.Second (flat_code n.0 n.1) (pair_answer m n order))
+
+abbrev pub second_answer : MainOf → Outcome → Option (List ℕ) → ReportOf
 second_answer m (Err fault) order = refused side.Second fault.0 fault.1
-second_answer m (Ok models) order = models_answer m (slice_index_or models 0 no_model) order
+second_answer m (Ok models) order = models_answer m (models, 0) order
 
 abbrev pub one_answer : Outcome → Option (List ℕ) → ReportOf
 one_answer (Err fault) order = refused side.First fault.0 fault.1
 one_answer (Ok models) order =
     if nat_lt (length models) 2 then refused side.Second 0 13
-    else models_answer (slice_index_or models 0 no_model) (slice_index_or models 1 no_model) order
+    else models_answer (models, 0) (models, 1) order
 
 abbrev pub two_answer : Outcome → Outcome → Option (List ℕ) → ReportOf
 two_answer (Err fault) second order = refused side.First fault.0 fault.1
-two_answer (Ok models) second order = second_answer (slice_index_or models 0 no_model) second order
+two_answer (Ok models) second order = second_answer (models, 0) second order
 
 abbrev pub texts_answer : TextsOf → Option (List ℕ) → ReportOf
 texts_answer (one_text text) order = one_answer (outcome text) order
@@ -72,10 +86,25 @@ options_answer (Some code) rest = refused side.Options 0 code
 abbrev pub answer : TextsOf → Option (List ℕ) → Options → ReportOf
 answer texts order options = options_answer (options_code options) (texts_answer texts order)
 
+-- whether a report says how two netlists compare: it is no refusal and no stop
+abbrev pub IsComparison : ReportOf → Type 0
+IsComparison equivalent = Unit {0}
+IsComparison (differs output inputs first second) = Unit {0}
+IsComparison (refused side line code) = ⊥
+IsComparison (stopped code) = ⊥
+
+-- what may stop a run that has this to report: want of memory, and, where netlists are compared, a limit of the
+-- diagrams; never a thread
+abbrev pub MayStop : ReportOf → Stop → Type 0
+MayStop wanted NodeLimit = IsComparison wanted
+MayStop wanted Memory = Unit {0}
+MayStop wanted References = IsComparison wanted
+MayStop wanted Threads = ⊥
+
 -- a report is the wanted one, or says why the run was stopped
 pub data Answers (wanted : ReportOf) : ReportOf → Type 0 where
   as_wanted : Answers wanted wanted
-  was_stopped : (stop : Stop) → Answers wanted (stopped (code_of stop))
+  was_stopped : (stop : Stop) → MayStop wanted stop → Answers wanted (stopped (code_of stop))
 
 -- texts that were read
 abbrev pub read_texts : List ℕ → Option (List ℕ) → TextsOf

@@ -16,6 +16,10 @@ abbrev pub DependsOnlyOn : List ℕ → ((ℕ → Bool) → Bool) → Type 0
 DependsOnlyOn variables f =
     (a b : ℕ → Bool) → ((i : ℕ) → i < length variables → a (slice_index variables i) ≡ b (slice_index variables i)) → f a ≡ f b
 
+-- it depends on no variable from n upwards
+abbrev pub DependsBelow : ℕ → ((ℕ → Bool) → Bool) → Type 0
+DependsBelow n f = (a b : ℕ → Bool) → ((v : ℕ) → v < n → a v ≡ b v) → f a ≡ f b
+
 -- some assignment makes it true: it is not false for all of them
 abbrev pub IsSatisfiable : ((ℕ → Bool) → Bool) → Type 0
 IsSatisfiable f = ((a : ℕ → Bool) → f a ≡ false) → ⊥

@@ -21,6 +21,11 @@ pub record Holds {X : Type 0} (entry : X → Entry) (before now : Holding) (tabl
   pub variables : now.variables ≡ before.variables
   pub held : (e : Entry) → copies now e ≡ copies before e + tally entry table e
 
+-- what an object holds is what it held before and the references of two tables
+pub record HoldsBoth {X : Type 0} (entry : X → Entry) (before now : Holding) (first second : List (Option X)) : Type 0 where
+  pub variables : now.variables ≡ before.variables
+  pub held : (e : Entry) → copies now e ≡ copies before e + tally entry first e + tally entry second e
+
 -- the references of a table are held
 pub record OwnsTable {X : Type 0} (entry : X → Entry) (d : Holding) (table : List (Option X)) : Type 0 where
   pub held : (e : Entry) → tally entry table e ≤ copies d e

@@ -1,6 +1,6 @@
 -- Two netlists with the same inputs and outputs, matched by name, and an order of the inputs as variables; or
 -- why they make no pair.
-use Rattle.std.specs.Prelude.{◌≡◌, ℕ, ◌<◌, ◌≤◌, true, not, List, length, map, slice_index_or, ◌==◌, Option, Some, None, if◌then◌else◌}
+use Rattle.std.specs.Prelude.{◌≡◌, ℕ, ◌<◌, ◌≤◌, Bool, true, false, not, List, length, map, slice_index_or, ◌==◌, Option, Some, None, if◌then◌else◌}
 use Rattle.std.specs.List.{position_or_len, range_with_len}
 use Rattle.std.specs.Option.{option_map, option_map_or}
 use Rattle.eqc_flat.specs.Graph.{FlatOf}
@@ -34,6 +34,10 @@ variables_in n order = map (variable_in order) (range_with_len 0 n)
 -- the variable of the input at a position of the first netlist
 abbrev pub variable_of : PairOf → ℕ → ℕ
 variable_of p position = variable_in p.order position
+
+-- values of the first netlist's inputs as an assignment of variables: each variable has its input's value
+abbrev pub input_values : PairOf → List Bool → ℕ → Bool
+input_values p values v = slice_index_or values (slice_index_or p.order v 0) false
 
 -- the variables of the first netlist's inputs, and of the second's
 abbrev pub first_variables : PairOf → List ℕ

@@ -10,11 +10,12 @@ use Rattle.eqc_check.specs.Report.{ReportOf, refused, comparison}
 use Rattle.eqc_check.specs.PairOf.{pair_refusal}
 use Rattle.eqc_check.specs.Sides.{netlist_of}
 use Rattle.eqc_tree.specs.declared.stopping.Stop.{Stop}
+use Rattle.eqc_tree.specs.declared.stopping.Stop.TheVariants.{Memory}
 
 -- a refusal is a report, save want of memory
 abbrev pub IsRefused : Side → Refusal → Result Report Stop → Type 0
 IsRefused side refusal (Ok r) = (refusal.code ≢ 72) × (r ≡ report.Refused (record { side = side; line = refusal.line; code = refusal.code }))
-IsRefused side refusal (Err stop) = refusal.code ≡ 72
+IsRefused side refusal (Err stop) = (refusal.code ≡ 72) × (stop ≡ Memory)
 
 abbrev pub refusal_report : Option Refused → ReportOf → ReportOf
 refusal_report None rest = rest

@@ -1,11 +1,11 @@
 -- Two flat netlists whose inputs and outputs are matched by name, over common variables.
-use Rattle.std.specs.Prelude.{◌≡◌, ℕ, ◌<◌, Bool, List, length, slice_index, slice_index_or, [], Option, Vec}
+use Rattle.std.specs.Prelude.{◌≡◌, ℕ, ◌<◌, Bool, List, length, slice_index, slice_index_or, [], Option, Some, None, Vec}
 use Rattle.std.specs.declared.alloc.Global.{Global}
 use Rattle.std.specs.Option.{option_map}
 use Rattle.eqc_flat.specs.Graph.{FlatOf, value_of}
-use Rattle.eqc_check.specs.Building.{AreVariables, inputs_under}
-use Rattle.eqc_check.specs.Assigned.{AreDistinct, assigned}
-use Rattle.eqc_check.specs.Verdict.{NetlistOf, position_of, is_different}
+use Rattle.eqc_check.specs.Building.{AreVariables}
+use Rattle.eqc_check.specs.Assigned.{AreDistinct}
+use Rattle.eqc_check.specs.Verdict.{NetlistOf, position_of}
 
 -- a flat netlist as its user sees it
 abbrev pub netlist_of : FlatOf → NetlistOf
@@ -27,11 +27,19 @@ pub record AreMatched (f g : FlatOf) (variables second_variables second_signals 
   pub signals : (o : ℕ) → o < length f.outputs → slice_index second_signals o ≡ slice_index g.output_signals (position_of g.outputs (slice_index_or f.outputs o []))
   pub within : (o : ℕ) → o < length f.outputs → slice_index second_signals o < length g.drivers
 
--- whether two signals differ under an assignment
-abbrev pub differ_at : FlatOf → FlatOf → List ℕ → List ℕ → ℕ → ℕ → List Bool → Bool
-differ_at f g variables second_variables s t a =
-    is_different (value_of f (inputs_under variables (assigned variables a)) s) (value_of g (inputs_under second_variables (assigned variables a)) t)
-
 -- an output by its position with an assignment, as an output by its name
 abbrev pub found_at : FlatOf → Option (ℕ × Vec Bool Global) → Option (List ℕ × List Bool)
 found_at f found = option_map (λ p. (slice_index_or f.outputs p.0 [], p.1.items)) found
+
+-- what was found, with its values as a list
+abbrev pub listed : Option (ℕ × Vec Bool Global) → Option (ℕ × List Bool)
+listed found = option_map (λ p. (p.0, p.1.items)) found
+
+-- values that are found at an output
+abbrev pub at_output : ℕ → Option (List Bool) → Option (ℕ × List Bool)
+at_output output here = option_map (λ a. (output, a)) here
+
+-- what was found before an output stays; else what is found is that output with the values that are found here
+abbrev pub IsNext : Option (ℕ × Vec Bool Global) → ℕ → Option (List Bool) → Option (ℕ × Vec Bool Global) → Type 0
+IsNext (Some before) output here found = found ≡ Some before
+IsNext None output here found = listed found ≡ at_output output here

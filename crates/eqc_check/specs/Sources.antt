@@ -1,6 +1,5 @@
 -- What is read of the texts of a run.
-use Rattle.std.specs.Prelude.{◌≡◌, ℕ, List, Option, Some, None, IfSome, Vec}
-use Rattle.std.specs.declared.alloc.Global.{Global}
+use Rattle.std.specs.Prelude.{◌≡◌, ℕ, List, Option, Some, None, IfSome}
 use Rattle.eqc_check.specs.Ends.{bytes_read}
 use Rattle.eqc_check.specs.declared.running.Texts.{Texts}
 use Rattle.eqc_check.specs.declared.running.Texts.TheVariants.{One, Two}

@@ -1,10 +1,12 @@
-ghost use Rattle.std.specs.Prelude.{◌≡◌, ℕ, ◌<◌, List, length, IfOk, OnOk, OnErr, Some, map, slice_index};
+ghost use Rattle.std.specs.Prelude.{◌≡◌, ◌≢◌, ℕ, ◌<◌, List, length, IfOk, IfErr, OnOk, OnErr, Some, map, slice_index};
 ghost use Rattle.eqc_tree.specs.Holding.{Keeps, Gains};
 ghost use Rattle.eqc_flat.specs.Graph.{driver_at, dependencies, value_of};
-ghost use Rattle.eqc_check.specs.Building.{Holds, OwnsTable, IsBuilt, AreReady, AreSignals, AreVariables, Adds, inputs_under, reference_of};
+ghost use Rattle.eqc_check.specs.Building.{Holds, HoldsBoth, OwnsTable, IsBuilt, AreReady, AreSignals, AreVariables, Adds, inputs_under, reference_of};
+ghost use Rattle.eqc_check.specs.Sides.{AreMatched};
 
 use crate::cover::cover_diagram;
 use crate::plan::last_uses;
+use crate::sides::Sides;
 use crate::table::{empty_table, give_back_all, put, reference_at, release};
 use eqc_flat::{Driver, Flat};
 use eqc_tree::{Diagrams, References, Stop};
@@ -44,6 +46,7 @@ fn driver_diagram<R, D: Diagrams<R>>(
     requires ready { AreReady table.now (dependencies (driver_at flat.now s)) }
     ensures ok { IfOk result (λ r. Gains (D.holding d.old) (D.holding d.new) (D.entry r) (λ a. value_of flat.now (inputs_under variables.now a) s)) }
     ensures stop { OnErr result (Keeps (D.holding d.old) (D.holding d.new)) }
+    ensures only { IfErr result (λ s. s ≢ Stop.Threads) }
 {
     let _lawful = flat.steps();
     match flat.driver(s) {
@@ -76,6 +79,7 @@ fn build_signal<R, D: Diagrams<R>>(
     ensures ok { OnOk result (Adds D.entry flat.now variables.now (D.holding d.old) table.old.items (D.holding d.new) table.new.items s) }
     ensures stop { OnErr result (Keeps (D.holding d.old) (D.holding d.new)) }
     ensures table { OnErr result (table.new.items ≡ table.old.items) }
+    ensures only { IfErr result (λ s. s ≢ Stop.Threads) }
 {
     let reference = driver_diagram(alloc, rt, d, flat, variables, table, s)?;
     put(d, table, s, reference);
@@ -84,7 +88,7 @@ fn build_signal<R, D: Diagrams<R>>(
 
 /// The diagrams of the roots, over the given variable of each input. Each signal that a root depends on is
 /// built, no other, and is given back after its last use.
-pub fn build<R, D: Diagrams<R>>(
+pub(crate) fn build<R, D: Diagrams<R>>(
     alloc: Global,
     rt: &R,
     d: &mut D,
@@ -98,6 +102,7 @@ pub fn build<R, D: Diagrams<R>>(
     ensures built { IfOk result (λ table. IsBuilt D.entry flat.now variables.now table.items) }
     ensures ready { IfOk result (λ table. AreReady table.items roots.now) }
     ensures stop { OnErr result (Keeps (D.holding d.old) (D.holding d.new)) }
+    ensures only { IfErr result (λ s. s ≢ Stop.Threads) }
 {
     let Ok(last) = last_uses(alloc, flat, roots) else {
         return Err(Stop::Memory);
@@ -121,4 +126,41 @@ pub fn build<R, D: Diagrams<R>>(
         }
     }
     Ok(table)
+}
+
+/// The diagrams of signals of both netlists: a table for the first and one for the second.
+pub(crate) fn build_both<R, D: Diagrams<R>>(
+    alloc: Global,
+    rt: &R,
+    d: &mut D,
+    sides: Sides<'_>,
+    first_roots: &[u32],
+    second_roots: &[u32],
+) -> Result<(Vec<Option<D::Ref>>, Vec<Option<D::Ref>>), Stop>
+    requires matched { AreMatched sides.first.now sides.second.now sides.variables.now sides.second_variables.now sides.second_signals.now (D.holding d.old).variables }
+    requires first_roots { AreSignals sides.first.now first_roots.now }
+    requires second_roots { AreSignals sides.second.now second_roots.now }
+    ensures holds { IfOk result (λ both. HoldsBoth D.entry (D.holding d.old) (D.holding d.new) both.0.items both.1.items) }
+    ensures first_built { IfOk result (λ both. IsBuilt D.entry sides.entry.first.now sides.entry.variables.now both.0.items) }
+    ensures second_built { IfOk result (λ both. IsBuilt D.entry sides.entry.second.now sides.entry.second_variables.now both.1.items) }
+    ensures first_ready { IfOk result (λ both. AreReady both.0.items first_roots.now) }
+    ensures second_ready { IfOk result (λ both. AreReady both.1.items second_roots.now) }
+    ensures stop { OnErr result (Keeps (D.holding d.old) (D.holding d.new)) }
+    ensures only { IfErr result (λ s. s ≢ Stop.Threads) }
+{
+    let Sides {
+        first,
+        second,
+        variables,
+        second_variables,
+        ..
+    } = sides;
+    let table = build(alloc, rt, d, first, variables, first_roots)?;
+    match build(alloc, rt, d, second, second_variables, second_roots) {
+        Ok(second_table) => Ok((table, second_table)),
+        Err(stop) => {
+            give_back_all(d, table);
+            Err(stop)
+        }
+    }
 }

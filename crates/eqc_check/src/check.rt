@@ -6,10 +6,11 @@ ghost use Rattle.eqc_check.specs.ReportView.{report_of};
 ghost use Rattle.eqc_check.specs.Sides.{netlist_of};
 ghost use Rattle.eqc_check.specs.Evaluating.{values_of};
 
-use crate::compare::{Sides, compare_outputs};
+use crate::compare::compare_outputs;
 use crate::evaluate::evaluate;
-use crate::pair::Pair;
+use crate::matched_pair::Pair;
 use crate::report::Report;
+use crate::sides::Sides;
 use eqc_blif::Name;
 use eqc_flat::Flat;
 use eqc_plain::Plain;
@@ -58,21 +59,14 @@ fn differs_report(
 
 /// Compares a pair on this thread with a store of `nodes` nodes, 1 to 1,048,574: the report, or why it stopped:
 /// the node limit 71, want of memory 72, the limit of references 73.
-pub fn check_plain<R>(alloc: Global, rt: &R, pair: &Pair<'_>, nodes: u32) -> Result<Report, Stop>
+pub fn check_plain<R>(rt: &R, alloc: Global, pair: &Pair<'_>, nodes: u32) -> Result<Report, Stop>
     requires some { 1 ≤ nodes }
     requires few { nodes ≤ 1048574 }
     ensures report { IfOk result (λ report. report_of report ≡ comparison (netlist_of pair.now.first) (netlist_of pair.now.second)) }
+    ensures only { IfErr result (λ s. s ≢ Stop.Threads) }
 {
-    let first = pair.first();
-    let second = pair.second();
-    let _lawful = second.steps();
-    let sides = Sides {
-        first,
-        second,
-        variables: pair.variables(),
-        second_variables: pair.second_variables(),
-        second_signals: pair.second_signals(),
-    };
+    let sides = Sides::of(pair);
+    let first = sides.first;
     let inputs = first.inputs().len() as u16;
     let mut d = Plain::new(alloc, inputs, nodes)?;
     let found = compare_outputs(alloc, rt, &mut d, sides)?;

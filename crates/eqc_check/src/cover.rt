@@ -1,8 +1,8 @@
-ghost use Rattle.std.specs.Prelude.{◌≡◌, ℕ, ◌<◌, ◌-◌, Bool, true, false, List, [], ◌∷◌, length, IfOk, OnErr, map, not, option_to_list};
+ghost use Rattle.std.specs.Prelude.{◌≡◌, ◌≢◌, ℕ, ◌<◌, ◌-◌, Bool, true, false, List, [], ◌∷◌, length, IfOk, IfErr, OnErr, map, not, option_to_list};
 ghost use Rattle.std.specs.Option.{option_copied};
 ghost use Rattle.eqc_tree.specs.Holding.{IsHeld, says, Keeps, Gains, Loses};
 ghost use Rattle.eqc_blif.specs.Cover.{allows, row_matches, is_on, cover_value};
-ghost use Rattle.eqc_check.specs.Matching.{some_match, cofactor, agrees, AreHeld, said, of_two};
+ghost use Rattle.eqc_check.specs.Matching.{some_match, cofactor, agrees, AreHeld, said, of_two, Swaps};
 
 use eqc_blif::Name;
 use eqc_tree::{Diagrams, Op, References, Stop};
@@ -106,6 +106,7 @@ fn false_at_false<R, D: Diagrams<R>>(
     requires second { IsHeld (D.holding d.old) (D.entry second.now) }
     ensures ok { IfOk result (λ r. Gains (D.holding d.old) (D.holding d.new) (D.entry r) (λ a. of_two false values.0 values.1 values.2 (says (D.entry first.now) a) (says (D.entry second.now) a))) }
     ensures stop { OnErr result (Keeps (D.holding d.old) (D.holding d.new)) }
+    ensures only { IfErr result (λ s. s ≢ Stop.Threads) }
 {
     match values {
         (false, false, false) => d.constant(false),
@@ -124,6 +125,7 @@ fn inverted<R, D: Diagrams<R>>(rt: &R, d: &mut D, f: D::Ref) -> Result<D::Ref, S
     requires { IsHeld (D.holding d.old) (D.entry f) }
     ensures ok { IfOk result (λ r. Swaps (D.holding d.old) (D.holding d.new) (D.entry f) (D.entry r) (λ a. not (says (D.entry f) a))) }
     ensures stop { OnErr result (Loses (D.holding d.old) (D.holding d.new) (D.entry f)) }
+    ensures only { IfErr result (λ s. s ≢ Stop.Threads) }
 {
     let all = match d.constant(true) {
         Ok(all) => all,
@@ -152,6 +154,7 @@ fn two_columns<R, D: Diagrams<R>>(
     requires second { IsHeld (D.holding d.old) (D.entry second.now) }
     ensures ok { IfOk result (λ r. Gains (D.holding d.old) (D.holding d.new) (D.entry r) (λ a. of_two neither values.0 values.1 values.2 (says (D.entry first.now) a) (says (D.entry second.now) a))) }
     ensures stop { OnErr result (Keeps (D.holding d.old) (D.holding d.new)) }
+    ensures only { IfErr result (λ s. s ≢ Stop.Threads) }
 {
     if !neither {
         return false_at_false(rt, d, first, second, values);
@@ -160,8 +163,6 @@ fn two_columns<R, D: Diagrams<R>>(
     let f = false_at_false(rt, d, first, second, opposite)?;
     inverted(rt, d, f)
 }
-
-ghost use Rattle.eqc_check.specs.Matching.{Swaps};
 
 /// The diagram that is true where whether one of the rows matches the columns is `on`. It goes by Shannon's
 /// expansion over the columns, of which there are few.
@@ -176,6 +177,7 @@ fn by_columns<R, D: Diagrams<R>>(
     requires { AreHeld D.entry (D.holding d.old) columns.now }
     ensures ok { IfOk result (λ r. Gains (D.holding d.old) (D.holding d.new) (D.entry r) (λ a. agrees on (some_match (map (λ r. r.now) rows.now) (said D.entry columns.now a)))) }
     ensures stop { OnErr result (Keeps (D.holding d.old) (D.holding d.new)) }
+    ensures only { IfErr result (λ s. s ≢ Stop.Threads) }
 {
     if rows.is_empty() {
         return d.constant(!on);
@@ -221,6 +223,7 @@ fn by_row<R, D: Diagrams<R>>(
     requires { AreHeld D.entry (D.holding d.old) columns.now }
     ensures ok { IfOk result (λ r. Gains (D.holding d.old) (D.holding d.new) (D.entry r) (λ a. row_matches row.now (said D.entry columns.now a))) }
     ensures stop { OnErr result (Keeps (D.holding d.old) (D.holding d.new)) }
+    ensures only { IfErr result (λ s. s ≢ Stop.Threads) }
 {
     if row.is_empty() {
         return d.constant(true);
@@ -268,6 +271,7 @@ fn by_rows<R, D: Diagrams<R>>(
     requires { AreHeld D.entry (D.holding d.old) columns.now }
     ensures ok { IfOk result (λ r. Gains (D.holding d.old) (D.holding d.new) (D.entry r) (λ a. some_match (map (λ r. r.now) rows.now) (said D.entry columns.now a))) }
     ensures stop { OnErr result (Keeps (D.holding d.old) (D.holding d.new)) }
+    ensures only { IfErr result (λ s. s ≢ Stop.Threads) }
 {
     match rows {
         [] => return d.constant(false),
@@ -306,7 +310,7 @@ fn is_narrow(columns: usize, rows: usize) -> bool {
 }
 
 /// The diagram of a cover: the value of its rows where the columns have these functions.
-pub fn cover_diagram<R, D: Diagrams<R>>(
+pub(crate) fn cover_diagram<R, D: Diagrams<R>>(
     alloc: Global,
     rt: &R,
     d: &mut D,
@@ -316,6 +320,7 @@ pub fn cover_diagram<R, D: Diagrams<R>>(
     requires { AreHeld D.entry (D.holding d.old) columns.now }
     ensures ok { IfOk result (λ r. Gains (D.holding d.old) (D.holding d.new) (D.entry r) (λ a. cover_value rows.now (said D.entry columns.now a))) }
     ensures stop { OnErr result (Keeps (D.holding d.old) (D.holding d.new)) }
+    ensures only { IfErr result (λ s. s ≢ Stop.Threads) }
 {
     let Some(row) = rows.first() else {
         return d.constant(false);

@@ -150,7 +150,7 @@ fn new_block(alloc: Global) -> Result<Vec<u8>, AllocError>
 
 /// Reads a text until its end or its 16,777,217th byte, in blocks. A read that fails is `Read`, and isn't
 /// tried again; a refused allocation is `Memory`.
-pub fn read_text<R: Read>(alloc: Global, reader: &mut R) -> Result<Vec<u8>, RunFault>
+pub(crate) fn read_text<R: Read>(alloc: Global, reader: &mut R) -> Result<Vec<u8>, RunFault>
     ensures text { IfOk result (λ text. IfSome (R.remaining reader.old) (λ bytes. text.items ≡ bytes_read bytes)) }
     ensures rest { IfOk result (λ text. Consumes (R.remaining reader.old) (R.remaining reader.new) text.items) }
     ensures most { IfOk result (λ text. vec_len text ≤ 16777217) }

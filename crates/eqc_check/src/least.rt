@@ -1,10 +1,13 @@
-ghost use Rattle.std.specs.Prelude.{◌≡◌, ◌≢◌, ◌↔◌, ℕ, ◌<◌, ◌&&◌, Bool, false, not, length, IsTrue, IfOk, IfErr, OnErr};
+ghost use Rattle.std.specs.Prelude.{◌≡◌, ◌≢◌, ◌↔◌, ℕ, ◌<◌, ◌≤◌, ◌&&◌, Bool, false, not, length, IsTrue, IfOk, IfErr, OnErr};
 ghost use Rattle.std.specs.List.{All, find};
 ghost use Rattle.eqc_tree.specs.Holding.{IsHeld, says, Keeps, Gains, Loses};
-ghost use Rattle.eqc_check.specs.Assigned.{assigned, AreDistinct, DependsOnlyOn, IsSatisfiable};
+ghost use Rattle.eqc_check.specs.Assigned.{assigned, AreDistinct, DependsOnlyOn, DependsBelow, IsSatisfiable};
 ghost use Rattle.eqc_check.specs.Narrowing.{Replaces, IsNarrowed};
+ghost use Rattle.eqc_check.specs.PairOf.{input_values};
 ghost use Rattle.eqc_check.specs.Verdict.{assignments};
+ghost use Rattle.eqc_check.specs.VerdictLaws.{IsLeast};
 
+use crate::matched_pair::Pair;
 use eqc_tree::{Diagrams, Op, References, Stop};
 use std::alloc::Global;
 
@@ -66,7 +69,7 @@ fn narrowed<R, D: Diagrams<R>>(
 /// `f` has to be true under some assignment, and to depend on no variable but these, of which none may stand twice.
 /// The errors are those of the diagrams, 71, 72 and 73, and 72 where there is no memory for the assignment. All
 /// references are given back, whatever the answer.
-pub(crate) fn least_assignment<R, D: Diagrams<R>>(
+pub(crate) fn least_over<R, D: Diagrams<R>>(
     alloc: Global,
     rt: &R,
     d: &mut D,
@@ -98,6 +101,30 @@ pub(crate) fn least_assignment<R, D: Diagrams<R>>(
     Ok(values)
 }
 
+/// The least assignment of the first netlist's inputs under which a function is true, in lexicographic order, 0
+/// before 1. The pair's order of variables plays no part.
+///
+/// `d` has at least as many variables as the pair has inputs. `f` is a reference of `d` whose function is true under
+/// some assignment, and depends on no variable from the pair's number of inputs upwards. The errors are those of the
+/// diagrams, 71, 72 and 73, and 72 where memory is refused. All references are given back, whatever the answer.
+pub fn least_assignment<R, D: Diagrams<R>>(
+    rt: &R,
+    alloc: Global,
+    d: &mut D,
+    pair: &Pair<'_>,
+    f: &D::Ref,
+) -> Result<Vec<bool>, Stop>
+    requires held { IsHeld (D.holding d.old) (D.entry f.now) }
+    requires variables { length pair.now.first.inputs ≤ (D.holding d.old).variables }
+    requires satisfiable { IsSatisfiable (says (D.entry f.now)) }
+    requires depends { DependsBelow (length pair.now.first.inputs) (says (D.entry f.now)) }
+    ensures least { IfOk result (λ least. IsLeast (length pair.now.first.inputs) (λ values. says (D.entry f.now) (input_values pair.now values)) least.items) }
+    ensures kept { Keeps (D.holding d.old) (D.holding d.new) }
+    ensures only { IfErr result (λ s. s ≢ Stop.Threads) }
+{
+    least_over(alloc, rt, d, pair.variables(), f)
+}
+
 #[cfg(test)]
 mod tests {
     use super::*;
@@ -125,7 +152,7 @@ mod tests {
         d.give_back(x);
         d.give_back(y);
         let either = made?;
-        let least = least_assignment(alloc, rt, d, &[1, 0], &either);
+        let least = least_over(alloc, rt, d, &[1, 0], &either);
         d.give_back(either);
         least
     }

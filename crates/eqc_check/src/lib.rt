@@ -10,26 +10,37 @@ mod ends;
 mod evaluate;
 mod laws;
 mod least;
+mod matched_pair;
 mod name_index;
 mod options;
 mod order;
-mod pair;
+mod pairing;
 mod plan;
 mod report;
 mod reports;
 mod running;
+mod sides;
 mod table;
 #[cfg(test)]
+mod tests_calls;
+#[cfg(test)]
 mod tests_ends;
+#[cfg(test)]
+mod tests_run;
+#[cfg(test)]
+mod tests_streams;
 
 pub use check::check_plain;
-pub use ends::{RunFault, read_text};
+pub use compare::compare_output;
+pub use ends::RunFault;
 pub use laws::{
     difference_is_of_values, first_difference_is_first, first_difference_is_none_where_equal,
     inputs_are_matched_by_name, least_difference_is_least, least_difference_is_none_where_equal,
     least_difference_is_unique,
 };
+pub use least::least_assignment;
+pub use matched_pair::Pair;
 pub use options::{Options, options_fault};
-pub use pair::Pair;
+pub use pairing::pair;
 pub use report::{Refused, Report, Side, Status, write_report};
 pub use running::{Texts, run};

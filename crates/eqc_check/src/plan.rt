@@ -18,7 +18,11 @@ fn mark(last: &mut Vec<u32>, signals: &[u32], at: u32)
 
 /// For each signal the last step, counted from 1, that uses it on the way to the roots: 0 for a signal that no
 /// root depends on, one past the steps for a root.
-pub fn last_uses(alloc: Global, flat: &Flat<'_>, roots: &[u32]) -> Result<Vec<u32>, AllocError>
+pub(crate) fn last_uses(
+    alloc: Global,
+    flat: &Flat<'_>,
+    roots: &[u32],
+) -> Result<Vec<u32>, AllocError>
     requires { AreSignals flat.now roots.now }
     ensures { IfOk result (λ last. IsPlan flat.now roots.now last.items) }
 {

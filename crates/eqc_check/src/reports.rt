@@ -1,16 +1,15 @@
-ghost use Rattle.std.specs.Prelude.{◌≡◌, ◌<◌, ◌≤◌, ◌⊎◌, length, IfOk, Ok, MatchResult};
+ghost use Rattle.std.specs.Prelude.{◌≡◌, ◌<◌, ◌≤◌, ◌⊎◌, length, IfOk, IfErr, Ok, MatchResult};
 ghost use Rattle.std.specs.Option.{option_copied};
-ghost use Rattle.eqc_flat.specs.Hierarchy.{model};
 ghost use Rattle.eqc_blif.specs.Reading.{outcome};
 ghost use Rattle.eqc_check.specs.Refusing.{IsRefused, flat_answer};
 ghost use Rattle.eqc_check.specs.ReportView.{report_of};
-ghost use Rattle.eqc_check.specs.Answer.{models_answer, one_answer, two_answer, read_texts, texts_answer, Answers};
+ghost use Rattle.eqc_check.specs.Answer.{models_answer, one_answer, two_answer, read_texts, texts_answer, Answers, MayStop};
 
 use crate::check::check_plain;
-use crate::pair::Pair;
+use crate::pairing::pair;
 use crate::report::{Refused, Report, Side};
 use eqc_blif::{Library, Refusal, read};
-use eqc_flat::{Flat, flatten_simple};
+use eqc_flat::{Fault, Flat, flatten};
 use eqc_tree::Stop;
 use std::alloc::Global;
 
@@ -25,17 +24,6 @@ fn refused(side: Side, refusal: Refusal) -> Result<Report, Stop>
     Ok(Report::Refused(Refused { side, line, code }))
 }
 
-/// Models that are not taken.
-fn not_taken() -> Result<Report, Stop>
-    ensures { result ≡ Ok (Report.Refused (record { side = Side.First; line = 0; code = 3 })) }
-{
-    Ok(Report::Refused(Refused {
-        side: Side::First,
-        line: 0,
-        code: 3,
-    }))
-}
-
 /// The report on two flat netlists.
 fn flat_report<R>(
     alloc: Global,
@@ -47,10 +35,11 @@ fn flat_report<R>(
 ) -> Result<Report, Stop>
     requires some { 1 ≤ nodes }
     requires few { nodes ≤ 1048574 }
-    ensures { IfOk result (λ report. report_of report ≡ flat_answer first.now second.now (option_copied order.entry)) }
+    ensures report { IfOk result (λ report. report_of report ≡ flat_answer first.now second.now (option_copied order.entry)) }
+    ensures stop { IfErr result (MayStop (flat_answer first.now second.now (option_copied order.entry))) }
 {
-    match Pair::new(alloc, first, second, order) {
-        Ok(pair) => check_plain(alloc, rt, &pair, nodes),
+    match pair(alloc, first, second, order) {
+        Ok(pair) => check_plain(rt, alloc, &pair, nodes),
         Err(refused) => {
             if refused.code == 72 {
                 return Err(Stop::Memory);
@@ -73,19 +62,16 @@ fn models_report<R>(
     requires few { nodes ≤ 1048574 }
     requires m { first.1 < length first.0.now }
     requires n { second.1 < length second.0.now }
-    ensures { IfOk result (λ report. report_of report ≡ models_answer (model first.entry.0.now first.entry.1) (model second.entry.0.now second.entry.1) (option_copied order.entry)) }
+    ensures report { IfOk result (λ report. report_of report ≡ models_answer (first.entry.0.now, first.entry.1) (second.entry.0.now, second.entry.1) (option_copied order.entry)) }
+    ensures stop { IfErr result (MayStop (models_answer (first.entry.0.now, first.entry.1) (second.entry.0.now, second.entry.1) (option_copied order.entry))) }
 {
-    let Ok(f) = flatten_simple(alloc, first.0, first.1) else {
-        return Err(Stop::Memory);
+    let f = match flatten(alloc, first.0, first.1) {
+        Ok(f) => f,
+        Err(Fault { code }) => return refused(Side::First, Refusal { line: 0, code }),
     };
-    let Some(f) = f else {
-        return not_taken();
-    };
-    let Ok(g) = flatten_simple(alloc, second.0, second.1) else {
-        return Err(Stop::Memory);
-    };
-    let Some(g) = g else {
-        return not_taken();
+    let g = match flatten(alloc, second.0, second.1) {
+        Ok(g) => g,
+        Err(Fault { code }) => return refused(Side::Second, Refusal { line: 0, code }),
     };
     let _first = f.steps();
     let _second = g.steps();
@@ -102,7 +88,8 @@ fn one_report<R>(
 ) -> Result<Report, Stop>
     requires some { 1 ≤ nodes }
     requires few { nodes ≤ 1048574 }
-    ensures { IfOk result (λ report. report_of report ≡ one_answer (outcome text.now) (option_copied order.entry)) }
+    ensures report { IfOk result (λ report. report_of report ≡ one_answer (outcome text.now) (option_copied order.entry)) }
+    ensures stop { IfErr result (MayStop (one_answer (outcome text.now) (option_copied order.entry))) }
 {
     let library = match read(alloc, text) {
         Ok(library) => library,
@@ -125,7 +112,8 @@ fn two_report<R>(
 ) -> Result<Report, Stop>
     requires some { 1 ≤ nodes }
     requires few { nodes ≤ 1048574 }
-    ensures { IfOk result (λ report. report_of report ≡ two_answer (outcome first.now) (outcome second.now) (option_copied order.entry)) }
+    ensures report { IfOk result (λ report. report_of report ≡ two_answer (outcome first.now) (outcome second.now) (option_copied order.entry)) }
+    ensures stop { IfErr result (MayStop (two_answer (outcome first.now) (outcome second.now) (option_copied order.entry))) }
 {
     let first = match read(alloc, first) {
         Ok(library) => library,

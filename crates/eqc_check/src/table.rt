@@ -6,7 +6,7 @@ use eqc_tree::References;
 use std::alloc::{AllocError, Global};
 
 /// A table with no reference for `count` signals.
-pub fn empty_table<X>(alloc: Global, count: usize) -> Result<Vec<Option<X>>, AllocError>
+pub(crate) fn empty_table<X>(alloc: Global, count: usize) -> Result<Vec<Option<X>>, AllocError>
     ensures size { IfOk result (λ table. length table.items ≡ count) }
     ensures none { IfOk result (λ table. (s : ℕ) → reference_of table.items s ≡ None) }
 {
@@ -19,7 +19,7 @@ pub fn empty_table<X>(alloc: Global, count: usize) -> Result<Vec<Option<X>>, All
 }
 
 /// The reference of a signal that has one.
-pub fn reference_at<X>(table: &[Option<X>], s: u32) -> &X
+pub(crate) fn reference_at<X>(table: &[Option<X>], s: u32) -> &X
     requires within { s < length table.now }
     requires some { IsSome (reference_of table.now s) }
     ensures { reference_of table.now s ≡ Some result.now }
@@ -28,7 +28,12 @@ pub fn reference_at<X>(table: &[Option<X>], s: u32) -> &X
 }
 
 /// Puts a reference into the table; one that was there for the signal is given back.
-pub fn put<D: References>(d: &mut D, table: &mut Vec<Option<D::Ref>>, s: u32, reference: D::Ref)
+pub(crate) fn put<D: References>(
+    d: &mut D,
+    table: &mut Vec<Option<D::Ref>>,
+    s: u32,
+    reference: D::Ref,
+)
     requires within { s < length table.old.items }
     requires owned { OwnsTable D.entry (D.holding d.old) table.old.items }
     ensures { Fills D.entry (D.holding d.old) table.old.items (D.holding d.new) table.new.items s reference }
@@ -40,7 +45,7 @@ pub fn put<D: References>(d: &mut D, table: &mut Vec<Option<D::Ref>>, s: u32, re
 }
 
 /// Gives back the reference of a signal, if it has one.
-pub fn take_back<D: References>(d: &mut D, table: &mut Vec<Option<D::Ref>>, s: u32)
+pub(crate) fn take_back<D: References>(d: &mut D, table: &mut Vec<Option<D::Ref>>, s: u32)
     requires within { s < length table.old.items }
     requires owned { OwnsTable D.entry (D.holding d.old) table.old.items }
     ensures { Empties D.entry (D.holding d.old) table.old.items (D.holding d.new) table.new.items s }
@@ -52,7 +57,7 @@ pub fn take_back<D: References>(d: &mut D, table: &mut Vec<Option<D::Ref>>, s: u
 }
 
 /// Gives back the references of those of the signals whose last use is the step `at`.
-pub fn release<D: References>(
+pub(crate) fn release<D: References>(
     d: &mut D,
     table: &mut Vec<Option<D::Ref>>,
     last: &[u32],
@@ -72,7 +77,7 @@ pub fn release<D: References>(
 }
 
 /// Gives all references of a table back.
-pub fn give_back_all<D: References>(d: &mut D, mut table: Vec<Option<D::Ref>>)
+pub(crate) fn give_back_all<D: References>(d: &mut D, mut table: Vec<Option<D::Ref>>)
     requires { OwnsTable D.entry (D.holding d.old) table.items }
     ensures { Moves D.entry (D.holding d.old) table.items (D.holding d.new) [] }
 {

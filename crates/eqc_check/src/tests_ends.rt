@@ -2,80 +2,9 @@ use crate::ends::{RunFault, read_text};
 use crate::options::{Options, options_fault};
 use crate::order::order_words;
 use crate::report::{Refused, Report, Side, write_report};
+use crate::tests_streams::{Drain, Endless, Feed, NEVER};
 use eqc_blif::Name;
 use eqc_tree::Stop;
-use std::io;
-use std::io::{ErrorKind, Read, Write};
-
-const NEVER: usize = usize::MAX;
-
-/// Gives at most `step` bytes a read, and fails once, at one of its calls.
-#[derive(Drop)]
-struct Feed<'a> {
-    bytes: &'a [u8],
-    step: usize,
-    fails_at: usize,
-    calls: usize,
-}
-
-impl<'a> Read for Feed<'a> {
-    fn read(&mut self, buf: &mut [u8]) -> io::Result<usize> {
-        let call = self.calls;
-        self.calls = call.saturating_add(1);
-        if call == self.fails_at {
-            return Err(io::Error::from(ErrorKind::Interrupted));
-        }
-        let n = self.bytes.len().min(self.step).min(buf.len());
-        let (given, rest) = self.bytes.split_at(n);
-        buf[..n].copy_from_slice(given);
-        self.bytes = rest;
-        Ok(n)
-    }
-}
-
-/// Gives whole blocks without end.
-#[derive(Drop)]
-struct Endless {
-    calls: usize,
-}
-
-impl Read for Endless {
-    fn read(&mut self, buf: &mut [u8]) -> io::Result<usize> {
-        self.calls = self.calls.saturating_add(1);
-        Ok(buf.len())
-    }
-}
-
-/// Takes at most `step` bytes a write, fails once, at one of its writes, and may fail to flush.
-#[derive(Drop)]
-struct Drain {
-    bytes: Vec<u8>,
-    step: usize,
-    fails_at: usize,
-    flushes: bool,
-    calls: usize,
-}
-
-impl Write for Drain {
-    fn write(&mut self, buf: &[u8]) -> io::Result<usize> {
-        let call = self.calls;
-        self.calls = call.saturating_add(1);
-        if call == self.fails_at {
-            return Err(io::Error::from(ErrorKind::Interrupted));
-        }
-        let n = buf.len().min(self.step);
-        self.bytes.extend_from_slice(&buf[..n])?;
-        Ok(n)
-    }
-
-    fn flush(&mut self) -> io::Result<()> {
-        if self.flushes {
-            Ok(())
-        } else {
-            Err(io::Error::from(ErrorKind::Interrupted))
-        }
-    }
-}
 
 #[test]
 fn a_text_is_read_whole_or_not_at_all(rt: HostRuntime) {

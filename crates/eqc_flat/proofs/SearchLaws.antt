@@ -1,16 +1,16 @@
 -- The steps of a search in depth keep what it keeps.
-use Rattle.std.proofs.Common.{◌==◌, ◌≡◌, ℕ, zero, suc, ◌+◌, ◌-◌, ◌<◌, ◌≤◌, ◌⊎◌, inl, inr, Bool, true, false, not, ◌&&◌, ◌||◌, List, [], ◌∷◌, ◌++◌, length, take, set, get_or, map, refl, sym, ◌∙◌, ap, subst, arith, Some, None, cond, replicate, add-one, nat_lt, sum_by}
+use Rattle.std.proofs.Common.{◌==◌, ◌≡◌, ℕ, zero, suc, ◌+◌, ◌-◌, ◌<◌, ◌≤◌, ◌⊎◌, inl, inr, Bool, true, false, not, ◌&&◌, ◌||◌, List, [], ◌∷◌, ◌++◌, length, take, set, get_or, refl, sym, ◌∙◌, ap, subst, arith, Some, cond, replicate, nat_lt, sum_by}
 use Rattle.std.specs.List.{list_all, list_any, slice_get, count_by}
 use Rattle.std.proofs.lemmas.Bool.{cases_eq, cases_lt, true≢false, and_parts, and_from, lt-ltb, ltb-true, not-true, or_cases, eqb-true, eq-eqb}
-use Rattle.std.proofs.lemmas.List.{get_or-set_same, get_or-set_other, take_all, take_more, map_push, length-set, length_push, get_or-replicate, get_or_past, length-replicate, length-append}
-use Rattle.std.proofs.lemmas.List.Sums.{sum_by-set, sum_by-cons, sum_by_push, sum_by-append}
+use Rattle.std.proofs.lemmas.List.{get_or-set_same, get_or-set_other, take_all, take_more, map_push, length-set, length_push, get_or-replicate, get_or_past, length-replicate}
+use Rattle.std.proofs.lemmas.List.Sums.{sum_by-set, sum_by-cons}
 use Rattle.std.proofs.lemmas.Option.{slice_get_within, get_or_from_slice_get}
-use Rattle.eqc_flat.specs.Graph.{among, in_order, ends_within}
+use Rattle.eqc_flat.specs.Graph.{among, ends_within}
 use Rattle.eqc_flat.specs.declared.search.Stage.{Stage}
 use Rattle.eqc_flat.specs.declared.search.Stage.TheVariants.{Fresh, Open, Done}
-use Rattle.eqc_flat.specs.Searching.{is_fresh, stage_at, IsClosed, IsPath, on, IsSearch}
+use Rattle.eqc_flat.specs.Searching.{is_fresh, stage_at, IsPath, on, IsSearch}
 use Rattle.eqc_flat.proofs.Depth.{all_more, or_right}
-use Rattle.eqc_flat.proofs.Orders.{same_all, all_push, all_front, all_last, all_among, among_left, among_end, among_push, order_more, stuck_never_ends, any_at}
+use Rattle.eqc_flat.proofs.Orders.{same_all, all_push, all_front, all_last, among_left, among_end, among_push, order_more, stuck_never_ends, any_at}
 
 or_false : (a : Bool) → a ≡ (a || false)
 or_false true = refl

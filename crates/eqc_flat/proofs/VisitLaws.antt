@@ -1,15 +1,14 @@
 -- A search from a root, step by step: by the last of its path.
-use Rattle.std.proofs.Common.{◌==◌, ◌≡◌, ℕ, zero, suc, ◌+◌, ◌-◌, ◌<◌, ◌≤◌, ◌⊎◌, inl, inr, Bool, true, false, not, ◌&&◌, ◌||◌, List, [], ◌∷◌, ◌++◌, length, take, set, get_or, map, refl, sym, ◌∙◌, ap, subst, arith, Some, None, nat_lt, sum_by}
-use Rattle.std.specs.List.{list_all, slice_get}
+use Rattle.std.proofs.Common.{◌==◌, ◌≡◌, ℕ, ◌+◌, ◌-◌, ◌<◌, ◌≤◌, inl, inr, true, false, not, ◌&&◌, List, [], ◌∷◌, ◌++◌, length, take, set, get_or, refl, sym, ◌∙◌, ap, subst, arith, Some, None, nat_lt}
+use Rattle.std.specs.List.{slice_get}
 use Rattle.std.proofs.lemmas.Bool.{and_parts, ltb-true, not-true, true≢false, cases_lt, or_left, eq-eqb}
-use Rattle.std.proofs.lemmas.List.{take_all, take_more, get_or_read_under, get_or_default, set_at, length-take-le, length-set, map_push, length_push, nil_from_length}
+use Rattle.std.proofs.lemmas.List.{take_all, take_more, get_or_read_under, set_at, length_push, nil_from_length}
 use Rattle.std.proofs.lemmas.List.Sums.{sum_by_push}
 use Rattle.std.proofs.lemmas.Option.{slice_get_within, slice_get-get_or}
 use Rattle.eqc_flat.specs.Graph.{among, ends_within}
 use Rattle.eqc_flat.specs.declared.search.Stage.{Stage}
 use Rattle.eqc_flat.specs.declared.search.Stage.TheVariants.{Fresh, Open, Done}
-use Rattle.eqc_flat.specs.Searching.{is_fresh, stage_at, IsClosed, IsPath, on, IsSearch, IsRooted, IsVisit}
-use Rattle.eqc_flat.proofs.Depth.{or_right}
+use Rattle.eqc_flat.specs.Searching.{is_fresh, stage_at, IsPath, on, IsSearch, IsRooted, IsVisit}
 use Rattle.eqc_flat.proofs.Orders.{all_last, among_left, among_end}
 use Rattle.eqc_flat.proofs.SearchLaws as steps
 use Rattle.eqc_flat.proofs.SearchLaws.{fresh_work, path_work, fresh_begun, fresh_done, on_push, path_push, circle}

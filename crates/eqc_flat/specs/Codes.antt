@@ -1,11 +1,11 @@
 -- The codes of flattening, each a condition over all models and instances that the main model reaches.
-use Rattle.std.specs.Prelude.{ℕ, ◌+◌, ◌-◌, Bool, false, not, ◌==◌, List, [], ◌∷◌, ◌++◌, length, map, Option, Some, None, is_none, nat_lt, if◌then◌else◌}
+use Rattle.std.specs.Prelude.{ℕ, suc, ◌+◌, ◌-◌, Bool, false, not, ◌==◌, List, ◌++◌, length, map, Option, Some, None, is_none, nat_lt, if◌then◌else◌}
 use Rattle.std.specs.List.{list_any}
 use Rattle.eqc_blif.specs.Netlist.{ModelOf, InstanceOf}
 use Rattle.eqc_blif.specs.Names.{is_named, has_twice}
 use Rattle.eqc_flat.specs.Graph.{ends_within}
 use Rattle.eqc_flat.specs.Hierarchy.{model, model_number, callees, reached, paths}
-use Rattle.eqc_flat.specs.Signals.{SignalOf, signals, sources, value_at}
+use Rattle.eqc_flat.specs.Signals.{signals, sources, value_at}
 
 -- the formals of an instance
 abbrev pub formals : InstanceOf → List (List ℕ)
@@ -20,9 +20,9 @@ some_instance library top test =
 unfoldable pub has_no_such_model : List ModelOf → ℕ → Bool
 has_no_such_model library top = some_instance library top (λ callee i. model_number library i.model == length library)
 
--- 22: instances below one another that are more than there are models, so that a reached model reaches itself
+-- 22: more instances below one another than there are models, so that a reached model reaches itself
 unfoldable pub is_recursive : List ModelOf → ℕ → Bool
-is_recursive library top = not (ends_within (callees library) (length library) top)
+is_recursive library top = not (ends_within (callees library) (suc (length library)) top)
 
 -- 23: a formal that is neither input nor output of its model
 unfoldable pub has_unknown_formal : List ModelOf → ℕ → Bool

@@ -64,11 +64,15 @@ abbrev pub ends_within : (ℕ → List ℕ) → ℕ → ℕ → Bool
 ends_within deps zero s = false
 ends_within deps (suc steps) s = list_all (ends_within deps steps) (deps s)
 
+-- whether a driver speaks of so many inputs, signals and lists of rows
+abbrev pub IsWithinSizes : ℕ → ℕ → ℕ → DriverOf → Type 0
+IsWithinSizes inputs signals rows (input position) = position < inputs
+IsWithinSizes inputs signals rows (tie other) = other < signals
+IsWithinSizes inputs signals rows (cover columns r) = ((k : ℕ) → k < length columns → slice_index_or columns k 0 < signals) × (r < rows)
+
 -- whether a driver speaks of inputs, signals and rows that are there
 abbrev pub IsWithin : FlatOf → DriverOf → Type 0
-IsWithin f (input position) = position < length f.inputs
-IsWithin f (tie other) = other < length f.drivers
-IsWithin f (cover columns rows) = ((k : ℕ) → k < length columns → slice_index_or columns k 0 < length f.drivers) × (rows < length f.rows)
+IsWithin f driver = IsWithinSizes (length f.inputs) (length f.drivers) (length f.rows) driver
 
 -- what holds of every flat netlist
 pub record IsFlat (f : FlatOf) : Type 0 where

@@ -4,5 +4,12 @@ pub mod Hierarchy
 pub mod Signals
 pub mod Codes
 pub mod Searching
-pub mod Simple
-pub mod SimpleSignals
+pub mod Reaching
+pub mod NameSets
+pub mod ModelFaults
+pub mod Evaluating
+pub mod Flattened
+pub mod Instances
+pub mod Filling
+pub mod Ordering
+pub mod Flattening

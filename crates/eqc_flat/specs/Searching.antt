@@ -1,5 +1,5 @@
 -- A search in depth along dependencies: what its state keeps.
-use Rattle.std.specs.Prelude.{◌≡◌, ℕ, ◌+◌, ◌-◌, ◌<◌, Bool, true, false, not, ◌&&◌, List, [], ◌∷◌, length, take, map, slice_get, slice_index_or, Some, nat_lt}
+use Rattle.std.specs.Prelude.{◌≡◌, ℕ, ◌+◌, ◌<◌, Bool, true, false, not, ◌&&◌, List, [], ◌∷◌, length, take, map, slice_get, slice_index_or, Some, nat_lt}
 use Rattle.std.specs.List.{list_all, count_by}
 use Rattle.eqc_flat.specs.Graph.{among, in_order}
 use Rattle.eqc_flat.specs.declared.search.Stage.{Stage}

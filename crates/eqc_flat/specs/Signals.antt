@@ -7,7 +7,7 @@ use Rattle.std.specs.Str.{bytes_eq}
 use Rattle.eqc_blif.specs.Netlist.{ModelOf, InstanceOf, CoverOf}
 use Rattle.eqc_blif.specs.Names.{is_named}
 use Rattle.eqc_blif.specs.Cover.{cover_value}
-use Rattle.eqc_flat.specs.Hierarchy.{model, callees, model_at, paths}
+use Rattle.eqc_flat.specs.Hierarchy.{model, model_at, paths}
 
 -- a flat signal: an instance by its path, and a name in its model
 pub record SignalOf : Type 0 where

@@ -142,4 +142,21 @@ impl<'a> Flat<'a> {
     {
         self.rows[r as usize]
     }
+
+    /// The instance and the name of signal `s`, which is one of this netlist. Instance 0 is the main model.
+    pub fn signal(&self, s: u32) -> (u32, &[u8])
+        requires { s < length self.now.signals }
+        ensures { (result.0, result.1.now) ≡ slice_index_or self.now.signals s (0, []) }
+    {
+        self.signals[s as usize]
+    }
+
+    /// The parent of instance `i`, from 1 on, and the position of its `.subckt` there.
+    pub fn place(&self, i: u32) -> (u32, u32)
+        requires some { 1 ≤ i }
+        requires there { i ≤ length self.now.places }
+        ensures { result ≡ slice_index_or self.now.places (i - 1) (0, 0) }
+    {
+        self.places[i as usize - 1]
+    }
 }

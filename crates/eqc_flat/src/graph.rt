@@ -7,7 +7,7 @@ pub(crate) trait Graph {
     ghost deps: { Self → ℕ → List ℕ };
 
     /// What `node` depends on at position `k`, or `None` behind the last.
-    fn dependency(&self, node: u32, k: usize) -> Option<u32>
+    fn dependency(&self, node: usize, k: usize) -> Option<usize>
         requires { node < size self.now }
         ensures value { result ≡ slice_get (deps self.now node) k }
         ensures small { IfSome result (λ _. k + 1 < 2 ^ 64) };

@@ -2,13 +2,29 @@
 //! it, or the first fault of the hierarchy.
 #![tactic(auto)]
 
+mod calls;
+mod condition;
 mod driver;
+mod evaluation;
+mod fault;
+mod filling;
 mod flat;
+mod flattening;
 mod graph;
-mod name_index;
+mod hierarchy;
+mod instance_conditions;
+mod instances;
+mod model_faults;
+mod model_names;
+mod name_set;
+mod naming;
+mod reach;
+mod row_table;
 mod search;
-mod simple;
+mod signal_order;
 
 pub use driver::Driver;
+pub use evaluation::eval;
+pub use fault::Fault;
 pub use flat::Flat;
-pub use simple::flatten_simple;
+pub use flattening::flatten;

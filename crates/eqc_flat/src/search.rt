@@ -17,7 +17,7 @@ pub(crate) enum Stage {
 #[derive(Drop)]
 pub(crate) struct Search {
     stages: Vec<Stage>,
-    order: Vec<u32>,
+    order: Vec<usize>,
 }
 
 impl Search {
@@ -30,12 +30,19 @@ impl Search {
         })
     }
 
+    /// The order.
+    pub(crate) fn into_order(self) -> Vec<usize>
+        ensures { result ≡ self.order }
+    {
+        self.order
+    }
+
     /// Puts `root` and all that it leads to into the order. Answers false where one of these depends on itself.
     pub(crate) fn visit<G: Graph>(
         &mut self,
         alloc: Global,
         graph: &G,
-        root: u32,
+        root: usize,
     ) -> Result<bool, AllocError>
         requires within { root < G.size graph.now }
         requires closed { IsClosed (G.deps graph.now) (G.size graph.now) }
@@ -45,7 +52,7 @@ impl Search {
         ensures kept { IfOk result (λ ends. ends ≡ true → (s : ℕ) → among self.old.order.items s ≡ true → among self.new.order.items s ≡ true) }
         ensures cyclic { IfOk result (λ ends. ends ≡ false → (steps : ℕ) → ends_within (G.deps graph.now) steps root ≡ false) }
     {
-        let mut path: Vec<(u32, usize)> = Vec::new(alloc);
+        let mut path: Vec<(usize, usize)> = Vec::new(alloc);
         if self.is_done(root) {
             return Ok(true);
         }
@@ -57,7 +64,7 @@ impl Search {
                 self.leave(&mut path, node)?;
                 continue;
             };
-            match self.stages[next as usize] {
+            match self.stages[next] {
                 Stage::Fresh => self.enter(&mut path, next)?,
                 Stage::Open => return Ok(false),
                 Stage::Done => path[top] = (node, k + 1),
@@ -67,34 +74,34 @@ impl Search {
     }
 
     /// Whether the search is done with a node.
-    fn is_done(&self, node: u32) -> bool
+    fn is_done(&self, node: usize) -> bool
         requires { node < vec_len self.now.stages }
         ensures { IsTrue result ↔ (stage_at self.now.stages.items node ≡ Stage.Done) }
     {
-        matches!(self.stages[node as usize], Stage::Done)
+        matches!(self.stages[node], Stage::Done)
     }
 
     /// Puts a node onto the path.
-    fn enter(&mut self, path: &mut Vec<(u32, usize)>, node: u32) -> Result<(), AllocError>
+    fn enter(&mut self, path: &mut Vec<(usize, usize)>, node: usize) -> Result<(), AllocError>
         requires { node < vec_len self.old.stages }
         ensures stages { OnOk result (self.new.stages.items ≡ slice_set self.old.stages.items node Stage.Open) }
         ensures path { OnOk result (path.new.items ≡ path.old.items ++ (node, 0) ∷ []) }
         ensures order { self.new.order.items ≡ self.old.order.items }
     {
         path.push((node, 0))?;
-        self.stages[node as usize] = Stage::Open;
+        self.stages[node] = Stage::Open;
         Ok(())
     }
 
     /// Takes the last node from the path and puts it at the end of the order.
-    fn leave(&mut self, path: &mut Vec<(u32, usize)>, node: u32) -> Result<(), AllocError>
+    fn leave(&mut self, path: &mut Vec<(usize, usize)>, node: usize) -> Result<(), AllocError>
         requires { node < vec_len self.old.stages }
         ensures stages { OnOk result (self.new.stages.items ≡ slice_set self.old.stages.items node Stage.Done) }
         ensures path { OnOk result (path.new.items ≡ take (vec_len path.old - 1) path.old.items) }
         ensures order { OnOk result (self.new.order.items ≡ self.old.order.items ++ node ∷ []) }
     {
         self.order.push(node)?;
-        self.stages[node as usize] = Stage::Done;
+        self.stages[node] = Stage::Done;
         let _ = path.pop();
         Ok(())
     }

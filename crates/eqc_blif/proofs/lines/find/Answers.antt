@@ -1,10 +1,9 @@
-use Rattle.std.proofs.Common.{eqb, arith, sym}
-use Rattle.std.proofs.lemmas.List.Sums.{position_or_len_is}
-use Rattle.std.proofs.lemmas.Bool.{eq-eqb}
+use Rattle.std.proofs.Common.{sym, eqb}
+use Rattle.eqc_blif.proofs.SearchLemmas.{not_found, found_first}
 use Rattle.eqc_blif.proofs.lines.find.Goals as goal
 
-pub returns-then-byte-wanted : goal.returns-then-byte-wanted
-returns-then-byte-wanted c = sym (position_or_len_is (λ b. eqb b c.args.wanted) c.args.bytes.now c.loop-i.i 0 (omega arith) c.loop-i.invariant (λ _. eq-eqb _ _ c.if-byte-wanted.true))
+pub returns-in-Some : goal.returns-in-Some
+returns-in-Some c = sym (found_first (λ byte. eqb byte c.args.wanted) c.args.bytes.now c.in-Some.i c.in-Some.ensures)
 
-pub returns : goal.returns
-returns c = sym (position_or_len_is (λ b. eqb b c.args.wanted) c.args.bytes.now _ 0 (omega arith) (λ k h. c.loop-i.invariant k (omega arith)) (λ h. absurd (omega arith)))
+pub returns-in-None : goal.returns-in-None
+returns-in-None c = sym (not_found (λ byte. eqb byte c.args.wanted) c.args.bytes.now c.in-None.ensures)

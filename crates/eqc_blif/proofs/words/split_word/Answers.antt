@@ -1,4 +1,4 @@
-use Rattle.std.proofs.Common.{arith, sym, ◌∙◌, length}
+use Rattle.std.proofs.Common.{sym, ◌∙◌, length}
 use Rattle.std.proofs.lemmas.Bool.{eqb-false}
 use Rattle.eqc_blif.proofs.WordLemmas.{first_word, only_word, first_blanks, only_blanks}
 use Rattle.eqc_blif.proofs.words.split_word.Goals as goal

@@ -1,5 +1,5 @@
-use Rattle.std.proofs.Common.{sym, ◌∙◌, ap, arith, rules, ℕ, ◌≡◌, length, subst, ◌<◌, get_or}
-use Rattle.eqc_check.specs.Building.{IsBuilding, AreReady}
+use Rattle.std.proofs.Common.{◌∙◌, ap, arith, ◌≡◌, length, subst, ◌<◌, get_or}
+use Rattle.eqc_check.specs.Building.{IsBuilding}
 use Rattle.eqc_check.proofs.PlanLaws.{read_positive, read_none}
 use Rattle.eqc_check.proofs.BuildLaws.{building_start, building_ready, building_more, building_skip, building_done}
 use Rattle.eqc_check.proofs.build.build.Goals as goal

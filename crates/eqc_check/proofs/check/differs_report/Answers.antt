@@ -1,10 +1,8 @@
-use Rattle.std.proofs.Common.{arith, rules, ◌≡◌, get_or, ◌∙◌, sym, [], length, ◌<◌, false, Bool, ℕ, List, ap}
+use Rattle.std.proofs.Common.{arith, ◌≡◌, get_or, ◌∙◌, sym, [], length, ◌<◌, false}
 use Rattle.std.specs.List.{zip}
 use Rattle.std.proofs.lemmas.List.{get_or_default}
-use Rattle.eqc_flat.specs.Graph.{value_of}
 use Rattle.eqc_check.specs.Verdict.{first_value}
 use Rattle.eqc_check.specs.Sides.{netlist_of}
-use Rattle.eqc_check.specs.Evaluating.{values_of}
 use Rattle.eqc_check.proofs.PairLaws.{own_value}
 use Rattle.eqc_check.proofs.check.differs_report.Goals as goal
 

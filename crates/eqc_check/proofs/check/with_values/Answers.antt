@@ -1,4 +1,4 @@
-use Rattle.std.proofs.Common.{arith, rules, ◌≡◌, get_or}
+use Rattle.std.proofs.Common.{arith, rules}
 use Rattle.eqc_check.proofs.PairLaws.{pairs_more}
 use Rattle.eqc_check.proofs.check.with_values.Goals as goal
 

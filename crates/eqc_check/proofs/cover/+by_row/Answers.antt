@@ -1,5 +1,4 @@
 use Rattle.std.proofs.Common.{rules, true, ◌&&◌, sym, ◌∙◌}
-use Rattle.eqc_blif.specs.Cover.{row_matches}
 use Rattle.eqc_check.specs.Matching.{said, AreHeld}
 use Rattle.eqc_check.proofs.HeldLaws.{gains_as, joins_two, held_gains, held_drop}
 use Rattle.eqc_check.proofs.MatchingLaws.{row_matches-empty, by_halves, by_short}

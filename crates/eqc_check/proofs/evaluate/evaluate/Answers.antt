@@ -1,5 +1,4 @@
-use Rattle.std.proofs.Common.{ap, arith, length, ◌<◌, ◌≡◌, ◌∙◌, subst, Bool, List, ℕ}
-use Rattle.eqc_flat.specs.Graph.{driven, driver_at}
+use Rattle.std.proofs.Common.{ap, arith, length, ◌<◌, ◌≡◌, subst}
 use Rattle.eqc_check.specs.Evaluating.{AreKnown, values_of}
 use Rattle.eqc_check.proofs.EvaluateLaws.{known_more, known_all}
 use Rattle.eqc_check.proofs.evaluate.evaluate.Goals as goal

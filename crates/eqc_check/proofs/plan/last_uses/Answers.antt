@@ -1,4 +1,4 @@
-use Rattle.std.proofs.Common.{arith, length, ◌+◌, ◌-◌, ◌≡◌, ℕ, List, ap, ◌∙◌, get_or, subst, sym}
+use Rattle.std.proofs.Common.{arith, length, ◌+◌, ◌-◌, ◌≡◌, ℕ, List, ap, ◌∙◌, get_or, subst}
 use Rattle.eqc_flat.specs.Graph.{dependencies, driver_at}
 use Rattle.eqc_check.specs.Building.{IsMarked}
 use Rattle.eqc_check.proofs.PlanLaws.{plan_mark, IsPlanFrom}

@@ -1,5 +1,4 @@
-use Rattle.std.proofs.Common.{subst, sym, List, ℕ, arith, rules}
-use Rattle.eqc_check.specs.Building.{IsMarked}
+use Rattle.std.proofs.Common.{arith, rules}
 use Rattle.eqc_check.proofs.PlanLaws.{marked_more, marked_same, read_some}
 use Rattle.eqc_check.proofs.plan.mark.Goals as goal
 use Rattle.eqc_check.proofs.plan.mark.Goals.{then-index-eq0, else-index-eq0}

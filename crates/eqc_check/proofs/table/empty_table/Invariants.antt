@@ -1,4 +1,4 @@
-use Rattle.std.proofs.Common.{◌≡◌, ◌≤◌, ℕ, length, None}
+use Rattle.std.proofs.Common.{◌≡◌, ◌≤◌, ℕ, None}
 use Rattle.std.specs.Vec.{vec_capacity, vec_len}
 use Rattle.eqc_check.specs.Building.{reference_of}
 use Rattle.eqc_check.proofs.table.empty_table.Given as goal

@@ -1,5 +1,4 @@
-use Rattle.std.proofs.Common.{arith, ap, length, sym, ◌∙◌, ◌∷◌, ◌≡◌, ◌++◌, [], append_assoc, MatchResult, Ok, IfOk, List, ℕ}
-use Rattle.std.proofs.lemmas.Result.{IfOk-weaker}
+use Rattle.std.proofs.Common.{arith, ap, length, sym, ◌∙◌, ◌≡◌, ◌++◌}
 use Rattle.eqc_blif.specs.Lines.{spaced}
 use Rattle.eqc_blif.proofs.LineLemmas.{join_more, join_last, join_end, pushed_space}
 use Rattle.eqc_blif.proofs.lines.Lines.join.Goals as goal

@@ -1,4 +1,4 @@
-use Rattle.std.proofs.Common.{◌≡◌, ℕ, ◌≤◌, ◌∷◌, ◌++◌, length}
+use Rattle.std.proofs.Common.{◌≡◌, ℕ, ◌≤◌, ◌∷◌, length}
 use Rattle.eqc_blif.specs.Lines.{joined, onto_next}
 use Rattle.eqc_blif.proofs.lines.Lines.join.Given as goal
 

@@ -1,4 +1,4 @@
-use Rattle.std.proofs.Common.{◌≡◌, ℕ, ◌∷◌, ◌++◌, length}
+use Rattle.std.proofs.Common.{◌≡◌, length}
 use Rattle.eqc_blif.specs.Lines.{logical}
 use Rattle.eqc_blif.proofs.lines.Lines.next_logical.Given as goal
 

@@ -1,4 +1,4 @@
-use Rattle.std.proofs.Common.{◌≡◌, false, sym, ◌∙◌, ap}
+use Rattle.std.proofs.Common.{◌≡◌, false, sym, ◌∙◌}
 use Rattle.eqc_blif.specs.Names.{is_named, has_twice}
 use Rattle.eqc_blif.proofs.NameLemmas.{inserted_once, few_once, few_pushed}
 use Rattle.eqc_blif.proofs.name_list.NameList.add.Goals as goal

@@ -1,4 +1,4 @@
-use Rattle.std.proofs.Common.{arith, sym, ◌∙◌, ap, not, ◌++◌, ◌∷◌, true, ◌≡◌}
+use Rattle.std.proofs.Common.{sym, ◌∙◌, ap, not, ◌++◌, ◌∷◌, true, ◌≡◌}
 use Rattle.std.proofs.lemmas.Bool.{not-false}
 use Rattle.eqc_blif.specs.Names.{is_named, has_twice}
 use Rattle.eqc_blif.specs.Words.{words}

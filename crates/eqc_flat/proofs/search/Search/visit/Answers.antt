@@ -1,10 +1,5 @@
-use Rattle.std.proofs.Common.{rules, arith, ◌≡◌, ◌<◌, ◌-◌, ◌++◌, ◌∷◌, [], ℕ, List, take, length, sym, ◌∙◌, ap, true, false, Some, None}
+use Rattle.std.proofs.Common.{rules, arith, ◌<◌, ◌-◌, take, sym, ◌∙◌}
 use Rattle.std.proofs.lemmas.List.{length-take-le}
-use Rattle.std.specs.List.{slice_get}
-use Rattle.eqc_flat.specs.Graph.{among}
-use Rattle.eqc_flat.specs.Searching.{stage_at, IsSearch}
-use Rattle.eqc_flat.specs.declared.search.Stage.{Stage}
-use Rattle.eqc_flat.specs.declared.search.Stage.TheVariants.{Fresh, Open, Done}
 use Rattle.eqc_flat.proofs.VisitLaws as laws
 use Rattle.eqc_flat.proofs.search.Search.visit.Goals as goal
 

@@ -1,0 +1,83 @@
+ghost use Rattle.std.specs.Prelude.{◌≡◌, ◌⊎◌, Some, None, true, false, map, IfOk, IfErr, MatchOption};
+ghost use Rattle.std.specs.Option.{option_copied};
+ghost use Rattle.eqc_blif.specs.Names.{has_twice};
+ghost use Rattle.eqc_check.specs.Verdict.{position_of};
+ghost use Rattle.eqc_check.specs.Matched.{same_names};
+ghost use Rattle.eqc_check.specs.PairOf.{order_for, pair_refusal, pair_refused, no_memory};
+
+use crate::matched_pair::Pair;
+use crate::name_index::{NameIndex, bytes_of};
+use crate::order::order_of;
+use crate::report::{Refused, Side};
+use eqc_blif::Name;
+use eqc_flat::Flat;
+use std::alloc::{AllocError, Global};
+
+impl From<AllocError> for Refused {
+    ghost use Rattle.eqc_check.specs.PairOf.{no_memory};
+
+    ghost from_gives = { λ _ refused. refused ≡ no_memory };
+
+    fn from(_error: AllocError) -> Refused {
+        refusal(72)
+    }
+}
+
+/// A refusal of two netlists as a pair.
+fn refusal(code: u8) -> Refused
+    ensures { result ≡ pair_refused code }
+{
+    Refused {
+        side: Side::Pair,
+        line: 0,
+        code,
+    }
+}
+
+/// Where each of the others stands among the names, or none where the two haven't the same names. Fails where
+/// memory is refused.
+fn matched(alloc: Global, names: &[Name], others: &[Name]) -> Result<Option<Vec<usize>>, AllocError>
+    requires once { has_twice names.now ≡ false }
+    requires others_once { has_twice others.now ≡ false }
+    ensures { IfOk result (λ found. MatchOption found
+        (same_names names.now others.now ≡ false)
+        (λ all. (same_names names.now others.now ≡ true) × (all.items ≡ map (position_of names.now) others.now))) }
+{
+    let names = bytes_of(alloc, names)?;
+    let others = bytes_of(alloc, others)?;
+    let (Some(index), Some(other_index)) = (
+        NameIndex::of(alloc, &names)?,
+        NameIndex::of(alloc, &others)?,
+    ) else {
+        unreachable!();
+    };
+    if other_index.positions(alloc, &names)?.is_none() {
+        return Ok(None);
+    }
+    index.positions(alloc, &others)
+}
+
+/// The pair of two netlists, whose inputs and outputs are matched by name, with the order of an order text,
+/// else with that in which the first netlist declares its inputs. Refused are, in this order: two sets of
+/// input names that differ (41) or of output names (42), and of the order text what is too long (2), a word
+/// that is no input (51), a word twice (52) and an input that isn't there (53). Want of memory is 72.
+pub fn pair<'a>(
+    alloc: Global,
+    first: &'a Flat<'a>,
+    second: &'a Flat<'a>,
+    order: Option<&[u8]>,
+) -> Result<Pair<'a>, Refused>
+    ensures taken { IfOk result (λ _. pair_refusal first.now second.now (option_copied order.entry) ≡ None) }
+    ensures netlists { IfOk result (λ p. (p.first ≡ first.now) × (p.second ≡ second.now)) }
+    ensures order { IfOk result (λ p. p.order ≡ order_for first.now.inputs (option_copied order.entry)) }
+    ensures refused { IfErr result (λ refused. (refused ≡ no_memory) ⊎ (pair_refusal first.now second.now (option_copied order.entry) ≡ Some refused)) }
+{
+    let Some(inputs) = matched(alloc, first.inputs(), second.inputs())? else {
+        return Err(refusal(41));
+    };
+    let Some(outputs) = matched(alloc, second.outputs(), first.outputs())? else {
+        return Err(refusal(42));
+    };
+    let order = order_of(alloc, first.inputs(), order)?;
+    Ok(Pair::laid_out(alloc, first, second, &inputs, &outputs, order)?)
+}

@@ -1,0 +1,204 @@
+-- Names that occur in a model, and formals that the models of the instances have.
+use Rattle.std.proofs.Common.{◌≡◌, ℕ, zero, suc, ◌+◌, ◌<◌, ◌≤◌, inl, inr, Bool, true, false, not, ◌||◌, List, [], ◌∷◌, ◌++◌, length, map, take, get_or, refl, sym, ◌∙◌, ap, subst, arith, position, Some}
+use Rattle.std.specs.Prelude.{slice_index_or, filter}
+use Rattle.std.specs.List.{flat_map, list_any, position_or_len}
+use Rattle.std.specs.Str.{bytes_eq}
+use Rattle.std.proofs.lemmas.Bool.{true≢false, or_cases, or_left, cases_lt, lt-ltb}
+use Rattle.std.proofs.lemmas.List.{get_or-map, get_or_past, length-map}
+use Rattle.std.proofs.lemmas.List.Concat.{get_or-flat_map}
+use Rattle.std.proofs.lemmas.List.Folds.{length-flat_map-take}
+use Rattle.std.proofs.lemmas.List.Sums.{passes_at_first}
+use Rattle.eqc_blif.specs.Netlist.{ModelOf, InstanceOf, CoverOf, no_cover, no_model}
+use Rattle.eqc_blif.specs.Names.{is_named}
+use Rattle.eqc_flat.specs.Hierarchy.{model, model_number, callees, reached, model_at, paths}
+use Rattle.eqc_flat.specs.Signals.{cover_names, actuals, once_each, names_of}
+use Rattle.eqc_flat.specs.Codes.{formals, has_unknown_formal}
+use Rattle.eqc_flat.specs.Flattened.{path_at}
+use Rattle.eqc_flat.specs.Filling.{rows_of, all_rows}
+use Rattle.eqc_flat.proofs.Distinct.{Member, member_left, member_right, member_get, member_piece, member_map}
+use Rattle.eqc_flat.proofs.NumberLaws.{same_bytes, bytes_same}
+use Rattle.eqc_flat.proofs.PathLaws.{models_reached}
+
+-- what stands for an instance where there is none
+abbrev pub no_instance : InstanceOf
+no_instance = record { model = []; pairs = [] }
+
+or_right : (x y : Bool) → y ≡ true → (x || y) ≡ true
+or_right true y e = refl
+or_right false y e = e
+
+pub member_named : (name : List ℕ) (names : List (List ℕ)) → Member name names → is_named names name ≡ true
+member_named name [] h = absurd h
+member_named name (x ∷ names) (inl same) = or_left (bytes_eq name x) (is_named names name) (rw same (same_bytes name))
+member_named name (x ∷ names) (inr there) = or_right (bytes_eq name x) (is_named names name) (member_named name names there)
+
+pub named_member : (name : List ℕ) (names : List (List ℕ)) → is_named names name ≡ true → Member name names
+named_member name [] e = absurd (true≢false (sym e))
+named_member name (x ∷ names) e = elim (or_cases (bytes_eq name x) (is_named names name) e) [
+  | inl same ↦ inl (sym (bytes_same name x same))
+  | inr there ↦ inr (named_member name names there)
+]
+
+-- where a name first stands it stands
+pub named_at : (names : List (List ℕ)) (name : List ℕ) (k : ℕ) → k ≡ position_or_len (λ other. bytes_eq name other) names → k < length names → slice_index_or names k [] ≡ name
+named_at names name k at inside =
+    let found : bytes_eq name (get_or names (position_or_len (λ other. bytes_eq name other) names) []) ≡ true = passes_at_first (λ other. bytes_eq name other) names [] (rw (sym at) inside) in
+    ap (λ j. get_or names j []) at ∙ sym (bytes_same name (get_or names (position_or_len (λ other. bytes_eq name other) names) []) found)
+
+kept : (name : List ℕ) (x : List ℕ) (xs : List (List ℕ)) → Member name xs → bytes_eq x name ≡ false → Member name (filter (λ other. not (bytes_eq x other)) xs)
+kept name x [] h e = absurd h
+kept name x (y ∷ xs) h e = by_test (bytes_eq x y) refl h (λ k. kept name x xs k e)
+  where
+    by_test : (b : Bool) → bytes_eq x y ≡ b → Member name (y ∷ xs) → (Member name xs → Member name (filter (λ other. not (bytes_eq x other)) xs)) → Member name (filter (λ other. not (bytes_eq x other)) (y ∷ xs))
+    by_test true k (inl same) up = let P : List ℕ → Type 0 = λ z. bytes_eq x z ≡ true in absurd (true≢false (sym (subst P same k) ∙ e))
+    by_test true k (inr there) up = rw k (up there)
+    by_test false k (inl same) up = rw k (inl same)
+    by_test false k (inr there) up = rw k (inr (up there))
+
+pub once_member : (name : List ℕ) (names : List (List ℕ)) → Member name names → Member name (once_each names)
+once_member name [] h = absurd h
+once_member name (x ∷ names) (inl same) = inl same
+once_member name (x ∷ names) (inr there) = by_test (bytes_eq x name) refl (once_member name names there)
+  where
+    by_test : (b : Bool) → bytes_eq x name ≡ b → Member name (once_each names) → Member name (once_each (x ∷ names))
+    by_test true e up = inl (bytes_same x name e)
+    by_test false e up = inr (kept name x (once_each names) up e)
+
+-- the names of a model before each is put in once
+all_names : ModelOf → List (List ℕ)
+all_names m = m.inputs ++ m.outputs ++ flat_map cover_names m.covers ++ flat_map actuals m.instances
+
+occurs : (m : ModelOf) (name : List ℕ) → Member name (m.inputs ++ m.outputs ++ flat_map cover_names m.covers ++ flat_map actuals m.instances) → is_named (names_of m) name ≡ true
+unfolding names_of
+occurs m name h = member_named name (once_each (m.inputs ++ m.outputs ++ flat_map cover_names m.covers ++ flat_map actuals m.instances)) (once_member name (m.inputs ++ m.outputs ++ flat_map cover_names m.covers ++ flat_map actuals m.instances) h)
+
+pub input_named : (m : ModelOf) (k : ℕ) → k < length m.inputs → is_named (names_of m) (slice_index_or m.inputs k []) ≡ true
+input_named m k h = occurs m (get_or m.inputs k []) (member_left (get_or m.inputs k []) (m.inputs ++ m.outputs ++ flat_map cover_names m.covers) (flat_map actuals m.instances) (member_left (get_or m.inputs k []) (m.inputs ++ m.outputs) (flat_map cover_names m.covers) (member_left (get_or m.inputs k []) m.inputs m.outputs (member_get m.inputs k [] h))))
+
+pub output_named : (m : ModelOf) (k : ℕ) → k < length m.outputs → is_named (names_of m) (slice_index_or m.outputs k []) ≡ true
+output_named m k h = occurs m (get_or m.outputs k []) (member_left (get_or m.outputs k []) (m.inputs ++ m.outputs ++ flat_map cover_names m.covers) (flat_map actuals m.instances) (member_left (get_or m.outputs k []) (m.inputs ++ m.outputs) (flat_map cover_names m.covers) (member_right (get_or m.outputs k []) m.inputs m.outputs (member_get m.outputs k [] h))))
+
+in_cover : (m : ModelOf) (k : ℕ) (name : List ℕ) → k < length m.covers → Member name (cover_names (slice_index_or m.covers k no_cover)) → is_named (names_of m) name ≡ true
+in_cover m k name h there = occurs m name (member_left name (m.inputs ++ m.outputs ++ flat_map cover_names m.covers) (flat_map actuals m.instances) (member_right name (m.inputs ++ m.outputs) (flat_map cover_names m.covers) (member_piece cover_names m.covers (get_or m.covers k no_cover) name (member_get m.covers k no_cover h) there)))
+
+pub column_named : (m : ModelOf) (k j : ℕ) → k < length m.covers → j < length (slice_index_or m.covers k no_cover).columns → is_named (names_of m) (slice_index_or (slice_index_or m.covers k no_cover).columns j []) ≡ true
+column_named m k j h here =
+    let c = get_or m.covers k no_cover in
+    in_cover m k (get_or c.columns j []) h (member_left (get_or c.columns j []) c.columns (c.output ∷ []) (member_get c.columns j [] here))
+
+pub driven_named : (m : ModelOf) (k : ℕ) → k < length m.covers → is_named (names_of m) (slice_index_or m.covers k no_cover).output ≡ true
+driven_named m k h =
+    let c = get_or m.covers k no_cover in
+    in_cover m k c.output h (member_right c.output c.columns (c.output ∷ []) (inl refl))
+
+pub actual_named : (m : ModelOf) (i j : ℕ) → i < length m.instances → j < length (slice_index_or m.instances i no_instance).pairs → is_named (names_of m) (slice_index_or (slice_index_or m.instances i no_instance).pairs j ([], [])).1 ≡ true
+actual_named m i j h here =
+    let one = get_or m.instances i no_instance in
+    let pair = get_or one.pairs j ([], []) in
+    occurs m pair.1 (member_right pair.1 (m.inputs ++ m.outputs ++ flat_map cover_names m.covers) (flat_map actuals m.instances) (member_piece actuals m.instances one pair.1 (member_get m.instances i no_instance h) (member_map (λ (p : List ℕ × List ℕ). p.1) pair one.pairs (member_get one.pairs j ([], []) here))))
+
+pub formal_named : (m : ModelOf) (formal : List ℕ) → is_named (m.inputs ++ m.outputs) formal ≡ true → is_named (names_of m) formal ≡ true
+formal_named m formal e = occurs m formal (member_left formal (m.inputs ++ m.outputs ++ flat_map cover_names m.covers) (flat_map actuals m.instances) (member_left formal (m.inputs ++ m.outputs) (flat_map cover_names m.covers) (named_member formal (m.inputs ++ m.outputs) e)))
+
+none_at : {X : Type 0} (p : X → Bool) (xs : List X) (k : ℕ) (d : X) → list_any p xs ≡ false → k < length xs → p (get_or xs k d) ≡ false
+none_at p [] k d e h = absurd (omega arith)
+none_at {X} p (x ∷ xs) zero d e h = first (p x) (list_any p xs) e
+  where
+    first : (a b : Bool) → (a || b) ≡ false → a ≡ false
+    first false b k = refl
+    first true b k = absurd (true≢false k)
+none_at {X} p (x ∷ xs) (suc k) d e h = none_at p xs k d (rest (p x) (list_any p xs) e) (omega arith)
+  where
+    rest : (a b : Bool) → (a || b) ≡ false → b ≡ false
+    rest false b k = k
+    rest true b k = absurd (true≢false k)
+
+-- the model of an instance is that of the name at its position
+pub callee_at : (library : List ModelOf) (m p : ℕ) → p < length (model library m).instances → slice_index_or (callees library m) p (length library) ≡ model_number library (slice_index_or (model library m).instances p no_instance).model
+unfolding callees
+callee_at library m p h = get_or-map (λ (i : InstanceOf). model_number library i.model) (model library m).instances p no_instance (length library) h
+
+pub callee_count : (library : List ModelOf) (m : ℕ) → length (callees library m) ≡ length (model library m).instances
+unfolding callees
+callee_count library m = length-map (model library m).instances (λ (i : InstanceOf). model_number library i.model)
+
+-- without code 23 every formal is a port of its model
+pub formal_known : (library : List ModelOf) (top i p j : ℕ) → has_unknown_formal library top ≡ false → i < length (paths library top) → p < length (model library (model_at library top (path_at library top i))).instances → j < length (slice_index_or (model library (model_at library top (path_at library top i))).instances p no_instance).pairs → (callee : ℕ) → callee ≡ slice_index_or (callees library (model_at library top (path_at library top i))) p (length library) → is_named ((model library callee).inputs ++ (model library callee).outputs) (slice_index_or (slice_index_or (model library (model_at library top (path_at library top i))).instances p no_instance).pairs j ([], [])).0 ≡ true
+unfolding has_unknown_formal
+formal_known library top i p j none inside here there callee calls =
+    let all : map (model_at library top) (paths library top) ≡ reached library top = models_reached library top (length library) in
+    let room : i < length (reached library top) = omega (arith, ap length (sym all), length-map (paths library top) (model_at library top), inside) in
+    let at : get_or (reached library top) i top ≡ model_at library top (path_at library top i) = ap (λ xs. get_or xs i top) (sym all) ∙ get_or-map (model_at library top) (paths library top) i [] top inside in
+    let P : ℕ → Type 0 = λ m. list_any (λ (i : InstanceOf). list_any (λ formal. not (is_named ((model library (model_number library i.model)).inputs ++ (model library (model_number library i.model)).outputs) formal)) (formals i)) (model library m).instances ≡ false in
+    let of_model = subst P at (none_at (λ m. list_any (λ (i : InstanceOf). list_any (λ formal. not (is_named ((model library (model_number library i.model)).inputs ++ (model library (model_number library i.model)).outputs) formal)) (formals i)) (model library m).instances) (reached library top) i top none room) in
+    let m = model library (model_at library top (path_at library top i)) in
+    let one = get_or m.instances p no_instance in
+    let of_instance = none_at (λ (i : InstanceOf). list_any (λ formal. not (is_named ((model library (model_number library i.model)).inputs ++ (model library (model_number library i.model)).outputs) formal)) (formals i)) m.instances p no_instance of_model here in
+    let of_formal = none_at (λ formal. not (is_named ((model library (model_number library one.model)).inputs ++ (model library (model_number library one.model)).outputs) formal)) (formals one) j [] of_instance (rw length-map there) in
+    let name : get_or (formals one) j [] ≡ (get_or one.pairs j ([], [])).0 = get_or-map (λ (pair : List ℕ × List ℕ). pair.0) one.pairs j ([], []) [] there in
+    let same : callee ≡ model_number library one.model = calls ∙ callee_at library (model_at library top (path_at library top i)) p here in
+    let Q : List ℕ → Type 0 = λ x. not (is_named ((model library (model_number library one.model)).inputs ++ (model library (model_number library one.model)).outputs) x) ≡ false in
+    let R : ℕ → Type 0 = λ c. is_named ((model library c).inputs ++ (model library c).outputs) (get_or one.pairs j ([], [])).0 ≡ true in
+    subst R (sym same) (not_false (is_named ((model library (model_number library one.model)).inputs ++ (model library (model_number library one.model)).outputs) (get_or one.pairs j ([], [])).0) (subst Q name of_formal))
+  where
+    not_false : (b : Bool) → not b ≡ false → b ≡ true
+    not_false true e = refl
+    not_false false e = absurd (true≢false e)
+
+-- the rows of a model's cover, among those of all covers
+pub rows_at : (library : List ModelOf) (m k : ℕ) → m < length library → k < length (model library m).covers → slice_index_or (all_rows library) (length (flat_map rows_of (take m library)) + k) [] ≡ (slice_index_or (model library m).covers k no_cover).rows
+rows_at library m k inside here =
+    get_or-flat_map rows_of library m k no_model [] inside (rw length-map here) ∙ get_or-map (λ (c : CoverOf). c.rows) (model library m).covers k no_cover [] here
+
+pub rows_inside : (library : List ModelOf) (m k : ℕ) → m < length library → k < length (model library m).covers → length (flat_map rows_of (take m library)) + k < length (all_rows library)
+rows_inside library m k inside here =
+    let most = length-flat_map-take rows_of library m no_model inside in
+    omega (arith, most, length-map (model library m).covers (λ (c : CoverOf). c.rows), here)
+
+-- the sets of names of the models
+sets_place : {Y : Type 0} (f : ModelOf → Y) (library : List ModelOf) (m : ℕ) (d : Y) → m < length library → get_or (map f library) m d ≡ f (model library m)
+sets_place f library m d h = get_or-map f library m no_model d h
+
+pub sets_size : (library : List ModelOf) (sets : List (List (List ℕ))) → sets ≡ map names_of library → length sets ≡ length library
+sets_size library sets is = ap length is ∙ length-map library names_of
+
+pub no_names : (library : List ModelOf) (m : ℕ) → length library ≤ m → length (names_of (model library m)) ≡ 0
+unfolding names_of
+no_names library m past = ap (λ (one : ModelOf). length (once_each (one.inputs ++ one.outputs ++ flat_map cover_names one.covers ++ flat_map actuals one.instances))) (get_or_past library m no_model past)
+
+-- a model with a name is there
+pub some_name : (library : List ModelOf) (m k : ℕ) → k < length (names_of (model library m)) → m < length library
+some_name library m k h = elim (cases_lt m (length library)) [ inl inside ↦ inside | inr past ↦ absurd (omega (arith, no_names library m past, h)) ]
+
+named_some : (names : List (List ℕ)) (name : List ℕ) → is_named names name ≡ true → 0 < length names
+named_some [] name e = absurd (true≢false (sym e))
+named_some (x ∷ names) name e = omega arith
+
+pub named_there : (library : List ModelOf) (m : ℕ) (name : List ℕ) → is_named (names_of (model library m)) name ≡ true → m < length library
+named_there library m name e = some_name library m 0 (named_some (names_of (model library m)) name e)
+
+-- the set of a model has its names
+pub set_is : (library : List ModelOf) (sets : List (List (List ℕ))) (m : ℕ) (set : List (List ℕ)) → sets ≡ map names_of library → m < length library → set ≡ get_or sets m set → set ≡ names_of (model library m)
+set_is library sets m set is inside read = read ∙ (ap (λ xs. get_or xs m set) is ∙ sets_place names_of library m set inside)
+
+-- a name that occurs is found
+pub found_first : (names : List (List ℕ)) (name : List ℕ) → is_named names name ≡ true → position_or_len (λ other. bytes_eq name other) names < length names
+found_first [] name e = absurd (true≢false (sym e))
+found_first (x ∷ names) name e = by_test (bytes_eq name x) refl e (found_first names name)
+  where
+    by_test : (b : Bool) → bytes_eq name x ≡ b → (b || is_named names name) ≡ true → (is_named names name ≡ true → position_or_len (λ other. bytes_eq name other) names < length names) → position_or_len (λ other. bytes_eq name other) (x ∷ names) < length (x ∷ names)
+    by_test true k h up = rw k (omega arith)
+    by_test false k h up = rw k (let less = up h in omega (arith, less))
+
+pub position_found : (names : List (List ℕ)) (name : List ℕ) → is_named names name ≡ true → position (λ other. bytes_eq name other) names ≡ Some (position_or_len (λ other. bytes_eq name other) names)
+position_found names name e = rw (lt-ltb (position_or_len (λ other. bytes_eq name other) names) (length names) (found_first names name e)) refl
+
+-- the place at which a name that occurs was found
+pub position_is : (names : List (List ℕ)) (name : List ℕ) (k : ℕ) → is_named names name ≡ true → Some k ≡ position (λ other. bytes_eq name other) names → (k < length names) × (slice_index_or names k [] ≡ name)
+position_is names name k e found =
+    let same : k ≡ position_or_len (λ other. bytes_eq name other) names = let h : Some k ≡ Some (position_or_len (λ other. bytes_eq name other) names) = found ∙ position_found names name e in cc in
+    let inside : k < length names = omega (arith, same, found_first names name e) in
+    (inside, named_at names name k same inside)
+
+pub position_first : (names : List (List ℕ)) (name : List ℕ) (k : ℕ) → is_named names name ≡ true → Some k ≡ position (λ other. bytes_eq name other) names → k ≡ position_or_len (λ other. bytes_eq name other) names
+position_first names name k e found = let h : Some k ≡ Some (position_or_len (λ other. bytes_eq name other) names) = found ∙ position_found names name e in cc

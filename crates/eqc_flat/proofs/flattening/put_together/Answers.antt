@@ -1,0 +1,84 @@
+use Rattle.std.proofs.Common.{◌≡◌, ◌≤◌, ◌∙◌, [], ℕ, List, Bor, map, length, get_or, sym, ap, subst, arith}
+use Rattle.eqc_blif.specs.Netlist.{ModelOf}
+use Rattle.eqc_blif.specs.Names.{is_named, has_twice}
+use Rattle.eqc_flat.specs.Graph.{FlatOf, IsFlat}
+use Rattle.eqc_flat.specs.Drivers.{driver_of}
+use Rattle.eqc_flat.specs.Hierarchy.{model}
+use Rattle.eqc_flat.specs.Signals.{names_of, signals}
+use Rattle.eqc_flat.specs.Flattened.{signals_here, IsFlatOf}
+use Rattle.eqc_flat.specs.Filling.{all_rows}
+use Rattle.eqc_flat.proofs.NamingLaws.{output_named}
+use Rattle.eqc_flat.proofs.FlatLaws.{IsParts, flat_same, expanded_few, parts_flat, parts_flat_of}
+use Rattle.eqc_flat.proofs.flattening.put_together.Goals as goal
+
+pub signals_of-requires-clause-named : goal.signals_of-requires-clause-named
+signals_of-requires-clause-named c = λ j h.
+    let library = c.args.hierarchy.0 in
+    let top = c.args.hierarchy.1 in
+    let inputs : c.inputs-inputs.result.now ≡ (model library top).inputs = c.inputs-inputs.ensures.names ∙ (ap (λ (n : ℕ). (model c.library-library.result.now n).inputs) c.top-top.ensures.top ∙ ap (λ (l : List ModelOf). (model l top).inputs) c.library-library.ensures) in
+    let outputs : c.outputs-outputs.result.now ≡ (model library top).outputs = c.outputs-outputs.ensures.names ∙ (ap (λ (n : ℕ). (model c.library-library.result.now n).outputs) c.top-top.ensures.top ∙ ap (λ (l : List ModelOf). (model l top).outputs) c.library-library.ensures) in
+    ap (λ (m : ModelOf). is_named (names_of m) (get_or c.outputs-outputs.result.now j [])) c.top-top.ensures.main ∙ (ap (λ (xs : List (List ℕ)). is_named (names_of (model library top)) (get_or xs j [])) outputs ∙ output_named (model library top) j (omega (arith, h, ap length outputs)))
+
+pub new-requires : goal.new-requires
+new-requires c =
+    let library = c.args.hierarchy.0 in
+    let top = c.args.hierarchy.1 in
+    let inputs : c.inputs-inputs.result.now ≡ (model library top).inputs = c.inputs-inputs.ensures.names ∙ (ap (λ (n : ℕ). (model c.library-library.result.now n).inputs) c.top-top.ensures.top ∙ ap (λ (l : List ModelOf). (model l top).inputs) c.library-library.ensures) in
+    let outputs : c.outputs-outputs.result.now ≡ (model library top).outputs = c.outputs-outputs.ensures.names ∙ (ap (λ (n : ℕ). (model c.library-library.result.now n).outputs) c.top-top.ensures.top ∙ ap (λ (l : List ModelOf). (model l top).outputs) c.library-library.ensures) in
+    let rows = c.into_rows-rows.ensures ∙ ap all_rows c.requires.same in
+    let all = c.hierarchy.inside.instances in
+    let few : length (signals library top) ≤ 1048576 = let P : List ModelOf × ℕ → Type 0 = λ v. length (signals v.0 v.1) ≤ 1048576 in subst P c.hierarchy.view_is (expanded_few c.hierarchy.inside.calls c.hierarchy.inside.naming all.top all.signals all.models.items all.firsts.items all.places.items c.hierarchy.invariant) in
+    let os = c.in_ok-output_signals.output_signals.items in
+    let named = map {B = ℕ × List ℕ} (λ (p : ℕ × Bor (List ℕ)). (p.0, p.1.now)) c.in_ok-signals.signals.items in
+    let places = c.into_places-places.result.items in
+    let drivers = map driver_of c.args.drivers.items in
+    let steps = c.args.steps.items in
+    let parts : IsParts library top os named places drivers steps = record {
+      few_inputs = c.requires.few;
+      few_signals = few;
+      inputs_once = sym (ap has_twice inputs) ∙ c.inputs-inputs.ensures.once;
+      outputs_once = sym (ap has_twice outputs) ∙ c.outputs-outputs.ensures.once;
+      outputs_of = c.in_ok-output_signals.ensures.signals ∙ ap (signals_here library top 0) outputs;
+      outputs_within = c.in_ok-output_signals.ensures.within;
+      root = c.top-top.ensures.root;
+      named_all = c.in_ok-signals.ensures;
+      placed = c.into_places-places.ensures.placed;
+      parents = c.into_places-places.ensures.parents;
+      driven = c.requires.driven;
+      ordered = c.requires.ordered;
+    } in
+    let same = flat_same library top c.inputs-inputs.result.now c.outputs-outputs.result.now os named places drivers (map (λ (r : Bor (List (List ℕ))). r.now) c.into_rows-rows.result.items) steps inputs outputs rows in
+    let P : FlatOf → Type 0 = λ f. IsFlat f in
+    subst P same (parts_flat library top os named places drivers steps parts)
+
+pub returns : goal.returns
+returns c =
+    let library = c.args.hierarchy.0 in
+    let top = c.args.hierarchy.1 in
+    let inputs : c.inputs-inputs.result.now ≡ (model library top).inputs = c.inputs-inputs.ensures.names ∙ (ap (λ (n : ℕ). (model c.library-library.result.now n).inputs) c.top-top.ensures.top ∙ ap (λ (l : List ModelOf). (model l top).inputs) c.library-library.ensures) in
+    let outputs : c.outputs-outputs.result.now ≡ (model library top).outputs = c.outputs-outputs.ensures.names ∙ (ap (λ (n : ℕ). (model c.library-library.result.now n).outputs) c.top-top.ensures.top ∙ ap (λ (l : List ModelOf). (model l top).outputs) c.library-library.ensures) in
+    let rows = c.into_rows-rows.ensures ∙ ap all_rows c.requires.same in
+    let all = c.hierarchy.inside.instances in
+    let few : length (signals library top) ≤ 1048576 = let P : List ModelOf × ℕ → Type 0 = λ v. length (signals v.0 v.1) ≤ 1048576 in subst P c.hierarchy.view_is (expanded_few c.hierarchy.inside.calls c.hierarchy.inside.naming all.top all.signals all.models.items all.firsts.items all.places.items c.hierarchy.invariant) in
+    let os = c.in_ok-output_signals.output_signals.items in
+    let named = map {B = ℕ × List ℕ} (λ (p : ℕ × Bor (List ℕ)). (p.0, p.1.now)) c.in_ok-signals.signals.items in
+    let places = c.into_places-places.result.items in
+    let drivers = map driver_of c.args.drivers.items in
+    let steps = c.args.steps.items in
+    let parts : IsParts library top os named places drivers steps = record {
+      few_inputs = c.requires.few;
+      few_signals = few;
+      inputs_once = sym (ap has_twice inputs) ∙ c.inputs-inputs.ensures.once;
+      outputs_once = sym (ap has_twice outputs) ∙ c.outputs-outputs.ensures.once;
+      outputs_of = c.in_ok-output_signals.ensures.signals ∙ ap (signals_here library top 0) outputs;
+      outputs_within = c.in_ok-output_signals.ensures.within;
+      root = c.top-top.ensures.root;
+      named_all = c.in_ok-signals.ensures;
+      placed = c.into_places-places.ensures.placed;
+      parents = c.into_places-places.ensures.parents;
+      driven = c.requires.driven;
+      ordered = c.requires.ordered;
+    } in
+    let same = flat_same library top c.inputs-inputs.result.now c.outputs-outputs.result.now os named places drivers (map (λ (r : Bor (List (List ℕ))). r.now) c.into_rows-rows.result.items) steps inputs outputs rows in
+    let P : FlatOf → Type 0 = λ f. IsFlatOf library top f in
+    subst P (same ∙ sym c.new.ensures) (parts_flat_of library top os named places drivers steps parts)

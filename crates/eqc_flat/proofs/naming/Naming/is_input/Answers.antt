@@ -1,0 +1,19 @@
+use Rattle.std.proofs.Common.{◌≡◌, ℕ, List, nat_lt, length, arith, sym, ◌∙◌, ap}
+use Rattle.eqc_blif.specs.Netlist.{ModelOf}
+use Rattle.eqc_blif.specs.Names.{has_twice}
+use Rattle.eqc_flat.specs.Hierarchy.{model}
+use Rattle.eqc_flat.proofs.NamingLaws.{named_there}
+use Rattle.eqc_flat.proofs.ExpandedLaws.{input_place}
+use Rattle.eqc_flat.proofs.naming.Naming.is_input.Goals as goal
+
+pub inputs-requires : goal.inputs-requires
+inputs-requires c =
+    let there = named_there c.args.self.now c.args.m c.args.name.now c.requires in
+    let same = ap length c.self.view_is in
+    omega (arith, there, same)
+
+pub returns : goal.returns
+returns c =
+    let inputs : c.inputs.result.now ≡ (model c.args.self.now c.args.m).inputs = c.inputs.ensures.names ∙ ap (λ (l : List ModelOf). (model l c.args.m).inputs) c.self.view_is in
+    ap (λ (xs : List (List ℕ)). nat_lt c.position.result (length xs)) inputs
+    ∙ input_place (model c.args.self.now c.args.m) c.args.name.now c.position.result (sym (ap has_twice inputs) ∙ c.inputs.ensures.once) c.position.ensures.first

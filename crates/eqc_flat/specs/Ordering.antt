@@ -1,0 +1,19 @@
+-- An order of numbered signals in which each stands after those that it depends on, and circles.
+use Rattle.std.specs.Prelude.{◌≡◌, ℕ, ◌<◌, true, false, List, [], length, slice_index_or}
+use Rattle.eqc_flat.specs.Graph.{DriverOf, input, dependencies, among, in_order, ends_within}
+
+-- what each signal depends on
+abbrev pub signal_deps : List DriverOf → ℕ → List ℕ
+signal_deps drivers s = dependencies (slice_index_or drivers s (input 0))
+
+-- an order that has each signal once, after those that it depends on
+pub record IsOrder (drivers : List DriverOf) (steps : List ℕ) : Type 0 where
+  pub ordered : in_order (signal_deps drivers) [] steps ≡ true
+  pub each : (s : ℕ) → s < length drivers → among steps s ≡ true
+  pub count : length steps ≡ length drivers
+  pub within : (k : ℕ) → k < length steps → slice_index_or steps k 0 < length drivers
+  pub once : (i j : ℕ) → i < length steps → j < length steps → slice_index_or steps i 0 ≡ slice_index_or steps j 0 → i ≡ j
+
+-- some signal leads to a circle
+abbrev pub IsCircular : List DriverOf → Type 0
+IsCircular drivers = (s : ℕ) × (s < length drivers) × ((steps : ℕ) → ends_within (signal_deps drivers) steps s ≡ false)

@@ -1,0 +1,157 @@
+ghost use Rattle.std.specs.Prelude.{◌≡◌, ℕ, ◌<◌, ◌≤◌, ◌++◌, ◌∷◌, [], length, map, true, false, slice_index_or, IfOk, OnOk, MatchOption};
+ghost use Rattle.eqc_blif.specs.Names.{is_named};
+ghost use Rattle.eqc_flat.specs.Hierarchy.{model, model_at, paths};
+ghost use Rattle.eqc_flat.specs.Signals.{names_of, signals};
+ghost use Rattle.eqc_flat.specs.Codes.{is_recursive, is_too_large};
+ghost use Rattle.eqc_flat.specs.Instances.{IsGrowing};
+ghost use Rattle.eqc_flat.specs.Flattened.{path_at, model_of, signal_at, named_here, all_named};
+
+use crate::calls::Calls;
+use crate::instances::Instances;
+use crate::naming::Naming;
+use eqc_blif::Library;
+use std::alloc::{AllocError, Global};
+use std::marker::Model;
+
+/// The hierarchy below a main model, with its instances and flat signals numbered.
+#[derive(Drop)]
+pub(crate) struct Hierarchy<'a> {
+    calls: Calls<'a>,
+    naming: Naming<'a>,
+    instances: Instances,
+}
+
+impl<'a> Model for Hierarchy<'a> {
+    ghost use Rattle.std.specs.Prelude.{List, ℕ};
+    ghost use Rattle.eqc_blif.specs.Netlist.{ModelOf};
+    ghost use Rattle.eqc_flat.specs.Instances.{IsExpanded};
+
+    ghost Value = { List ModelOf × ℕ };
+
+    ghost view = { λ a. (a.calls, a.instances.top) };
+
+    ghost invariant = { λ a. IsExpanded a.calls a.naming a.instances.top a.instances.models.items a.instances.firsts.items a.instances.places.items a.instances.signals };
+}
+
+impl<'a> Hierarchy<'a> {
+    /// The hierarchy below model `top`, whose models never reach themselves, or none where it has too many signals and
+    /// instances. Fails where memory is refused.
+    pub(crate) fn of(
+        alloc: Global,
+        calls: Calls<'a>,
+        top: usize,
+    ) -> Result<Option<Hierarchy<'a>>, AllocError>
+        requires there { top < length calls }
+        requires ends { is_recursive calls top ≡ false }
+        ensures { IfOk result (λ found. MatchOption found
+            (is_too_large calls.entry top ≡ true)
+            (λ hierarchy. (is_too_large calls.entry top ≡ false) × (hierarchy ≡ (calls.entry, top)))) }
+    {
+        let naming = Naming::of(alloc, calls.library())?;
+        let Some(instances) = Instances::of(alloc, &calls, &naming, top)? else {
+            return Ok(None);
+        };
+        Ok(Some(Hierarchy {
+            calls,
+            naming,
+            instances,
+        }))
+    }
+
+    /// The library.
+    pub(crate) fn library(&self) -> &'a Library
+        ensures { result.now ≡ self.now.0 }
+    {
+        self.calls.library()
+    }
+
+    /// The main model.
+    pub(crate) fn top(&self) -> usize
+        ensures top { result ≡ self.now.1 }
+        ensures there { result < length self.now.0 }
+        ensures first { 0 < length (paths self.now.0 self.now.1) }
+        ensures root { path_at self.now.0 self.now.1 0 ≡ [] }
+        ensures main { model_of self.now.0 self.now.1 0 ≡ model self.now.0 self.now.1 }
+    {
+        self.instances.top
+    }
+
+    /// The number of instances, the main model among them.
+    pub(crate) fn instances(&self) -> usize
+        ensures count { result ≡ length (paths self.now.0 self.now.1) }
+        ensures few { result ≤ 1048577 }
+        ensures some { 0 < result }
+    {
+        self.instances.models.len()
+    }
+
+    /// The number of flat signals.
+    pub(crate) fn signals(&self) -> usize
+        ensures count { result ≡ length (signals self.now.0 self.now.1) }
+        ensures few { result ≤ 1048576 }
+    {
+        self.instances.signals
+    }
+
+    /// The model of instance `i`, which is below their number.
+    pub(crate) fn model(&self, i: usize) -> usize
+        requires { i < length (paths self.now.0 self.now.1) }
+        ensures number { result ≡ model_at self.now.0 self.now.1 (path_at self.now.0 self.now.1 i) }
+        ensures growing { IsGrowing self.now.0 self.now.1 }
+        ensures few { length (paths self.now.0 self.now.1) ≤ 1048577 }
+    {
+        self.instances.models[i]
+    }
+
+    /// The signal of a name that occurs in the model of instance `i`, and where the name stands among that model's.
+    pub(crate) fn signal(&self, i: usize, name: &[u8]) -> usize
+        requires instance { i < length (paths self.now.0 self.now.1) }
+        requires named { is_named (names_of (model_of self.now.0 self.now.1 i)) name.now ≡ true }
+        ensures within { result < length (signals self.now.0 self.now.1) }
+        ensures small { result < 1048576 }
+        ensures signal { signal_at self.now.0 self.now.1 result ≡ record { path = path_at self.now.0 self.now.1 i; name = name.now } }
+    {
+        self.instances.firsts[i] + self.naming.position(self.instances.models[i], name)
+    }
+
+    /// Whether a name that occurs in the model of instance `i` is an input of that model.
+    pub(crate) fn is_input(&self, i: usize, name: &[u8]) -> bool
+        requires instance { i < length (paths self.now.0 self.now.1) }
+        requires named { is_named (names_of (model_of self.now.0 self.now.1 i)) name.now ≡ true }
+        ensures { result ≡ is_named (model_of self.now.0 self.now.1 i).inputs name.now }
+    {
+        self.naming.is_input(self.instances.models[i], name)
+    }
+
+    /// Puts the signals of instance `i` behind others. Fails where memory is refused.
+    fn push_signals(&self, all: &mut Vec<(u32, &'a [u8])>, i: usize) -> Result<(), AllocError>
+        requires { i < length (paths self.now.0 self.now.1) }
+        ensures { OnOk result (map (λ s. (s.0, s.1.now)) all.new.items ≡ map (λ s. (s.0, s.1.now)) all.old.items ++ named_here self.now.0 self.now.1 i) }
+    {
+        let m = self.instances.models[i];
+        for k in 0..self.naming.count(m) {
+            all.push((i as u32, self.naming.name(m, k)))?;
+        }
+        Ok(())
+    }
+
+    /// Each signal with its instance and name. Fails where memory is refused.
+    pub(crate) fn all_signals(&self, alloc: Global) -> Result<Vec<(u32, &'a [u8])>, AllocError>
+        ensures { IfOk result (λ all. map (λ s. (s.0, s.1.now)) all.items ≡ all_named self.now.0 self.now.1) }
+    {
+        let mut all = Vec::with_capacity(alloc, self.signals())?;
+        for i in 0..self.instances() {
+            self.push_signals(&mut all, i)?;
+        }
+        Ok(all)
+    }
+
+    /// The parent of each instance but the main model, and its position there.
+    pub(crate) fn into_places(self) -> Vec<(u32, u32)>
+        ensures placed { paths self.entry.0 self.entry.1 ≡ [] ∷ map (λ place. place.1 ∷ path_at self.entry.0 self.entry.1 place.0) result.items }
+        ensures parents { (k : ℕ) → k < length result.items → (slice_index_or result.items k (0, 0)).0 ≤ k }
+    {
+        let instances = self.instances;
+        instances.places
+    }
+}

@@ -1,0 +1,205 @@
+ghost use Rattle.std.specs.Prelude.{◌≡◌, [], not, map, length, slice_index_or, IfOk, ◌+◌, ◌<◌};
+ghost use Rattle.std.specs.List.{list_any, fold, range_with_len};
+ghost use Rattle.eqc_blif.specs.Names.{is_named, has_twice};
+ghost use Rattle.eqc_flat.specs.Codes.{formals};
+ghost use Rattle.eqc_flat.specs.Hierarchy.{model};
+ghost use Rattle.eqc_flat.specs.NameSets.{with_name};
+ghost use Rattle.eqc_flat.specs.ModelFaults.{ports, ports_of};
+
+use crate::calls::model_number;
+use crate::condition::Condition;
+use crate::name_set::NameSet;
+use eqc_blif::{Instance, Library, Name};
+use std::alloc::{AllocError, Global};
+use std::marker::Model;
+
+/// An instance of a model that isn't in the library.
+#[derive(Drop)]
+pub(crate) struct NamesNoModel<'a> {
+    library: &'a Library,
+}
+
+impl<'a> Model for NamesNoModel<'a> {
+    ghost use Rattle.std.specs.Prelude.{List};
+    ghost use Rattle.eqc_blif.specs.Netlist.{ModelOf};
+
+    ghost Value = { List ModelOf };
+
+    ghost view = { λ a. a.library.now };
+}
+
+impl<'a> NamesNoModel<'a> {
+    pub(crate) fn new(library: &'a Library) -> NamesNoModel<'a>
+        ensures { result ≡ library.now }
+    {
+        NamesNoModel { library }
+    }
+}
+
+impl<'a> Condition for NamesNoModel<'a> {
+    ghost use Rattle.eqc_flat.specs.ModelFaults.{names_no_model};
+
+    ghost test = { λ library i. names_no_model library i };
+
+    fn holds(&self, _alloc: Global, instance: &Instance) -> Result<bool, AllocError> {
+        Ok(model_number(self.library, &instance.model) == self.library.models())
+    }
+}
+
+/// A formal that is neither input nor output of its model.
+#[derive(Drop)]
+pub(crate) struct NamesNoFormal<'a> {
+    library: &'a Library,
+    ports: Vec<NameSet<'a>>,
+}
+
+impl<'a> Model for NamesNoFormal<'a> {
+    ghost use Rattle.std.specs.Prelude.{◌≡◌, List};
+    ghost use Rattle.eqc_blif.specs.Netlist.{ModelOf};
+    ghost use Rattle.eqc_flat.specs.ModelFaults.{ports_of};
+
+    ghost Value = { List ModelOf };
+
+    ghost view = { λ a. a.library.now };
+
+    ghost invariant = { λ a. a.ports.items ≡ ports_of a.library.now };
+}
+
+/// The inputs and outputs of model `m`, each once.
+fn ports_of<'a>(alloc: Global, library: &'a Library, m: usize) -> Result<NameSet<'a>, AllocError>
+    requires { m < length library.now }
+    ensures { IfOk result (λ all. all ≡ ports library.now m) }
+{
+    let mut all = NameSet::new(alloc);
+    all.insert_all(library.inputs(m))?;
+    all.insert_all(library.outputs(m))?;
+    Ok(all)
+}
+
+/// Whether one of the formals of an instance is not among these names.
+fn has_other(names: &NameSet<'_>, instance: &Instance) -> bool
+    ensures { result ≡ list_any (λ formal. not (is_named names.now formal)) (formals instance.now) }
+{
+    'pairs: for pair in &instance.pairs {
+        if !names.has(pair.0.as_bytes()) {
+            return true;
+        }
+    }
+    false
+}
+
+impl<'a> NamesNoFormal<'a> {
+    /// The test over the models of a library. Fails where memory is refused.
+    pub(crate) fn of(alloc: Global, library: &'a Library) -> Result<NamesNoFormal<'a>, AllocError>
+        ensures { IfOk result (λ test. test ≡ library.now) }
+    {
+        let mut ports = Vec::new(alloc);
+        for m in 0..library.models() {
+            ports.push(ports_of(alloc, library, m)?)?;
+        }
+        ports.push(NameSet::new(alloc))?;
+        Ok(NamesNoFormal { library, ports })
+    }
+}
+
+impl<'a> Condition for NamesNoFormal<'a> {
+    ghost use Rattle.eqc_flat.specs.ModelFaults.{names_no_formal};
+
+    ghost test = { λ library i. names_no_formal library i };
+
+    fn holds(&self, _alloc: Global, instance: &Instance) -> Result<bool, AllocError> {
+        let callee = model_number(self.library, &instance.model);
+        Ok(has_other(&self.ports[callee], instance))
+    }
+}
+
+/// A formal twice in an instance.
+#[derive(Clone, Copy)]
+pub(crate) struct NamesFormalTwice;
+
+impl Condition for NamesFormalTwice {
+    ghost use Rattle.eqc_flat.specs.ModelFaults.{names_formal_twice};
+
+    ghost test = { λ _ i. names_formal_twice i };
+
+    fn holds(&self, alloc: Global, instance: &Instance) -> Result<bool, AllocError> {
+        has_formal_twice(alloc, instance)
+    }
+}
+
+/// Whether a formal stands twice in an instance.
+fn has_formal_twice(alloc: Global, instance: &Instance) -> Result<bool, AllocError>
+    ensures { IfOk result (λ twice. twice ≡ has_twice (formals instance.now)) }
+{
+    let mut names = NameSet::new(alloc);
+    'pairs: for pair in &instance.pairs {
+        if !names.insert(&pair.0)? {
+            return Ok(true);
+        }
+    }
+    Ok(false)
+}
+
+/// An input of the model without a pair in the instance.
+#[derive(Drop)]
+pub(crate) struct LeavesInputOut<'a> {
+    library: &'a Library,
+}
+
+impl<'a> Model for LeavesInputOut<'a> {
+    ghost use Rattle.std.specs.Prelude.{List};
+    ghost use Rattle.eqc_blif.specs.Netlist.{ModelOf};
+
+    ghost Value = { List ModelOf };
+
+    ghost view = { λ a. a.library.now };
+}
+
+/// The formals of an instance, each once.
+fn formals_of<'a>(alloc: Global, instance: &'a Instance) -> Result<NameSet<'a>, AllocError>
+    ensures { IfOk result (λ names. names ≡ fold with_name [] (formals instance.now)) }
+{
+    let mut names = NameSet::new(alloc);
+    'pairs: for pair in &instance.pairs {
+        names.insert(&pair.0)?;
+    }
+    Ok(names)
+}
+
+/// The inputs of model `m`, or none where there is no such model.
+fn inputs(library: &Library, m: usize) -> &[Name]
+    ensures { result.now ≡ (model library.now m).inputs }
+{
+    if m < library.models() {
+        library.inputs(m)
+    } else {
+        &[]
+    }
+}
+
+/// Whether one of these words is not among the names.
+fn leaves_out(names: &NameSet<'_>, words: &[Name]) -> bool
+    ensures { result ≡ list_any (λ word. not (is_named names.now word)) words.now }
+{
+    words.iter().any(|word| !names.has(word.as_bytes()))
+}
+
+impl<'a> LeavesInputOut<'a> {
+    pub(crate) fn new(library: &'a Library) -> LeavesInputOut<'a>
+        ensures { result ≡ library.now }
+    {
+        LeavesInputOut { library }
+    }
+}
+
+impl<'a> Condition for LeavesInputOut<'a> {
+    ghost use Rattle.eqc_flat.specs.ModelFaults.{leaves_input_out};
+
+    ghost test = { λ library i. leaves_input_out library i };
+
+    fn holds(&self, alloc: Global, instance: &Instance) -> Result<bool, AllocError> {
+        let names = formals_of(alloc, instance)?;
+        let callee = model_number(self.library, &instance.model);
+        Ok(leaves_out(&names, inputs(self.library, callee)))
+    }
+}

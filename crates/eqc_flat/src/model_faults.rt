@@ -1,0 +1,136 @@
+ghost use Rattle.std.specs.Prelude.{◌≡◌, ℕ, ◌<◌, ◌≤◌, length, Some, IfOk, MatchOption};
+ghost use Rattle.eqc_flat.specs.Graph.{among};
+ghost use Rattle.eqc_flat.specs.Hierarchy.{reached};
+ghost use Rattle.eqc_flat.specs.Codes.{flat_code, has_no_such_model, is_recursive, has_unknown_formal, has_formal_twice, has_missing_formal};
+ghost use Rattle.eqc_flat.specs.ModelFaults.{HasNoModelFault};
+
+use crate::calls::Calls;
+use crate::condition::some_instance;
+use crate::instance_conditions::{LeavesInputOut, NamesFormalTwice, NamesNoFormal, NamesNoModel};
+use crate::reach::reached_models;
+use crate::search::Search;
+use eqc_blif::Library;
+use std::alloc::{AllocError, Global};
+
+/// Whether an instance in one of these models is one of a model that isn't in the library.
+fn has_no_such_model(alloc: Global, library: &Library, models: &[usize]) -> Result<bool, AllocError>
+    ensures { IfOk result (λ some. (top : ℕ) → ((m : ℕ) → among models.now m ≡ among (reached library.now top) m) → some ≡ has_no_such_model library.now top) }
+{
+    let condition = NamesNoModel::new(library);
+    let some = some_instance(alloc, library, models, &condition)?;
+    Ok(some)
+}
+
+/// Whether model `top`, which is at most the number of models, reaches a model that reaches itself.
+fn is_recursive(alloc: Global, calls: &Calls<'_>, top: usize) -> Result<bool, AllocError>
+    requires { top ≤ length calls.now }
+    ensures { IfOk result (λ recursive. recursive ≡ is_recursive calls.now top) }
+{
+    let mut search = Search::new(alloc, calls.nodes())?;
+    let ends = search.visit(alloc, calls, top)?;
+    Ok(!ends)
+}
+
+/// Whether an instance in one of these models has a formal that is neither input nor output of its model.
+fn has_unknown_formal(
+    alloc: Global,
+    library: &Library,
+    models: &[usize],
+) -> Result<bool, AllocError>
+    ensures { IfOk result (λ some. (top : ℕ) → ((m : ℕ) → among models.now m ≡ among (reached library.now top) m) → some ≡ has_unknown_formal library.now top) }
+{
+    let condition = NamesNoFormal::of(alloc, library)?;
+    let some = some_instance(alloc, library, models, &condition)?;
+    Ok(some)
+}
+
+/// Whether an instance in one of these models has a formal twice.
+fn has_formal_twice(alloc: Global, library: &Library, models: &[usize]) -> Result<bool, AllocError>
+    ensures { IfOk result (λ some. (top : ℕ) → ((m : ℕ) → among models.now m ≡ among (reached library.now top) m) → some ≡ has_formal_twice library.now top) }
+{
+    let some = some_instance(alloc, library, models, &NamesFormalTwice)?;
+    Ok(some)
+}
+
+/// Whether an instance in one of these models has no pair for an input of its model.
+fn has_missing_formal(
+    alloc: Global,
+    library: &Library,
+    models: &[usize],
+) -> Result<bool, AllocError>
+    ensures { IfOk result (λ some. (top : ℕ) → ((m : ℕ) → among models.now m ≡ among (reached library.now top) m) → some ≡ has_missing_formal library.now top) }
+{
+    let condition = LeavesInputOut::new(library);
+    let some = some_instance(alloc, library, models, &condition)?;
+    Ok(some)
+}
+
+/// The first code of the models that model `top` of a library reaches, which is below the number of models, or none where
+/// none applies: 21 for an instance of a model that isn't there, 22 for a model that reaches itself, 23 for a formal that
+/// its model doesn't have, 24 for a formal twice in an instance, 25 for an input of an instance without a pair. Fails
+/// where memory is refused.
+pub(crate) fn first_model_fault(
+    alloc: Global,
+    calls: &Calls<'_>,
+    top: usize,
+) -> Result<Option<u8>, AllocError>
+    requires { top < length calls.now }
+    ensures { IfOk result (λ found. MatchOption found (HasNoModelFault calls.now top) (λ code. flat_code calls.now top ≡ Some code)) }
+{
+    let library = calls.library();
+    let models = reached_models(alloc, calls, top)?;
+    if has_no_such_model(alloc, library, &models)? {
+        return Ok(Some(21));
+    }
+    if is_recursive(alloc, calls, top)? {
+        return Ok(Some(22));
+    }
+    if has_unknown_formal(alloc, library, &models)? {
+        return Ok(Some(23));
+    }
+    if has_formal_twice(alloc, library, &models)? {
+        return Ok(Some(24));
+    }
+    if has_missing_formal(alloc, library, &models)? {
+        return Ok(Some(25));
+    }
+    Ok(None)
+}
+
+#[cfg(test)]
+mod tests {
+    use super::*;
+    use eqc_blif::read;
+    use std::test::Fail;
+
+    fn code(alloc: Global, text: &[u8]) -> Result<Option<u8>, Fail> {
+        let library = read(alloc, text).ok().ok_or("refused")?;
+        if library.models() == 0 {
+            return Err(Fail::from("no model"));
+        }
+        let calls = Calls::of(alloc, &library)?;
+        Ok(first_model_fault(alloc, &calls, 0)?)
+    }
+
+    #[test]
+    fn tells_the_first_code_of_the_models(rt: HostRuntime) -> Result<(), Fail> {
+        let alloc = rt.alloc();
+        let inner =
+            b".model m\n.inputs a\n.outputs y\n.subckt n x=a z=y\n.end\n.model n\n.inputs x\n.outputs z\n.end\n";
+        assert_eq!(rt; code(alloc, inner)?, None);
+        let missing = b".model m\n.subckt n x=a\n.end\n";
+        assert_eq!(rt; code(alloc, missing)?, Some(21));
+        let recursive =
+            b".model m\n.subckt n x=a\n.end\n.model n\n.inputs x\n.subckt m x=x\n.end\n";
+        assert_eq!(rt; code(alloc, recursive)?, Some(22));
+        let unknown = b".model m\n.subckt n x=a w=a\n.end\n.model n\n.inputs x\n.end\n";
+        assert_eq!(rt; code(alloc, unknown)?, Some(23));
+        let twice = b".model m\n.subckt n x=a x=b\n.end\n.model n\n.inputs x\n.end\n";
+        assert_eq!(rt; code(alloc, twice)?, Some(24));
+        let left_out = b".model m\n.subckt n x=a\n.end\n.model n\n.inputs x v\n.end\n";
+        assert_eq!(rt; code(alloc, left_out)?, Some(25));
+        let unreached = b".model m\n.end\n.model n\n.subckt o x=a\n.end\n";
+        assert_eq!(rt; code(alloc, unreached)?, None);
+        Ok(())
+    }
+}

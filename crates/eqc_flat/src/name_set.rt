@@ -1,0 +1,83 @@
+ghost use Rattle.std.specs.Prelude.{◌≡◌, ◌<◌, [], length, position, slice_index_or, not, IfOk, OnOk};
+ghost use Rattle.std.specs.List.{fold};
+ghost use Rattle.std.specs.Str.{bytes_eq};
+ghost use Rattle.eqc_blif.specs.Names.{is_named};
+ghost use Rattle.eqc_flat.specs.NameSets.{with_name};
+
+use eqc_blif::Name;
+use indexmap::IndexSet;
+use std::alloc::{AllocError, Global};
+use std::marker::Model;
+
+/// Names, each once, in the order in which they were put in.
+#[derive(Drop)]
+pub(crate) struct NameSet<'a> {
+    names: IndexSet<&'a [u8]>,
+}
+
+impl<'a> Model for NameSet<'a> {
+    ghost use Rattle.std.specs.Prelude.{List, ℕ, map};
+
+    ghost Value = { List (List ℕ) };
+
+    ghost view = { λ a. map (λ name. name.now) a.names.keys };
+}
+
+impl<'a> NameSet<'a> {
+    /// A set without names.
+    pub(crate) fn new(alloc: Global) -> NameSet<'a>
+        ensures { result ≡ [] }
+    {
+        NameSet {
+            names: IndexSet::new(alloc),
+        }
+    }
+
+    /// Puts a name in, unless it is there, and answers whether it was not. Fails where memory is refused.
+    pub(crate) fn insert(&mut self, name: &'a Name) -> Result<bool, AllocError>
+        ensures fresh { IfOk result (λ fresh. fresh ≡ not (is_named self.old name.now)) }
+        ensures names { OnOk result (self.new ≡ with_name self.old name.now) }
+    {
+        let fresh = self.names.insert(name.as_bytes())?;
+        Ok(fresh)
+    }
+
+    /// Puts these names in, in order. Fails where memory is refused.
+    pub(crate) fn insert_all(&mut self, names: &'a [Name]) -> Result<(), AllocError>
+        ensures { OnOk result (self.new ≡ fold with_name self.old names.now) }
+    {
+        'names: for name in names {
+            self.insert(name)?;
+        }
+        Ok(())
+    }
+
+    /// The number of names.
+    pub(crate) fn len(&self) -> usize
+        ensures { result ≡ length self.now }
+    {
+        self.names.len()
+    }
+
+    /// The name at position `k`, which is below their number.
+    pub(crate) fn get(&self, k: usize) -> &'a [u8]
+        requires { k < length self.now }
+        ensures { result.now ≡ slice_index_or self.now k [] }
+    {
+        self.names.get_index(k).copied().unwrap()
+    }
+
+    /// Where a name stands, if it is there.
+    pub(crate) fn position(&self, name: &[u8]) -> Option<usize>
+        ensures { result ≡ position (λ other. bytes_eq name.now other) self.now }
+    {
+        self.names.get_index_of(name)
+    }
+
+    /// Whether a name is there.
+    pub(crate) fn has(&self, name: &[u8]) -> bool
+        ensures { result ≡ is_named self.now name.now }
+    {
+        self.position(name).is_some()
+    }
+}
