@@ -1,47 +1,36 @@
-//! The program `eqc`: compares the first two models of the netlist on standard input and writes the report to
-//! standard output. Its exit status is 0 where they are equivalent, 1 where they differ, 2 where the input is
-//! refused, 3 where the comparison was stopped, and 4 where reading or writing fails.
+//! The program `eqc`: compares two netlists, of standard input or of files, and writes the report to standard output.
 #![tactic(auto)]
 
-use eqc_check::{Options, Status, Texts, run};
-use std::io;
-use std::process::ExitCode;
-
+mod command_line;
+mod ending;
+mod help;
+mod source;
+mod start;
+#[cfg(test)]
+mod test_ends;
 #[cfg(test)]
 mod tests;
+#[cfg(test)]
+mod tests_hierarchies;
+mod writing;
 
-const WORKERS: u32 = 2;
+use start::program;
+use std::process::ExitCode;
+use std::{env, io};
 
-const NODES: u32 = 65_536;
-
-const CELLS: u32 = 8_192;
-
-const FORKS: u32 = 0;
-
-fn status_of(status: Status) -> u8 {
-    match status {
-        Status::Equivalent => 0,
-        Status::Differs => 1,
-        Status::Refused => 2,
-        Status::Stopped => 3,
-    }
+/// The words of the command line, the program's name first.
+fn words(rt: &(impl env::Env + AllocGlobal)) -> io::Result<Vec<String>> {
+    Ok(env::args(rt)?.collect(rt.alloc())?)
 }
 
 fn main(rt: HostRuntime) -> ExitCode {
-    let options = Options {
-        workers: WORKERS,
-        nodes: NODES,
-        cells: CELLS,
-        forks: FORKS,
-    };
-    let texts = Texts::One(rt.reader());
-    let mut out = io::writer(&rt);
-    match run(rt.alloc(), &rt, texts, None, &options, &mut out) {
-        Ok(status) => ExitCode::from(status_of(status)),
-        Err(fault) => {
-            let code = fault.code();
-            let _ = eprintln!(rt; "fault {code}");
-            ExitCode::from(4)
+    let mut out = rt.stdout();
+    let mut err = rt.stderr();
+    match words(&rt) {
+        Ok(words) => ExitCode::from(program(&rt, &words, rt.stdin(), &mut out, &mut err)),
+        Err(error) => {
+            let _ = eprintln!(rt; "error: the command line could not be read: {error}");
+            ExitCode::from(5)
         }
     }
 }

@@ -1,0 +1,15 @@
+use Rattle.std.proofs.Common.{◌∙◌, codes}
+use Rattle.clap.specs.Matches.{found_of}
+use Rattle.clap.proofs.WalkLemmas.{first_value-rows}
+use Rattle.eqc_prog.proofs.command_line.request_of.Goals as goal
+
+pub returns : goal.returns
+returns c = record {
+  workers = c.in_ok-number_given.ensures;
+  nodes = c.in_ok-number_given-2.ensures;
+  cells = c.in_ok-number_given-3.ensures;
+  forks = c.in_ok-number_given-4.ensures;
+  order = c.get_str.ensures ∙ first_value-rows (found_of c.args.matches.now) (codes "order");
+  first = c.get_str-2.ensures ∙ first_value-rows (found_of c.args.matches.now) (codes "first");
+  second = c.get_str-3.ensures ∙ first_value-rows (found_of c.args.matches.now) (codes "second");
+}

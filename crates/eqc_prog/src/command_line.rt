@@ -1,0 +1,134 @@
+//! The command line: which words it takes, and what they ask for.
+ghost use Rattle.std.specs.Prelude.{◌≡◌, false, map, [], Some, IfOk, IfErr, IfSome, string_bytes};
+ghost use Rattle.clap.specs.Faults.{fault_of};
+ghost use Rattle.clap.specs.Kinds.{HasKind};
+ghost use Rattle.clap.specs.Matches.{found_of};
+ghost use Rattle.clap.specs.Simple.{app_of};
+ghost use Rattle.clap.specs.Walk.{rows_of, rule_of};
+ghost use Rattle.eqc_prog.specs.CommandLine.{eqc_app, number_rule, order_rule, path_rule, number_of, rows_asked, IsAsked};
+
+use crate::help::{ABOUT, ANSWERS, USAGE};
+use clap::{Arg, ArgMatches, Command, Error, value_parser};
+use eqc_check::Options;
+use std::alloc::{AllocError, Global};
+
+/// What the words of a command line ask for.
+#[derive(Drop)]
+pub struct Request<'a> {
+    pub options: Options,
+    /// The path of the order text.
+    pub order: Option<&'a str>,
+    /// The path of the first text; without it, standard input is read.
+    pub first: Option<&'a str>,
+    /// The path of the second text.
+    pub second: Option<&'a str>,
+}
+
+/// An option with a number.
+fn number<'a>(alloc: Global, name: &'a str, default: &'a str, help: &'a str) -> Arg<'a>
+    ensures rule { rule_of result ≡ number_rule name.now default.now }
+    ensures own { result.global ≡ false }
+{
+    Arg::new(alloc, name)
+        .long(name)
+        .value_name("N")
+        .value_parser(value_parser!(u32))
+        .default_value(default)
+        .help(help)
+}
+
+/// A path without an option's name.
+fn path<'a>(alloc: Global, name: &'a str, help: &'a str) -> Arg<'a>
+    ensures rule { rule_of result ≡ path_rule name.now }
+    ensures own { result.global ≡ false }
+{
+    Arg::new(alloc, name).value_name("FILE").help(help)
+}
+
+/// The option with the order text's path.
+fn order_path<'a>(alloc: Global) -> Arg<'a>
+    ensures rule { rule_of result ≡ order_rule }
+    ensures own { result.global ≡ false }
+{
+    path(
+        alloc,
+        "order",
+        "Takes the variables in this file's order, a word for each input of the first netlist",
+    )
+    .long("order")
+}
+
+/// The command line of the program.
+fn command<'a>(alloc: Global) -> Result<Command<'a>, AllocError>
+    ensures { IfOk result (λ c. app_of c ≡ eqc_app) }
+{
+    Command::new(alloc, "eqc")
+        .about(ABOUT)
+        .override_usage(USAGE)
+        .after_help(ANSWERS)
+        .arg(number(
+            alloc,
+            "workers",
+            "2",
+            "Compares with this many workers, 1 to 64",
+        ))?
+        .arg(number(
+            alloc,
+            "nodes",
+            "65536",
+            "Keeps at most this many nodes of diagrams, 1 to 1048574",
+        ))?
+        .arg(number(
+            alloc,
+            "cells",
+            "8192",
+            "Remembers this many operations, a power of two up to 1048576",
+        ))?
+        .arg(number(
+            alloc,
+            "forks",
+            "0",
+            "Shares this many levels of an operation among workers, 0 to 16",
+        ))?
+        .arg(order_path(alloc))?
+        .arg(path(alloc, "first", "The first netlist, or both"))?
+        .arg(path(alloc, "second", "The second netlist"))
+}
+
+/// The number of an option.
+fn number_given(matches: &ArgMatches<'_>, name: &str) -> Option<u32>
+    ensures { IfSome result (λ n. number_of name.now (rows_of (found_of matches.now)) ≡ Some n) }
+{
+    matches.get_one(name)
+}
+
+/// What the words ask for.
+fn request_of<'a>(matches: &ArgMatches<'a>) -> Option<Request<'a>>
+    ensures { IfSome result (IsAsked (rows_of (found_of matches.now))) }
+{
+    Some(Request {
+        options: Options {
+            workers: number_given(matches, "workers")?,
+            nodes: number_given(matches, "nodes")?,
+            cells: number_given(matches, "cells")?,
+            forks: number_given(matches, "forks")?,
+        },
+        order: matches.get_str("order"),
+        first: matches.get_str("first"),
+        second: matches.get_str("second"),
+    })
+}
+
+/// Reads a command line, the program's name first. A bad one, a request for help and want of memory are errors.
+pub fn read_words<'a>(alloc: Global, words: &'a [String]) -> Result<Request<'a>, Error>
+    ensures taken { IfOk result (λ _. fault_of eqc_app (map string_bytes words.now) ≡ []) }
+    ensures asked { IfOk result (IsAsked (rows_asked (map string_bytes words.now))) }
+    ensures refused { IfErr result (HasKind (fault_of eqc_app (map string_bytes words.now))) }
+{
+    let matches = command(alloc)?.try_get_matches_from(words)?;
+    match request_of(&matches) {
+        Some(request) => Ok(request),
+        // Each number has a default and has passed its parser, so none is missing.
+        None => Err(Error::from(AllocError)),
+    }
+}

@@ -1,0 +1,200 @@
+//! Readers, writers and a disk for tests.
+
+use std::alloc::Allocator;
+use std::fs::{Metadata, OpenFile, OpenOptions};
+use std::io;
+use std::io::{ErrorKind, Read, Seek, SeekFrom, Write};
+use std::rt::Files;
+
+pub const NEVER: usize = usize::MAX;
+
+/// The error of all that fails. A reader or a writer that tried again after it would go on.
+fn failed() -> io::Error {
+    io::Error::from(ErrorKind::Interrupted)
+}
+
+fn unsupported() -> io::Error {
+    io::Error::from(ErrorKind::Unsupported)
+}
+
+/// Gives a text, in which `;` stands for LF, at most `step` bytes a read, and fails once, at one of its calls.
+#[derive(Drop)]
+pub struct Feed<'a> {
+    text: &'a [u8],
+    step: usize,
+    fails_at: usize,
+    calls: usize,
+}
+
+impl<'a> Feed<'a> {
+    pub fn new(text: &'a str, step: usize, fails_at: usize) -> Feed<'a> {
+        Feed {
+            text: text.as_bytes(),
+            step,
+            fails_at,
+            calls: 0,
+        }
+    }
+
+    pub fn whole(text: &'a str) -> Feed<'a> {
+        Feed::new(text, NEVER, NEVER)
+    }
+}
+
+impl<'a> Read for Feed<'a> {
+    fn read(&mut self, buf: &mut [u8]) -> io::Result<usize> {
+        let call = self.calls;
+        self.calls = call.saturating_add(1);
+        if call == self.fails_at {
+            return Err(failed());
+        }
+        let n = self.text.len().min(self.step).min(buf.len());
+        let (given, rest) = self.text.split_at(n);
+        for (to, from) in buf.iter_mut().zip(given) {
+            *to = if *from == b';' { b'\n' } else { *from };
+        }
+        self.text = rest;
+        Ok(n)
+    }
+}
+
+/// Gives whole blocks without end.
+#[derive(Drop)]
+pub struct Endless;
+
+impl Read for Endless {
+    fn read(&mut self, buf: &mut [u8]) -> io::Result<usize> {
+        Ok(buf.len())
+    }
+}
+
+/// Takes at most `step` bytes a write, fails once, at one of its writes, and may fail to flush.
+#[derive(Drop)]
+pub struct Drain {
+    pub bytes: Vec<u8>,
+    step: usize,
+    fails_at: usize,
+    flushes: bool,
+    calls: usize,
+}
+
+impl Drain {
+    pub fn new(bytes: Vec<u8>, step: usize, fails_at: usize, flushes: bool) -> Drain {
+        Drain {
+            bytes,
+            step,
+            fails_at,
+            flushes,
+            calls: 0,
+        }
+    }
+}
+
+impl Write for Drain {
+    fn write(&mut self, buf: &[u8]) -> io::Result<usize> {
+        let call = self.calls;
+        self.calls = call.saturating_add(1);
+        if call == self.fails_at {
+            return Err(failed());
+        }
+        let n = buf.len().min(self.step);
+        self.bytes.extend_from_slice(&buf[..n])?;
+        Ok(n)
+    }
+
+    fn flush(&mut self) -> io::Result<()> {
+        if self.flushes { Ok(()) } else { Err(failed()) }
+    }
+}
+
+/// Files by their names. A file whose name ends in `!` fails at its first read.
+#[derive(Clone, Copy)]
+pub struct Disk<'a> {
+    pub files: &'a [(&'a str, &'a str)],
+}
+
+impl<'a> Seek for Feed<'a> {
+    fn seek(&mut self, _to: SeekFrom) -> io::Result<u64> {
+        Err(unsupported())
+    }
+}
+
+impl<'a> Write for Feed<'a> {
+    fn write(&mut self, _buf: &[u8]) -> io::Result<usize> {
+        Err(unsupported())
+    }
+
+    fn flush(&mut self) -> io::Result<()> {
+        Err(unsupported())
+    }
+}
+
+impl<'a> OpenFile for Feed<'a> {
+    fn metadata(&self) -> io::Result<Metadata> {
+        Err(unsupported())
+    }
+
+    fn set_len(&self, _size: u64) -> io::Result<()> {
+        Err(unsupported())
+    }
+
+    fn sync_all(&self) -> io::Result<()> {
+        Err(unsupported())
+    }
+
+    fn sync_data(&self) -> io::Result<()> {
+        Err(unsupported())
+    }
+}
+
+impl<'a> Files for Disk<'a> {
+    type File = Feed<'a>;
+
+    type Dir = Endless;
+
+    fn open_file(&self, _how: &OpenOptions, path: &str) -> io::Result<Feed<'a>> {
+        for (name, text) in self.files {
+            if *name == path {
+                let fails_at = if name.ends_with("!") { 0 } else { NEVER };
+                return Ok(Feed::new(text, NEVER, fails_at));
+            }
+        }
+        Err(io::Error::from(ErrorKind::NotFound))
+    }
+
+    fn open_dir(&self, _path: &str) -> io::Result<Endless> {
+        Err(unsupported())
+    }
+
+    fn metadata(&self, _path: &str) -> io::Result<Metadata> {
+        Err(unsupported())
+    }
+
+    fn symlink_metadata(&self, _path: &str) -> io::Result<Metadata> {
+        Err(unsupported())
+    }
+
+    fn copy(&self, _from: &str, _to: &str) -> io::Result<u64> {
+        Err(unsupported())
+    }
+
+    fn rename(&self, _from: &str, _to: &str) -> io::Result<()> {
+        Err(unsupported())
+    }
+
+    fn remove_file(&self, _path: &str) -> io::Result<()> {
+        Err(unsupported())
+    }
+
+    fn create_dir(&self, _path: &str) -> io::Result<()> {
+        Err(unsupported())
+    }
+
+    fn remove_dir(&self, _path: &str) -> io::Result<()> {
+        Err(unsupported())
+    }
+
+    fn remove_dir_all<B: Allocator>(&self, _alloc: B, _path: &str) -> io::Result<()> {
+        Err(unsupported())
+    }
+}

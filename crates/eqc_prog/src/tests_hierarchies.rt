@@ -1,0 +1,158 @@
+//! Runs over hierarchies: covers of covers, instances, ties, and their refusals.
+
+use crate::test_ends::Feed;
+use crate::tests::reports;
+use std::alloc::{AllocError, Global};
+use std::test::Fail;
+
+/// The exclusive or of three inputs, by one cover and by two.
+const PARITY: &str =
+    ".model f;.inputs a b c;.outputs z;.names a b c z;100 1;010 1;001 1;111 1;.end;.model g;.inputs a b c;.outputs z;.names a b t;10 1;01 1;.names t c z;10 1;01 1;.end;";
+
+/// Texts on standard input with their reports and statuses; `;` stands for LF.
+const ROWS: [(&str, &str, u8); 17] = [
+    (
+        ".model f;.inputs a;.outputs z;.subckt two i=a o=t j=t p=z;.end;.model g;.inputs a;.outputs z;.names a z;1 1;.end;.model two;.inputs i j;.outputs o p;.names i o;1 1;.names j p;1 1;.end;",
+        "equivalent;",
+        0,
+    ),
+    (
+        ".model f;.inputs a;.outputs;.names u v;1 1;.names v u;1 1;.end;.model g;.inputs a;.outputs;.end;",
+        "refused first 0 28;",
+        2,
+    ),
+    (
+        ".model f;.inputs a;.outputs;.end;.model g;.inputs a;.outputs;.names u v;1 1;.names v u;1 1;.end;",
+        "refused second 0 28;",
+        2,
+    ),
+    (
+        ".model f;.subckt h;.end;.model g;.end;.model h;.subckt f;.end;",
+        "refused first 0 22;",
+        2,
+    ),
+    (
+        ".model f;.inputs a;.outputs a;.end;.model g;.inputs a;.outputs a;.end;",
+        "equivalent;",
+        0,
+    ),
+    (
+        ".model f;.inputs a;.outputs a;.names a;1;.end;.model g;.inputs a;.outputs a;.end;",
+        "refused first 0 26;",
+        2,
+    ),
+    (
+        ".model f;.inputs a;.outputs z;.names a a z;10 1;.end;.model g;.inputs a;.outputs z;.names z;.end;",
+        "equivalent;",
+        0,
+    ),
+    (
+        ".model f;.inputs a;.outputs z;.subckt k i=a o=z;.end;.model g;.end;.model h;.inputs i;.outputs o;.names i o;1 1;.end;",
+        "refused first 0 21;",
+        2,
+    ),
+    (
+        ".model f;.inputs a;.outputs z;.subckt h i=a q=z;.end;.model g;.end;.model h;.inputs i;.outputs o;.names i o;1 1;.end;",
+        "refused first 0 23;",
+        2,
+    ),
+    (
+        ".model f;.inputs a;.outputs z;.subckt h i=a i=a o=z;.end;.model g;.end;.model h;.inputs i;.outputs o;.names i o;1 1;.end;",
+        "refused first 0 24;",
+        2,
+    ),
+    (
+        ".model f;.inputs a;.outputs z;.subckt h o=z;.end;.model g;.end;.model h;.inputs i;.outputs o;.names i o;1 1;.end;",
+        "refused first 0 25;",
+        2,
+    ),
+    (
+        ".model f;.inputs a;.outputs z;.names a z;1 1;.subckt h i=a o=z;.end;.model g;.end;.model h;.inputs i;.outputs o;.names i o;1 1;.end;",
+        "refused first 0 26;",
+        2,
+    ),
+    (
+        ".model f;.inputs a;.outputs z;.subckt h i=a;.end;.model g;.end;.model h;.inputs i;.outputs o;.names i o;1 1;.end;",
+        "refused first 0 27;",
+        2,
+    ),
+    (
+        ".model f;.inputs a;.outputs z;.subckt h i=a o=z;.end;.model g;.inputs a;.outputs z;.names a z;1 1;.end;.model h;.inputs i o;.outputs o;.names o o;1 1;.end;",
+        "refused first 0 26;",
+        2,
+    ),
+    (
+        ".model f;.inputs a b c;.outputs z;.names a b c z;100 1;010 1;001 1;111 1;.end;.model g;.inputs a b c;.outputs z;.names a b t;10 1;01 1;.names t c z;10 1;01 1;.end;",
+        "equivalent;",
+        0,
+    ),
+    (
+        ".model RIP;.inputs cin a0 b0 a1 b1 a2 b2 a3 b3 a4 b4 a5 b5 a6 b6 a7 b7;.outputs s0 s1 s2 s3 s4 s5 s6 s7 cout;.subckt RC4 c=cin a0=a0 b0=b0 a1=a1 b1=b1 a2=a2 b2=b2 a3=a3 b3=b3 \\; s0=s0 s1=s1 s2=s2 s3=s3 d=m;.subckt RC4 c=m a0=a4 b0=b4 a1=a5 b1=b5 a2=a6 b2=b6 a3=a7 b3=b7 \\; s0=s4 s1=s5 s2=s6 s3=s7 d=cout;.end;.model SEL;.inputs cin a0 b0 a1 b1 a2 b2 a3 b3 a4 b4 a5 b5 a6 b6 a7 b7;.outputs s0 s1 s2 s3 s4 s5 s6 s7 cout;.subckt RC4 c=cin a0=a0 b0=b0 a1=a1 b1=b1 a2=a2 b2=b2 a3=a3 b3=b3 \\; s0=s0 s1=s1 s2=s2 s3=s3 d=m;.names zero;.names one;1;.subckt RC4 c=zero a0=a4 b0=b4 a1=a5 b1=b5 a2=a6 b2=b6 a3=a7 b3=b7 \\; s0=p0 s1=p1 s2=p2 s3=p3 d=p4;.subckt RC4 c=one a0=a4 b0=b4 a1=a5 b1=b5 a2=a6 b2=b6 a3=a7 b3=b7 \\; s0=q0 s1=q1 s2=q2 s3=q3 d=q4;.subckt MUX s=m x=p0 y=q0 z=s4;.subckt MUX s=m x=p1 y=q1 z=s5;.subckt MUX s=m x=p2 y=q2 z=s6;.subckt MUX s=m x=p3 y=q3 z=s7;.subckt MUX s=m x=p4 y=q4 z=cout;.end;.model RC4;.inputs c a0 b0 a1 b1 a2 b2 a3 b3;.outputs s0 s1 s2 s3 d;.subckt FA x=a0 y=b0 c=c s=s0 d=t1;.subckt FA x=a1 y=b1 c=t1 s=s1 d=t2;.subckt FA x=a2 y=b2 c=t2 s=s2 d=t3;.subckt FA x=a3 y=b3 c=t3 s=s3 d=d;.end;.model FA;.inputs x y c;.outputs s d;.names x y c s;100 1;010 1;001 1;111 1;.names x y c d;11- 1;1-1 1;-11 1;.end;.model MUX;.inputs s x y;.outputs z;.names s x y z;01- 1;1-1 1;.end;",
+        "equivalent;",
+        0,
+    ),
+    (
+        ".model RIP;.inputs cin a0 b0 a1 b1 a2 b2 a3 b3 a4 b4 a5 b5 a6 b6 a7 b7;.outputs s0 s1 s2 s3 s4 s5 s6 s7 cout;.subckt RC4 c=cin a0=a0 b0=b0 a1=a1 b1=b1 a2=a2 b2=b2 a3=a3 b3=b3 \\; s0=s0 s1=s1 s2=s2 s3=s3 d=m;.subckt RC4 c=m a0=a4 b0=b4 a1=a5 b1=b5 a2=a6 b2=b6 a3=a7 b3=b7 \\; s0=s4 s1=s5 s2=s6 s3=s7 d=cout;.end;.model SEL;.inputs cin a0 b0 a1 b1 a2 b2 a3 b3 a4 b4 a5 b5 a6 b6 a7 b7;.outputs s0 s1 s2 s3 s4 s5 s6 s7 cout;.subckt RC4 c=cin a0=a0 b0=b0 a1=a1 b1=b1 a2=a2 b2=b2 a3=a3 b3=b3 \\; s0=s0 s1=s1 s2=s2 s3=s3 d=m;.names zero;.names one;.subckt RC4 c=zero a0=a4 b0=b4 a1=a5 b1=b5 a2=a6 b2=b6 a3=a7 b3=b7 \\; s0=p0 s1=p1 s2=p2 s3=p3 d=p4;.subckt RC4 c=one a0=a4 b0=b4 a1=a5 b1=b5 a2=a6 b2=b6 a3=a7 b3=b7 \\; s0=q0 s1=q1 s2=q2 s3=q3 d=q4;.subckt MUX s=m x=p0 y=q0 z=s4;.subckt MUX s=m x=p1 y=q1 z=s5;.subckt MUX s=m x=p2 y=q2 z=s6;.subckt MUX s=m x=p3 y=q3 z=s7;.subckt MUX s=m x=p4 y=q4 z=cout;.end;.model RC4;.inputs c a0 b0 a1 b1 a2 b2 a3 b3;.outputs s0 s1 s2 s3 d;.subckt FA x=a0 y=b0 c=c s=s0 d=t1;.subckt FA x=a1 y=b1 c=t1 s=s1 d=t2;.subckt FA x=a2 y=b2 c=t2 s=s2 d=t3;.subckt FA x=a3 y=b3 c=t3 s=s3 d=d;.end;.model FA;.inputs x y c;.outputs s d;.names x y c s;100 1;010 1;001 1;111 1;.names x y c d;11- 1;1-1 1;-11 1;.end;.model MUX;.inputs s x y;.outputs z;.names s x y z;01- 1;1-1 1;.end;",
+        "differs at s4;cin=0;a0=0;b0=0;a1=0;b1=0;a2=0;b2=0;a3=1;b3=1;a4=0;b4=0;a5=0;b5=0;a6=0;b6=0;a7=0;b7=0;first=1;second=0;",
+        1,
+    ),
+];
+
+#[test]
+fn hierarchies_are_compared(rt: HostRuntime) -> Result<(), Fail> {
+    for (text, report, status) in ROWS {
+        assert!(rt;
+            reports(rt.alloc(), "eqc", Feed::whole(text), report, status)?,
+            "{text}"
+        );
+    }
+    Ok(())
+}
+
+#[test]
+fn a_small_store_stops_covers_of_covers(rt: HostRuntime) -> Result<(), Fail> {
+    let line = "eqc --nodes 2";
+    assert!(rt;
+        reports(rt.alloc(), line, Feed::whole(PARITY), "stopped 71;", 3)?,
+        "{line}"
+    );
+    Ok(())
+}
+
+/// A main model of two instances, each of two instances, and so on, twenty models below one another; and an empty one.
+fn doubled(alloc: Global) -> Result<String, AllocError> {
+    let mut text = String::from_str(alloc, ".model f;.subckt m1;.subckt m1;.end;.model g;.end;")?;
+    for (k, below) in (1..20).zip(2..21) {
+        let model = format!(in alloc; ".model m{k};.subckt m{below};.subckt m{below};.end;")?;
+        text.push_str(&model)?;
+    }
+    text.push_str(".model m20;.end;")?;
+    Ok(text)
+}
+
+/// So many inputs.
+fn inputs(alloc: Global, text: &mut String, count: u32) -> Result<(), AllocError> {
+    text.push_str(".inputs")?;
+    for k in 0..count {
+        text.push_str(&format!(in alloc; " i{k}")?)?;
+    }
+    text.push_str(";.end;")?;
+    Ok(())
+}
+
+#[test]
+fn limits_of_hierarchies_are_told(rt: HostRuntime) -> Result<(), Fail> {
+    let alloc = rt.alloc();
+    let text = doubled(alloc)?;
+    assert!(rt; reports(alloc, "eqc", Feed::whole(&text), "refused first 0 29;", 2)?);
+    let mut text = String::from_str(alloc, ".model f;")?;
+    inputs(alloc, &mut text, 2_049)?;
+    text.push_str(".model g;.end;")?;
+    assert!(rt; reports(alloc, "eqc", Feed::whole(&text), "refused first 0 30;", 2)?);
+    let mut text = String::from_str(alloc, ".model f;")?;
+    inputs(alloc, &mut text, 2_048)?;
+    text.push_str(".model g;")?;
+    inputs(alloc, &mut text, 2_048)?;
+    assert!(rt; reports(alloc, "eqc", Feed::whole(&text), "equivalent;", 0)?);
+    Ok(())
+}
