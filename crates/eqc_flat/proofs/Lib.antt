@@ -21,3 +21,4 @@ pub mod OrderLaws
 pub mod DrivingLaws
 pub mod FlatLaws
 pub mod CodeLaws
+pub mod DepthLaws

@@ -13,3 +13,4 @@ pub mod Instances
 pub mod Filling
 pub mod Ordering
 pub mod Flattening
+pub mod ValueLaws

@@ -158,4 +158,22 @@ mod tests {
         assert_eq!(rt; outputs.as_slice(), [true, false].as_slice());
         Ok(())
     }
+
+    /// Two not-ands in series, the second over the first's output twice, are a conjunction.
+    #[test]
+    fn evaluates_hierarchies(rt: HostRuntime) -> Result<(), Fail> {
+        let text =
+            b".model f\n.inputs a b\n.outputs z\n.subckt n i=a j=b o=t\n.subckt n i=t j=t o=z\n.end\n.model n\n.inputs i j\n.outputs o\n.names i j o\n11 0\n";
+        let library = read(rt.alloc(), text).ok().ok_or("refused")?;
+        assert_eq!(rt; library.models(), 2);
+        let flat = flatten(rt.alloc(), &library, 0).ok().ok_or("refused")?;
+        assert_eq!(rt; flat.steps().len(), 10);
+        for (a, b) in [(false, false), (false, true), (true, false), (true, true)] {
+            let values = [a, b];
+            assert_eq!(rt; flat.inputs().len(), values.len());
+            let outputs = eval(rt.alloc(), &flat, &values).ok().ok_or("refused")?;
+            assert_eq!(rt; outputs.as_slice(), [a && b].as_slice());
+        }
+        Ok(())
+    }
 }

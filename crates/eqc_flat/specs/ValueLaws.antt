@@ -1,0 +1,18 @@
+-- Laws of the values of flat signals, for readers of the definitions.
+use Rattle.std.specs.Prelude.{◌≡◌, ℕ, suc, ◌+◌, ◌<◌, Bool, true, List, length, Option, Some, None, is_some}
+use Rattle.eqc_blif.specs.Netlist.{ModelOf}
+use Rattle.eqc_flat.specs.Signals.{SignalOf, signals, value_at}
+use Rattle.eqc_flat.specs.Flattened.{signal_at}
+use Rattle.eqc_flat.specs.Codes.{flat_code}
+
+-- a value at a depth is the value at every greater depth
+abbrev pub ValuesStay : Type 0
+ValuesStay = (library : List ModelOf) (top : ℕ) (a : ℕ → Bool) (d more : ℕ) (s : SignalOf) (v : Bool) → value_at library top a d s ≡ Some v → value_at library top a (more + d) s ≡ Some v
+
+-- whether a signal has a value at a depth does not depend on the inputs' values
+abbrev pub ValuesAreThereForAll : Type 0
+ValuesAreThereForAll = (library : List ModelOf) (top : ℕ) (a b : ℕ → Bool) (d : ℕ) (s : SignalOf) → is_some (value_at library top a d s) ≡ is_some (value_at library top b d s)
+
+-- each signal of an accepted netlist has a value under every assignment
+abbrev pub AcceptedHaveValues : Type 0
+AcceptedHaveValues = (library : List ModelOf) (top : ℕ) → flat_code library top ≡ None → (a : ℕ → Bool) (s : ℕ) → s < length (signals library top) → is_some (value_at library top a (length (signals library top)) (signal_at library top s)) ≡ true

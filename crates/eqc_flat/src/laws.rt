@@ -1,0 +1,16 @@
+ghost use Rattle.eqc_flat.specs.ValueLaws.{ValuesStay, ValuesAreThereForAll, AcceptedHaveValues};
+
+/// The value of a signal at a depth is its value at every greater depth.
+pub fn values_stay()
+    ensures { ValuesStay }
+{}
+
+/// Whether a signal has a value at a depth does not depend on the values of the inputs.
+pub fn values_are_there_for_all()
+    ensures { ValuesAreThereForAll }
+{}
+
+/// Each signal of an accepted netlist has a value under every assignment.
+pub fn accepted_have_values()
+    ensures { AcceptedHaveValues }
+{}
