@@ -22,3 +22,4 @@ pub mod DrivingLaws
 pub mod FlatLaws
 pub mod CodeLaws
 pub mod DepthLaws
+pub mod InputLaws

@@ -1,6 +1,7 @@
 -- Laws of the values of flat signals, for readers of the definitions.
 use Rattle.std.specs.Prelude.{◌≡◌, ℕ, suc, ◌+◌, ◌<◌, Bool, true, List, length, Option, Some, None, is_some}
 use Rattle.eqc_blif.specs.Netlist.{ModelOf}
+use Rattle.eqc_flat.specs.Hierarchy.{model}
 use Rattle.eqc_flat.specs.Signals.{SignalOf, signals, value_at}
 use Rattle.eqc_flat.specs.Flattened.{signal_at}
 use Rattle.eqc_flat.specs.Codes.{flat_code}
@@ -16,3 +17,7 @@ ValuesAreThereForAll = (library : List ModelOf) (top : ℕ) (a b : ℕ → Bool)
 -- each signal of an accepted netlist has a value under every assignment
 abbrev pub AcceptedHaveValues : Type 0
 AcceptedHaveValues = (library : List ModelOf) (top : ℕ) → flat_code library top ≡ None → (a : ℕ → Bool) (s : ℕ) → s < length (signals library top) → is_some (value_at library top a (length (signals library top)) (signal_at library top s)) ≡ true
+
+-- the value of a signal at a depth depends on the values of the main model's inputs alone
+abbrev pub ValuesDependOnInputsAlone : Type 0
+ValuesDependOnInputsAlone = (library : List ModelOf) (top : ℕ) (a b : ℕ → Bool) → ((k : ℕ) → k < length (model library top).inputs → a k ≡ b k) → (d : ℕ) (s : SignalOf) → value_at library top a d s ≡ value_at library top b d s

@@ -1,4 +1,4 @@
-ghost use Rattle.eqc_flat.specs.ValueLaws.{ValuesStay, ValuesAreThereForAll, AcceptedHaveValues};
+ghost use Rattle.eqc_flat.specs.ValueLaws.{ValuesStay, ValuesAreThereForAll, AcceptedHaveValues, ValuesDependOnInputsAlone};
 
 /// The value of a signal at a depth is its value at every greater depth.
 pub fn values_stay()
@@ -13,4 +13,9 @@ pub fn values_are_there_for_all()
 /// Each signal of an accepted netlist has a value under every assignment.
 pub fn accepted_have_values()
     ensures { AcceptedHaveValues }
+{}
+
+/// The value of a signal at a depth depends on the values of the main model's inputs alone.
+pub fn values_depend_on_inputs_alone()
+    ensures { ValuesDependOnInputsAlone }
 {}

@@ -29,4 +29,6 @@ pub use evaluation::eval;
 pub use fault::Fault;
 pub use flat::Flat;
 pub use flattening::flatten;
-pub use laws::{accepted_have_values, values_are_there_for_all, values_stay};
+pub use laws::{
+    accepted_have_values, values_are_there_for_all, values_depend_on_inputs_alone, values_stay,
+};
