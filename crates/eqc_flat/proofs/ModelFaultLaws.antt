@@ -1,6 +1,7 @@
 -- The codes of the models that a main model reaches.
 use Rattle.std.proofs.Common.{◌≡◌, ℕ, zero, suc, ◌+◌, ◌≤◌, inl, inr, Bool, true, false, not, List, [], ◌∷◌, ◌++◌, length, refl, sym, ◌∙◌, ap, subst, arith, Some, None}
 use Rattle.std.specs.List.{list_any, fold}
+use Rattle.std.specs.Str.{bytes_eq}
 use Rattle.std.proofs.lemmas.Bool.{cases_eq}
 use Rattle.eqc_blif.specs.Netlist.{ModelOf, InstanceOf}
 use Rattle.eqc_blif.specs.Names.{is_named}
@@ -14,7 +15,7 @@ use Rattle.eqc_flat.specs.ModelFaults.{names_no_model, names_no_formal, names_fo
 use Rattle.eqc_flat.specs.declared.search.Stage.{Stage}
 use Rattle.eqc_flat.proofs.Depth.{ends_more, ordered_ends}
 use Rattle.eqc_flat.proofs.Members.{any_same_members}
-use Rattle.eqc_flat.proofs.NameSetLaws.{once_named, fold_once}
+use Rattle.eqc_flat.proofs.NameSetLaws.{once_named, fold_once, formal_named}
 
 -- ---- conditions over all instances of the models that are reached
 
@@ -71,6 +72,12 @@ pub input_out_is : (library : List ModelOf) (i : InstanceOf) (names : List (List
 input_out_is library i names is =
     any_same (λ input. not (is_named names input)) (λ input. not (is_named (formals i) input)) (model library (model_number library i.model)).inputs
     (λ input. ap not (ap (λ names. is_named names input) (is ∙ fold_once (formals i)) ∙ once_named (formals i) input))
+
+-- the same by comparing each input with the formals one by one
+pub input_unpaired : (library : List ModelOf) (i : InstanceOf) → list_any (λ input. not (list_any (λ (pair : List ℕ × List ℕ). bytes_eq input pair.0) i.pairs)) (model library (model_number library i.model)).inputs ≡ leaves_input_out library i
+input_unpaired library i =
+    any_same (λ input. not (list_any (λ (pair : List ℕ × List ℕ). bytes_eq input pair.0) i.pairs)) (λ input. not (is_named (formals i) input)) (model library (model_number library i.model)).inputs
+    (λ input. ap not (formal_named i.pairs input))
 
 -- ---- the first code
 

@@ -150,6 +150,10 @@ any_mapped : {A B : Type 0} (p : B → Bool) (f : A → B) (xs : List A) → lis
 any_mapped p f [] = refl
 any_mapped p f (x ∷ xs) = ap (λ b. p (f x) || b) (any_mapped p f xs)
 
+-- whether a name is among the formals of some pairs
+pub formal_named : (pairs : List (List ℕ × List ℕ)) (name : List ℕ) → list_any (λ (pair : List ℕ × List ℕ). bytes_eq name pair.0) pairs ≡ is_named (map (λ (pair : List ℕ × List ℕ). pair.0) pairs) name
+formal_named pairs name = sym (any_mapped (λ other. bytes_eq name other) (λ (pair : List ℕ × List ℕ). pair.0) pairs)
+
 -- a slice that a set has or not
 pub slice_named : (keys : List (Bor (List ℕ))) (name : List ℕ) → list_any (λ (key : Bor (List ℕ)). bytes_eq name key.now) keys ≡ is_named (bytes_in keys) name
 slice_named keys name = sym (any_mapped (λ other. bytes_eq name other) (λ (key : Bor (List ℕ)). key.now) keys)
@@ -270,6 +274,11 @@ once_kept f xs i x names new fresh inside here is once e was grown =
     by : (b : Bool) → not b ≡ true → b ≡ false
     by true h = absurd (false≢true h)
     by false h = refl
+
+-- an element whose name is not among those before it
+pub once_next : {X : Type 0} (f : X → List ℕ) (xs : List X) (i : ℕ) (x : X) → i < length xs → x ≡ get_or xs i x → has_twice (map f (take i xs)) ≡ false → is_named (map f (take i xs)) (f x) ≡ false → has_twice (map f (take (i + 1) xs)) ≡ false
+once_next f xs i x inside here once absent =
+    ap has_twice (named_more f xs i x inside ∙ ap (λ y. map f (take i xs) ++ f y ∷ []) (sym here)) ∙ once_more (map f (take i xs)) (f x) once absent
 
 -- an element whose name is not among some
 pub some_other : {X : Type 0} (f : X → List ℕ) (names : List (List ℕ)) (xs : List X) (i : ℕ) (x : X) (has : Bool) → i < length xs → x ≡ get_or xs i x → has ≡ is_named names (f x) → has ≡ false → list_any (λ formal. not (is_named names formal)) (map f xs) ≡ true

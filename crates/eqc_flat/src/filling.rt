@@ -164,9 +164,9 @@ impl Filling {
     {
         for j in 0..pairs.len() {
             let (formal, actual) = &pairs[j];
-            let inner = hierarchy.signal(child, formal.as_bytes());
+            let (inner, is_input) = hierarchy.formal(child, formal.as_bytes());
             let outer = hierarchy.signal(i, actual.as_bytes());
-            if hierarchy.is_input(child, formal.as_bytes()) {
+            if is_input {
                 self.drive(inner, Driver::Tie(outer as u32));
             } else {
                 self.drive(outer, Driver::Tie(inner as u32));

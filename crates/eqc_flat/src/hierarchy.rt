@@ -103,7 +103,18 @@ impl<'a> Hierarchy<'a> {
         self.instances.models[i]
     }
 
-    /// The signal of a name that occurs in the model of instance `i`, and where the name stands among that model's.
+    /// The signal at position `k` among those of instance `i`.
+    fn signal_of(&self, i: usize, k: usize) -> usize
+        requires instance { i < length (paths self.now.0 self.now.1) }
+        requires position { k < length (names_of (model_of self.now.0 self.now.1 i)) }
+        ensures within { result < length (signals self.now.0 self.now.1) }
+        ensures small { result < 1048576 }
+        ensures signal { signal_at self.now.0 self.now.1 result ≡ record { path = path_at self.now.0 self.now.1 i; name = slice_index_or (names_of (model_of self.now.0 self.now.1 i)) k [] } }
+    {
+        self.instances.firsts[i] + k
+    }
+
+    /// The signal of a name that occurs in the model of instance `i`.
     pub(crate) fn signal(&self, i: usize, name: &[u8]) -> usize
         requires instance { i < length (paths self.now.0 self.now.1) }
         requires named { is_named (names_of (model_of self.now.0 self.now.1 i)) name.now ≡ true }
@@ -111,16 +122,21 @@ impl<'a> Hierarchy<'a> {
         ensures small { result < 1048576 }
         ensures signal { signal_at self.now.0 self.now.1 result ≡ record { path = path_at self.now.0 self.now.1 i; name = name.now } }
     {
-        self.instances.firsts[i] + self.naming.position(self.instances.models[i], name)
+        let k = self.naming.position(self.instances.models[i], name);
+        self.signal_of(i, k)
     }
 
-    /// Whether a name that occurs in the model of instance `i` is an input of that model.
-    pub(crate) fn is_input(&self, i: usize, name: &[u8]) -> bool
+    /// The signal of a name that occurs in the model of instance `i`, and whether the name is an input of that model.
+    pub(crate) fn formal(&self, i: usize, name: &[u8]) -> (usize, bool)
         requires instance { i < length (paths self.now.0 self.now.1) }
         requires named { is_named (names_of (model_of self.now.0 self.now.1 i)) name.now ≡ true }
-        ensures { result ≡ is_named (model_of self.now.0 self.now.1 i).inputs name.now }
+        ensures within { result.0 < length (signals self.now.0 self.now.1) }
+        ensures small { result.0 < 1048576 }
+        ensures signal { signal_at self.now.0 self.now.1 result.0 ≡ record { path = path_at self.now.0 self.now.1 i; name = name.now } }
+        ensures input { result.1 ≡ is_named (model_of self.now.0 self.now.1 i).inputs name.now }
     {
-        self.naming.is_input(self.instances.models[i], name)
+        let (k, is_input) = self.naming.port(self.instances.models[i], name);
+        (self.signal_of(i, k), is_input)
     }
 
     /// Puts the signals of instance `i` behind others. Fails where memory is refused.

@@ -1,5 +1,6 @@
 ghost use Rattle.std.specs.Prelude.{◌≡◌, [], not, map, length, slice_index_or, IfOk, ◌+◌, ◌<◌};
 ghost use Rattle.std.specs.List.{list_any, fold, range_with_len};
+ghost use Rattle.std.specs.Str.{bytes_eq};
 ghost use Rattle.eqc_blif.specs.Names.{is_named, has_twice};
 ghost use Rattle.eqc_flat.specs.Codes.{formals};
 ghost use Rattle.eqc_flat.specs.Hierarchy.{model};
@@ -12,6 +13,9 @@ use crate::name_set::NameSet;
 use eqc_blif::{Instance, Library, Name};
 use std::alloc::{AllocError, Global};
 use std::marker::Model;
+
+/// Up to so many formals are compared one by one, which takes less time than a set of them.
+const FEW: usize = 8;
 
 /// An instance of a model that isn't in the library.
 #[derive(Drop)]
@@ -127,10 +131,33 @@ impl Condition for NamesFormalTwice {
     }
 }
 
+/// Whether a name is among the formals of these pairs.
+fn is_formal(pairs: &[(Name, Name)], name: &[u8]) -> bool
+    ensures { result ≡ list_any (λ pair. bytes_eq name.now pair.0) pairs.now }
+{
+    pairs.iter().any(|pair| name == pair.0.as_bytes())
+}
+
+/// Whether a formal stands twice in these pairs, each compared with those before it.
+fn stands_twice(pairs: &[(Name, Name)]) -> bool
+    ensures { result ≡ has_twice (map (λ pair. pair.0) pairs.now) }
+{
+    for k in 0..pairs.len() {
+        let pair = &pairs[k];
+        if is_formal(&pairs[..k], pair.0.as_bytes()) {
+            return true;
+        }
+    }
+    false
+}
+
 /// Whether a formal stands twice in an instance.
 fn has_formal_twice(alloc: Global, instance: &Instance) -> Result<bool, AllocError>
     ensures { IfOk result (λ twice. twice ≡ has_twice (formals instance.now)) }
 {
+    if instance.pairs.len() <= FEW {
+        return Ok(stands_twice(&instance.pairs));
+    }
     let mut names = NameSet::new(alloc);
     'pairs: for pair in &instance.pairs {
         if !names.insert(&pair.0)? {
@@ -184,6 +211,13 @@ fn leaves_out(names: &NameSet<'_>, words: &[Name]) -> bool
     words.iter().any(|word| !names.has(word.as_bytes()))
 }
 
+/// Whether one of these words is not among the formals of these pairs.
+fn has_no_pair(pairs: &[(Name, Name)], words: &[Name]) -> bool
+    ensures { result ≡ list_any (λ word. not (list_any (λ pair. bytes_eq word pair.0) pairs.now)) words.now }
+{
+    words.iter().any(|word| !is_formal(pairs, word.as_bytes()))
+}
+
 impl<'a> LeavesInputOut<'a> {
     pub(crate) fn new(library: &'a Library) -> LeavesInputOut<'a>
         ensures { result ≡ library.now }
@@ -198,8 +232,12 @@ impl<'a> Condition for LeavesInputOut<'a> {
     ghost test = { λ library i. leaves_input_out library i };
 
     fn holds(&self, alloc: Global, instance: &Instance) -> Result<bool, AllocError> {
-        let names = formals_of(alloc, instance)?;
         let callee = model_number(self.library, &instance.model);
-        Ok(leaves_out(&names, inputs(self.library, callee)))
+        let inputs = inputs(self.library, callee);
+        if instance.pairs.len() <= FEW {
+            return Ok(has_no_pair(&instance.pairs, inputs));
+        }
+        let names = formals_of(alloc, instance)?;
+        Ok(leaves_out(&names, inputs))
     }
 }

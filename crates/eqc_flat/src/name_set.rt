@@ -9,6 +9,9 @@ use indexmap::IndexSet;
 use std::alloc::{AllocError, Global};
 use std::marker::Model;
 
+/// Up to so many names are compared one by one, which takes less time than to look one up.
+const FEW: usize = 8;
+
 /// Names, each once, in the order in which they were put in.
 #[derive(Drop)]
 pub(crate) struct NameSet<'a> {
@@ -21,6 +24,13 @@ impl<'a> Model for NameSet<'a> {
     ghost Value = { List (List ℕ) };
 
     ghost view = { λ a. map (λ name. name.now) a.names.keys };
+}
+
+/// Where a name stands among others, if it is there.
+fn place_among(names: &[&[u8]], name: &[u8]) -> Option<usize>
+    ensures { result ≡ position (λ other. bytes_eq name.now other.now) names.now }
+{
+    names.iter().position(|other| name == *other)
 }
 
 impl<'a> NameSet<'a> {
@@ -71,7 +81,11 @@ impl<'a> NameSet<'a> {
     pub(crate) fn position(&self, name: &[u8]) -> Option<usize>
         ensures { result ≡ position (λ other. bytes_eq name.now other) self.now }
     {
-        self.names.get_index_of(name)
+        if self.names.len() <= FEW {
+            place_among(self.names.as_slice(), name)
+        } else {
+            self.names.get_index_of(name)
+        }
     }
 
     /// Whether a name is there.

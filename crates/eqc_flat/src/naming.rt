@@ -71,12 +71,15 @@ impl<'a> Naming<'a> {
         self.sets[m].position(name).unwrap()
     }
 
-    /// Whether a name that occurs in model `m` is an input of it.
-    pub(crate) fn is_input(&self, m: usize, name: &[u8]) -> bool
+    /// Where a name that occurs in model `m` stands among its names, and whether it is an input of it.
+    pub(crate) fn port(&self, m: usize, name: &[u8]) -> (usize, bool)
         requires { is_named (names_of (model self.now m)) name.now ≡ true }
-        ensures { result ≡ is_named (model self.now m).inputs name.now }
+        ensures within { result.0 < length (names_of (model self.now m)) }
+        ensures named { slice_index_or (names_of (model self.now m)) result.0 [] ≡ name.now }
+        ensures input { result.1 ≡ is_named (model self.now m).inputs name.now }
     {
         // The inputs are the first of the names, and no two of them are the same.
-        self.position(m, name) < self.library.inputs(m).len()
+        let position = self.position(m, name);
+        (position, position < self.library.inputs(m).len())
     }
 }

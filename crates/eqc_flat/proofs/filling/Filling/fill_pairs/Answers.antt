@@ -9,8 +9,8 @@ use Rattle.eqc_flat.proofs.DrivingLaws.{no_driving, behind_more, behind_all, pai
 use Rattle.eqc_flat.proofs.filling.Filling.fill_pairs.Goals as goal
 use Rattle.eqc_flat.proofs.filling.Filling.fill_pairs.Goals.{then-is_input, else-is_input}
 
-pub signal-inner-requires-clause-named : goal.signal-inner-requires-clause-named
-signal-inner-requires-clause-named c =
+pub formal-inner-requires-clause-named : goal.formal-inner-requires-clause-named
+formal-inner-requires-clause-named c =
     let pair = c.index-pairs-j.is ∙ get_or_default c.args.pairs.now c.loop-j.j c.index-pairs-j.result ([], []) c.loop-j-test.true in
     ap (is_named (names_of (model_of c.args.hierarchy.now.0 c.args.hierarchy.now.1 c.args.child))) (c.as_bytes.ensures ∙ ap (λ (p : List ℕ × List ℕ). p.0) pair) ∙ c.requires.formals c.loop-j.j c.loop-j-test.true
 
@@ -19,16 +19,11 @@ signal-outer-requires-clause-named c =
     let pair = c.index-pairs-j.is ∙ get_or_default c.args.pairs.now c.loop-j.j c.index-pairs-j.result ([], []) c.loop-j-test.true in
     ap (is_named (names_of (model_of c.args.hierarchy.now.0 c.args.hierarchy.now.1 c.args.i))) (c.as_bytes-in-loop-j.ensures ∙ ap (λ (p : List ℕ × List ℕ). p.1) pair) ∙ c.requires.actuals c.loop-j.j c.loop-j-test.true
 
-pub is_input-requires-clause-named : goal.is_input-requires-clause-named
-is_input-requires-clause-named c =
-    let pair = c.index-pairs-j.is ∙ get_or_default c.args.pairs.now c.loop-j.j c.index-pairs-j.result ([], []) c.loop-j-test.true in
-    ap (is_named (names_of (model_of c.args.hierarchy.now.0 c.args.hierarchy.now.1 c.args.child))) (c.as_bytes-in-loop-j-2.ensures ∙ ap (λ (p : List ℕ × List ℕ). p.0) pair) ∙ c.requires.formals c.loop-j.j c.loop-j-test.true
-
 pub overflow_cast-outer : goal.overflow_cast-outer
 overflow_cast-outer c = omega (arith, c.signal-outer.ensures.small)
 
 pub overflow_cast-inner : goal.overflow_cast-inner
-overflow_cast-inner c = omega (arith, c.signal-inner.ensures.small)
+overflow_cast-inner c = omega (arith, c.formal-inner.ensures.small)
 
 pub loop-j-preserved : goal.loop-j-preserved
 loop-j-preserved c =
@@ -40,11 +35,11 @@ loop-j-preserved c =
     let all = map (pair_driving path c.args.p callee) c.args.pairs.now in
     let inside : c.loop-j.j < length all = omega (arith, length-map c.args.pairs.now (pair_driving path c.args.p callee), c.loop-j-test.true) in
     let driving = pair_at path c.args.p callee c.args.pairs.now c.loop-j.j pair c.loop-j-test.true c.index-pairs-j.is in
-    let inner : signal_at library top c.signal-inner.result ≡ record { path = c.args.p ∷ path; name = pair.0 } =
-    c.signal-inner.ensures.signal ∙ (ap (λ (x : List ℕ). record { path = path_at library top c.args.child; name = x }) c.as_bytes.ensures ∙ ap (λ (x : List ℕ). record { path = x; name = pair.0 }) c.requires.below) in
+    let inner : signal_at library top c.formal-inner.result.0 ≡ record { path = c.args.p ∷ path; name = pair.0 } =
+    c.formal-inner.ensures.signal ∙ (ap (λ (x : List ℕ). record { path = path_at library top c.args.child; name = x }) c.as_bytes.ensures ∙ ap (λ (x : List ℕ). record { path = x; name = pair.0 }) c.requires.below) in
     let outer : signal_at library top c.signal-outer.result ≡ record { path = path; name = pair.1 } =
     c.signal-outer.ensures.signal ∙ ap (λ (x : List ℕ). record { path = path; name = x }) c.as_bytes-in-loop-j.ensures in
-    let is : c.is_input.result ≡ is_named callee.inputs pair.0 = c.is_input.ensures ∙ ap (is_named callee.inputs) c.as_bytes-in-loop-j-2.ensures in
+    let is : c.formal-inner.result.1 ≡ is_named callee.inputs pair.0 = c.formal-inner.ensures.input ∙ ap (is_named callee.inputs) c.as_bytes.ensures in
     let more = λ (done : List Driving). behind_more done all c.loop-j.j no_driving inside in
     elim c.if-is_input.branch [
       | then-is_input w ↦
@@ -64,7 +59,7 @@ loop-j-preserved c =
             w.drive-else-is_input.ensures.size ∙ c.loop-j.invariant.size,
             λ done h.
                 let Q : List Driving → Type 0 = λ l. IsFilled library top w.drive-else-is_input.new.self.0 w.drive-else-is_input.new.self.1 l in
-                subst Q (sym (more done)) (w.drive-else-is_input.ensures.step library top (done ++ take c.loop-j.j all) (get_or all c.loop-j.j no_driving) (c.loop-j.invariant.step done h) (ap (λ (d : Driving). d.0) d ∙ sym outer) (ap (λ (d : Driving). d.1) d ∙ ap from_signal (sym inner)) c.signal-inner.ensures.within),
+                subst Q (sym (more done)) (w.drive-else-is_input.ensures.step library top (done ++ take c.loop-j.j all) (get_or all c.loop-j.j no_driving) (c.loop-j.invariant.step done h) (ap (λ (d : Driving). d.0) d ∙ sym outer) (ap (λ (d : Driving). d.1) d ∙ ap from_signal (sym inner)) c.formal-inner.ensures.within),
           ) in
           record { size = both.0; step = both.1 }
     ]

@@ -4,7 +4,7 @@ use Rattle.eqc_blif.specs.Names.{has_twice}
 use Rattle.eqc_flat.specs.Hierarchy.{model}
 use Rattle.eqc_flat.proofs.NamingLaws.{named_there}
 use Rattle.eqc_flat.proofs.ExpandedLaws.{input_place}
-use Rattle.eqc_flat.proofs.naming.Naming.is_input.Goals as goal
+use Rattle.eqc_flat.proofs.naming.Naming.port.Goals as goal
 
 pub inputs-requires : goal.inputs-requires
 inputs-requires c =
@@ -12,8 +12,8 @@ inputs-requires c =
     let same = ap length c.self.view_is in
     omega (arith, there, same)
 
-pub returns : goal.returns
-returns c =
+pub returns-clause-input : goal.returns-clause-input
+returns-clause-input c =
     let inputs : c.inputs.result.now ≡ (model c.args.self.now c.args.m).inputs = c.inputs.ensures.names ∙ ap (λ (l : List ModelOf). (model l c.args.m).inputs) c.self.view_is in
-    ap (λ (xs : List (List ℕ)). nat_lt c.position.result (length xs)) inputs
-    ∙ input_place (model c.args.self.now c.args.m) c.args.name.now c.position.result (sym (ap has_twice inputs) ∙ c.inputs.ensures.once) c.position.ensures.first
+    ap (λ (xs : List (List ℕ)). nat_lt c.position-position.result (length xs)) inputs
+    ∙ input_place (model c.args.self.now c.args.m) c.args.name.now c.position-position.result (sym (ap has_twice inputs) ∙ c.inputs.ensures.once) c.position-position.ensures.first
