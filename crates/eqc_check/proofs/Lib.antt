@@ -11,7 +11,6 @@ pub mod LeastLemmas
 pub mod VerdictLemmas
 pub mod MatchedLemmas
 pub mod CompareLaws
-pub mod EvaluateLaws
 pub mod OptionsLemmas
 pub mod KnownBytes
 pub mod ReportLemmas

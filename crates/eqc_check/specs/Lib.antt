@@ -11,7 +11,6 @@ pub mod Building
 pub mod Assigned
 pub mod Narrowing
 pub mod Sides
-pub mod Evaluating
 pub mod Refusing
 pub mod Sources
 pub mod Answer

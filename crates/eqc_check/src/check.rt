@@ -4,15 +4,13 @@ ghost use Rattle.eqc_check.specs.Verdict.{first_value, differs_under, first_diff
 ghost use Rattle.eqc_check.specs.Report.{difference_report, comparison, differs};
 ghost use Rattle.eqc_check.specs.ReportView.{report_of};
 ghost use Rattle.eqc_check.specs.Sides.{netlist_of};
-ghost use Rattle.eqc_check.specs.Evaluating.{values_of};
 
 use crate::compare::compare_outputs;
-use crate::evaluate::evaluate;
 use crate::matched_pair::Pair;
 use crate::report::Report;
 use crate::sides::Sides;
 use eqc_blif::Name;
-use eqc_flat::Flat;
+use eqc_flat::{Flat, eval};
 use eqc_plain::Plain;
 use eqc_tree::Stop;
 use std::alloc::{AllocError, Global};
@@ -33,6 +31,24 @@ fn with_values(
     Ok(pairs)
 }
 
+/// The value of an output under these values of the inputs. Fails where memory is refused.
+fn output_value(
+    alloc: Global,
+    flat: &Flat<'_>,
+    output: usize,
+    values: &[bool],
+) -> Result<bool, AllocError>
+    requires within { output < length flat.now.outputs }
+    requires size { length values.now ≡ length flat.now.inputs }
+    ensures { IfOk result (λ value. value ≡ first_value (netlist_of flat.now) (slice_index_or flat.now.outputs output []) values.now) }
+{
+    let _lawful = flat.steps();
+    match eval(alloc, flat, values) {
+        Ok(outputs) => Ok(outputs[output]),
+        Err(_) => Err(AllocError),
+    }
+}
+
 /// The report on an output that differs under these values of the first netlist's inputs.
 fn differs_report(
     alloc: Global,
@@ -46,9 +62,7 @@ fn differs_report(
         (first_value (netlist_of first.now) (slice_index_or first.now.outputs output []) values.now)
         (not (first_value (netlist_of first.now) (slice_index_or first.now.outputs output []) values.now))) }
 {
-    let _lawful = first.steps();
-    let signal = first.output_signals()[output];
-    let value = evaluate(alloc, first, values)?[signal as usize];
+    let value = output_value(alloc, first, output, values)?;
     Ok(Report::Differs {
         name: Name::new(alloc, first.outputs()[output].as_bytes())?,
         inputs: with_values(alloc, first.inputs(), values)?,

@@ -24,13 +24,13 @@ fn allows(byte: u8, value: bool) -> bool
     }
 }
 
-pub(crate) fn agrees(on: bool, value: bool) -> bool
+fn agrees(on: bool, value: bool) -> bool
     ensures { result ≡ agrees on value }
 {
     if on { value } else { !value }
 }
 
-pub(crate) fn is_on(row: &[u8]) -> bool
+fn is_on(row: &[u8]) -> bool
     ensures { result ≡ is_on row.now }
 {
     match row.last() {
@@ -53,7 +53,7 @@ fn row_matches(row: &[u8], values: &[bool]) -> bool
     true
 }
 
-pub(crate) fn some_match(rows: &[&[u8]], values: &[bool]) -> bool
+fn some_match(rows: &[&[u8]], values: &[bool]) -> bool
     ensures { result ≡ some_match (map (λ r. r.now) rows.now) values.now }
 {
     for row in rows {
@@ -293,7 +293,7 @@ fn by_rows<R, D: Diagrams<R>>(
     made
 }
 
-pub(crate) fn slices(alloc: Global, rows: &[Name]) -> Result<Vec<&[u8]>, AllocError>
+fn slices(alloc: Global, rows: &[Name]) -> Result<Vec<&[u8]>, AllocError>
     ensures { IfOk result (λ v. map (λ r. r.now) v.items ≡ rows.now) }
 {
     let mut slices = Vec::with_capacity(alloc, rows.len())?;

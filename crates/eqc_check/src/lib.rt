@@ -7,7 +7,6 @@ mod check;
 mod compare;
 mod cover;
 mod ends;
-mod evaluate;
 mod laws;
 mod least;
 mod matched_pair;

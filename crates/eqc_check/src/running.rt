@@ -154,8 +154,8 @@ fn report_for<RT, R: Read + Drop>(
 /// `stopped 72`. A write that fails or takes nothing, or a flush that fails, is `Write`, 92, and then a part of a
 /// report was written. Nothing is tried again. The answer is the kind of the report.
 pub fn run<RT, R: Read + Drop, W: Write>(
-    alloc: Global,
     rt: &RT,
+    alloc: Global,
     texts: Texts<R>,
     order: Option<R>,
     options: &Options,

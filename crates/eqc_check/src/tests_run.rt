@@ -96,7 +96,7 @@ fn options_are_looked_at_first(rt: HostRuntime) -> Result<(), Fail> {
         };
         let mut out = Vec::new(alloc);
         let texts = Texts::One(text.as_slice());
-        let done = run(alloc, &rt, texts, None, &options, &mut out);
+        let done = run(&rt, alloc, texts, None, &options, &mut out);
         assert_eq!(rt; done, Ok(status), "{options:?}");
         assert_eq!(rt;
             out.as_slice(),
@@ -119,7 +119,7 @@ fn refused_options_keep_texts_unread(rt: HostRuntime) -> Result<(), Fail> {
     let mut out = Vec::new(alloc);
     let texts = Texts::One(feed(b"", 1, 0));
     assert_eq!(rt;
-        run(alloc, &rt, texts, None, &options, &mut out),
+        run(&rt, alloc, texts, None, &options, &mut out),
         Ok(Status::Refused)
     );
     assert_eq!(rt; out.as_slice(), b"refused options 0 81\n".as_slice());
@@ -133,7 +133,7 @@ fn a_text_may_come_byte_by_byte(rt: HostRuntime) -> Result<(), Fail> {
     for step in [1, 2, 7, 1000] {
         let mut out = Vec::new(alloc);
         let texts = Texts::One(feed(&text, step, NEVER));
-        let done = run(alloc, &rt, texts, None, &DEFAULTS, &mut out);
+        let done = run(&rt, alloc, texts, None, &DEFAULTS, &mut out);
         assert_eq!(rt; done, Ok(Status::Equivalent), "by {step}");
         assert_eq!(rt; out.as_slice(), b"equivalent\n".as_slice(), "by {step}");
     }
@@ -147,7 +147,7 @@ fn nothing_is_written_after_a_failed_read(rt: HostRuntime) -> Result<(), Fail> {
     for call in 0..29 {
         let mut out = drain(alloc, NEVER, NEVER, true);
         let texts = Texts::One(feed(&text, 1, call));
-        let done = run(alloc, &rt, texts, None, &DEFAULTS, &mut out);
+        let done = run(&rt, alloc, texts, None, &DEFAULTS, &mut out);
         assert_eq!(rt; done, Err(RunFault::Read), "at {call}");
         assert_eq!(rt; out.calls, 0, "at {call}");
     }
@@ -155,7 +155,7 @@ fn nothing_is_written_after_a_failed_read(rt: HostRuntime) -> Result<(), Fail> {
         let mut out = drain(alloc, NEVER, NEVER, true);
         let texts = Texts::Two(feed(&text, 100, first), feed(&text, 100, second));
         let order = Some(feed(b"", 100, order));
-        let done = run(alloc, &rt, texts, order, &DEFAULTS, &mut out);
+        let done = run(&rt, alloc, texts, order, &DEFAULTS, &mut out);
         assert_eq!(rt; done, Err(RunFault::Read), "{first} {second}");
         assert_eq!(rt; out.calls, 0, "{first} {second}");
     }
@@ -177,7 +177,7 @@ fn a_part_is_written_before_a_failed_write(rt: HostRuntime) -> Result<(), Fail> 
     for (step, fails_at, flushes, done, written) in rows {
         let mut out = drain(alloc, step, fails_at, flushes);
         let texts = Texts::One(text.as_slice());
-        let ran = run(alloc, &rt, texts, None, &DEFAULTS, &mut out);
+        let ran = run(&rt, alloc, texts, None, &DEFAULTS, &mut out);
         assert_eq!(rt; ran, done, "{step} {fails_at}");
         assert_eq!(rt;
             out.bytes.as_slice(),
@@ -193,7 +193,7 @@ fn a_text_without_end_is_too_long(rt: HostRuntime) {
     let alloc = rt.alloc();
     let mut out = Vec::new(alloc);
     let texts = Texts::One(Endless { calls: 0 });
-    let done = run(alloc, &rt, texts, None, &DEFAULTS, &mut out);
+    let done = run(&rt, alloc, texts, None, &DEFAULTS, &mut out);
     assert_eq!(rt; done, Ok(Status::Refused));
     assert_eq!(rt; out.as_slice(), b"refused first 0 2\n".as_slice());
 }
@@ -217,7 +217,7 @@ fn order_texts_change_no_answer(rt: HostRuntime) -> Result<(), Fail> {
         let mut out = Vec::new(alloc);
         let texts = Texts::One(text.as_slice());
         let order = Some(order.as_slice());
-        let done = run(alloc, &rt, texts, order, &DEFAULTS, &mut out);
+        let done = run(&rt, alloc, texts, order, &DEFAULTS, &mut out);
         assert!(rt; done.is_ok(), "{report}");
         assert_eq!(rt; out.as_slice(), lines(alloc, report)?.as_slice());
     }
@@ -251,7 +251,7 @@ fn two_texts_have_sides(rt: HostRuntime) -> Result<(), Fail> {
         let second = lines(alloc, second)?;
         let mut out = Vec::new(alloc);
         let texts = Texts::Two(first.as_slice(), second.as_slice());
-        let done = run(alloc, &rt, texts, None, &DEFAULTS, &mut out);
+        let done = run(&rt, alloc, texts, None, &DEFAULTS, &mut out);
         assert!(rt; done.is_ok(), "{report}");
         assert_eq!(rt; out.as_slice(), lines(alloc, report)?.as_slice());
     }

@@ -47,8 +47,8 @@ fn compare<RT: Files + AllocGlobal, R: Read + Drop, W: Write>(
         return End::Failed(RunFault::Read);
     };
     match run(
-        rt.alloc(),
         rt,
+        rt.alloc(),
         sources.texts,
         sources.order,
         &request.options,
