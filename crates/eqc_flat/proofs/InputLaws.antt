@@ -6,8 +6,8 @@ use Rattle.std.specs.Option.{option_map, option_and_then}
 use Rattle.eqc_blif.specs.Netlist.{ModelOf, InstanceOf}
 use Rattle.eqc_blif.specs.Names.{is_named}
 use Rattle.eqc_flat.specs.Hierarchy.{model, model_at, paths}
-use Rattle.eqc_flat.specs.Signals.{SignalOf, same_signal, SourceOf, from_signal, Driving, input_drivings, cover_driving, pair_driving, instance_drivings, drivings_at, drivings, sources_in, sources, needs, all_some, made, value_at}
-use Rattle.eqc_flat.specs.ValueLaws.{ValuesDependOnInputsAlone}
+use Rattle.eqc_flat.specs.Signals.{SignalOf, same_signal, SourceOf, from_signal, from_cover, Driving, input_drivings, cover_driving, pair_driving, instance_drivings, drivings_at, drivings, sources_in, sources, needs, all_some, made, value_at}
+use Rattle.eqc_flat.specs.ValueLaws.{ValuesDependOnInputsAlone, CoversDependOnColumnsAlone}
 use Rattle.eqc_flat.proofs.Distinct.{Member, member_append, member_of_map, all_pieces}
 
 -- a source that makes the same under two assignments, whatever values the signals have
@@ -86,3 +86,11 @@ values_depend_on_inputs_alone library top a b h (suc d) s = by_source (slice_get
     by_source (Some source) same up =
         mapped source (same source refl) (all_some (map (value_at library top a d) (needs source)))
         ∙ ap (λ (vs : List (Option Bool)). option_map (made b source) (all_some vs)) (map_same (value_at library top a d) (value_at library top b d) (needs source) up)
+
+pub covers_depend_on_columns_alone : CoversDependOnColumnsAlone
+unfolding value_at
+covers_depend_on_columns_alone library top a b d s columns rows source same = rw source (mapped (all_some (map (value_at library top a d) columns)) ∙ ap (λ (vs : List (Option Bool)). option_map (made b (from_cover columns rows)) (all_some vs)) same)
+  where
+    mapped : (o : Option (List Bool)) → option_map (made a (from_cover columns rows)) o ≡ option_map (made b (from_cover columns rows)) o
+    mapped None = refl
+    mapped (Some vs) = refl

@@ -1,8 +1,8 @@
 -- Laws of the values of flat signals, for readers of the definitions.
-use Rattle.std.specs.Prelude.{◌≡◌, ℕ, ◌+◌, ◌<◌, Bool, true, List, length, Some, None, is_some}
+use Rattle.std.specs.Prelude.{◌≡◌, ℕ, suc, ◌+◌, ◌<◌, Bool, true, List, length, map, Some, None, is_some, slice_get}
 use Rattle.eqc_blif.specs.Netlist.{ModelOf}
 use Rattle.eqc_flat.specs.Hierarchy.{model}
-use Rattle.eqc_flat.specs.Signals.{SignalOf, signals, value_at}
+use Rattle.eqc_flat.specs.Signals.{SignalOf, from_cover, signals, sources, value_at}
 use Rattle.eqc_flat.specs.Flattened.{signal_at}
 use Rattle.eqc_flat.specs.Codes.{flat_code}
 
@@ -21,3 +21,7 @@ AcceptedHaveValues = (library : List ModelOf) (top : ℕ) → flat_code library 
 -- the value of a signal at a depth depends on the values of the main model's inputs alone
 abbrev pub ValuesDependOnInputsAlone : Type 0
 ValuesDependOnInputsAlone = (library : List ModelOf) (top : ℕ) (a b : ℕ → Bool) → ((k : ℕ) → k < length (model library top).inputs → a k ≡ b k) → (d : ℕ) (s : SignalOf) → value_at library top a d s ≡ value_at library top b d s
+
+-- the value of a signal that a cover drives depends on the values of the cover's columns alone
+abbrev pub CoversDependOnColumnsAlone : Type 0
+CoversDependOnColumnsAlone = (library : List ModelOf) (top : ℕ) (a b : ℕ → Bool) (d : ℕ) (s : SignalOf) (columns : List SignalOf) (rows : List (List ℕ)) → slice_get (sources library top s) 0 ≡ Some (from_cover columns rows) → map (value_at library top a d) columns ≡ map (value_at library top b d) columns → value_at library top a (suc d) s ≡ value_at library top b (suc d) s

@@ -1,4 +1,4 @@
-ghost use Rattle.eqc_flat.specs.ValueLaws.{ValuesStay, ValuesAreThereForAll, AcceptedHaveValues, ValuesDependOnInputsAlone};
+ghost use Rattle.eqc_flat.specs.ValueLaws.{ValuesStay, ValuesAreThereForAll, AcceptedHaveValues, ValuesDependOnInputsAlone, CoversDependOnColumnsAlone};
 
 /// The value of a signal at a depth is its value at every greater depth.
 pub fn values_stay()
@@ -18,4 +18,9 @@ pub fn accepted_have_values()
 /// The value of a signal at a depth depends on the values of the main model's inputs alone.
 pub fn values_depend_on_inputs_alone()
     ensures { ValuesDependOnInputsAlone }
+{}
+
+/// The value of a signal that a cover drives depends on the values of the cover's columns alone.
+pub fn covers_depend_on_columns_alone()
+    ensures { CoversDependOnColumnsAlone }
 {}

@@ -32,5 +32,6 @@ pub use fault::Fault;
 pub use flat::Flat;
 pub use flattening::flatten;
 pub use laws::{
-    accepted_have_values, values_are_there_for_all, values_depend_on_inputs_alone, values_stay,
+    accepted_have_values, covers_depend_on_columns_alone, values_are_there_for_all,
+    values_depend_on_inputs_alone, values_stay,
 };
