@@ -18,7 +18,7 @@ pub mod Wraps
 pub mod Runs
 pub mod Removals
 pub mod Stored
-pub mod Agreement
+pub mod Cofactors
 pub mod StoredSeats
 pub mod Taking
 pub mod Stocks

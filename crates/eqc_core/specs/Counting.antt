@@ -1,4 +1,4 @@
--- A count word goes up and down with the names that a worker holds.
+-- A count word goes up and down with the names that a worker holds (Anderson, Blelloch and Wei 2021: increment and decrement).
 use Rattle.std.specs.Prelude.{◌≡◌, ℕ, ◌-◌, ◌^◌, ◌<◌, ◌≤◌, ◌⊎◌, [], ◌∷◌, ◌++◌, length, Some}
 use mathlib.Core.Option.{some}
 use lib.ListN.{get_elem?}

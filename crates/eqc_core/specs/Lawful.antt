@@ -1,4 +1,4 @@
--- When a state is lawful. Every state of every run is, and each step keeps it so.
+-- When a state is lawful (Anderson, Blelloch and Wei 2021: a count is the number of owners, and what is announced in time is not given again). Every state of every run is, and each step keeps it so.
 use Rattle.std.specs.Prelude.{◌≡◌, ℕ, ◌+◌, ◌*◌, ◌^◌, ◌<◌, ◌≤◌, ◌⊎◌, List, length, get_or, sum_by, eqb, cond, true, false, Some, ◌&&◌}
 use mathlib.Core.Option.{some}
 use lib.ListN.{get_elem?}

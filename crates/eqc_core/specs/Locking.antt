@@ -1,4 +1,4 @@
--- A stripe's lock is taken, and with it the stripe's table; and let go.
+-- A stripe's lock is taken, and with it the stripe's table; and let go. No event takes these steps yet.
 use Rattle.std.specs.Prelude.{◌≡◌, ℕ, ◌<◌, [], sum_by, Some, None, Bool, eqb, get_or, set}
 use mathlib.Core.Option.{some, none}
 use Rattle.eqc_core.specs.View.{View, Hand}

@@ -18,11 +18,6 @@ use Rattle.eqc_core.specs.State.{State, IsLawful, repeated, literal_homes}
 abbrev pub active_view : Sizes → Worker → View
 active_view z w = record (fresh z w.number) { held = w.held.items; phases = w.phase ∷ []; retired = w.retired.items; position = w.position; noted = w.noted.items; given = w.given; out = w.out.items }
 
--- the worker's view has changed in this way
-pub record Turns (old new : Worker) (change : View → View) : Type 0 where
-  pub active : new.active ≡ old.active
-  pub view : (z : Sizes) → active_view z new ≡ change (active_view z old)
-
 abbrev pub view_of : Sizes → Worker → View
 view_of z w = if w.active then active_view z w else (if w.over then spent else unused)
 
@@ -36,6 +31,13 @@ state_of m = record { sizes = m.sizes; words = words_of m; homes = literal_homes
 pub record IsKept (m : Machine) : Type 0 where
   pub one_word : m.sizes.announcements ≡ 1
   pub lawful : IsLawful (state_of m)
+
+-- From here on: what the steps on the stored machine say to one another. No public promise cites it.
+
+-- the worker's view has changed in this way
+pub record Turns (old new : Worker) (change : View → View) : Type 0 where
+  pub active : new.active ≡ old.active
+  pub view : (z : Sizes) → active_view z new ≡ change (active_view z old)
 
 -- the worker is active in this machine
 pub record IsTurn (m : Machine) (id : ℕ) : Type 0 where

@@ -1,6 +1,7 @@
 -- A state of the machine, and the states in which runs begin.
 use Rattle.std.specs.Prelude.{ℕ, zero, suc, ◌+◌, ◌-◌, ◌*◌, ◌^◌, ◌<◌, ◌≤◌, List, [], ◌∷◌, ◌++◌, if◌then◌else◌, eqb}
 use mathlib.Core.Option.{some}
+use Rattle.eqc_tree.specs.Word.{node_word}
 use Rattle.eqc_core.specs.declared.sizes.Sizes.{Sizes}
 use Rattle.eqc_core.specs.View.{View, fresh}
 use Rattle.eqc_core.specs.Words.{Words, announced_words, stripe_of}
@@ -33,7 +34,7 @@ repeated x (suc n) = x ∷ repeated x n
 
 -- the word of the literal of a variable: its low child is false, its high child true
 abbrev pub literal : ℕ → ℕ
-literal i = i * 2 ^ 40 + 1
+literal i = node_word i 0 1
 
 -- the words of the literals of n variables, from i on
 abbrev pub literals : ℕ → ℕ → List ℕ

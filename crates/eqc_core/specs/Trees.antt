@@ -1,9 +1,8 @@
 -- The decision tree that a name stands for, and the words that are right (Bryant 1986: a node is a variable and two children).
-use Rattle.std.specs.Prelude.{◌≡◌, ℕ, ◌^◌, ◌<◌, ◌≤◌, ◌⊎◌, List, get_or, Bool, eqb, ltb, if◌then◌else◌}
+use Rattle.std.specs.Prelude.{◌≡◌, ℕ, ◌^◌, ◌<◌, ◌≤◌, ◌⊎◌, List, get_or, Bool, ltb, if◌then◌else◌}
 use Rattle.eqc_tree.specs.Tree.{Tree, False, True, Node, value}
-use Rattle.eqc_tree.specs.Operation.{operate}
+use Rattle.eqc_tree.specs.Operation.{operate, tag_of}
 use Rattle.eqc_tree.specs.declared.operation.Op.{Op}
-use Rattle.eqc_tree.specs.declared.operation.Op.TheVariants.{And, Or, Xor, AndNot}
 use Rattle.eqc_core.specs.Words.{variable_of, low_of, high_of, operation_of, first_of, second_of, result_of}
 
 -- the tree of a name, as the node words have it
@@ -23,21 +22,17 @@ pub record IsShaped (variables : ℕ) (nodes : List ℕ) (word : ℕ) : Type 0 w
   pub above_high : variable_of word < variable_at nodes (high_of word)
   pub differ : low_of word ≡ high_of word → ⊥
 
--- the operation with a number from 1 to 4
-abbrev pub operation : ℕ → Op
-operation n = if eqb n 1 then And else (if eqb n 2 then Or else (if eqb n 3 then Xor else AndNot))
-
 -- the word's operation on the functions of its operands gives the function of its result
 pub record IsFilled (nodes : List ℕ) (word : ℕ) : Type 0 where
-  pub some_operation : 0 < operation_of word
-  pub an_operation : operation_of word < 5
+  pub operation : Op
+  pub tag : operation_of word ≡ tag_of operation
   pub first : Tree
   pub second : Tree
   pub result : Tree
   pub first_is : IsTree nodes first (first_of word)
   pub second_is : IsTree nodes second (second_of word)
   pub result_is : IsTree nodes result (result_of word)
-  pub right : (a : ℕ → Bool) → operate (operation (operation_of word)) (value first a) (value second a) ≡ value result a
+  pub right : (a : ℕ → Bool) → operate operation (value first a) (value second a) ≡ value result a
 
 -- a cell is empty or right
 abbrev pub IsRight : List ℕ → ℕ → Type 0

@@ -1,5 +1,6 @@
 -- The shared words by kind, and the fields of a word.
 use Rattle.std.specs.Prelude.{ℕ, ◌+◌, ◌*◌, ◌/◌, ◌%◌, ◌^◌, List, [], ◌∷◌, count_by, eqb, if◌then◌else◌, ltb}
+use Rattle.eqc_tree.specs.Word.{node_low, node_high, cell_tag, cell_first, cell_second, cell_result}
 use Rattle.eqc_core.specs.declared.sizes.Sizes.{Sizes}
 
 -- the words, by kind
@@ -19,15 +20,15 @@ announced_words z = z.workers * z.announcements
 unfoldable pub word_at : Sizes → ℕ → ℕ → ℕ
 word_at z m k = m * z.announcements + k
 
--- the fields of a node word: the variable in bits 40 to 55, the low child in 20 to 39, the high child in 0 to 19
+-- the fields of a node word; the variable with the bits above it, so that a word in order has none of them
 unfoldable pub variable_of : ℕ → ℕ
 variable_of word = word / 2 ^ 40
 
 unfoldable pub low_of : ℕ → ℕ
-low_of word = (word / 2 ^ 20) % 2 ^ 20
+low_of word = node_low word
 
 unfoldable pub high_of : ℕ → ℕ
-high_of word = word % 2 ^ 20
+high_of word = node_high word
 
 abbrev pub children : ℕ → List ℕ
 children word = low_of word ∷ high_of word ∷ []
@@ -36,18 +37,18 @@ children word = low_of word ∷ high_of word ∷ []
 unfoldable pub stripe_of : ℕ → ℕ
 stripe_of word = (variable_of word + (low_of word + high_of word)) % 16
 
--- the fields of a cell or a box: the operation in bits 60 to 63, the operands in 40 to 59 and 20 to 39, the result in 0 to 19
+-- the fields of the word of a cell or a box
 unfoldable pub operation_of : ℕ → ℕ
-operation_of word = word / 2 ^ 60
+operation_of word = cell_tag word
 
 unfoldable pub first_of : ℕ → ℕ
-first_of word = (word / 2 ^ 40) % 2 ^ 20
+first_of word = cell_first word
 
 unfoldable pub second_of : ℕ → ℕ
-second_of word = (word / 2 ^ 20) % 2 ^ 20
+second_of word = cell_second word
 
 unfoldable pub result_of : ℕ → ℕ
-result_of word = word % 2 ^ 20
+result_of word = cell_result word
 
 abbrev pub operands : ℕ → List ℕ
 operands word = first_of word ∷ second_of word ∷ []

@@ -3,7 +3,9 @@
 /// One step of one worker: a load, a store, a swap or an add on one shared word, or a split or join.
 #[derive(Clone, Copy)]
 pub struct Event {
+    /// The number of the worker, counted from 0.
     pub worker: u32,
+    /// What it does.
     pub step: Step,
 }
 

@@ -1,19 +1,23 @@
 //! The pure machine under the shared diagrams: words, what each worker knows, and atomic steps.
 //!
-//! A slot's count is the number of its owners, and an operation's result can be loaded from a cell
-//! without a count, by an announcement (deferred counting). Here is no thread: a step is one change
-//! of one word by one worker, a run is a list of steps, and the laws say that every state of every
-//! run is lawful. The running layer rests on the law of each step.
+//! A slot's count is the number of its owners, and a cell's result is loaded without a count, by an
+//! announcement (deferred counting: Anderson, Blelloch and Wei 2021). Here is no thread: a step is
+//! one change of one word by one worker, a run is a list of steps, and the laws say that each step
+//! keeps the state lawful. The running layer rests on them. Read the modules in this order:
+//!
+//! - `laws`, with `specs/Lawful.antt` and `specs/Laws.antt`; `event`, the steps
+//! - `state`, a state as callers have it; `playback`, what a list of events makes of it
+//! - `machine`, the stored words; `worker` and `phase`, what a worker knows; `agreement`, whether a
+//!   cell's word is right; `multiset`, `sizes` and `stock`, what these stand on
 #![tactic(auto)]
 
-mod cell;
+mod agreement;
 mod event;
 pub mod laws;
 mod machine;
 mod multiset;
 mod phase;
 mod playback;
-mod right;
 mod sizes;
 mod state;
 mod stock;

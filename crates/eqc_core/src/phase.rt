@@ -1,11 +1,12 @@
 //! How far a counted load has come.
 
-use crate::cell;
+use eqc_tree::unpack_cell;
 
 /// How far a counted load by one announcement word has come: a look at a cell, an announcement of
 /// the result that was seen there, and a second look.
 #[derive(Clone, Copy)]
 pub enum Phase {
+    /// No load is under way.
     Idle,
     /// The cell, and the word that was seen in it.
     Seen(u32, u64),
@@ -36,12 +37,16 @@ impl Phase {
     }
 
     // Whether x may be stored: the result that was seen, or 0 where a name is announced.
+    #[tactic(auto, unfolding(crate::specs::Words::result_of))]
     pub(crate) fn lets_announce(self, x: u32) -> bool
         ensures { IsTrue result ↔ LetsAnnounce self x }
     {
         match self {
             Phase::Idle => false,
-            Phase::Seen(_, word) => x >= 2 && x == cell::result(word),
+            Phase::Seen(_, word) => {
+                let (_, _, _, seen) = unpack_cell(word);
+                x >= 2 && x == seen
+            }
             Phase::Announced(_, _) => x == 0,
             Phase::Confirmed(_) => x == 0,
             Phase::Missed(_) => x == 0,
@@ -76,12 +81,13 @@ impl Phase {
     }
 
     // The phase after a second look that found this word.
+    #[tactic(auto, unfolding(crate::specs::Words::result_of))]
     pub(crate) fn rechecked(self, found: u64) -> Phase
         ensures { result ≡ rechecked_phase self found }
     {
         match self {
             Phase::Announced(_, word) => {
-                let x = cell::result(word);
+                let (_, _, _, x) = unpack_cell(word);
                 if found == word {
                     Phase::Confirmed(x)
                 } else {

@@ -8,14 +8,19 @@ use crate::event::Event;
 use crate::machine::Machine;
 use crate::state::Core;
 use std::alloc::{AllocError, Global};
+use thiserror::Error;
 
 /// Why there is no state.
-#[derive(Clone, Copy, Debug, PartialEq, Eq)]
+#[derive(Clone, Copy, Debug, PartialEq, Eq, Error)]
 pub enum ReplayFault {
     /// More workers, nodes or cells were asked for than a replay takes, or none.
+    #[error("the sizes are not those of a replay: 1 to 8 workers, 1 to 16 nodes, 1 to 16 cells")]
     Size,
+    /// The allocator refused.
+    #[error("the memory is exhausted")]
     Memory,
     /// The event with this index is the first that is not allowed.
+    #[error("event {0} is not allowed")]
     Event(u32),
 }
 

@@ -6,6 +6,7 @@ ghost use Rattle.eqc_core.specs.Machine.{state_of};
 use crate::machine::Machine;
 use crate::sizes::Sizes;
 use crate::worker::Worker;
+use eqc_tree::pack_node;
 use std::alloc::{AllocError, Global};
 
 // A word n times.
@@ -37,7 +38,7 @@ fn literal_words(alloc: Global, n: u32) -> Result<Vec<u64>, AllocError>
 {
     let mut words = Vec::new(alloc);
     for k in 0..n {
-        words.push(u64::from(k) * (1 << 40) + 1)?;
+        words.push(pack_node(k as u16, 0, 1))?;
     }
     Ok(words)
 }

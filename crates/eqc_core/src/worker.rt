@@ -4,9 +4,10 @@ ghost use Rattle.eqc_core.specs.declared.sizes.Sizes.{Sizes as Numbers};
 ghost use Rattle.eqc_core.specs.View.{grown};
 ghost use Rattle.eqc_core.specs.Machine.{view_of};
 
+use crate::multiset;
 use crate::phase::Phase;
 use crate::sizes::Sizes;
-use crate::{cell, multiset};
+use eqc_tree::unpack_cell;
 use std::alloc::{AllocError, Global};
 
 // What one worker knows. A number that is not active has an empty one.
@@ -175,6 +176,7 @@ impl Worker {
     }
 
     // Whether it may store this word into the cell, where the word is right.
+    #[tactic(auto, unfolding(crate::specs::Words::first_of, crate::specs::Words::second_of, crate::specs::Words::result_of))]
     pub(crate) fn may_store(&self, sizes: Sizes, c: u32, word: u64) -> bool
         requires { sizes.announcements ≡ 1 }
         ensures { IsTrue result ↔ MayStore (active_view sizes self.now) c word }
@@ -185,20 +187,20 @@ impl Worker {
         if self.retired.len() as u64 >= 2 * sizes.announced_words() {
             return false;
         }
-        let names = [cell::result(word), cell::first(word), cell::second(word)];
-        multiset::are_held(&names, &self.held)
+        let (_, f, g, r) = unpack_cell(word);
+        multiset::are_held(&[r, f, g], &self.held)
     }
 
     // Gives the names of the new word away, and takes those of the old one.
+    #[tactic(auto, unfolding(crate::specs::Words::first_of, crate::specs::Words::second_of, crate::specs::Words::result_of))]
     pub(crate) fn swap_cell(&mut self, alloc: Global, old: u64, word: u64) -> Result<(), AllocError>
         ensures { OnOk result (Turns self.old self.new (λ v. swapped v old word)) }
     {
-        let names = [cell::result(word), cell::first(word), cell::second(word)];
-        let given = multiset::slots(alloc, &names)?;
-        let operands = [cell::first(old), cell::second(old)];
-        let taken = multiset::slots(alloc, &operands)?;
-        let result = [cell::result(old)];
-        let late = multiset::slots(alloc, &result)?;
+        let (_, f, g, r) = unpack_cell(word);
+        let given = multiset::slots(alloc, &[r, f, g])?;
+        let (_, old_f, old_g, old_r) = unpack_cell(old);
+        let taken = multiset::slots(alloc, &[old_f, old_g])?;
+        let late = multiset::slots(alloc, &[old_r])?;
         multiset::remove_each(&mut self.held, &given);
         self.held.extend_from_slice(&taken)?;
         self.retired.extend_from_slice(&late)?;

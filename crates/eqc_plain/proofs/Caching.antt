@@ -8,9 +8,9 @@ use Rattle.eqc_tree.specs.declared.operation.Op.{Op}
 use Rattle.eqc_tree.specs.declared.operation.Op.TheVariants.{And, Or, Xor, AndNot}
 use Rattle.eqc_plain.specs.Combining.{IsResult}
 use Rattle.eqc_plain.specs.Cache.{IsCache}
-use Rattle.eqc_plain.specs.Terminal.{IsArranged}
+use Rattle.eqc_plain.specs.Terminal.{AreOperands}
 use Rattle.eqc_plain.proofs.Growing.{IsBefore}
-use Rattle.eqc_plain.proofs.Combining.{result_grows, arranged, arranged_back}
+use Rattle.eqc_plain.proofs.Combining.{result_grows, from_ordered, to_ordered}
 
 -- tags go from 1 to 4, and tell operations apart
 pub tag_range : (op : Op) → (1 ≤ tag_of op) × (tag_of op < 5)
@@ -60,8 +60,8 @@ empty_cell : (op : Op) (f g r w : ℕ) → w ≡ 0 → w ≡ cell_word (tag_of o
 empty_cell op f g r w z e = omega (arith, tag_range op)
 
 -- more cells, all empty, are right
-pub cache_widens : (variables : ℕ) (ws old new : List ℕ) → ((k : ℕ) → k < length new → ((k < length old) × (get_or new k 0 ≡ get_or old k 0)) ⊎ (get_or new k 0 ≡ 0)) → IsCache variables ws old → IsCache variables ws new
-cache_widens variables ws old new m c =
+pub cache_lengthens : (variables : ℕ) (ws old new : List ℕ) → ((k : ℕ) → k < length new → ((k < length old) × (get_or new k 0 ≡ get_or old k 0)) ⊎ (get_or new k 0 ≡ 0)) → IsCache variables ws old → IsCache variables ws new
+cache_lengthens variables ws old new m c =
     record {
       right = λ k h op f g r a b d e. elim (m k h) [
         | inl w ↦ c.right k w.0 op f g r a b d (sym w.1 ∙ e)
@@ -70,7 +70,7 @@ cache_widens variables ws old new m c =
     }
 
 -- a right result may be kept
-pub cache_keeps : (variables : ℕ) (ws cells : List ℕ) (op : Op) (f g p q x i : ℕ) → p < 2 ^ 20 → q < 2 ^ 20 → x < 2 ^ 20 → IsArranged op f g p q → IsResult variables op ws f g x → IsCache variables ws cells → i < length cells → IsCache variables ws (set cells i (cell_word (tag_of op) p q x))
+pub cache_keeps : (variables : ℕ) (ws cells : List ℕ) (op : Op) (f g p q x i : ℕ) → p < 2 ^ 20 → q < 2 ^ 20 → x < 2 ^ 20 → AreOperands op f g p q → IsResult variables op ws f g x → IsCache variables ws cells → i < length cells → IsCache variables ws (set cells i (cell_word (tag_of op) p q x))
 cache_keeps variables ws cells op f g p q x i hp hq hx m right c inside =
     record {
       right = λ k h o u v r a b d e. elim (cases_eq k i) [
@@ -78,20 +78,20 @@ cache_keeps variables ws cells op f g p q x i hp hq hx m right c inside =
             let n : get_or (set cells i (cell_word (tag_of op) p q x)) k 0 ≡ cell_word (tag_of op) p q x = rw here (get_or-set_same cells i (cell_word (tag_of op) p q x) 0 inside) in
             let s = cell_once (tag_of op) p q x (tag_of o) u v r hp hq hx a b d (sym n ∙ e) in
             let z : op ≡ o = tag_once op o s.tag in
-            rw (← z, ← s.first, ← s.second, ← s.found) (arranged_back variables op ws f g p q x m right)
+            rw (← z, ← s.first, ← s.second, ← s.found) (to_ordered variables op ws f g p q x m right)
         | inr there ↦ c.right k (omega (arith, length-set cells i (cell_word (tag_of op) p q x))) o u v r a b d (sym (get_or-set_other cells i k (cell_word (tag_of op) p q x) 0 there) ∙ e)
       ];
     }
 
 -- a cell that was found
-pub cell_found : (variables : ℕ) (ws cells : List ℕ) (op : Op) (f g p q k w r : ℕ) → p < 2 ^ 20 → q < 2 ^ 20 → IsArranged op f g p q → k < length cells → get_or cells k 0 / 2 ^ 20 ≡ cell_word (tag_of op) p q 0 / 2 ^ 20 → r ≡ get_or cells k 0 % 2 ^ 20 → IsCache variables ws cells → IsResult variables op ws f g r
+pub cell_found : (variables : ℕ) (ws cells : List ℕ) (op : Op) (f g p q k w r : ℕ) → p < 2 ^ 20 → q < 2 ^ 20 → AreOperands op f g p q → k < length cells → get_or cells k 0 / 2 ^ 20 ≡ cell_word (tag_of op) p q 0 / 2 ^ 20 → r ≡ get_or cells k 0 % 2 ^ 20 → IsCache variables ws cells → IsResult variables op ws f g r
 cell_found variables ws cells op f g p q k w r hp hq m h e er c =
-    arranged variables op ws f g p q r m (c.right k h op p q r hp hq (omega arith) (omega arith))
+    from_ordered variables op ws f g p q r m (c.right k h op p q r hp hq (omega arith) (omega arith))
 
 -- operands stay small as they change places
-pub arranged_small : (op : Op) (f g p q n : ℕ) → f < n → g < n → IsArranged op f g p q → (p < n) × (q < n)
-arranged_small op f g p q n hf hg (inl e) = (omega arith, omega arith)
-arranged_small op f g p q n hf hg (inr e) = (omega arith, omega arith)
+pub ordered_small : (op : Op) (f g p q n : ℕ) → f < n → g < n → AreOperands op f g p q → (p < n) × (q < n)
+ordered_small op f g p q n hf hg (inl e) = (omega arith, omega arith)
+ordered_small op f g p q n hf hg (inr e) = (omega arith, omega arith)
 
 -- cells that were added are empty
 pub filled : (b : Bool) (n m : ℕ) (old new : List ℕ) → length old ≤ n → m ≡ n - length old → new ≡ cond b (take n old ++ replicate m 0) old → (k : ℕ) → k < length new → ((k < length old) × (get_or new k 0 ≡ get_or old k 0)) ⊎ (get_or new k 0 ≡ 0)

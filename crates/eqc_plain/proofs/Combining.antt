@@ -2,9 +2,9 @@ use Rattle.std.proofs.Common.{◌≡◌, ℕ, ◌+◌, ◌<◌, Bool, true, fals
 use Rattle.eqc_tree.specs.Tree.{value}
 use Rattle.eqc_tree.specs.Operation.{operate}
 use Rattle.eqc_tree.specs.declared.operation.Op.{Op}
-use Rattle.eqc_plain.specs.Store.{tree_at, root, IsNode, IsSplit, IsStore}
-use Rattle.eqc_plain.specs.Combining.{IsResult, IsHalved}
-use Rattle.eqc_plain.specs.Terminal.{Decides, IsArranged}
+use Rattle.eqc_plain.specs.Store.{tree_at, root, IsNode, AreCofactors, IsStore}
+use Rattle.eqc_plain.specs.Combining.{IsResult, IsExpansion}
+use Rattle.eqc_plain.specs.Terminal.{Decides, AreOperands}
 use Rattle.eqc_plain.proofs.Trees.{tree_at-zero, tree_at-one, root-constant, root_le}
 use Rattle.eqc_plain.proofs.Growing.{IsBefore}
 
@@ -12,15 +12,15 @@ choose : (op : Op) (b f g x y z w : Bool) → f ≡ cond b y x → g ≡ cond b 
 choose op true f g x y z w e d = let P = operate op in cc
 choose op false f g x y z w e d = let P = operate op in cc
 
--- the operation on both halves, under one node
-pub combined : (variables : ℕ) (op : Op) (ws : List ℕ) (v f g f0 f1 g0 g1 r0 r1 x : ℕ) → IsHalved variables ws v f g f0 f1 g0 g1 → IsResult variables op ws f0 g0 r0 → IsResult variables op ws f1 g1 r1 → IsNode variables ws v r0 r1 x → IsResult variables op ws f g x
+-- the operation on both pairs of cofactors, under one node
+pub combined : (variables : ℕ) (op : Op) (ws : List ℕ) (v f g f0 f1 g0 g1 r0 r1 x : ℕ) → IsExpansion variables ws v f g f0 f1 g0 g1 → IsResult variables op ws f0 g0 r0 → IsResult variables op ws f1 g1 r1 → IsNode variables ws v r0 r1 x → IsResult variables op ws f g x
 combined variables op ws v f g f0 f1 g0 g1 r0 r1 x h c0 c1 n =
     record {
       first = h.first;
       second = h.second;
       within = n.within;
       above = λ w hf hg. omega (arith, n.root_at, h.top w hf hg);
-      function = λ a. n.function a ∙ (rw (c0.function a, c1.function a) refl ∙ choose op (a v) _ _ _ _ _ _ (h.split_f.function a) (h.split_g.function a));
+      function = λ a. n.function a ∙ (rw (c0.function a, c1.function a) refl ∙ choose op (a v) _ _ _ _ _ _ (h.cofactors_f.function a) (h.cofactors_g.function a));
     }
 
 -- what starts below v on both sides has a result that does
@@ -41,8 +41,8 @@ result_grows {variables} {op} {old} {new} {f} {g} {x} q k =
       function = λ a. rw (ef, eg, ex) (k.function a);
     }
 
-split_grows : {variables : ℕ} {old new : List ℕ} {v x low high : ℕ} → IsBefore old new → x < length old + 2 → IsSplit variables old v x low high → IsSplit variables new v x low high
-split_grows {variables} {old} {new} {v} {x} {low} {high} q h s =
+cofactors_grow : {variables : ℕ} {old new : List ℕ} {v x low high : ℕ} → IsBefore old new → x < length old + 2 → AreCofactors variables old v x low high → AreCofactors variables new v x low high
+cofactors_grow {variables} {old} {new} {v} {x} {low} {high} q h s =
     let ex = q.tree x h in
     let el = q.tree low s.low_within in
     let eh = q.tree high s.high_within in
@@ -54,17 +54,17 @@ split_grows {variables} {old} {new} {v} {x} {low} {high} q h s =
       function = λ a. rw (ex, el, eh) (s.function a);
     }
 
--- halves stay as the store grows
-pub halved_grows : {variables : ℕ} {old new : List ℕ} {v f g f0 f1 g0 g1 : ℕ} → IsBefore old new → IsHalved variables old v f g f0 f1 g0 g1 → IsHalved variables new v f g f0 f1 g0 g1
-halved_grows {variables} {old} {new} {v} {f} {g} q h =
+-- cofactors stay as the store grows
+pub expansion_grows : {variables : ℕ} {old new : List ℕ} {v f g f0 f1 g0 g1 : ℕ} → IsBefore old new → IsExpansion variables old v f g f0 f1 g0 g1 → IsExpansion variables new v f g f0 f1 g0 g1
+expansion_grows {variables} {old} {new} {v} {f} {g} q h =
     let ef = q.tree f h.first in
     let eg = q.tree g h.second in
     record {
       first = omega (arith, h.first, q.size);
       second = omega (arith, h.second, q.size);
       below = h.below;
-      split_f = split_grows q h.first h.split_f;
-      split_g = split_grows q h.second h.split_g;
+      cofactors_f = cofactors_grow q h.first h.cofactors_f;
+      cofactors_g = cofactors_grow q h.second h.cofactors_g;
       top = λ w. rw (ef, eg) (h.top w);
     }
 
@@ -92,14 +92,14 @@ module _ {variables limit : ℕ} {ws counts : List ℕ} (s : IsStore variables l
       }
 
 -- a result for operands that may have changed places
-pub arranged : (variables : ℕ) (op : Op) (ws : List ℕ) (f g p q x : ℕ) → IsArranged op f g p q → IsResult variables op ws p q x → IsResult variables op ws f g x
-arranged variables op ws f g p q x (inl e) r = rw (← e.0, ← e.1) r
-arranged variables op ws f g p q x (inr e) r =
+pub from_ordered : (variables : ℕ) (op : Op) (ws : List ℕ) (f g p q x : ℕ) → AreOperands op f g p q → IsResult variables op ws p q x → IsResult variables op ws f g x
+from_ordered variables op ws f g p q x (inl e) r = rw (← e.0, ← e.1) r
+from_ordered variables op ws f g p q x (inr e) r =
     let r' : IsResult variables op ws g f x = rw (← e.0, ← e.1) r in
     record { first = r'.second; second = r'.first; within = r'.within; above = λ v a b. r'.above v b a; function = λ a. r'.function a ∙ e.2 _ _ }
 
 -- and the other way round
-pub arranged_back : (variables : ℕ) (op : Op) (ws : List ℕ) (f g p q x : ℕ) → IsArranged op f g p q → IsResult variables op ws f g x → IsResult variables op ws p q x
-arranged_back variables op ws f g p q x (inl e) r = rw (e.0, e.1) r
-arranged_back variables op ws f g p q x (inr e) r =
+pub to_ordered : (variables : ℕ) (op : Op) (ws : List ℕ) (f g p q x : ℕ) → AreOperands op f g p q → IsResult variables op ws f g x → IsResult variables op ws p q x
+to_ordered variables op ws f g p q x (inl e) r = rw (e.0, e.1) r
+to_ordered variables op ws f g p q x (inr e) r =
     rw (e.0, e.1) (record { first = r.second; second = r.first; within = r.within; above = λ v a b. r.above v b a; function = λ a. r.function a ∙ e.2 _ _ })

@@ -4,7 +4,7 @@ use Rattle.std.proofs.lemmas.List.{get_or_append_left, get_or-append-add, append
 use Rattle.eqc_tree.specs.Word.{node_word}
 use Rattle.eqc_tree.specs.Tree.{Tree, Node, value}
 use Rattle.eqc_tree.proofs.WordLemmas.{node_fields}
-use Rattle.eqc_plain.specs.Store.{variable_of, low_of, high_of, trees, tree_at, root, HasShape, IsStore, IsNode, IsSplit, Grows, planted}
+use Rattle.eqc_plain.specs.Store.{variable_of, low_of, high_of, trees, tree_at, root, HasShape, IsStore, IsNode, AreCofactors, Grows, planted}
 use Rattle.eqc_plain.proofs.Trees.{tree_at-append, tree_at-last, tree_at-node}
 
 -- the fields of a word that was packed
@@ -141,8 +141,8 @@ equal_children variables ws v low high e h r =
     }
 
 -- what starts below v does not depend on v
-pub split_same : (variables : ℕ) (ws : List ℕ) (v x : ℕ) → x < length ws + 2 → v < root variables (tree_at ws x) → IsSplit variables ws v x x x
-split_same variables ws v x h above =
+pub cofactors_same : (variables : ℕ) (ws : List ℕ) (v x : ℕ) → x < length ws + 2 → v < root variables (tree_at ws x) → AreCofactors variables ws v x x x
+cofactors_same variables ws v x h above =
     record {
       low_within = h;
       high_within = h;
@@ -152,8 +152,8 @@ split_same variables ws v x h above =
     }
 
 -- a node of v is its children
-pub split_node : {variables limit : ℕ} {ws counts : List ℕ} → IsStore variables limit ws counts → (v x : ℕ) → 2 ≤ x → x < length ws + 2 → variable_of (get_or ws (x - 2) 0) ≡ v → IsSplit variables ws v x (low_of (get_or ws (x - 2) 0)) (high_of (get_or ws (x - 2) 0))
-split_node {variables} {limit} {ws} {counts} s v x two h e =
+pub cofactors_node : {variables limit : ℕ} {ws counts : List ℕ} → IsStore variables limit ws counts → (v x : ℕ) → 2 ≤ x → x < length ws + 2 → variable_of (get_or ws (x - 2) 0) ≡ v → AreCofactors variables ws v x (low_of (get_or ws (x - 2) 0)) (high_of (get_or ws (x - 2) 0))
+cofactors_node {variables} {limit} {ws} {counts} s v x two h e =
     let k : x - 2 < length ws = omega arith in
     let p = s.shape (x - 2) k in
     record {

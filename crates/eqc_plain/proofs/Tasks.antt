@@ -4,12 +4,12 @@ use Rattle.std.proofs.lemmas.List.Sums.{sum_by-append}
 use Rattle.eqc_tree.specs.declared.operation.Op.{Op}
 use Rattle.eqc_plain.specs.declared.task.Task.{Task}
 use Rattle.eqc_plain.specs.declared.task.Task.TheVariants.{Low, High}
-use Rattle.eqc_plain.specs.Combining.{IsResult, IsHalved}
-use Rattle.eqc_plain.specs.Store.{IsNode, IsSplit, IsStore, tree_at, root}
+use Rattle.eqc_plain.specs.Combining.{IsResult, IsExpansion}
+use Rattle.eqc_plain.specs.Store.{IsNode, AreCofactors, IsStore, tree_at, root}
 use Rattle.eqc_plain.specs.Tasks.{HasLow, Leads, LeadsTo, owed, owed_all, work, StepsTo, ComesNext}
 use Rattle.eqc_plain.proofs.Trees.{root_below}
 use Rattle.eqc_plain.proofs.Growing.{IsBefore}
-use Rattle.eqc_plain.proofs.Combining.{result_grows, halved_grows, combined}
+use Rattle.eqc_plain.proofs.Combining.{result_grows, expansion_grows, combined}
 
 -- what leads on leads all the way
 pub leads-append : (variables : ℕ) (op : Op) (ws : List ℕ) (ts us : List Task) (F G f g p q : ℕ) → Leads variables op ws ts F G f g → Leads variables op ws us f g p q → Leads variables op ws (ts ++ us) F G p q
@@ -39,29 +39,29 @@ pub leads_grows : (variables : ℕ) (op : Op) (old new : List ℕ) (ts : List Ta
 leads_grows variables op old new [] F G f g q l = l
 leads_grows variables op old new (Low a b v c d ∷ ts) F G f g q l =
     let h = l.2.0 in
-    (l.0, l.1, (record { p0 = h.p0; q0 = h.q0; halved = halved_grows q h.halved }, leads_grows variables op old new ts h.p0 h.q0 f g q l.2.1))
+    (l.0, l.1, (record { p0 = h.p0; q0 = h.q0; expansion = expansion_grows q h.expansion }, leads_grows variables op old new ts h.p0 h.q0 f g q l.2.1))
 leads_grows variables op old new (High a b v low ∷ ts) F G f g q l =
     let h = l.2.0 in
-    (l.0, l.1, (record { p0 = h.p0; p1 = h.p1; q0 = h.q0; q1 = h.q1; halved = halved_grows q h.halved; right = result_grows q h.right }, leads_grows variables op old new ts h.p1 h.q1 f g q l.2.1))
+    (l.0, l.1, (record { p0 = h.p0; p1 = h.p1; q0 = h.q0; q1 = h.q1; expansion = expansion_grows q h.expansion; right = result_grows q h.right }, leads_grows variables op old new ts h.p1 h.q1 f g q l.2.1))
 
--- the operation on f and g is halved, and the low halves come next
-pub leads_low : (variables : ℕ) (op : Op) (ws : List ℕ) (ts : List Task) (F G f g v f0 f1 g0 g1 : ℕ) → Leads variables op ws ts F G f g → IsHalved variables ws v f g f0 f1 g0 g1 → Leads variables op ws (ts ++ Low f g v f1 g1 ∷ []) F G f0 g0
+-- the operation on f and g is expanded, and the low cofactors come next
+pub leads_low : (variables : ℕ) (op : Op) (ws : List ℕ) (ts : List Task) (F G f g v f0 f1 g0 g1 : ℕ) → Leads variables op ws ts F G f g → IsExpansion variables ws v f g f0 f1 g0 g1 → Leads variables op ws (ts ++ Low f g v f1 g1 ∷ []) F G f0 g0
 leads_low variables op ws ts F G f g v f0 f1 g0 g1 l h =
-    leads-append variables op ws ts (Low f g v f1 g1 ∷ []) F G f g f0 g0 l (refl, refl, (record { p0 = f0; q0 = g0; halved = h }, (refl, refl)))
+    leads-append variables op ws ts (Low f g v f1 g1 ∷ []) F G f g f0 g0 l (refl, refl, (record { p0 = f0; q0 = g0; expansion = h }, (refl, refl)))
 
--- the low result is there, and the high halves come next
+-- the low result is there, and the high cofactors come next
 pub leads_high : (variables : ℕ) (op : Op) (ws : List ℕ) (ts : List Task) (F G p q v p1 q1 x : ℕ) → LeadsTo variables op ws (ts ++ Low p q v p1 q1 ∷ []) F G x → Leads variables op ws (ts ++ High p q v x ∷ []) F G p1 q1
 leads_high variables op ws ts F G p q v p1 q1 x l =
     let r = leads_apart variables op ws ts (Low p q v p1 q1 ∷ []) F G l.f l.g l.leads in
     let h = r.second.2.0 in
     let low : IsResult variables op ws h.p0 h.q0 x = rw (r.second.2.1.0, r.second.2.1.1) l.right in
-    leads-append variables op ws ts (High p q v x ∷ []) F G r.f r.g p1 q1 r.first (r.second.0, r.second.1, (record { p0 = h.p0; p1 = p1; q0 = h.q0; q1 = q1; halved = h.halved; right = low }, (refl, refl)))
+    leads-append variables op ws ts (High p q v x ∷ []) F G r.f r.g p1 q1 r.first (r.second.0, r.second.1, (record { p0 = h.p0; p1 = p1; q0 = h.q0; q1 = q1; expansion = h.expansion; right = low }, (refl, refl)))
 
--- the halves of the task on top, with the low result
+-- the cofactors of the task on top, with the low result
 pub record TopHigh (variables : ℕ) (op : Op) (ws : List ℕ) (ts : List Task) (F G p q v low x : ℕ) : Type 0 where
   pub below : Leads variables op ws ts F G p q
-  pub halves : HasLow variables op ws p q v low
-  pub high : IsResult variables op ws halves.p1 halves.q1 x
+  pub cofactors : HasLow variables op ws p q v low
+  pub high : IsResult variables op ws cofactors.p1 cofactors.q1 x
 
 -- both results are there
 pub top_high : (variables : ℕ) (op : Op) (ws : List ℕ) (ts : List Task) (F G p q v low x : ℕ) → LeadsTo variables op ws (ts ++ High p q v low ∷ []) F G x → TopHigh variables op ws ts F G p q v low x
@@ -70,16 +70,16 @@ top_high variables op ws ts F G p q v low x l =
     let h = r.second.2.0 in
     record {
       below = subst (λ b. Leads variables op ws ts F G p b) r.second.1 (subst (λ a. Leads variables op ws ts F G a r.g) r.second.0 r.first);
-      halves = h;
+      cofactors = h;
       high = subst (λ b. IsResult variables op ws h.p1 b x) (sym r.second.2.1.1) (subst (λ a. IsResult variables op ws a l.g x) (sym r.second.2.1.0) l.right);
     }
 
 -- the node over both results has the result of the task
 pub task_right : (variables : ℕ) (op : Op) (old new : List ℕ) (ts : List Task) (F G p q v low x y n : ℕ) → IsBefore old new → n ≡ variables → TopHigh variables op old ts F G p q v low x → IsNode n new v low x y → IsResult n op new p q y
 task_right variables op old new ts F G p q v low x y n b e t node =
-    let h = t.halves in
+    let h = t.cofactors in
     let node' : IsNode variables new v low x y = subst (λ m. IsNode m new v low x y) e node in
-    subst (λ m. IsResult m op new p q y) (sym e) (combined variables op new v p q h.p0 h.p1 h.q0 h.q1 low x y (halved_grows b h.halved) (result_grows b h.right) (result_grows b t.high) node')
+    subst (λ m. IsResult m op new p q y) (sym e) (combined variables op new v p q h.p0 h.p1 h.q0 h.q1 low x y (expansion_grows b h.expansion) (result_grows b h.right) (result_grows b t.high) node')
 
 -- and the tasks below lead to it
 pub task_done : (variables : ℕ) (op : Op) (old new : List ℕ) (ts : List Task) (F G p q v low x y n : ℕ) → IsBefore old new → n ≡ variables → TopHigh variables op old ts F G p q v low x → IsNode n new v low x y → LeadsTo n op new ts F G y
@@ -126,10 +126,10 @@ top_below s f g hf hg inner =
       | inr high ↦ omega (arith, root_below s f high hf)
     ]
 
--- f and g are halved
-pub halved_step : (variables : ℕ) (ws : List ℕ) (ts : List Task) (f g v f0 f1 g0 g1 : ℕ) → f < length ws + 2 → g < length ws + 2 → v ≡ min (root variables (tree_at ws f)) (root variables (tree_at ws g)) → v < variables → IsSplit variables ws v f f0 f1 → IsSplit variables ws v g g0 g1 → StepsTo variables ws ts (ts ++ Low f g v f1 g1 ∷ []) f g f0 g0
-halved_step variables ws ts f g v f0 f1 g0 g1 hf hg e below sf sg =
-    let h : IsHalved variables ws v f g f0 f1 g0 g1 = record { first = hf; second = hg; below = below; split_f = sf; split_g = sg; top = λ w a b. omega arith } in
+-- f and g are expanded
+pub expanded_step : (variables : ℕ) (ws : List ℕ) (ts : List Task) (f g v f0 f1 g0 g1 : ℕ) → f < length ws + 2 → g < length ws + 2 → v ≡ min (root variables (tree_at ws f)) (root variables (tree_at ws g)) → v < variables → AreCofactors variables ws v f f0 f1 → AreCofactors variables ws v g g0 g1 → StepsTo variables ws ts (ts ++ Low f g v f1 g1 ∷ []) f g f0 g0
+expanded_step variables ws ts f g v f0 f1 g0 g1 hf hg e below sf sg =
+    let h : IsExpansion variables ws v f g f0 f1 g0 g1 = record { first = hf; second = hg; below = below; cofactors_f = sf; cofactors_g = sg; top = λ w a b. omega arith } in
     let p : work variables ws f g ≡ 2 * 2 ^ (variables - v) = rw (← e) (pow_next (variables - v)) in
     record {
       first = sf.low_within;
@@ -142,12 +142,12 @@ halved_step variables ws ts f g v f0 f1 g0 g1 hf hg e below sf sg =
 pub low_done : (variables : ℕ) (op : Op) (ws : List ℕ) (us ts : List Task) (F G p q v p1 q1 x : ℕ) → owed_all variables (ts ++ Low p q v p1 q1 ∷ []) ≤ owed_all variables us → LeadsTo variables op ws (ts ++ Low p q v p1 q1 ∷ []) F G x → ComesNext variables op ws us (ts ++ High p q v x ∷ []) F G p1 q1
 low_done variables op ws us ts F G p q v p1 q1 x less l =
     let r = leads_apart variables op ws ts (Low p q v p1 q1 ∷ []) F G l.f l.g l.leads in
-    let h = r.second.2.0.halved in
+    let h = r.second.2.0.expansion in
     record {
-      first = h.split_f.high_within;
-      second = h.split_g.high_within;
+      first = h.cofactors_f.high_within;
+      second = h.cofactors_g.high_within;
       leads = leads_high variables op ws ts F G p q v p1 q1 x l;
-      less = omega (arith, owed_all-push variables ts (Low p q v p1 q1), owed_all-push variables ts (High p q v x), pow_pos (variables - v), work_below variables ws v p1 q1 h.below h.split_f.above_high h.split_g.above_high);
+      less = omega (arith, owed_all-push variables ts (Low p q v p1 q1), owed_all-push variables ts (High p q v x), pow_pos (variables - v), work_below variables ws v p1 q1 h.below h.cofactors_f.above_high h.cofactors_g.above_high);
     }
 
 two_work : (variables : ℕ) (ws : List ℕ) (f g : ℕ) → 2 ≤ work variables ws f g
@@ -170,12 +170,12 @@ pub record TopFits (variables : ℕ) (ws : List ℕ) (v low x p q : ℕ) : Type 
 
 pub top_fits : {variables : ℕ} {op : Op} {ws : List ℕ} {ts : List Task} {F G p q v low x : ℕ} → TopHigh variables op ws ts F G p q v low x → TopFits variables ws v low x p q
 top_fits {variables} {op} {ws} {ts} {F} {G} {p} {q} {v} {low} {x} t =
-    let h = t.halves in
+    let h = t.cofactors in
     record {
       low_within = h.right.within;
       high_within = t.high.within;
-      above_low = h.right.above v h.halved.split_f.above_low h.halved.split_g.above_low;
-      above_high = t.high.above v h.halved.split_f.above_high h.halved.split_g.above_high;
-      first = h.halved.first;
-      second = h.halved.second;
+      above_low = h.right.above v h.expansion.cofactors_f.above_low h.expansion.cofactors_g.above_low;
+      above_high = t.high.above v h.expansion.cofactors_f.above_high h.expansion.cofactors_g.above_high;
+      first = h.expansion.first;
+      second = h.expansion.second;
     }

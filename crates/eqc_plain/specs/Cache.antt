@@ -1,3 +1,4 @@
+-- For proofs alone: when the operation cache is right. No public promise cites it.
 use Rattle.std.specs.Prelude.{◌≡◌, ℕ, ◌<◌, ◌^◌, List, length, slice_index}
 use Rattle.eqc_tree.specs.Operation.{tag_of}
 use Rattle.eqc_tree.specs.Word.{cell_word}

@@ -1,3 +1,4 @@
+-- The entry that a reference stands for.
 use Rattle.eqc_tree.specs.Holding.{Entry}
 use Rattle.eqc_plain.specs.declared.reference.Ref.{Ref}
 use Rattle.eqc_plain.specs.Store.{entry_at}

@@ -1,3 +1,4 @@
+-- What a call that takes no memory leaves as it was.
 use Rattle.std.specs.Prelude.{◌≡◌, vec_capacity}
 use Rattle.eqc_plain.specs.declared.plain.Plain.{Plain}
 

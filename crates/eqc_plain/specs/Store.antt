@@ -1,3 +1,4 @@
+-- The tree that each number stands for (Bryant 1986, section 2: a node is a variable and two children), and what a store holds.
 use Rattle.std.specs.Prelude.{◌≡◌, ◌≢◌, ℕ, ◌<◌, ◌≤◌, ◌+◌, ◌-◌, ◌^◌, Bool, List, [], ◌∷◌, ◌++◌, length, replicate, slice_index, slice_index_or, if◌then◌else◌}
 use Rattle.eqc_tree.specs.Word.{node_word, node_variable, node_low, node_high}
 use Rattle.eqc_tree.specs.Tree.{Tree, False, True, Node, value}
@@ -32,15 +33,31 @@ trees ws = grown (False ∷ True ∷ []) ws
 abbrev pub tree_at : List ℕ → ℕ → Tree
 tree_at ws x = slice_index_or (trees ws) x False
 
+-- words came on top
+abbrev pub Grows : List ℕ → List ℕ → Type 0
+Grows old new = (more : List ℕ) × (old ++ more ≡ new)
+
+-- each number as often as it is counted, with its tree
+abbrev pub listed : ℕ → List Tree → List ℕ → List Entry
+listed i [] counts = []
+listed i (t ∷ ts) [] = []
+listed i (t ∷ ts) (c ∷ counts) = replicate c (record { number = i; tree = t }) ++ listed (i + 1) ts counts
+
+-- what a store holds
+unfoldable pub holding_of : ℕ → List ℕ → List ℕ → Holding
+holding_of variables ws counts = record { variables = variables; held = listed 0 (trees ws) counts }
+
+-- a reference to number x over these words
+abbrev pub entry_at : List ℕ → ℕ → Entry
+entry_at ws x = record { number = x; tree = tree_at ws x }
+
+-- From here on: the order in which a store keeps its words, and what its calls say of them to one another. No public promise cites it.
+
 -- the variable of a tree's root, or n for a constant
 abbrev pub root : ℕ → Tree → ℕ
 root n False = n
 root n True = n
 root n (Node v low high) = v
-
--- words came on top
-abbrev pub Grows : List ℕ → List ℕ → Type 0
-Grows old new = (more : List ℕ) × (old ++ more ≡ new)
 
 -- the word w, in slot k, is that of a node above its children, which differ
 pub record HasShape (variables : ℕ) (ws : List ℕ) (k w : ℕ) : Type 0 where
@@ -60,20 +77,6 @@ pub record IsStore (variables limit : ℕ) (ws counts : List ℕ) : Type 0 where
   pub once : (i j : ℕ) → i < length ws → j < length ws → slice_index ws i ≡ slice_index ws j → i ≡ j
   pub constants : (k : ℕ) → k < 2 → slice_index counts k ≡ 0
 
--- each number as often as it is counted, with its tree
-abbrev pub listed : ℕ → List Tree → List ℕ → List Entry
-listed i [] counts = []
-listed i (t ∷ ts) [] = []
-listed i (t ∷ ts) (c ∷ counts) = replicate c (record { number = i; tree = t }) ++ listed (i + 1) ts counts
-
--- what a store holds
-unfoldable pub holding_of : ℕ → List ℕ → List ℕ → Holding
-holding_of variables ws counts = record { variables = variables; held = listed 0 (trees ws) counts }
-
--- a reference to number x over these words
-abbrev pub entry_at : List ℕ → ℕ → Entry
-entry_at ws x = record { number = x; tree = tree_at ws x }
-
 -- x has the function of a node, and its root is no higher than the node
 pub record IsNode (variables : ℕ) (ws : List ℕ) (v low high x : ℕ) : Type 0 where
   pub within : x < length ws + 2
@@ -81,7 +84,7 @@ pub record IsNode (variables : ℕ) (ws : List ℕ) (v low high x : ℕ) : Type 
   pub function : (a : ℕ → Bool) → value (tree_at ws x) a ≡ (if a v then value (tree_at ws high) a else value (tree_at ws low) a)
 
 -- x is low where v is 0 and high where v is 1, and both start below v
-pub record IsSplit (variables : ℕ) (ws : List ℕ) (v x low high : ℕ) : Type 0 where
+pub record AreCofactors (variables : ℕ) (ws : List ℕ) (v x low high : ℕ) : Type 0 where
   pub low_within : low < length ws + 2
   pub high_within : high < length ws + 2
   pub above_low : v < root variables (tree_at ws low)

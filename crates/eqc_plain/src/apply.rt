@@ -28,11 +28,11 @@ impl Plain {
         }
         let whole = Snapshot::of(&(f, g));
         self.tasks.clear();
-        let mut next = self.halve(f, g)?;
+        let mut next = self.descend(f, g)?;
         loop {
             let (f, g) = next;
             let Some(x) = self.known(op, f, g) else {
-                next = self.halve(f, g)?;
+                next = self.descend(f, g)?;
                 continue;
             };
             match self.resume(op, x, &whole)? {
@@ -56,8 +56,9 @@ impl Plain {
         self.cache.find(op, f, g)
     }
 
-    /// Puts a task for f and g, and answers their low halves.
-    fn halve(&mut self, f: u32, g: u32) -> Result<(u32, u32), Stop>
+    /// Puts a task for the operands, and answers their low cofactors (Shannon's expansion at their
+    /// top variable).
+    fn descend(&mut self, f: u32, g: u32) -> Result<(u32, u32), Stop>
         requires f { f < length self.old.store.nodes + 2 }
         requires g { g < length self.old.store.nodes + 2 }
         requires inner { ¬ ((f < 2) × (g < 2)) }
@@ -66,8 +67,8 @@ impl Plain {
         ensures only { IfErr result (λ s. s ≡ Stop.Memory) }
     {
         let variable = self.store.root(f).min(self.store.root(g));
-        let (f_low, f_high) = self.store.split(variable, f);
-        let (g_low, g_high) = self.store.split(variable, g);
+        let (f_low, f_high) = self.store.cofactors(variable, f);
+        let (g_low, g_high) = self.store.cofactors(variable, g);
         let task = Task::Low {
             f,
             g,
@@ -81,7 +82,7 @@ impl Plain {
         }
     }
 
-    /// Ends the tasks on top that `x` is the last missing result of, up to one whose high halves
+    /// Ends the tasks on top that `x` is the last missing result of, up to one whose high cofactors
     /// come next. `whole` has the operands of the whole operation, in proofs alone.
     fn resume(&mut self, op: Op, x: u32, whole: &Snapshot<(u32, u32)>) -> Result<Turn, Stop>
         requires { LeadsTo self.old.store.variables op self.old.store.nodes self.old.tasks.items whole.now.value.0 whole.now.value.1 x }
@@ -118,7 +119,7 @@ impl Plain {
                     low,
                 } => {
                     x = self.store.node(variable, low, x)?;
-                    self.cache.widen(self.store.nodes.len());
+                    self.cache.grow(self.store.nodes.len());
                     self.cache.keep(op, f, g, x);
                 }
             }

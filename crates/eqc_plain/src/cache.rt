@@ -2,7 +2,7 @@ ghost use Rattle.std.specs.Prelude.{◌≡◌, ◌<◌, ◌^◌, ℕ, List, leng
 ghost use Rattle.eqc_plain.specs.Cache.{IsCache};
 ghost use Rattle.eqc_plain.specs.Combining.{IsResult};
 
-use crate::terminal::arrange;
+use crate::terminal::ordered_operands;
 use eqc_tree::{Op, pack_cell, unpack_cell};
 use std::alloc::Global;
 
@@ -46,7 +46,7 @@ impl Cache {
         if self.cells.is_empty() {
             return None;
         }
-        let (p, q) = arrange(op, f, g);
+        let (p, q) = ordered_operands(op, f, g);
         let word = pack_cell(op.tag(), p, q, 0);
         let cell = self.cells[self.place(word)];
         if cell >> 20 != word >> 20 {
@@ -67,7 +67,7 @@ impl Cache {
         if self.cells.is_empty() {
             return;
         }
-        let (p, q) = arrange(op, f, g);
+        let (p, q) = ordered_operands(op, f, g);
         let word = pack_cell(op.tag(), p, q, r);
         let place = self.place(word);
         self.cells[place] = word;
@@ -75,14 +75,14 @@ impl Cache {
 
     /// Has at least half as many cells as there are nodes, up to the most, where memory allows:
     /// results are then found more often, and nothing depends on it.
-    pub fn widen(&mut self, nodes: usize)
+    pub fn grow(&mut self, nodes: usize)
         ensures { (variables : ℕ) (ws : List ℕ) → IsCache variables ws self.old.cells.items → IsCache variables ws self.new.cells.items }
     {
         let len = self.cells.len();
         if len >= MOST || nodes < 2 * len {
             return;
         }
-        let wider = if len == 0 { FEWEST } else { 2 * len };
-        let _ = self.cells.resize(wider, 0);
+        let more = if len == 0 { FEWEST } else { 2 * len };
+        let _ = self.cells.resize(more, 0);
     }
 }

@@ -1,9 +1,8 @@
-//! Shared decision diagrams on one thread.
+//! Shared decision diagrams on one thread: `Plain`, an implementation of `eqc_tree`'s traits.
 //!
-//! `Plain` is a lawful implementation of `eqc_tree`'s traits: a node store that only grows, with
-//! a unique table, a count of references per slot and an operation cache of bounded size. No call
-//! waits for anybody, and none recurses: an apply keeps its open halves on a stack of its own, so
-//! it passes through any number of variables in little of the thread's stack.
+//! Its node store only grows. No call waits for anybody, and none recurses: an apply keeps its
+//! open tasks on a stack of its own, so it passes through any number of variables in little of
+//! the thread's stack. Read the modules in this order:
 //!
 //! - `plain`, the public type and its calls; `reference`, what is handed out
 //! - `store`, the nodes and counts; `unique_table`, the list of node words that finds a word

@@ -21,7 +21,7 @@ pub struct Store {
 
 impl Store {
     ghost use Rattle.eqc_tree.specs.Holding.{Gains, Keeps, Loses, IsHeld, IsNew, copies, says};
-    ghost use Rattle.eqc_plain.specs.Store.{entry_at, root, tree_at, IsNode, IsSplit};
+    ghost use Rattle.eqc_plain.specs.Store.{entry_at, root, tree_at, IsNode, AreCofactors};
     ghost use Rattle.eqc_plain.specs.Extending.{holding_in, Extends};
     ghost use Rattle.eqc_plain.specs.Referring.{entry_of};
 
@@ -89,12 +89,12 @@ impl Store {
         variable
     }
 
-    /// What a number is where the variable is 0, and where it is 1.
-    pub fn split(&self, variable: u16, x: u32) -> (u32, u32)
+    /// The cofactors of a number: what it is where the variable is 0, and where it is 1.
+    pub fn cofactors(&self, variable: u16, x: u32) -> (u32, u32)
         requires within { x < length self.now.nodes + 2 }
         requires below { variable < self.now.variables }
         requires root { variable ≤ root self.now.variables (tree_at self.now.nodes x) }
-        ensures { IsSplit self.now.variables self.now.nodes variable x result.0 result.1 }
+        ensures { AreCofactors self.now.variables self.now.nodes variable x result.0 result.1 }
     {
         if x < 2 {
             return (x, x);

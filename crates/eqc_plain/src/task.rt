@@ -1,7 +1,7 @@
 /// An operation on `f` and `g` under way, whose top variable is `variable`.
 #[derive(Clone, Copy, Debug)]
 pub enum Task {
-    /// The low halves are under way, and the high halves come next.
+    /// The low cofactors are under way, and the high cofactors come next.
     Low {
         f: u32,
         g: u32,
@@ -9,7 +9,7 @@ pub enum Task {
         f_high: u32,
         g_high: u32,
     },
-    /// The high halves are under way, and `low` is the result of the low ones.
+    /// The high cofactors are under way, and `low` is the result of the low ones.
     High {
         f: u32,
         g: u32,

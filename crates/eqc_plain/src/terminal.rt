@@ -1,5 +1,5 @@
 ghost use Rattle.std.specs.Prelude.{ℕ, ◌<◌, IfSome, IfNone};
-ghost use Rattle.eqc_plain.specs.Terminal.{Decides, IsArranged};
+ghost use Rattle.eqc_plain.specs.Terminal.{Decides, AreOperands};
 
 use eqc_tree::Op;
 
@@ -85,8 +85,8 @@ fn decide_and_not(f: u32, g: u32) -> Option<u32>
 
 /// The operands in the order in which their result is kept: an operation that commutes has the
 /// smaller number first.
-pub fn arrange(op: Op, f: u32, g: u32) -> (u32, u32)
-    ensures { IsArranged op f g result.0 result.1 }
+pub fn ordered_operands(op: Op, f: u32, g: u32) -> (u32, u32)
+    ensures { AreOperands op f g result.0 result.1 }
 {
     if f <= g {
         return (f, g);

@@ -194,7 +194,7 @@ fn a_refusal_keeps_what_is_held(rt: HostRuntime) {
 #[test]
 fn a_kept_result_is_found(rt: HostRuntime) {
     let mut cache = Cache::new(rt.alloc());
-    cache.widen(1);
+    cache.grow(1);
     for op in [Op::And, Op::Or, Op::Xor, Op::AndNot] {
         assert_eq!(rt; cache.find(op, 7, 9), None, "{op:?}");
         cache.keep(op, 7, 9, 12);

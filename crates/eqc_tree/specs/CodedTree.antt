@@ -1,3 +1,4 @@
+-- Trees and references as lists of numbers, so that a value that no code holds can carry them. Helpers of proofs: the one promise here is `ReadsBack`.
 use Rattle.std.specs.Prelude.{◌≡◌, ℕ, zero, suc, List, [], ◌∷◌, refl}
 use Rattle.std.proofs.Common.{◌∙◌, ap}
 use Rattle.std.specs.Coded.{Coded, code_by, coded_ℕ, coded_list, coded×}

@@ -1,3 +1,4 @@
+-- The number that a report shows for a stop.
 use Rattle.std.specs.Prelude.{ℕ}
 use Rattle.eqc_tree.specs.declared.stopping.Stop.{Stop}
 use Rattle.eqc_tree.specs.declared.stopping.Stop.TheVariants.{NodeLimit, Memory, References, Threads}

@@ -1,3 +1,4 @@
+-- The layout of the two packed words: a node, and a cached result.
 use Rattle.std.specs.Prelude.{ℕ, ◌+◌, ◌*◌, ◌/◌, ◌%◌, ◌^◌}
 
 -- the word of a node: the variable in bits 40 to 55, the low child in 20 to 39, the high child in 0 to 19

@@ -12,7 +12,7 @@ pub enum Op {
 }
 
 impl Op {
-    ghost use Rattle.std.specs.Prelude.{◌≡◌};
+    ghost use Rattle.std.specs.Prelude.{◌≡◌, ◌≢◌, IfSome, IfNone};
     ghost use Rattle.eqc_tree.specs.Operation.{tag_of};
 
     /// The operation's number, from 1 to 4.
@@ -20,6 +20,20 @@ impl Op {
         ensures { result ≡ tag_of self }
     {
         self as u8
+    }
+
+    /// The operation with this number, which is there for 1 to 4 alone.
+    pub fn of_tag(tag: u8) -> Option<Op>
+        ensures found { IfSome result (λ op. tag_of op ≡ tag) }
+        ensures none { IfNone result ((op : Op) → tag_of op ≢ tag) }
+    {
+        match tag {
+            1 => Some(Op::And),
+            2 => Some(Op::Or),
+            3 => Some(Op::Xor),
+            4 => Some(Op::AndNot),
+            _ => None,
+        }
     }
 }
 

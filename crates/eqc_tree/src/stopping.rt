@@ -1,13 +1,19 @@
+use thiserror::Error;
+
 /// Why an operation gave up. What its object holds is then as before.
-#[derive(Clone, Copy, Debug, PartialEq, Eq)]
+#[derive(Clone, Copy, Debug, PartialEq, Eq, Error)]
 pub enum Stop {
     /// All slots for nodes are taken.
+    #[error("the store of diagrams is full")]
     NodeLimit,
     /// The allocator refused.
+    #[error("the memory is exhausted")]
     Memory,
     /// A count of references has reached its limit.
+    #[error("a diagram has as many references as can be counted")]
     References,
     /// A thread could not be started.
+    #[error("a thread could not be started")]
     Threads,
 }
 

@@ -81,7 +81,7 @@ invariant_of-self-in-High-2 c =
     let e = c.node.ensures.store in
     let b = before s.store.nodes n.nodes e.grows in
     let right = task_right s.store.variables c.args.op s.store.nodes n.nodes c.pop.new.self.items w.0 w.1 c.in-High.f c.in-High.g c.in-High.variable c.in-High.low c.loop-task.x c.in_ok-x-in-High.x n.variables b e.variables top c.in_ok-x-in-High.ensures.ok in
-    record { cached = c.keep.ensures n.variables n.nodes right (c.widen.ensures n.variables n.nodes (cache_grows s.store.variables n.variables s.store.nodes n.nodes s.cache.cells.items b e.variables s.cached)) }
+    record { cached = c.keep.ensures n.variables n.nodes right (c.grow.ensures n.variables n.nodes (cache_grows s.store.variables n.variables s.store.nodes n.nodes s.cache.cells.items b e.variables s.cached)) }
 
 pub loop-task-preserved : goal.loop-task-preserved
 loop-task-preserved c =

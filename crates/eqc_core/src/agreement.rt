@@ -5,30 +5,31 @@ ghost use Rattle.std.specs.Prelude.{◌≡◌, ◌<◌, ◌^◌, ◌↔◌, IsTr
 ghost use Rattle.eqc_tree.specs.Operation.{operate};
 ghost use Rattle.eqc_core.specs.Words.{first_of, second_of, result_of};
 ghost use Rattle.eqc_core.specs.Tables.{IsName};
-ghost use Rattle.eqc_core.specs.Trees.{operation, variable_at, IsFilled};
+ghost use Rattle.eqc_core.specs.Trees.{variable_at, IsFilled};
 ghost use Rattle.eqc_core.specs.Agreement.{Agrees, cofactor};
 ghost use Rattle.eqc_core.specs.Machine.{state_of, IsKept};
 
-use crate::cell;
 use crate::machine::Machine;
+use eqc_tree::{Op, unpack_cell, unpack_node};
 
 // The variable of a constant: above all others.
 const NO_VARIABLE: u32 = 1 << 16;
 
-// The operation with this number on two values.
-fn compute(op: u32, p: bool, q: bool) -> bool
-    ensures { result ≡ operate (operation op) p q }
+// The operation on two values.
+fn compute(op: Op, p: bool, q: bool) -> bool
+    ensures { result ≡ operate op p q }
 {
     match op {
-        1 => p && q,
-        2 => p || q,
-        3 => p != q,
-        _ => p && !q,
+        Op::And => p && q,
+        Op::Or => p || q,
+        Op::Xor => p != q,
+        Op::AndNot => p && !q,
     }
 }
 
 impl Machine {
     // The variable of a name.
+    #[tactic(auto, unfolding(crate::specs::Words::variable_of))]
     fn variable(&self, x: u32) -> u32
         requires kept { IsKept self.now }
         requires name { IsName (state_of self.now).homes (state_of self.now).views x }
@@ -37,11 +38,13 @@ impl Machine {
         if x < 2 {
             return NO_VARIABLE;
         }
-        cell::variable(self.nodes[x as usize])
+        let (variable, _, _) = unpack_node(self.nodes[x as usize]);
+        u32::from(variable)
     }
 
-    // The name where the variable v is 0, or 1.
-    fn side(&self, v: u32, high: bool, x: u32) -> u32
+    // The cofactor of a name where the variable v is 0, or 1.
+    #[tactic(auto, unfolding(crate::specs::Words::low_of, crate::specs::Words::high_of))]
+    fn cofactor(&self, v: u32, high: bool, x: u32) -> u32
         requires kept { IsKept self.now }
         requires name { IsName (state_of self.now).homes (state_of self.now).views x }
         requires below { v < 2 ^ 16 }
@@ -53,16 +56,12 @@ impl Machine {
         if x < 2 {
             return x;
         }
-        let word = self.nodes[x as usize];
-        if high {
-            cell::high(word)
-        } else {
-            cell::low(word)
-        }
+        let (_, low_child, high_child) = unpack_node(self.nodes[x as usize]);
+        if high { high_child } else { low_child }
     }
 
     // Whether the operation on the functions of f and g gives the function of r.
-    fn agrees(&self, op: u32, f: u32, g: u32, r: u32) -> bool
+    fn agrees(&self, op: Op, f: u32, g: u32, r: u32) -> bool
         requires kept { IsKept self.now }
         requires f { IsName (state_of self.now).homes (state_of self.now).views f }
         requires g { IsName (state_of self.now).homes (state_of self.now).views g }
@@ -73,15 +72,15 @@ impl Machine {
         if v >= NO_VARIABLE {
             return compute(op, f == 1, g == 1) == (r == 1);
         }
-        let f_low = self.side(v, false, f);
-        let g_low = self.side(v, false, g);
-        let r_low = self.side(v, false, r);
+        let f_low = self.cofactor(v, false, f);
+        let g_low = self.cofactor(v, false, g);
+        let r_low = self.cofactor(v, false, r);
         if !self.agrees(op, f_low, g_low, r_low) {
             return false;
         }
-        let f_high = self.side(v, true, f);
-        let g_high = self.side(v, true, g);
-        let r_high = self.side(v, true, r);
+        let f_high = self.cofactor(v, true, f);
+        let g_high = self.cofactor(v, true, g);
+        let r_high = self.cofactor(v, true, r);
         self.agrees(op, f_high, g_high, r_high)
     }
 
@@ -93,15 +92,10 @@ impl Machine {
         requires outcome { IsName (state_of self.now).homes (state_of self.now).views (result_of word) }
         ensures { IsTrue result ↔ IsFilled self.now.nodes.items word }
     {
-        let op = cell::operation(word);
-        if op == 0 || op > 4 {
+        let (tag, f, g, r) = unpack_cell(word);
+        let Some(op) = Op::of_tag(tag) else {
             return false;
-        }
-        self.agrees(
-            op,
-            cell::first(word),
-            cell::second(word),
-            cell::result(word),
-        )
+        };
+        self.agrees(op, f, g, r)
     }
 }
