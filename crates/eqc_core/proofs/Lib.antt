@@ -11,6 +11,7 @@ pub mod Scanning
 pub mod Splitting
 pub mod Joining
 pub mod Confirmed
+pub mod Known
 pub mod Literals
 pub mod Opening
 pub mod Trees

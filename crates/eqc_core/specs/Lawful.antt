@@ -5,7 +5,7 @@ use lib.ListN.{get_elem?}
 use Rattle.eqc_core.specs.declared.sizes.Sizes.{Sizes}
 use Rattle.eqc_core.specs.declared.phase.Phase.{Phase}
 use Rattle.eqc_core.specs.declared.phase.Phase.TheVariants.{Idle, Seen, Announced, Confirmed, Missed}
-use Rattle.eqc_core.specs.View.{View, Read, spent, unused, view_at}
+use Rattle.eqc_core.specs.View.{View, Hand, Read, spent, unused, view_at}
 use Rattle.eqc_core.specs.Words.{Words, announced_words, word_at, times, stripe_of, result_of}
 use Rattle.eqc_core.specs.Tables.{Entries, Homes, IsTable, tabled, has_stripe, home_there}
 use Rattle.eqc_core.specs.Owners.{owners, drafts}
@@ -81,6 +81,10 @@ pub record Fits (z : Sizes) (w : Words) (vs : List View) (id : ℕ) (v : View) :
   pub slots : (x : ℕ) → 0 < times x v.held + times x v.retired → 2 ≤ x
   -- the scan reads an announcement word next
   pub place : v.position < announced_words z
+  -- each word that the scan has read has put one name at most among those noted
+  pub noted : length v.noted ≤ v.position
+  -- a stripe in hand is one of the 16
+  pub hand : (h : Hand) → v.hand ≡ Some h → h.stripe < 16
   -- worker 0 is neither split off nor taken in
   pub others : times 0 v.out ≡ 0
   pub read : (r : Read) → v.read ≡ Some r → IsRead w.nodes v.held r

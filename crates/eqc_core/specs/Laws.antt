@@ -1,13 +1,13 @@
 -- What is proved of the steps, as statements over the definitions alone.
-use Rattle.std.specs.Prelude.{◌≡◌, ℕ, ◌+◌, ◌-◌, ◌^◌, ◌<◌, ◌≤◌, List, length, get_or, set, true}
+use Rattle.std.specs.Prelude.{◌≡◌, ℕ, ◌+◌, ◌-◌, ◌^◌, ◌<◌, ◌≤◌, List, length, get_or, set, true, Some}
 use mathlib.Core.Option.{some}
 use lib.ListN.{get_elem?}
 use Rattle.eqc_tree.specs.Tree.{Tree, IsCanonical}
 use Rattle.eqc_core.specs.declared.sizes.Sizes.{Sizes}
 use Rattle.eqc_core.specs.declared.event.Event.{Event}
 use Rattle.eqc_core.specs.declared.phase.Phase.TheVariants.{Confirmed}
-use Rattle.eqc_core.specs.View.{View, phase_at}
-use Rattle.eqc_core.specs.Words.{Words, word_at}
+use Rattle.eqc_core.specs.View.{View, Hand, Read, phase_at}
+use Rattle.eqc_core.specs.Words.{Words, word_at, times, cell_names, children as slot_children}
 use Rattle.eqc_core.specs.Tables.{Homes, tabled}
 use Rattle.eqc_core.specs.Trees.{IsTree}
 use Rattle.eqc_core.specs.Lawful.{Lawful}
@@ -78,3 +78,33 @@ TreesAreOne =
     (z : Sizes) (w : Words) (hs : Homes) (vs : List View) → Lawful z w hs vs
     → ((x : ℕ) → 0 < tabled hs vs x → (t : Tree) × IsTree w.nodes t x × IsCanonical t)
     × ((x y : ℕ) (t : Tree) → 0 < tabled hs vs x → 0 < tabled hs vs y → IsTree w.nodes t x → IsTree w.nodes t y → x ≡ y)
+
+-- what a lawful state says of an active view beside its count words
+pub record IsBounded (v : View) : Type 0 where
+  pub noted : length v.noted ≤ v.position
+  pub hand : (h : Hand) → v.hand ≡ Some h → h.stripe < 16
+
+-- in a lawful state a scan has noted no more names than it has read words, and a stripe in hand is one of the 16
+abbrev pub ViewsAreBounded : Type 0
+ViewsAreBounded = (z : Sizes) (w : Words) (hs : Homes) (vs : List View) (id : ℕ) (v : View) → Lawful z w hs vs → get_elem? vs id ≡ some v → v.active ≡ true → IsBounded v
+
+-- in a lawful state the count of a held name is above 0
+abbrev pub HeldIsCounted : Type 0
+HeldIsCounted = (z : Sizes) (w : Words) (hs : Homes) (vs : List View) (id x : ℕ) (v : View) → Lawful z w hs vs → get_elem? vs id ≡ some v → 0 < times x v.held → 0 < get_or w.counts x 0
+
+-- in a lawful state the count of a confirmed name is at least 2
+abbrev pub ConfirmedIsCounted : Type 0
+ConfirmedIsCounted = (s : State) → IsLawful s → ConfirmedCounted s
+
+-- the names that a view or a cell has are in a table, and so are the children of such a name
+pub record AreTabled (w : Words) (hs : Homes) (vs : List View) : Type 0 where
+  pub held : (id x : ℕ) (v : View) → get_elem? vs id ≡ some v → 0 < times x v.held → 0 < tabled hs vs x
+  pub retired : (id x : ℕ) (v : View) → get_elem? vs id ≡ some v → 0 < times x v.retired → 0 < tabled hs vs x
+  pub confirmed : (id k x : ℕ) (v : View) → get_elem? vs id ≡ some v → v.active ≡ true → get_elem? v.phases k ≡ some (Confirmed x) → 0 < tabled hs vs x
+  pub read : (id : ℕ) (v : View) (r : Read) → get_elem? vs id ≡ some v → v.active ≡ true → v.read ≡ Some r → 0 < tabled hs vs r.name
+  pub cells : (c x word : ℕ) → get_elem? w.cells c ≡ some word → 2 ≤ x → 0 < times x (cell_names word) → 0 < tabled hs vs x
+  pub children : (x y : ℕ) → 0 < tabled hs vs x → 2 ≤ y → 0 < times y (slot_children (get_or w.nodes x 0)) → 0 < tabled hs vs y
+
+-- so it is in a lawful state
+abbrev pub NamesAreTabled : Type 0
+NamesAreTabled = (z : Sizes) (w : Words) (hs : Homes) (vs : List View) → Lawful z w hs vs → AreTabled w hs vs

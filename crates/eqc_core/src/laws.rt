@@ -1,5 +1,5 @@
 //! The laws of the machine. Each function is a fact about the definitions, with nothing to run.
-ghost use Rattle.eqc_core.specs.Laws.{LookKeeps, AnnounceKeeps, RecheckKeeps, UpKeeps, DownKeeps, SwapCellKeeps, ScanOneKeeps, SplitKeeps, JoinKeeps, RunIsLawful, NoCountWraps, TreesAreOne};
+ghost use Rattle.eqc_core.specs.Laws.{LookKeeps, AnnounceKeeps, RecheckKeeps, UpKeeps, DownKeeps, SwapCellKeeps, ScanOneKeeps, SplitKeeps, JoinKeeps, RunIsLawful, NoCountWraps, TreesAreOne, ViewsAreBounded, HeldIsCounted, ConfirmedIsCounted, NamesAreTabled};
 
 /// Every state of every run is lawful, and the count of a confirmed name is at least 2.
 ///
@@ -62,4 +62,25 @@ pub fn no_count_wraps()
 /// Each tabled slot stands for one ordered reduced tree, and no two stand for the same.
 pub fn trees_are_one()
     ensures { TreesAreOne }
+{}
+
+/// A scan has noted no more names than it has read words, and a stripe in hand is below 16.
+pub fn views_are_bounded()
+    ensures { ViewsAreBounded }
+{}
+
+/// The count of a held name is above 0.
+pub fn held_is_counted()
+    ensures { HeldIsCounted }
+{}
+
+/// The count of a confirmed name is at least 2.
+pub fn confirmed_is_counted()
+    ensures { ConfirmedIsCounted }
+{}
+
+/// Names held, retired, confirmed, read last and in cells are in a table, and the children of
+/// such names too.
+pub fn names_are_tabled()
+    ensures { NamesAreTabled }
 {}
