@@ -1,5 +1,5 @@
 -- What a lawful state says of the names that views and cells have.
-use Rattle.std.proofs.Common.{◌≡◌, ℕ, ◌+◌, ◌<◌, ◌≤◌, List, get_or, Bool, true, false, refl, ap, ◌∙◌, arith, ⊎_elim}
+use Rattle.std.proofs.Common.{◌≡◌, ℕ, ◌+◌, ◌<◌, ◌≤◌, List, [], get_or, Bool, true, false, refl, ap, ◌∙◌, arith, ⊎_elim}
 use mathlib.Core.Option.{some}
 use lib.ListN.{get_elem?}
 use Rattle.eqc_core.specs.declared.sizes.Sizes.{Sizes}
@@ -15,17 +15,22 @@ use Rattle.eqc_core.proofs.Names.{times-nil}
 use Rattle.eqc_core.proofs.Tables.{owned_is, owned_tabled, held_tabled, in_cell_tabled, supported_tabled, child_tabled}
 
 module _ (z : Sizes) (w : Words) (hs : Homes) (vs : List View) (law : Lawful z w hs vs) where
-  -- a constant is neither held nor retired, and a view that is not active has nothing
+  -- a view that is not active has no names
+  pub inactive_has_none : (id x : ℕ) (v : View) → get_elem? vs id ≡ some v → v.active ≡ false → times x v.held + times x v.retired ≡ 0
+  inactive_has_none id x v at off = ⊎_elim
+      (λ (q : v ≡ unused). ap (λ (u : View). times x u.held + times x u.retired) q ∙ none)
+      (λ (q : v ≡ spent). ap (λ (u : View). times x u.held + times x u.retired) q ∙ none)
+      (law.seated.inactive id v at off)
+    where
+      none : times x [] + times x [] ≡ 0
+      none = omega (arith, times-nil x)
+
+  -- a constant is neither held nor retired
   slot : (id x : ℕ) (v : View) → get_elem? vs id ≡ some v → 0 < times x v.held + times x v.retired → (b : Bool) → v.active ≡ b → 2 ≤ x
   slot id x v at has true on = (law.views id v at on).slots x has
-  slot id x v at has false off = absurd (⊎_elim
-      (λ (q : v ≡ unused). let a : times x v.held ≡ 0 = ap (λ (u : View). times x u.held) q ∙ times-nil x in let b : times x v.retired ≡ 0 = ap (λ (u : View). times x u.retired) q ∙ times-nil x in none a b)
-      (λ (q : v ≡ spent). let a : times x v.held ≡ 0 = ap (λ (u : View). times x u.held) q ∙ times-nil x in let b : times x v.retired ≡ 0 = ap (λ (u : View). times x u.retired) q ∙ times-nil x in none a b)
-      (law.seated.inactive id v at off))
-    where
-      none : times x v.held ≡ 0 → times x v.retired ≡ 0 → ⊥
-      none a b = omega arith
+  slot id x v at has false off = absurd (let none = inactive_has_none id x v at off in omega arith)
 
+  -- what views and cells name is tabled
   pub are_tabled : AreTabled w hs vs
   are_tabled = record {
     held = λ id x v at has. held_tabled z w hs vs law id x v at (slot id x v at (omega arith) v.active refl) has;
@@ -36,6 +41,7 @@ module _ (z : Sizes) (w : Words) (hs : Homes) (vs : List View) (law : Lawful z w
     children = λ x y tab two child. child_tabled z w hs vs law x y tab two child;
   }
 
+  -- a held name is an owner, so it is counted
   pub held_counted : (id x : ℕ) (v : View) → get_elem? vs id ≡ some v → 0 < times x v.held → 0 < get_or w.counts x 0
   held_counted id x v at has =
       let two = slot id x v at (omega arith) v.active refl in

@@ -1,5 +1,5 @@
 -- No count word wraps: there are no more entries in the tables than slots, since each slot is an entry once.
-use Rattle.std.proofs.Common.{◌≡◌, ℕ, zero, suc, ◌+◌, ◌*◌, ◌^◌, ◌<◌, ◌≤◌, List, [], ◌∷◌, length, get_or, sum_by, eqb, ltb, cond, Bool, true, false, Option, Some, None, eq-eqb, ne_eqb, refl, ap, ◌∙◌, arith, inl, inr, ⊎_elim}
+use Rattle.std.proofs.Common.{◌≡◌, ℕ, zero, suc, ◌+◌, ◌*◌, ◌^◌, ◌<◌, ◌≤◌, List, [], ◌∷◌, length, get_or, sum_by, eqb, ltb, cond, Bool, true, false, Option, Some, None, eq-eqb, ne_eqb, refl, ap, arith, inl, inr}
 use Rattle.std.proofs.lemmas.Bool.{lt-ltb, le-ltb}
 use Rattle.std.proofs.lemmas.List.Sums.{sum_by-cons}
 use mathlib.Core.Option as May
@@ -7,14 +7,15 @@ use mathlib.Core.Option.{some, none}
 use native.Mathlib.Decide.{ℕ_discrete, dec_le}
 use lib.ListN.{get_elem?}
 use Rattle.eqc_core.specs.declared.sizes.Sizes.{Sizes}
-use Rattle.eqc_core.specs.View.{View, Hand, unused, spent}
+use Rattle.eqc_core.specs.View.{View, Hand}
 use Rattle.eqc_core.specs.Words.{Words, times, children, cell_names}
 use Rattle.eqc_core.specs.Tables.{Homes, Entries, tabled, in_hand, at_home, table_names, table_has, IsTable}
 use Rattle.eqc_core.specs.Owners.{owned, in_words}
 use Rattle.eqc_core.specs.Lawful.{Lawful}
 use Rattle.eqc_core.proofs.Sums.{sum_apart, sum_zero, sum_at_most}
-use Rattle.eqc_core.proofs.Names.{times_le, times-nil}
+use Rattle.eqc_core.proofs.Names.{times_le}
 use Rattle.eqc_core.proofs.Tables.{owned_is, has_le, table_tabled}
+use Rattle.eqc_core.proofs.Known.{inactive_has_none}
 
 -- the entries whose slot is below n
 unfoldable below : ℕ → Entries → ℕ
@@ -98,10 +99,7 @@ module _ (z : Sizes) (w : Words) (hs : Homes) (vs : List View) (x : ℕ) (law : 
 -- a view's own names are few
 names_fit : (z : Sizes) (w : Words) (hs : Homes) (vs : List View) (x i : ℕ) (v : View) → Lawful z w hs vs → get_elem? vs i ≡ some v → (b : Bool) → v.active ≡ b → times x v.held + times x v.retired ≤ 2 ^ 41
 names_fit z w hs vs x i v law e true on = let f = law.views i v e on in let r = f.room in let k = f.few in let l = law.sized.few_announced in omega (arith, times_le x v.held, times_le x v.retired)
-names_fit z w hs vs x i v law e false off = ⊎_elim
-    (λ (q : v ≡ unused). let a : times x v.held ≡ 0 = ap (λ (u : View). times x u.held) q ∙ times-nil x in let b : times x v.retired ≡ 0 = ap (λ (u : View). times x u.retired) q ∙ times-nil x in omega arith)
-    (λ (q : v ≡ spent). let a : times x v.held ≡ 0 = ap (λ (u : View). times x u.held) q ∙ times-nil x in let b : times x v.retired ≡ 0 = ap (λ (u : View). times x u.retired) q ∙ times-nil x in omega arith)
-    (law.seated.inactive i v e off)
+names_fit z w hs vs x i v law e false off = let none = inactive_has_none z w hs vs law i x v e off in omega arith
 
 in_words_few : (x : ℕ) (words : List ℕ) → in_words x words ≤ length words * 3
 unfolding in_words
