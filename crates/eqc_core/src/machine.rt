@@ -8,6 +8,9 @@ use crate::worker::{self, Worker};
 use std::alloc::{AllocError, Global};
 use std::mem;
 
+// The most names that a worker may hold after a step, so that no count wraps.
+const MOST_HELD: usize = 1 << 40;
+
 // The words, and what each worker knows. Boxes, locks and tables stay as they were at the opening.
 #[derive(Drop)]
 pub(crate) struct Machine {
@@ -256,7 +259,7 @@ impl Machine {
         if !worker.active {
             return true;
         }
-        worker.held.len() <= 1 << 40
+        worker.held.len() <= MOST_HELD
     }
 
     // Takes the event, if it is allowed. Otherwise the machine is of no more use.

@@ -6,6 +6,13 @@ use crate::{multiset, stock};
 use std::alloc::Global;
 use std::marker::Model;
 
+// The most of each that a replay takes.
+const MOST_WORKERS: u32 = 8;
+
+const MOST_NODES: u32 = 16;
+
+const MOST_CELLS: u32 = 16;
+
 /// A state of the machine: the words, and what each worker knows.
 #[derive(Drop)]
 pub struct Core {
@@ -43,13 +50,13 @@ impl Core {
         ensures small { IfOk result (λ core. IsSmall workers nodes cells) }
         ensures err { IfErr result (λ fault. NoStock workers nodes cells fault) }
     {
-        if workers < 1 || workers > 8 {
+        if workers < 1 || workers > MOST_WORKERS {
             return Err(ReplayFault::Size);
         }
-        if nodes < 1 || nodes > 16 {
+        if nodes < 1 || nodes > MOST_NODES {
             return Err(ReplayFault::Size);
         }
-        if cells < 1 || cells > 16 {
+        if cells < 1 || cells > MOST_CELLS {
             return Err(ReplayFault::Size);
         }
         match stock::stock(alloc, workers, nodes, cells) {
