@@ -15,13 +15,13 @@ announces (Announced c word) = result_of word
 announces (Confirmed x) = x
 announces (Missed x) = x
 
--- the view has the name retired, and its scan has not passed the announcement word i, or has noted the name
-abbrev pub Keeps : ℕ → ℕ → View → Type 0
-Keeps i x v = (0 < times x v.retired) × ((v.position ≤ i) ⊎ (0 < times x v.noted))
+-- the view protects the name for the announcement word i: it has the name retired, and its scan has not passed that word, or has noted the name
+abbrev pub Protects : ℕ → ℕ → View → Type 0
+Protects i x v = (0 < times x v.retired) × ((v.position ≤ i) ⊎ (0 < times x v.noted))
 
--- a name that the announcement word i confirms is in no danger: a cell has it as its result, or a view keeps it.
+-- a name that the announcement word i confirms is in no danger: a cell has it as its result, or a view protects it.
 -- It does not matter what the scanner itself announces.
 abbrev pub Supported : List ℕ → List View → ℕ → ℕ → Type 0
 Supported cells vs i x =
     ((c : ℕ) × (word : ℕ) × (get_elem? cells c ≡ some word) × (result_of word ≡ x))
-    ⊎ ((k : ℕ) × (v : View) × (get_elem? vs k ≡ some v) × Keeps i x v)
+    ⊎ ((k : ℕ) × (v : View) × (get_elem? vs k ≡ some v) × Protects i x v)
