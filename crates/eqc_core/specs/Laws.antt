@@ -14,7 +14,7 @@ use Rattle.eqc_core.specs.Lawful.{Lawful}
 use Rattle.eqc_core.specs.State.{State, IsLawful, IsWithinLimits, opening}
 use Rattle.eqc_core.specs.Moves.{with_announced, with_count, with_cell}
 use Rattle.eqc_core.specs.Announcing.{MayLook, looked, MayAnnounce, announced, announced_cell, MayRecheck, rechecked}
-use Rattle.eqc_core.specs.Counting.{MayUp, upped, MayDown, downed}
+use Rattle.eqc_core.specs.Counting.{Knows, MayUp, upped, MayDown, downed}
 use Rattle.eqc_core.specs.Caching.{MaySwapCell, swapped}
 use Rattle.eqc_core.specs.Scanning.{MayScan, scanned}
 use Rattle.eqc_core.specs.Seating.{MaySplit, split, MayJoin, joined, join}
@@ -96,12 +96,13 @@ HeldIsCounted = (z : Sizes) (w : Words) (hs : Homes) (vs : List View) (id x : �
 abbrev pub ConfirmedIsCounted : Type 0
 ConfirmedIsCounted = (s : State) → IsLawful s → ConfirmedCounted s
 
--- the names that a view or a cell has are in a table, and so are the children of such a name
+-- the names that a view or a cell has are in a table, and so are the children of such a name, and what an active view knows to stay
 pub record AreTabled (w : Words) (hs : Homes) (vs : List View) : Type 0 where
   pub held : (id x : ℕ) (v : View) → get_elem? vs id ≡ some v → 0 < times x v.held → 0 < tabled hs vs x
   pub retired : (id x : ℕ) (v : View) → get_elem? vs id ≡ some v → 0 < times x v.retired → 0 < tabled hs vs x
   pub confirmed : (id k x : ℕ) (v : View) → get_elem? vs id ≡ some v → v.active ≡ true → get_elem? v.phases k ≡ some (Confirmed x) → 0 < tabled hs vs x
   pub read : (id : ℕ) (v : View) (r : Read) → get_elem? vs id ≡ some v → v.active ≡ true → v.read ≡ Some r → 0 < tabled hs vs r.name
+  pub known : (id x : ℕ) (v : View) → get_elem? vs id ≡ some v → v.active ≡ true → 2 ≤ x → Knows v x → 0 < tabled hs vs x
   pub cells : (c x word : ℕ) → get_elem? w.cells c ≡ some word → 2 ≤ x → 0 < times x (cell_names word) → 0 < tabled hs vs x
   pub children : (x y : ℕ) → 0 < tabled hs vs x → 2 ≤ y → 0 < times y (slot_children (get_or w.nodes x 0)) → 0 < tabled hs vs y
 

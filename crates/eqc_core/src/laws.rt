@@ -79,8 +79,8 @@ pub fn confirmed_is_counted()
     ensures { ConfirmedIsCounted }
 {}
 
-/// Names held, retired, confirmed, read last and in cells are in a table, and the children of
-/// such names too.
+/// Names held, retired, confirmed, read last and in cells are in a table, and so are the children
+/// of such names and whatever an active worker knows to stay.
 pub fn names_are_tabled()
     ensures { NamesAreTabled }
 {}
