@@ -5,7 +5,7 @@ ghost use Rattle.std.specs.Hash.{same_Alike};
 ghost use Rattle.eqc_blif.specs.Lines.{is_blank};
 ghost use Rattle.eqc_blif.specs.Words.{without_blanks};
 
-use crate::words::split_word;
+use crate::words::{NEAR, is_blank, split_word};
 use smallvec::SmallVec;
 use std::alloc::{AllocError, Global};
 use std::hash::{Hash, Hasher};
@@ -40,6 +40,14 @@ impl Name {
         ensures { IfOk result (λ name. name ≡ without_blanks line.now) }
     {
         let mut bytes = SmallVec::with_capacity(alloc, line.len())?;
+        if line.len() <= NEAR {
+            'bytes: for byte in line {
+                if !is_blank(*byte) {
+                    bytes.push(*byte)?;
+                }
+            }
+            return Ok(Name { bytes });
+        }
         let mut rest = line;
         'words: while let Some((word, others)) = split_word(rest) {
             bytes.extend_from_slice(word)?;
