@@ -7,4 +7,6 @@ pub mod ReaderLemmas
 pub mod FollowLaws
 pub mod CleanLaws
 pub mod FaultLaws
+pub mod KeptLaws
 pub mod TwiceLaws
+pub mod FitLaws

@@ -1,6 +1,6 @@
 -- Cutting and joining lines.
-use Rattle.std.proofs.Common.{◌≡◌, ℕ, ◌+◌, ◌-◌, ◌<◌, ◌≤◌, Bool, true, false, List, [], ◌∷◌, ◌++◌, length, take, drop, refl, sym, ◌∙◌, ap, arith, eqb, append_assoc}
-use Rattle.std.specs.List.{position_or_len}
+use Rattle.std.proofs.Common.{◌≡◌, ℕ, suc, ◌+◌, ◌-◌, ◌<◌, ◌≤◌, Bool, true, false, List, [], ◌∷◌, ◌++◌, length, take, drop, refl, sym, ◌∙◌, ap, arith, eqb, append_assoc}
+use Rattle.std.specs.List.{position_or_len, before_first}
 use Rattle.std.proofs.lemmas.List.{take_all}
 use Rattle.std.proofs.lemmas.List.Sums.{fails_before_first}
 use Rattle.std.proofs.lemmas.List.Splits.{slice_split_none, slice_split_first}
@@ -10,8 +10,8 @@ use Rattle.std.specs.Option.{option_copied}
 use Rattle.std.specs.Prelude.{Option, Some}
 use Rattle.std.specs.Borrow.{Bor}
 use Rattle.std.proofs.lemmas.List.{take_rest}
-use Rattle.eqc_blif.specs.Steps.{numbered_rest}
-use Rattle.eqc_blif.specs.Lines.{clean, continues, spaced, onto_next, joined, numbered}
+use Rattle.eqc_blif.specs.Steps.{is_mark, numbered_rest}
+use Rattle.eqc_blif.specs.Lines.{trimmed, clean, continues, spaced, onto_next, joined, numbered}
 
 is_lf : ℕ → Bool
 is_lf b = eqb b 10
@@ -60,3 +60,40 @@ join_end n m front front' line old last is' = rw (is', last) refl
 -- a line that was pushed in two parts
 pub pushed_space : (front line mid all : List ℕ) → mid ≡ front ++ take (length line - 1) line → all ≡ mid ++ 32 ∷ [] → all ≡ front ++ spaced line
 pushed_space front line mid all first second = second ∙ (ap (λ b. b ++ 32 ∷ []) first ∙ append_assoc front (take (length line - 1) line) (32 ∷ []))
+
+-- the LF of a text stands at its first LF or `#`, or behind that
+line_end_behind : (text : List ℕ) → position_or_len (λ b. eqb b 10) text ≡ position_or_len is_mark text + position_or_len (λ b. eqb b 10) (drop (position_or_len is_mark text) text)
+line_end_behind [] = refl
+line_end_behind (b ∷ text) = elim (cases_Bool (eqb b 10)) [
+  | inl lf ↦ rw lf (rw lf refl)
+  | inr other ↦ elim (cases_Bool (eqb b 35)) [
+    | inl hash ↦ rw (other, hash) (rw other (omega arith))
+    | inr neither ↦
+        let one : 1 + position_or_len is_mark text ≡ suc (position_or_len is_mark text) = omega arith in
+        rw (other, neither, one) (omega (arith, line_end_behind text))
+  ]
+]
+
+-- what stands before `#` in a line is what stands before the first LF or `#` of the text
+before_mark : (text : List ℕ) → before_first (λ b. eqb b 35) (take (position_or_len (λ b. eqb b 10) text) text) ≡ take (position_or_len is_mark text) text
+before_mark [] = refl
+before_mark (b ∷ text) = elim (cases_Bool (eqb b 10)) [
+  | inl lf ↦ rw lf refl
+  | inr other ↦
+      let one : 1 + position_or_len (λ b. eqb b 10) text ≡ suc (position_or_len (λ b. eqb b 10) text) = omega arith in
+      elim (cases_Bool (eqb b 35)) [
+        | inl hash ↦ rw (other, one, hash) refl
+        | inr neither ↦
+            let two : 1 + position_or_len is_mark text ≡ suc (position_or_len is_mark text) = omega arith in
+            let three : 1 + position_or_len (λ b. eqb b 35) (take (position_or_len (λ b. eqb b 10) text) text) ≡ suc (position_or_len (λ b. eqb b 35) (take (position_or_len (λ b. eqb b 10) text) text)) = omega arith in
+            rw (other, one, neither, two, three) (ap (λ line. b ∷ line) (before_mark text))
+      ]
+]
+
+-- the end of a line, found behind its mark
+pub end_behind : (text : List ℕ) (mark more : ℕ) → mark ≡ position_or_len is_mark text → more ≡ position_or_len (λ b. eqb b 10) (take (length text - mark) (drop mark text)) → mark + more ≡ position_or_len (λ b. eqb b 10) text
+end_behind text mark more at behind = rw (behind, take_rest text mark, at) (sym (line_end_behind text))
+
+-- a line that is cut at its mark and trimmed is clean
+pub cut_clean : (text line : List ℕ) (mark end : ℕ) → mark ≡ position_or_len is_mark text → end ≡ position_or_len (λ b. eqb b 10) text → line ≡ trimmed (take mark text) → line ≡ clean (take end text)
+cut_clean text line mark end at ends cut = cut ∙ rw (at, ends) (ap trimmed (sym (before_mark text)))

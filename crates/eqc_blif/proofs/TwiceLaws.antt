@@ -14,6 +14,7 @@ use Rattle.eqc_blif.specs.Laws.{lists_are_distinct, LibrariesHaveNoNameTwice}
 use Rattle.eqc_blif.specs.declared.kind.Kind.{Kind}
 use Rattle.eqc_blif.specs.declared.kind.Kind.TheVariants.{Model, Inputs, Outputs, Names, Subckt, End, Latch, Skipped, Unknown, Row}
 use Rattle.eqc_blif.proofs.NameLemmas.{once_more}
+use Rattle.eqc_blif.proofs.KeptLaws.{IsKept, library_has, unmet}
 
 -- no model name stands twice, and no name in a list
 record Sound (ms : List ModelOf) : Type 0 where
@@ -52,12 +53,7 @@ last_lists ms m sound =
     let both = and_parts (not (has_twice m.inputs)) (not (has_twice m.outputs)) last.0 in
     (not-true (has_twice m.inputs) both.0, not-true (has_twice m.outputs) both.1)
 
--- what has no code does not meet its condition
-unmet : (b : Bool) (code : ℕ) → cond b (Some code) None ≡ None → b ≡ false
-unmet true code none = cc
-unmet false code none = refl
-
-sound_statement : (kind : Kind) (ws : List (List ℕ)) (row : List ℕ) (closed : List ModelOf) (o : Option OpenModel) → statement_code (record { closed = closed; open_model = o }) kind ws row ≡ None → Sound (models_of closed o) → Sound (models (then_statement kind ws row (record { closed = closed; open_model = o })))
+sound_statement : IsKept Sound
 sound_statement Model ws row closed o none sound = sound_pushed (models_of closed o) (begun (first_of ws)).model sound (unmet (is_named (map (λ m. m.name) (models_of closed o)) (first_of ws)) 11 none) refl refl
 sound_statement Inputs ws row closed None none sound = sound
 sound_statement Inputs ws row closed (Some m) none sound = sound_changed closed m.model _ sound refl (unmet (has_twice (m.model.inputs ++ ws)) 12 none) (last_lists closed m.model sound).1
@@ -77,46 +73,7 @@ sound_statement Unknown ws row closed o none sound = sound
 nothing_twice : Sound ((begun []).model ∷ [])
 nothing_twice = record { names = refl; lists = refl }
 
-sound_cond : (b : Bool) (st : After) → Sound (models st) → Sound (models (cond b (record { closed = []; open_model = Some (begun []) }) st))
-sound_cond true st sound = nothing_twice
-sound_cond false st sound = sound
-
-sound_opened : (kind : Kind) (st : After) → Sound (models st) → Sound (models (opened kind st))
-sound_opened kind st sound = sound_cond _ st sound
-
-no_bad_byte : (b : Bool) (code : Option ℕ) → cond b (Some 1) code ≡ None → code ≡ None
-no_bad_byte true code none = cc
-no_bad_byte false code none = none
-
-sound_line : (line : List ℕ) (st : After) → line_code st line ≡ None → Sound (models st) → Sound (models (then_line line st))
-sound_line line st none sound =
-    let kind = kind_of_line line in
-    let before = opened kind st in
-    sound_statement kind (arguments line) (without_blanks line) before.closed before.open_model (no_bad_byte (list_any is_bad_byte line) _ none) (sound_opened kind st sound)
-
-sound_lines : (lines : List (ℕ × List ℕ)) (st : After) → first_fault st lines ≡ None → Sound (models st) → Sound (models (after st lines))
-sound_lines [] st none sound = sound
-sound_lines (line ∷ lines) st none sound =
-    let parts = neither line.0 (line_code st line.1) (first_fault (then_line line.1 st) lines) none in
-    sound_lines lines (then_line line.1 st) parts.1 (sound_line line.1 st parts.0 sound)
-  where
-    neither : (n : ℕ) (code : Option ℕ) (behind : Option (ℕ × ℕ)) → or_behind n code behind ≡ None → (code ≡ None) × (behind ≡ None)
-    neither n None behind none = (refl, none)
-    neither n (Some code) behind none = cc
-
--- a library is what stands after all lines, none of which has a code
-read_without_fault : (fault : Option (ℕ × ℕ)) (ms library : List ModelOf) → outcome_by fault ms ≡ Ok library → (fault ≡ None) × (ms ≡ library)
-read_without_fault (Some fault) ms library is = cc
-read_without_fault None [] library is = cc
-read_without_fault None (m ∷ ms) library is = (refl, cc)
-
-short_enough : (b : Bool) (given : Outcome) (library : List ModelOf) → cond b (Err (0, 2)) given ≡ Ok library → given ≡ Ok library
-short_enough true given library is = cc
-short_enough false given library is = is
-
 pub libraries_have_no_name_twice : LibrariesHaveNoNameTwice
 libraries_have_no_name_twice text library is =
-    let lines = logical_lines text in
-    let parts = read_without_fault (first_fault start lines) (models (after start lines)) library (short_enough (is_too_long text) (outcome_of_lines lines) library is) in
-    let sound = sound_lines lines start parts.0 (record { names = refl; lists = refl }) in
-    (ap (λ ms. has_twice (map (λ m. m.name) ms)) (sym parts.1) ∙ sound.names, ap lists_are_distinct (sym parts.1) ∙ sound.lists)
+    let sound = library_has Sound sound_statement (record { names = refl; lists = refl }) nothing_twice text library is in
+    (sound.names, sound.lists)

@@ -17,6 +17,11 @@ row_matches (byte ∷ row) (v ∷ vs) = allows byte v && row_matches row vs
 abbrev pub is_on : List ℕ → Bool
 is_on row = slice_index row (length row - 1) == 49
 
+-- whether the first of some rows ends in `1`, so that they say where their cover is 1
+abbrev pub is_on_set : List (List ℕ) → Bool
+is_on_set [] = false
+is_on_set (row ∷ rows) = is_on row
+
 -- the value of rows under the values of their columns; all rows of a cover end alike
 abbrev pub cover_value : List (List ℕ) → List Bool → Bool
 cover_value [] vs = false

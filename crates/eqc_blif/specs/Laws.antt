@@ -1,12 +1,12 @@
 -- Laws of the definitions, in the words of a reader of the format: what follows a text, what changes nothing, how lines
 -- are numbered, and what a library never has.
-use Rattle.std.specs.Prelude.{◌≡◌, ℕ, ◌+◌, ◌≤◌, Bool, true, false, not, ◌&&◌, List, [], ◌∷◌, ◌++◌, length, map, ◌==◌, Some, None, Result, Ok, Err}
+use Rattle.std.specs.Prelude.{◌≡◌, ℕ, ◌+◌, ◌≤◌, Bool, true, false, not, ◌&&◌, ◌||◌, List, [], ◌∷◌, ◌++◌, length, map, ◌==◌, Some, None, Result, Ok, Err}
 use Rattle.std.specs.List.{list_all, list_any}
-use Rattle.eqc_blif.specs.Netlist.{ModelOf}
+use Rattle.eqc_blif.specs.Netlist.{CoverOf, ModelOf}
 use Rattle.eqc_blif.specs.Lines.{is_blank, is_trailing, physical, clean, continues, numbered, logical, logical_lines}
 use Rattle.eqc_blif.specs.Names.{has_twice}
 use Rattle.eqc_blif.specs.Kind.{kind_of_line}
-use Rattle.eqc_blif.specs.Reading.{Outcome, start, is_bad_byte, line_code, after, first_fault, outcome_of_lines, is_too_long, outcome}
+use Rattle.eqc_blif.specs.Reading.{Outcome, start, is_bad_byte, row_output, line_code, after, first_fault, outcome_of_lines, is_too_long, outcome}
 use Rattle.eqc_blif.specs.declared.kind.Kind.TheVariants.{Skipped}
 
 -- whether the last of some lines ends in a backslash
@@ -102,3 +102,18 @@ lists_are_distinct ms = list_all (λ m. not (has_twice m.inputs) && not (has_twi
 -- a library has distinct model names, and no name twice in a list of inputs or outputs
 abbrev pub LibrariesHaveNoNameTwice : Type 0
 LibrariesHaveNoNameTwice = (text : List ℕ) (library : List ModelOf) → outcome text ≡ Ok library → (has_twice (map (λ m. m.name) library) ≡ false) × (lists_are_distinct library ≡ true)
+
+-- each row of a cover has a place for each column, and one for the output
+abbrev pub has_places : CoverOf → Bool
+has_places cover = list_all (λ row. length row == length cover.columns + 1) cover.rows
+
+-- the rows of a cover all end in `0`, or all in `1`
+abbrev pub ends_alike : CoverOf → Bool
+ends_alike cover = list_all (λ row. row_output row == 48) cover.rows || list_all (λ row. row_output row == 49) cover.rows
+
+abbrev pub rows_fit : ModelOf → Bool
+rows_fit m = list_all (λ cover. has_places cover && ends_alike cover) m.covers
+
+-- in a library the rows of each cover fit its columns, and end alike
+abbrev pub RowsFitTheirCovers : Type 0
+RowsFitTheirCovers = (text : List ℕ) (library : List ModelOf) → outcome text ≡ Ok library → list_all rows_fit library ≡ true

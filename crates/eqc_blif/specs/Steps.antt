@@ -1,6 +1,6 @@
 -- What the parts of the reader do, in the words of the definitions: the cursor over lines, one row against its cover,
 -- one statement against what stands before it, and what `read` answers.
-use Rattle.std.specs.Prelude.{◌≡◌, ℕ, ◌+◌, Bool, true, false, not, List, [], ◌∷◌, ◌++◌, length, map, Option, Some, None, if◌then◌else◌, ◌==◌}
+use Rattle.std.specs.Prelude.{◌≡◌, ℕ, ◌+◌, Bool, true, false, ◌||◌, not, List, [], ◌∷◌, ◌++◌, length, map, Option, Some, None, if◌then◌else◌, ◌==◌}
 use Rattle.std.specs.List.{list_all}
 use Rattle.eqc_blif.specs.Netlist.{CoverOf, InstanceOf, ModelOf}
 use Rattle.eqc_blif.specs.Lines.{numbered}
@@ -9,6 +9,10 @@ use Rattle.eqc_blif.specs.Names.{is_named, has_twice}
 use Rattle.eqc_blif.specs.Reading.{After, OpenModel, first_code, last_cover, has_row_shape, differs_from_first, statement_code, then_statement, line_code, then_line, declared, with_inputs, with_outputs, with_new_cover, with_instance, with_new_row}
 use Rattle.eqc_blif.specs.declared.kind.Kind.{Kind}
 use Rattle.eqc_blif.specs.declared.kind.Kind.TheVariants.{Inputs, Outputs, Names, Subckt, Row}
+
+-- an LF or `#`: where the part of a line ends that counts
+abbrev pub is_mark : ℕ → Bool
+is_mark byte = (byte == 10) || (byte == 35)
 
 -- the clean lines of what is left of a text, which may have ended
 abbrev pub numbered_rest : ℕ → Option (List ℕ) → List (ℕ × List ℕ)
@@ -24,6 +28,11 @@ room (Some text) = length text + 1
 abbrev pub TakesFirst : {A : Type 0} → List A → Option A → List A → Type 0
 TakesFirst old None new = (old ≡ []) × (new ≡ [])
 TakesFirst old (Some x) new = old ≡ x ∷ new
+
+-- a logical line: its one physical line, or what was joined
+abbrev pub whole_or_joined : Option (List ℕ) → List ℕ → List ℕ
+whole_or_joined None joined = joined
+whole_or_joined (Some line) joined = line
 
 -- what a model declares
 pub record DeclarationsOf : Type 0 where

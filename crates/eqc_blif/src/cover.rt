@@ -1,10 +1,12 @@
 ghost use Rattle.std.specs.Prelude.{◌≡◌, IfOk, length, MatchOption, [], nat_lt, IsTrue};
 ghost use Rattle.std.specs.List.{list_all};
+ghost use Rattle.eqc_blif.specs.Cover.{cover_value};
 ghost use Rattle.eqc_blif.specs.Words.{words, without_blanks, cover_of};
 ghost use Rattle.eqc_blif.specs.Reading.{is_column_value, is_output_value, row_output, has_row_shape, differs_from_first};
 ghost use Rattle.eqc_blif.specs.Steps.{TakesRow};
 
 use crate::name::Name;
+use crate::rows::cover_value;
 use crate::sparing::push_sparing;
 use crate::words::names_in;
 use std::alloc::{AllocError, Global};
@@ -83,6 +85,13 @@ fn differs_from_first(rows: &[Name], row: &[u8]) -> bool
 }
 
 impl Cover {
+    /// The value of the output under these values of the columns, in their order and one for each.
+    pub fn value(&self, values: &[bool]) -> bool
+        ensures { result ≡ cover_value self.now.rows values.now }
+    {
+        cover_value(&self.rows, values)
+    }
+
     /// The cover that `.names` opens with the words of `line`, or `None` where there is no word.
     pub(crate) fn opened(alloc: Global, line: &[u8]) -> Result<Option<Cover>, AllocError>
         ensures { IfOk result (λ cover. MatchOption cover (words line.now ≡ []) (λ c. IsTrue (nat_lt 0 (length (words line.now))) × (c ≡ cover_of (words line.now)))) }

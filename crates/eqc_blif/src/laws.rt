@@ -1,5 +1,5 @@
 //! Laws of the definitions that `read` is proved against. The functions do nothing: their contracts are the laws.
-ghost use Rattle.eqc_blif.specs.Laws.{TextsFollow, FirstFaultStays, FoundIsFirst, FirstIsFound, CommentsChangeNothing, TrailingBlanksChangeNothing, BlankLinesOnlyRenumber, NumbersPlayNoPart, SkippedLinesChangeNothing, LineNumbersRise, LinesMakeTheText, LinesAreCutAgain, LibrariesHaveNoNameTwice};
+ghost use Rattle.eqc_blif.specs.Laws.{TextsFollow, FirstFaultStays, FoundIsFirst, FirstIsFound, CommentsChangeNothing, TrailingBlanksChangeNothing, BlankLinesOnlyRenumber, NumbersPlayNoPart, SkippedLinesChangeNothing, LineNumbersRise, LinesMakeTheText, LinesAreCutAgain, LibrariesHaveNoNameTwice, RowsFitTheirCovers};
 
 /// The lines of a text stay, whatever text follows it, and so does its first faulty line.
 pub fn first_fault_stays()
@@ -40,4 +40,10 @@ pub fn lines_are_cut_again()
 /// A library has distinct model names, and no name twice in a list of inputs or outputs.
 pub fn libraries_have_no_name_twice()
     ensures { LibrariesHaveNoNameTwice }
+{}
+
+/// Each row of a library has a place for each column of its cover and one for the output, and all rows of a cover end
+/// alike.
+pub fn rows_fit_their_covers()
+    ensures { RowsFitTheirCovers }
 {}

@@ -16,6 +16,7 @@ mod open_model;
 mod reader;
 mod reading;
 mod refusal;
+mod rows;
 mod sparing;
 #[cfg(test)]
 mod tests;
@@ -25,9 +26,10 @@ pub use cover::Cover;
 pub use instance::Instance;
 pub use laws::{
     blank_lines_only_renumber, first_fault_is_one, first_fault_stays, libraries_have_no_name_twice,
-    line_numbers_rise, lines_are_cut_again, what_changes_nothing,
+    line_numbers_rise, lines_are_cut_again, rows_fit_their_covers, what_changes_nothing,
 };
 pub use library::Library;
 pub use name::Name;
 pub use reading::read;
 pub use refusal::Refusal;
+pub use rows::{allows, cover_value, is_on, is_on_set, row_matches};

@@ -1,11 +1,11 @@
 ghost use Rattle.std.specs.Prelude.{◌≡◌, ◌+◌, ◌<◌, ◌≤◌, IsTrue, ℕ, [], ◌∷◌, length, IfOk, ◌==◌, ◌^◌};
-ghost use Rattle.std.specs.List.{before_first, list_all, position_or_len};
-ghost use Rattle.std.specs.Option.{option_map};
-ghost use Rattle.eqc_blif.specs.Lines.{is_trailing, is_blank, trimmed, clean, continues, joined, logical, numbered};
-ghost use Rattle.eqc_blif.specs.Steps.{TakesFirst};
+ghost use Rattle.std.specs.List.{list_all, position_or_len};
+ghost use Rattle.std.specs.Option.{option_map, option_copied};
+ghost use Rattle.eqc_blif.specs.Lines.{is_trailing, is_blank, trimmed, continues, joined, logical, numbered};
+ghost use Rattle.eqc_blif.specs.Steps.{is_mark, TakesFirst, whole_or_joined};
 
-use crate::words::is_blank;
-use memchr::memchr;
+use crate::words::{NEAR, is_blank};
+use memchr::{memchr, memchr2};
 use std::alloc::AllocError;
 use std::marker::Model;
 
@@ -15,20 +15,59 @@ fn is_trailing(byte: u8) -> bool
     byte == b' ' || byte == b'\t' || byte == b'\r'
 }
 
-/// Where the byte first stands, or the length.
-fn find(bytes: &[u8], wanted: u8) -> usize
-    ensures { result ≡ position_or_len (λ byte. byte == wanted) bytes.now }
+/// Where the first LF stands, or the length, by a search of many bytes at a time.
+#[inline(never)]
+fn find_far_line_end(bytes: &[u8]) -> usize
+    ensures first { result ≡ position_or_len (λ byte. byte == 10) bytes.now }
+    ensures within { result ≤ length bytes.now }
 {
-    match memchr(wanted, bytes) {
+    match memchr(b'\n', bytes) {
         Some(i) => i,
         None => bytes.len(),
     }
 }
 
-fn without_comment(line: &[u8]) -> &[u8]
-    ensures { result.now ≡ before_first (λ byte. byte == 35) line.now }
+/// Where the first LF stands, or the length. Most lines have no comment, so that the LF is looked for where it stands.
+fn find_line_end(bytes: &[u8]) -> usize
+    ensures first { result ≡ position_or_len (λ byte. byte == 10) bytes.now }
+    ensures within { result ≤ length bytes.now }
 {
-    &line[..find(line, b'#')]
+    if !bytes.is_empty() && bytes[0] == b'\n' {
+        return 0;
+    }
+    find_far_line_end(bytes)
+}
+
+fn is_mark(byte: u8) -> bool
+    ensures { result ≡ is_mark byte }
+{
+    byte == b'\n' || byte == b'#'
+}
+
+/// Where the first LF or `#` stands, or the length, by a search of many bytes at a time.
+#[inline(never)]
+fn find_far_mark(bytes: &[u8]) -> usize
+    ensures first { result ≡ position_or_len is_mark bytes.now }
+    ensures within { result ≤ length bytes.now }
+{
+    match memchr2(b'\n', b'#', bytes) {
+        Some(i) => i,
+        None => bytes.len(),
+    }
+}
+
+/// Where the first LF or `#` stands, or the length. It is often near, so that the first bytes are looked at one by one.
+fn find_mark(bytes: &[u8]) -> usize
+    ensures first { result ≡ position_or_len is_mark bytes.now }
+    ensures within { result ≤ length bytes.now }
+{
+    let near = bytes.len().min(NEAR);
+    for i in 0..near {
+        if is_mark(bytes[i]) {
+            return i;
+        }
+    }
+    near + find_far_mark(&bytes[near..])
 }
 
 fn trimmed(line: &[u8]) -> &[u8]
@@ -39,12 +78,6 @@ fn trimmed(line: &[u8]) -> &[u8]
         end -= 1;
     }
     &line[..end]
-}
-
-fn clean(line: &[u8]) -> &[u8]
-    ensures { result.now ≡ clean line.now }
-{
-    trimmed(without_comment(line))
 }
 
 fn continues(line: &[u8]) -> bool
@@ -97,14 +130,15 @@ impl<'a> Lines<'a> {
     {
         let text = self.rest?;
         let number = self.number;
-        let end = find(text, b'\n');
+        let mark = find_mark(text);
+        let end = mark + find_line_end(&text[mark..]);
         if end < text.len() {
             self.rest = Some(&text[end + 1..]);
             self.number = number + 1;
         } else {
             self.rest = None;
         }
-        Some((number, clean(&text[..end])))
+        Some((number, trimmed(&text[..mark])))
     }
 
     /// Appends to the empty `line` a logical line that begins with `first`, and the lines that it is continued in.
@@ -126,15 +160,23 @@ impl<'a> Lines<'a> {
         Ok(())
     }
 
-    /// Reads the next logical line into `line`, and answers its number.
-    pub(crate) fn next_logical(&mut self, line: &mut Vec<u8>) -> Result<Option<u32>, AllocError>
-        ensures { IfOk result (λ found. TakesFirst (logical self.old) (option_map (λ n. (n, line.new.items)) found) (logical self.new)) }
+    /// The number of the next logical line, with its bytes where it stands in one physical line; one that was joined is
+    /// written into `joined`.
+    pub(crate) fn next_logical(
+        &mut self,
+        joined: &mut Vec<u8>,
+    ) -> Result<Option<(u32, Option<&'a [u8]>)>, AllocError>
+        ensures { IfOk result (λ found. TakesFirst (logical self.old) (option_map (λ f. (f.0, whole_or_joined (option_copied f.1) joined.new.items)) found) (logical self.new)) }
     {
-        'lines: while let Some((number, first)) = self.next_physical() {
-            line.clear();
-            self.join(line, first)?;
-            if !is_all_blank(line) {
-                return Ok(Some(number));
+        'lines: while let Some((number, line)) = self.next_physical() {
+            if continues(line) {
+                joined.clear();
+                self.join(joined, line)?;
+                if !is_all_blank(joined) {
+                    return Ok(Some((number, None)));
+                }
+            } else if !is_all_blank(line) {
+                return Ok(Some((number, Some(line))));
             }
         }
         Ok(None)

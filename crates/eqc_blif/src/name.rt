@@ -5,11 +5,14 @@ ghost use Rattle.std.specs.Hash.{same_Alike};
 ghost use Rattle.eqc_blif.specs.Lines.{is_blank};
 ghost use Rattle.eqc_blif.specs.Words.{without_blanks};
 
-use crate::words::split_word;
+use crate::words::{NEAR, is_blank, split_word};
 use smallvec::SmallVec;
 use std::alloc::{AllocError, Global};
 use std::hash::{Hash, Hasher};
 use std::marker::Model;
+
+/// Up to so many bytes are copied one by one, which takes less time than a copy of many at a time.
+const SHORT: usize = 8;
 
 /// A name of a netlist, or a row of a cover: its bytes. Up to sixteen bytes need no allocation.
 #[derive(Drop)]
@@ -30,15 +33,31 @@ impl Name {
     pub fn new(alloc: Global, bytes: &[u8]) -> Result<Name, AllocError>
         ensures { IfOk result (λ name. name ≡ bytes.now) }
     {
-        Ok(Name {
-            bytes: SmallVec::from_slice(alloc, bytes)?,
-        })
+        if bytes.len() > SHORT {
+            return Ok(Name {
+                bytes: SmallVec::from_slice(alloc, bytes)?,
+            });
+        }
+        let mut short = SmallVec::new(alloc);
+        'bytes: for byte in bytes {
+            short.push(*byte)?;
+        }
+        Ok(Name { bytes: short })
     }
 
     /// The bytes of a line that are no spaces and tabs. Fails where memory is refused.
     pub(crate) fn without_blanks(alloc: Global, line: &[u8]) -> Result<Name, AllocError>
         ensures { IfOk result (λ name. name ≡ without_blanks line.now) }
     {
+        if line.len() <= NEAR {
+            let mut short = SmallVec::new(alloc);
+            'bytes: for byte in line {
+                if !is_blank(*byte) {
+                    short.push(*byte)?;
+                }
+            }
+            return Ok(Name { bytes: short });
+        }
         let mut bytes = SmallVec::with_capacity(alloc, line.len())?;
         let mut rest = line;
         'words: while let Some((word, others)) = split_word(rest) {

@@ -23,10 +23,14 @@ pub fn read(alloc: Global, text: &[u8]) -> Result<Library, Refusal>
         return Err(Refusal { line: 0, code: 2 });
     }
     let mut lines = Lines::new(text);
-    let mut line = Vec::new(alloc);
+    let mut joined = Vec::new(alloc);
     let mut reader = Reader::new(alloc);
-    'lines: while let Some(number) = lines.next_logical(&mut line)? {
-        if let Some(code) = reader.take_line(alloc, &line)? {
+    'lines: while let Some((number, whole)) = lines.next_logical(&mut joined)? {
+        let line = match whole {
+            Some(line) => line,
+            None => joined.as_slice(),
+        };
+        if let Some(code) = reader.take_line(alloc, line)? {
             return Err(Refusal { line: number, code });
         }
     }

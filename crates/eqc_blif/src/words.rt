@@ -1,4 +1,4 @@
-ghost use Rattle.std.specs.Prelude.{◌≡◌, ◌<◌, ◌++◌, [], ◌∷◌, length, IfOk, IfSome, MatchOption, map};
+ghost use Rattle.std.specs.Prelude.{◌≡◌, ◌<◌, ◌≤◌, ◌++◌, [], ◌∷◌, length, IfOk, IfSome, MatchOption, map};
 ghost use Rattle.std.specs.List.{position_or_len};
 ghost use Rattle.std.specs.Option.{option_map};
 ghost use Rattle.eqc_blif.specs.Lines.{is_blank};
@@ -9,20 +9,38 @@ use crate::name::Name;
 use memchr::memchr2;
 use std::alloc::{AllocError, Global};
 
+/// How many bytes are looked at one by one before a search of many at a time.
+pub(crate) const NEAR: usize = 16;
+
 pub(crate) fn is_blank(byte: u8) -> bool
     ensures { result ≡ is_blank byte }
 {
     byte == b' ' || byte == b'\t'
 }
 
-/// Where the first blank stands, or the length.
-fn find_blank(bytes: &[u8]) -> usize
-    ensures { result ≡ position_or_len is_blank bytes.now }
+/// Where the first blank stands, or the length, by a search of many bytes at a time.
+#[inline(never)]
+fn find_far_blank(bytes: &[u8]) -> usize
+    ensures first { result ≡ position_or_len is_blank bytes.now }
+    ensures within { result ≤ length bytes.now }
 {
     match memchr2(b' ', b'\t', bytes) {
         Some(i) => i,
         None => bytes.len(),
     }
+}
+
+/// Where the first blank stands, or the length. It is often near, so that the first bytes are looked at one by one.
+fn find_blank(bytes: &[u8]) -> usize
+    ensures { result ≡ position_or_len is_blank bytes.now }
+{
+    let near = bytes.len().min(NEAR);
+    for i in 0..near {
+        if is_blank(bytes[i]) {
+            return i;
+        }
+    }
+    near + find_far_blank(&bytes[near..])
 }
 
 /// The first word of a line, and what stands behind it.
