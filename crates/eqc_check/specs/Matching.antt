@@ -1,5 +1,5 @@
 -- Rows of a cover under the value of their first column, and the columns of a cover as diagrams.
-use Rattle.std.specs.Prelude.{◌≡◌, ℕ, Bool, true, false, List, [], ◌∷◌, map, if◌then◌else◌, ◌+◌}
+use Rattle.std.specs.Prelude.{◌≡◌, ℕ, Bool, true, false, List, [], ◌∷◌, map, take, not, ◌||◌, ◌==◌, if◌then◌else◌, ◌+◌}
 use Rattle.std.specs.List.{list_any, AllByRecursion}
 use Rattle.std.specs.Borrow.{Bor}
 use Rattle.eqc_blif.specs.Cover.{allows, row_matches}
@@ -14,6 +14,22 @@ abbrev pub cofactor : Bool → List (List ℕ) → List (List ℕ)
 cofactor v [] = []
 cofactor v ([] ∷ rows) = [] ∷ cofactor v rows
 cofactor v ((byte ∷ row) ∷ rows) = if allows byte v then row ∷ cofactor v rows else cofactor v rows
+
+-- whether the byte of a column asks for a value
+abbrev pub is_literal : ℕ → Bool
+is_literal byte = (byte == 48) || (byte == 49)
+
+-- whether one of the rows asks for no value of so many columns
+abbrev pub has_free_row : ℕ → List (List ℕ) → Bool
+has_free_row columns rows = list_any (λ r. not (list_any is_literal (take columns r))) rows
+
+-- whether one of the rows asks for a value of its first column
+abbrev pub constrains_first : List (List ℕ) → Bool
+constrains_first rows = list_any (λ r. list_any is_literal (take 1 r)) rows
+
+-- under all values some row of the one list matches exactly where some row of the other does
+pub record MatchAlike (rows others : List (List ℕ)) : Type 0 where
+  pub alike : (vs : List Bool) → some_match rows vs ≡ some_match others vs
 
 -- whether a value is the one that is wanted
 abbrev pub agrees : Bool → Bool → Bool

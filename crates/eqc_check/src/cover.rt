@@ -4,25 +4,10 @@ ghost use Rattle.eqc_tree.specs.Holding.{IsHeld, says, Keeps, Gains, Loses};
 ghost use Rattle.eqc_blif.specs.Cover.{allows, row_matches, is_on, cover_value};
 ghost use Rattle.eqc_check.specs.Matching.{some_match, cofactor, agrees, AreHeld, said, of_two, Swaps};
 
+use crate::rows::{cofactor, constrains_first, has_free_row, plan_cover, some_match};
 use eqc_blif::Name;
 use eqc_tree::{Diagrams, Op, References, Stop};
-use std::alloc::{AllocError, Global};
-
-/// Up to so many columns a cover is built by its function, column by column; a wider one by its rows.
-const NARROW: usize = 8;
-
-/// Above so many columns a cover is built by its rows, however many.
-const WIDEST: usize = 20;
-
-fn allows(byte: u8, value: bool) -> bool
-    ensures { result ≡ allows byte value }
-{
-    match byte {
-        b'0' => !value,
-        b'1' => value,
-        _ => true,
-    }
-}
+use std::alloc::Global;
 
 fn agrees(on: bool, value: bool) -> bool
     ensures { result ≡ agrees on value }
@@ -37,60 +22,6 @@ fn is_on(row: &[u8]) -> bool
         Some(byte) => *byte == b'1',
         None => false,
     }
-}
-
-fn row_matches(row: &[u8], values: &[bool]) -> bool
-    ensures { result ≡ row_matches row.now values.now }
-{
-    for (i, value) in values.iter().enumerate() {
-        if i >= row.len() {
-            return true;
-        }
-        if !allows(row[i], *value) {
-            return false;
-        }
-    }
-    true
-}
-
-fn some_match(rows: &[&[u8]], values: &[bool]) -> bool
-    ensures { result ≡ some_match (map (λ r. r.now) rows.now) values.now }
-{
-    for row in rows {
-        if row_matches(row, values) {
-            return true;
-        }
-    }
-    false
-}
-
-/// A row without its first column, where that allows the value.
-fn without_first<'a>(row: &'a [u8], value: bool) -> Option<&'a [u8]>
-    ensures { option_to_list (option_copied result) ≡ cofactor value (row.now ∷ []) }
-{
-    match row.split_first() {
-        None => Some(row),
-        Some((byte, rest)) => {
-            if allows(*byte, value) {
-                Some(rest)
-            } else {
-                None
-            }
-        }
-    }
-}
-
-/// The rows that allow this value of their first column, without it.
-fn cofactor<'a>(alloc: Global, rows: &[&'a [u8]], value: bool) -> Result<Vec<&'a [u8]>, AllocError>
-    ensures { IfOk result (λ kept. map (λ r. r.now) kept.items ≡ cofactor value (map (λ r. r.now) rows.now)) }
-{
-    let mut kept = Vec::new(alloc);
-    for row in rows {
-        if let Some(rest) = without_first(row, value) {
-            kept.push(rest)?;
-        }
-    }
-    Ok(kept)
 }
 
 /// The function of two references that is false where both are false, and else has these values: where only
@@ -185,6 +116,15 @@ fn by_columns<R, D: Diagrams<R>>(
     let Some((column, others)) = columns.split_first() else {
         return d.constant(on);
     };
+    if has_free_row(rows, columns.len()) {
+        return d.constant(on);
+    }
+    if !constrains_first(rows) {
+        let Ok(rest) = cofactor(alloc, rows, true) else {
+            return Err(Stop::Memory);
+        };
+        return by_columns(alloc, rt, d, others, &rest, on);
+    }
     if let [second] = others {
         let neither = agrees(on, some_match(rows, &[false, false]));
         let one = agrees(on, some_match(rows, &[false, true]));
@@ -293,22 +233,6 @@ fn by_rows<R, D: Diagrams<R>>(
     made
 }
 
-fn slices(alloc: Global, rows: &[Name]) -> Result<Vec<&[u8]>, AllocError>
-    ensures { IfOk result (λ v. map (λ r. r.now) v.items ≡ rows.now) }
-{
-    let mut slices = Vec::with_capacity(alloc, rows.len())?;
-    for row in rows {
-        slices.push(row.as_bytes())?;
-    }
-    Ok(slices)
-}
-
-/// Whether a cover is built column by column: where its columns are few, or where its rows have as many places as
-/// there are values of the columns.
-fn is_narrow(columns: usize, rows: usize) -> bool {
-    columns <= NARROW || (columns <= WIDEST && rows >= 1 << (columns - NARROW))
-}
-
 /// The diagram of a cover: the value of its rows where the columns have these functions.
 pub(crate) fn cover_diagram<R, D: Diagrams<R>>(
     alloc: Global,
@@ -326,13 +250,13 @@ pub(crate) fn cover_diagram<R, D: Diagrams<R>>(
         return d.constant(false);
     };
     let on = is_on(row.as_bytes());
-    let Ok(rows) = slices(alloc, rows) else {
+    let Ok(plan) = plan_cover(alloc, rows, columns.len()) else {
         return Err(Stop::Memory);
     };
-    if is_narrow(columns.len(), rows.len()) {
-        return by_columns(alloc, rt, d, columns, &rows, on);
+    if plan.expands {
+        return by_columns(alloc, rt, d, columns, &plan.rows, on);
     }
-    let matched = by_rows(rt, d, columns, &rows)?;
+    let matched = by_rows(rt, d, columns, &plan.rows)?;
     if on {
         return Ok(matched);
     }

@@ -17,6 +17,7 @@ mod pairing;
 mod plan;
 mod report;
 mod reports;
+mod rows;
 mod running;
 mod sides;
 mod table;

@@ -1,6 +1,6 @@
 use Rattle.std.proofs.Common.{◌≡◌, drop}
 use Rattle.eqc_blif.specs.Cover.{row_matches}
-use Rattle.eqc_check.proofs.cover.row_matches.Given as goal
+use Rattle.eqc_check.proofs.rows.row_matches.Given as goal
 
 -- what is left decides
 abbrev pub invariant-loop-i : goal.invariant-loop-i

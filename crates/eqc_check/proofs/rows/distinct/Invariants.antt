@@ -1,0 +1,10 @@
+use Rattle.std.proofs.Common.{◌≡◌, map, take}
+use Rattle.eqc_check.specs.Matching.{MatchAlike}
+use Rattle.eqc_check.proofs.rows.distinct.Given as goal
+
+-- what was kept says what the rows so far say, and is what was seen
+abbrev pub invariant-rows : goal.invariant-rows
+invariant-rows l = record {
+  kept : MatchAlike (map (λ r. r.now) l.kept.items) (take l.row-index l.rows);
+  seen : l.seen.keys ≡ l.kept.items;
+}
