@@ -106,16 +106,6 @@ by_halves entry n row left right columns some others a e f l r =
 pub by_short : {X : Type 0} (entry : X → Entry) (n : ℕ) (row : List ℕ) (columns some : List (Bor X)) (a : ℕ → Bool) → some ≡ take n columns → length row ≤ n → row_matches row (said entry some a) ≡ row_matches row (said entry columns a)
 by_short entry n row columns some a e h = rw (e, map_take (λ r. says (entry r.now) a) n columns) (row_matches-short n row (said entry columns a) h)
 
--- a row at a place past its end
-pub row_matches-past : (i : ℕ) (row : List ℕ) (vs : List Bool) → length row ≤ i → true ≡ row_matches (drop i row) vs
-row_matches-past i row vs h = rw (drop_all i row h) (sym (row_matches-nil vs))
-  where
-    drop_all : (i : ℕ) (row : List ℕ) → length row ≤ i → drop i row ≡ []
-    drop_all zero [] h = refl
-    drop_all zero (b ∷ row) h = absurd (omega arith)
-    drop_all (suc i) [] h = refl
-    drop_all (suc i) (b ∷ row) h = drop_all i row (omega arith)
-
 agrees-true : (on : Bool) → on ≡ agrees on true
 agrees-true true = refl
 agrees-true false = refl

@@ -1,11 +1,11 @@
 ghost use Rattle.std.specs.Prelude.{◌≡◌, ◌≢◌, ℕ, ◌<◌, ◌-◌, Bool, true, false, List, [], ◌∷◌, length, IfOk, IfErr, OnErr, map, not, option_to_list};
 ghost use Rattle.std.specs.Option.{option_copied};
 ghost use Rattle.eqc_tree.specs.Holding.{IsHeld, says, Keeps, Gains, Loses};
-ghost use Rattle.eqc_blif.specs.Cover.{allows, row_matches, is_on, cover_value};
+ghost use Rattle.eqc_blif.specs.Cover.{row_matches, cover_value};
 ghost use Rattle.eqc_check.specs.Matching.{some_match, cofactor, agrees, AreHeld, said, of_two, Swaps};
 
 use crate::rows::{cofactor, constrains_first, has_free_row, plan_cover, some_match};
-use eqc_blif::Name;
+use eqc_blif::{Name, is_on_set};
 use eqc_tree::{Diagrams, Op, References, Stop};
 use std::alloc::Global;
 
@@ -13,15 +13,6 @@ fn agrees(on: bool, value: bool) -> bool
     ensures { result ≡ agrees on value }
 {
     if on { value } else { !value }
-}
-
-fn is_on(row: &[u8]) -> bool
-    ensures { result ≡ is_on row.now }
-{
-    match row.last() {
-        Some(byte) => *byte == b'1',
-        None => false,
-    }
 }
 
 /// The function of two references that is false where both are false, and else has these values: where only
@@ -246,10 +237,10 @@ pub(crate) fn cover_diagram<R, D: Diagrams<R>>(
     ensures stop { OnErr result (Keeps (D.holding d.old) (D.holding d.new)) }
     ensures only { IfErr result (λ s. s ≢ Stop.Threads) }
 {
-    let Some(row) = rows.first() else {
+    if rows.is_empty() {
         return d.constant(false);
-    };
-    let on = is_on(row.as_bytes());
+    }
+    let on = is_on_set(rows);
     let Ok(plan) = plan_cover(alloc, rows, columns.len()) else {
         return Err(Stop::Memory);
     };

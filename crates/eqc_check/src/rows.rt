@@ -2,10 +2,9 @@
 ghost use Rattle.std.specs.Prelude.{◌≡◌, ℕ, Bool, List, [], ◌∷◌, true, length, map, take, IfOk, option_to_list};
 ghost use Rattle.std.specs.List.{list_any};
 ghost use Rattle.std.specs.Option.{option_copied};
-ghost use Rattle.eqc_blif.specs.Cover.{allows, row_matches};
 ghost use Rattle.eqc_check.specs.Matching.{some_match, cofactor, is_literal, has_free_row, constrains_first, MatchAlike};
 
-use eqc_blif::Name;
+use eqc_blif::{Name, allows, row_matches};
 use indexmap::IndexSet;
 use std::alloc::{AllocError, Global};
 
@@ -20,30 +19,6 @@ const VISITS: usize = 96;
 
 /// Where the bound that is quickly found is at most so many for each place, they aren't counted.
 const BOUND: usize = 160;
-
-fn allows(byte: u8, value: bool) -> bool
-    ensures { result ≡ allows byte value }
-{
-    match byte {
-        b'0' => !value,
-        b'1' => value,
-        _ => true,
-    }
-}
-
-fn row_matches(row: &[u8], values: &[bool]) -> bool
-    ensures { result ≡ row_matches row.now values.now }
-{
-    for (i, value) in values.iter().enumerate() {
-        if i >= row.len() {
-            return true;
-        }
-        if !allows(row[i], *value) {
-            return false;
-        }
-    }
-    true
-}
 
 pub(crate) fn some_match(rows: &[&[u8]], values: &[bool]) -> bool
     ensures { result ≡ some_match (map (λ r. r.now) rows.now) values.now }
