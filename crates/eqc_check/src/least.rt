@@ -1,15 +1,15 @@
-ghost use Rattle.std.specs.Prelude.{◌≡◌, ◌≢◌, ◌↔◌, ℕ, ◌<◌, ◌≤◌, ◌&&◌, Bool, false, not, length, IsTrue, IfOk, IfErr, OnErr};
-ghost use Rattle.std.specs.List.{All, find};
+ghost use Rattle.std.specs.Prelude.{◌≡◌, ◌≢◌, ◌↔◌, ℕ, ◌<◌, ◌≤◌, ◌++◌, ◌&&◌, Bool, false, not, length, replicate, IsTrue, IfOk, IfErr, OnOk, OnErr};
+ghost use Rattle.std.specs.List.{All, find, list_any};
 ghost use Rattle.eqc_tree.specs.Holding.{IsHeld, says, Keeps, Gains, Loses};
 ghost use Rattle.eqc_check.specs.Assigned.{assigned, AreDistinct, DependsOnlyOn, DependsBelow, IsSatisfiable};
-ghost use Rattle.eqc_check.specs.Narrowing.{Replaces, IsNarrowed};
+ghost use Rattle.eqc_check.specs.Narrowing.{Replaces, IsNarrowed, decided, IsNextLength};
 ghost use Rattle.eqc_check.specs.PairOf.{input_values};
 ghost use Rattle.eqc_check.specs.Verdict.{assignments};
 ghost use Rattle.eqc_check.specs.VerdictLaws.{IsLeast};
 
 use crate::matched_pair::Pair;
 use eqc_tree::{Diagrams, Op, References, Stop};
-use std::alloc::Global;
+use std::alloc::{AllocError, Global};
 
 /// Whether a function is false under each assignment.
 pub(crate) fn is_false<D: References>(d: &D, f: &D::Ref) -> bool
@@ -19,36 +19,69 @@ pub(crate) fn is_false<D: References>(d: &D, f: &D::Ref) -> bool
     d.as_constant(f) == Some(false)
 }
 
-/// A function and not a variable.
-fn without<R, D: Diagrams<R>>(rt: &R, d: &mut D, f: &D::Ref, variable: u16) -> Result<D::Ref, Stop>
-    requires held { IsHeld (D.holding d.old) (D.entry f.now) }
-    requires within { variable < (D.holding d.old).variables }
-    ensures ok { IfOk result (λ r. Gains (D.holding d.old) (D.holding d.new) (D.entry r) (λ a. says (D.entry f.now) a && not (a variable))) }
+/// The function that is true where one of these variables is: the disjunction of its two halves, so that the order of
+/// the variables doesn't matter.
+fn one_of<R, D: Diagrams<R>>(rt: &R, d: &mut D, variables: &[u16]) -> Result<D::Ref, Stop>
+    requires { All (λ v. v < (D.holding d.old).variables) variables.now }
+    ensures ok { IfOk result (λ r. Gains (D.holding d.old) (D.holding d.new) (D.entry r) (λ a. list_any a variables.now)) }
     ensures stop { OnErr result (Keeps (D.holding d.old) (D.holding d.new)) }
     ensures only { IfErr result (λ s. s ≢ Stop.Threads) }
 {
-    let literal = d.literal(rt, variable)?;
-    let low = d.apply(rt, Op::AndNot, f, &literal);
-    d.give_back(literal);
+    match variables {
+        [] => return d.constant(false),
+        [variable] => return d.literal(rt, *variable),
+        _ => {}
+    }
+    let (some, others) = variables.split_at(variables.len() / 2);
+    let front = one_of(rt, d, some)?;
+    let back = match one_of(rt, d, others) {
+        Ok(back) => back,
+        Err(stop) => {
+            d.give_back(front);
+            return Err(stop);
+        }
+    };
+    let made = d.apply(rt, Op::Or, &front, &back);
+    d.give_back(front);
+    d.give_back(back);
+    made
+}
+
+/// A function where none of these variables is true.
+fn without<R, D: Diagrams<R>>(
+    rt: &R,
+    d: &mut D,
+    f: &D::Ref,
+    variables: &[u16],
+) -> Result<D::Ref, Stop>
+    requires held { IsHeld (D.holding d.old) (D.entry f.now) }
+    requires within { All (λ v. v < (D.holding d.old).variables) variables.now }
+    ensures ok { IfOk result (λ r. Gains (D.holding d.old) (D.holding d.new) (D.entry r) (λ a. says (D.entry f.now) a && not (list_any a variables.now))) }
+    ensures stop { OnErr result (Keeps (D.holding d.old) (D.holding d.new)) }
+    ensures only { IfErr result (λ s. s ≢ Stop.Threads) }
+{
+    let one = one_of(rt, d, variables)?;
+    let low = d.apply(rt, Op::AndNot, f, &one);
+    d.give_back(one);
     low
 }
 
-/// The least value of a variable that leaves a function satisfiable, and what it leaves of the function, whose
-/// reference is given back where it is not the same one.
+/// Whether a function is satisfiable where all of these variables are false, and then what is left of it there, else
+/// the function. Its reference is given back where it is not the same one.
 fn narrowed<R, D: Diagrams<R>>(
     rt: &R,
     d: &mut D,
     rest: D::Ref,
-    variable: u16,
+    variables: &[u16],
 ) -> Result<(bool, D::Ref), Stop>
     requires held { IsHeld (D.holding d.old) (D.entry rest) }
-    requires within { variable < (D.holding d.old).variables }
-    ensures replaced { IfOk result (λ chosen. Replaces (D.holding d.old) (D.holding d.new) (D.entry rest) (D.entry chosen.1)) }
-    ensures narrowed { IfOk result (λ chosen. IsNarrowed chosen.0 variable (says (D.entry rest)) (says (D.entry chosen.1))) }
+    requires within { All (λ v. v < (D.holding d.old).variables) variables.now }
+    ensures replaced { IfOk result (λ left. Replaces (D.holding d.old) (D.holding d.new) (D.entry rest) (D.entry left.1)) }
+    ensures narrowed { IfOk result (λ left. IsNarrowed left.0 variables.now (says (D.entry rest)) (says (D.entry left.1))) }
     ensures stop { OnErr result (Loses (D.holding d.old) (D.holding d.new) (D.entry rest)) }
     ensures only { IfErr result (λ s. s ≢ Stop.Threads) }
 {
-    let low = match without(rt, d, &rest, variable) {
+    let low = match without(rt, d, &rest, variables) {
         Ok(low) => low,
         Err(stop) => {
             d.give_back(rest);
@@ -57,14 +90,55 @@ fn narrowed<R, D: Diagrams<R>>(
     };
     if is_false(d, &low) {
         d.give_back(low);
-        return Ok((true, rest));
+        return Ok((false, rest));
     }
     d.give_back(rest);
-    Ok((false, low))
+    Ok((true, low))
+}
+
+/// Puts a value behind others, so many times. Fails where memory is refused.
+fn push_times(values: &mut Vec<bool>, value: bool, count: usize) -> Result<(), AllocError>
+    ensures { OnOk result (values.new.items ≡ values.old.items ++ replicate count value) }
+{
+    'values: for _k in 0..count {
+        values.push(value)?;
+    }
+    Ok(())
+}
+
+/// The length of the next block: at most `longest`, and at most that of the positions that are left.
+fn block_length(longest: usize, left: usize) -> usize
+    ensures longest { result ≤ longest }
+    ensures left { result ≤ left }
+    ensures some { 0 < longest → 0 < left → 0 < result }
+{
+    if longest < left { longest } else { left }
+}
+
+/// Puts the values that the try of a block of this length decides behind others, and answers how long the next block may
+/// be. Fails where memory is refused.
+fn decide(values: &mut Vec<bool>, narrows: bool, length: usize) -> Result<usize, AllocError>
+    requires { 0 < length }
+    ensures values { OnOk result (values.new.items ≡ values.old.items ++ decided narrows length) }
+    ensures next { IfOk result (IsNextLength narrows length) }
+{
+    if narrows {
+        push_times(values, false, length)?;
+        return Ok(length.saturating_mul(2));
+    }
+    if length == 1 {
+        push_times(values, true, 1)?;
+        return Ok(1);
+    }
+    Ok(length / 2)
 }
 
 /// The least assignment under which a function is true, in lexicographic order over the positions, false before
 /// true. `variables` gives the variable of each position; the order of the variables plays no part.
+///
+/// Blocks of positions are tried at false at once: the next is twice as long where that leaves the function satisfiable,
+/// and half as long where it doesn't, down to one position, which then is true. So what is decided is not put into
+/// the function position by position.
 ///
 /// `f` has to be true under some assignment, and to depend on no variable but these, of which none may stand twice.
 /// The errors are those of the diagrams, 71, 72 and 73, and 72 where there is no memory for the assignment. All
@@ -89,12 +163,18 @@ pub(crate) fn least_over<R, D: Diagrams<R>>(
         return Err(Stop::Memory);
     };
     let mut rest = d.copy(f)?;
-    for variable in variables {
-        let (value, left) = narrowed(rt, d, rest, *variable)?;
+    let mut longest = 1;
+    'tries: while values.len() < variables.len() {
+        let undecided = &variables[values.len()..];
+        let block = &undecided[..block_length(longest, undecided.len())];
+        let (narrows, left) = narrowed(rt, d, rest, block)?;
         rest = left;
-        if values.push(value).is_err() {
-            d.give_back(rest);
-            return Err(Stop::Memory);
+        match decide(&mut values, narrows, block.len()) {
+            Ok(next) => longest = next,
+            Err(_) => {
+                d.give_back(rest);
+                return Err(Stop::Memory);
+            }
         }
     }
     d.give_back(rest);
