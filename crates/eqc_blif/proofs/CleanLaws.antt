@@ -7,7 +7,7 @@ use Rattle.eqc_blif.specs.Lines.{is_trailing, trimmed}
 use Rattle.eqc_blif.specs.Laws.{CommentsChangeNothing, TrailingBlanksChangeNothing}
 
 -- what follows the first byte that passes plays no part
-before_cut : (p : ℕ → Bool) (mark : ℕ) (xs ys : List ℕ) → p mark ≡ true → before_first p (xs ++ mark ∷ ys) ≡ before_first p xs
+pub before_cut : (p : ℕ → Bool) (mark : ℕ) (xs ys : List ℕ) → p mark ≡ true → before_first p (xs ++ mark ∷ ys) ≡ before_first p xs
 before_cut p mark [] ys passes = rw passes refl
 before_cut p mark (x ∷ xs) ys passes = elim (cases_Bool (p x)) [
   | inl here ↦ rw here refl

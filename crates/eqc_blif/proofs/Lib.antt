@@ -10,3 +10,5 @@ pub mod FaultLaws
 pub mod KeptLaws
 pub mod TwiceLaws
 pub mod FitLaws
+pub mod PlainLaws
+pub mod ReadBackLaws

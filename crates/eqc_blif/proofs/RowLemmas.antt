@@ -19,12 +19,12 @@ row_shape_is n row values output is = elim (cases_eq (length values) n) [
       rw (is, ne_eqb (length values) n other, ne_eqb (length (values ++ output ∷ [])) (n + 1) not_long) refl
 ]
 
-last_pushed : (covers : List CoverOf) (cover : CoverOf) → last_cover (covers ++ cover ∷ []) ≡ cover
+pub last_pushed : (covers : List CoverOf) (cover : CoverOf) → last_cover (covers ++ cover ∷ []) ≡ cover
 last_pushed covers cover =
     let last : length (covers ++ cover ∷ []) - 1 ≡ length covers = omega (arith, length_push covers cover) in
     rw last (get_or_push covers cover no_cover (length covers) refl)
 
-row_pushed : (covers : List CoverOf) (cover : CoverOf) (row : List ℕ) → row_added row (covers ++ cover ∷ []) ≡ covers ++ cover_with_row row cover ∷ []
+pub row_pushed : (covers : List CoverOf) (cover : CoverOf) (row : List ℕ) → row_added row (covers ++ cover ∷ []) ≡ covers ++ cover_with_row row cover ∷ []
 row_pushed covers cover row =
     let last : length (covers ++ cover ∷ []) - 1 ≡ length covers = omega (arith, length_push covers cover) in
     rw (last_pushed covers cover, last) (set_at covers cover [] (cover_with_row row cover) (length covers) refl)

@@ -1,17 +1,13 @@
 -- No name stands twice in what was read without a fault.
-use Rattle.std.proofs.Common.{◌≡◌, ℕ, Bool, true, false, ◌&&◌, not, cond, List, [], ◌∷◌, ◌++◌, map, Option, Some, None, Ok, Err, refl, sym, ◌∙◌, ap}
-use Rattle.std.specs.List.{list_any}
+use Rattle.std.proofs.Common.{◌≡◌, Bool, true, false, ◌&&◌, not, List, [], ◌∷◌, ◌++◌, map, Some, None, refl, sym, ◌∙◌, ap}
 use Rattle.std.proofs.lemmas.List.{map_push}
 use Rattle.std.proofs.lemmas.List.Folds.{list_all-append}
 use Rattle.std.proofs.lemmas.Bool.{and_parts, not-true}
 use Rattle.eqc_blif.specs.Netlist.{ModelOf}
-use Rattle.eqc_blif.specs.Lines.{logical_lines}
-use Rattle.eqc_blif.specs.Words.{first_of, arguments, without_blanks}
+use Rattle.eqc_blif.specs.Words.{first_of}
 use Rattle.eqc_blif.specs.Names.{is_named, has_twice}
-use Rattle.eqc_blif.specs.Kind.{kind_of_line}
-use Rattle.eqc_blif.specs.Reading.{After, OpenModel, Outcome, outcome_of_lines, begun, models_of, models, opened, is_bad_byte, statement_code, then_statement, line_code, then_line, after, first_fault, start, outcome_by, is_too_long, or_behind}
+use Rattle.eqc_blif.specs.Reading.{begun, models_of}
 use Rattle.eqc_blif.specs.Laws.{lists_are_distinct, LibrariesHaveNoNameTwice}
-use Rattle.eqc_blif.specs.declared.kind.Kind.{Kind}
 use Rattle.eqc_blif.specs.declared.kind.Kind.TheVariants.{Model, Inputs, Outputs, Names, Subckt, End, Latch, Skipped, Unknown, Row}
 use Rattle.eqc_blif.proofs.NameLemmas.{once_more}
 use Rattle.eqc_blif.proofs.KeptLaws.{IsKept, library_has, unmet}

@@ -7,3 +7,4 @@ pub mod Kind
 pub mod Reading
 pub mod Steps
 pub mod Laws
+pub mod PlainText

@@ -1,5 +1,6 @@
 //! Laws of the definitions that `read` is proved against. The functions do nothing: their contracts are the laws.
 ghost use Rattle.eqc_blif.specs.Laws.{TextsFollow, FirstFaultStays, FoundIsFirst, FirstIsFound, CommentsChangeNothing, TrailingBlanksChangeNothing, BlankLinesOnlyRenumber, NumbersPlayNoPart, SkippedLinesChangeNothing, LineNumbersRise, LinesMakeTheText, LinesAreCutAgain, LibrariesHaveNoNameTwice, RowsFitTheirCovers};
+ghost use Rattle.eqc_blif.specs.PlainText.{WordsAreReadBack, LibrariesAreReadBack};
 
 /// The lines of a text stay, whatever text follows it, and so does its first faulty line.
 pub fn first_fault_stays()
@@ -46,4 +47,11 @@ pub fn libraries_have_no_name_twice()
 /// alike.
 pub fn rows_fit_their_covers()
     ensures { RowsFitTheirCovers }
+{}
+
+/// Words that stand in lines, with a space between each two and an LF behind each line, are read back as these lines,
+/// and a library is read back from its plain text, which has such a line for each statement.
+pub fn plain_texts_are_read_back()
+    ensures words { WordsAreReadBack }
+    ensures libraries { LibrariesAreReadBack }
 {}

@@ -26,7 +26,8 @@ pub use cover::Cover;
 pub use instance::Instance;
 pub use laws::{
     blank_lines_only_renumber, first_fault_is_one, first_fault_stays, libraries_have_no_name_twice,
-    line_numbers_rise, lines_are_cut_again, rows_fit_their_covers, what_changes_nothing,
+    line_numbers_rise, lines_are_cut_again, plain_texts_are_read_back, rows_fit_their_covers,
+    what_changes_nothing,
 };
 pub use library::Library;
 pub use name::Name;

@@ -10,7 +10,7 @@ use memchr::memchr2;
 use std::alloc::{AllocError, Global};
 
 /// How many bytes are looked at one by one before a search of many at a time.
-pub(crate) const NEAR: usize = 16;
+pub(crate) const NEAR: usize = 8;
 
 pub(crate) fn is_blank(byte: u8) -> bool
     ensures { result ≡ is_blank byte }
