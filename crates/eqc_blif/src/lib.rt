@@ -17,8 +17,6 @@ mod reader;
 mod reading;
 mod refusal;
 mod sparing;
-#[cfg(test)]
-mod tests;
 mod words;
 
 pub use cover::Cover;

@@ -17,8 +17,6 @@ mod right;
 mod sizes;
 mod state;
 mod stock;
-#[cfg(test)]
-mod tests;
 mod worker;
 
 pub use event::{Event, Step};
