@@ -18,8 +18,6 @@ mod reading;
 mod refusal;
 mod rows;
 mod sparing;
-#[cfg(test)]
-mod tests;
 mod words;
 
 pub use cover::Cover;

@@ -21,14 +21,6 @@ mod rows;
 mod running;
 mod sides;
 mod table;
-#[cfg(test)]
-mod tests_calls;
-#[cfg(test)]
-mod tests_ends;
-#[cfg(test)]
-mod tests_run;
-#[cfg(test)]
-mod tests_streams;
 
 pub use check::check_plain;
 pub use compare::compare_output;

@@ -21,8 +21,6 @@ mod playback;
 mod sizes;
 mod state;
 mod stock;
-#[cfg(test)]
-mod tests;
 mod worker;
 
 pub use event::{Event, Step};

@@ -23,8 +23,6 @@ mod reach;
 mod row_table;
 mod search;
 mod signal_order;
-#[cfg(test)]
-mod tests_hierarchies;
 
 pub use driver::Driver;
 pub use evaluation::eval;

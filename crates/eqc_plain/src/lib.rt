@@ -16,8 +16,6 @@ mod reference;
 mod store;
 mod task;
 mod terminal;
-#[cfg(test)]
-mod tests;
 mod unique_table;
 
 pub use plain::Plain;

@@ -7,11 +7,7 @@ mod help;
 mod source;
 mod start;
 #[cfg(test)]
-mod test_ends;
-#[cfg(test)]
 mod tests;
-#[cfg(test)]
-mod tests_hierarchies;
 mod writing;
 
 use start::program;

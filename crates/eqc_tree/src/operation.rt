@@ -36,15 +36,3 @@ impl Op {
         }
     }
 }
-
-#[cfg(test)]
-mod tests {
-    use super::*;
-
-    #[test]
-    fn operations_have_their_numbers(rt: HostRuntime) {
-        for (op, tag) in [(Op::And, 1), (Op::Or, 2), (Op::Xor, 3), (Op::AndNot, 4)] {
-            assert_eq!(rt; op.tag(), tag, "{op:?}");
-        }
-    }
-}

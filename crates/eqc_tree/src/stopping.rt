@@ -33,20 +33,3 @@ impl Stop {
         }
     }
 }
-
-#[cfg(test)]
-mod tests {
-    use super::*;
-
-    #[test]
-    fn stops_have_their_codes(rt: HostRuntime) {
-        for (stop, code) in [
-            (Stop::NodeLimit, 71),
-            (Stop::Memory, 72),
-            (Stop::References, 73),
-            (Stop::Threads, 74),
-        ] {
-            assert_eq!(rt; stop.code(), code, "{stop:?}");
-        }
-    }
-}

@@ -56,25 +56,3 @@ pub fn unpack_cell(word: u64) -> (u8, u32, u32, u32)
     let found = word % NUMBERS;
     (tag as u8, first as u32, second as u32, found as u32)
 }
-
-#[cfg(test)]
-mod tests {
-    use super::*;
-    use crate::Op;
-
-    #[test]
-    fn words_have_their_layout(rt: HostRuntime) {
-        assert_eq!(rt; pack_node(0, 0, 1), 1);
-        assert_eq!(rt; pack_node(1, 2, 3), 1_099_513_724_931);
-        assert_eq!(rt; unpack_node(0x0000_0100_0020_0003), (1, 2, 3));
-        assert_eq!(rt;
-            pack_cell(Op::And.tag(), 2, 2, 2),
-            1_152_923_703_632_199_682
-        );
-        assert_eq!(rt; unpack_cell(0x1000_0200_0020_0002), (1, 2, 2, 2));
-        assert_eq!(rt;
-            unpack_cell(u64::MAX),
-            (15, 1_048_575, 1_048_575, 1_048_575)
-        );
-    }
-}

@@ -1,16 +1,15 @@
 //! Runs over hierarchies: covers of covers, instances, ties, and their refusals.
 
-use crate::test_ends::Feed;
-use crate::tests::reports;
+use super::program::{check_texts, reports};
+use super::streams::Feed;
 use std::alloc::{AllocError, Global};
-use std::test::Fail;
 
 /// The exclusive or of three inputs, by one cover and by two.
 const PARITY: &str =
     ".model f;.inputs a b c;.outputs z;.names a b c z;100 1;010 1;001 1;111 1;.end;.model g;.inputs a b c;.outputs z;.names a b t;10 1;01 1;.names t c z;10 1;01 1;.end;";
 
 /// Texts on standard input with their reports and statuses; `;` stands for LF.
-const ROWS: [(&str, &str, u8); 17] = [
+static ROWS: [(&str, &str, u8); 17] = [
     (
         ".model f;.inputs a;.outputs z;.subckt two i=a o=t j=t p=z;.end;.model g;.inputs a;.outputs z;.names a z;1 1;.end;.model two;.inputs i j;.outputs o p;.names i o;1 1;.names j p;1 1;.end;",
         "equivalent;",
@@ -99,18 +98,12 @@ const ROWS: [(&str, &str, u8); 17] = [
 ];
 
 #[test]
-fn hierarchies_are_compared(rt: HostRuntime) -> Result<(), Fail> {
-    for (text, report, status) in ROWS {
-        assert!(rt;
-            reports(rt.alloc(), "eqc", Feed::whole(text), report, status)?,
-            "{text}"
-        );
-    }
-    Ok(())
+fn hierarchies_are_compared(rt: HostRuntime) -> Result<(), AllocError> {
+    check_texts(&rt, &ROWS)
 }
 
 #[test]
-fn a_small_store_stops_covers_of_covers(rt: HostRuntime) -> Result<(), Fail> {
+fn a_small_store_stops_covers_of_covers(rt: HostRuntime) -> Result<(), AllocError> {
     let line = "eqc --nodes 2";
     assert!(rt;
         reports(rt.alloc(), line, Feed::whole(PARITY), "stopped 71;", 3)?,
@@ -141,7 +134,7 @@ fn inputs(alloc: Global, text: &mut String, count: u32) -> Result<(), AllocError
 }
 
 #[test]
-fn limits_of_hierarchies_are_told(rt: HostRuntime) -> Result<(), Fail> {
+fn limits_of_hierarchies_are_told(rt: HostRuntime) -> Result<(), AllocError> {
     let alloc = rt.alloc();
     let text = doubled(alloc)?;
     assert!(rt; reports(alloc, "eqc", Feed::whole(&text), "refused first 0 29;", 2)?);

@@ -1,5 +1,5 @@
 use Rattle.std.proofs.Common.{ℕ, Bool, true, sym, ◌∙◌, true≢false}
-use Rattle.eqc_check.proofs.tests_calls.least_of_literal.Goals as goal
+use Rattle.eqc_prog.proofs.tests.pairs.least_of_literal.Goals as goal
 
 pub least_assignment-least-requires-clause-satisfiable : goal.least_assignment-least-requires-clause-satisfiable
 least_assignment-least-requires-clause-satisfiable g c = λ none.

@@ -1,4 +1,4 @@
-//! Readers, writers and a disk for tests.
+//! Readers, writers and a disk: slow ones, and ones that fail.
 
 use std::alloc::Allocator;
 use std::fs::{Metadata, OpenFile, OpenOptions};
@@ -23,7 +23,7 @@ pub struct Feed<'a> {
     text: &'a [u8],
     step: usize,
     fails_at: usize,
-    calls: usize,
+    pub calls: usize,
 }
 
 impl<'a> Feed<'a> {
@@ -38,6 +38,11 @@ impl<'a> Feed<'a> {
 
     pub fn whole(text: &'a str) -> Feed<'a> {
         Feed::new(text, NEVER, NEVER)
+    }
+
+    /// Whether the whole text was given.
+    pub fn is_at_end(&self) -> bool {
+        self.text.is_empty()
     }
 }
 
@@ -60,10 +65,22 @@ impl<'a> Read for Feed<'a> {
 
 /// Gives whole blocks without end.
 #[derive(Drop)]
-pub struct Endless;
+pub struct Endless {
+    pub calls: usize,
+    /// How many bytes were given.
+    pub given: usize,
+}
+
+impl Endless {
+    pub fn new() -> Endless {
+        Endless { calls: 0, given: 0 }
+    }
+}
 
 impl Read for Endless {
     fn read(&mut self, buf: &mut [u8]) -> io::Result<usize> {
+        self.calls = self.calls.saturating_add(1);
+        self.given = self.given.saturating_add(buf.len());
         Ok(buf.len())
     }
 }
@@ -75,7 +92,7 @@ pub struct Drain {
     step: usize,
     fails_at: usize,
     flushes: bool,
-    calls: usize,
+    pub calls: usize,
 }
 
 impl Drain {

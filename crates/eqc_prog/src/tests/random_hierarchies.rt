@@ -1,14 +1,27 @@
 //! Small hierarchies by chance: the outputs that `eval` answers are those of a plain evaluation, which goes down the
 //! models of the library and never looks at the flat netlist.
+ghost use Rattle.std.specs.Prelude.{◌<◌, IfOk, length};
 
-use crate::evaluation::eval;
-use crate::flattening::flatten;
+use super::hierarchies;
 use eqc_blif::{Cover, Instance, Library, Name, read};
+use eqc_flat::Flat;
 use std::alloc::Global;
 use std::test::Fail;
 
 /// How many hierarchies are made.
 const HIERARCHIES: u32 = 150;
+
+/// All values of three inputs.
+static ALL_VALUES: [[bool; 3]; 8] = [
+    [false, false, false],
+    [true, false, false],
+    [false, true, false],
+    [true, true, false],
+    [false, false, true],
+    [true, false, true],
+    [false, true, true],
+    [true, true, true],
+];
 
 /// How many inputs and outputs a model has.
 #[derive(Clone, Copy)]
@@ -320,6 +333,29 @@ fn note_outputs<'a>(
     Ok(())
 }
 
+/// The names of inputs with their values.
+fn note_inputs<'a>(
+    alloc: Global,
+    names: &'a [Name],
+    values: &[bool],
+) -> Result<Vec<(&'a [u8], bool)>, Fail> {
+    let mut known = Vec::new(alloc);
+    for (name, value) in names.iter().zip(values) {
+        known.push((name.as_bytes(), *value))?;
+    }
+    Ok(known)
+}
+
+/// The number of the model of an instance.
+fn callee_of(library: &Library, instance: &Instance) -> Result<usize, Fail>
+    ensures { IfOk result (λ m. m < length library.now) }
+{
+    match library.find(&instance.model) {
+        Some(m) if m < library.models() => Ok(m),
+        _ => Err(Fail::from("no such model")),
+    }
+}
+
 /// The values of the outputs of model `m` under these values of its inputs: round by round those of its covers and, by
 /// going down at most so many levels, of its instances.
 fn output_values(
@@ -332,20 +368,14 @@ fn output_values(
     if levels == 0 || m >= library.models() {
         return Err(Fail::from("no such model, or one too deep"));
     }
-    let mut known = Vec::new(alloc);
-    for (name, value) in library.inputs(m).iter().zip(inputs) {
-        known.push((name.as_bytes(), *value))?;
-    }
+    let mut known = note_inputs(alloc, library.inputs(m), inputs)?;
     for _round in 0..16 {
         note_covers(alloc, library.covers(m), &mut known)?;
         for instance in library.instances(m) {
             if is_noted(instance, &known) {
                 continue;
             }
-            let callee = library.find(&instance.model).unwrap_or(library.models());
-            if callee >= library.models() {
-                return Err(Fail::from("no such model"));
-            }
+            let callee = callee_of(library, instance)?;
             if let Some(values) = input_values(alloc, library.inputs(callee), instance, &known)? {
                 let outputs = output_values(alloc, library, callee, &values, levels - 1)?;
                 note_outputs(library.outputs(callee), &outputs, instance, &mut known)?;
@@ -356,26 +386,25 @@ fn output_values(
     Ok(outputs.ok_or("an output without a value")?)
 }
 
-/// Whether `eval` and the plain evaluation agree on the main model of a text under all values of its inputs.
-fn agree(alloc: Global, text: &[u8]) -> Result<bool, Fail> {
-    let library = read(alloc, text).ok().ok_or("refused text")?;
-    if library.models() == 0 {
-        return Err(Fail::from("no model"));
-    }
-    let flat = flatten(alloc, &library, 0).ok().ok_or("refused hierarchy")?;
-    for number in 0..8 {
-        let all = [number % 2 == 1, number / 2 % 2 == 1, number / 4 == 1];
+/// Whether a flat netlist and the plain evaluation of its library agree under all values of the inputs, of which there are
+/// three at most.
+fn agree_everywhere(alloc: Global, library: &Library, flat: &Flat<'_>) -> Result<bool, Fail> {
+    for all in ALL_VALUES.iter() {
         let values = all.get(..flat.inputs().len()).ok_or("many inputs")?;
-        if values.len() != flat.inputs().len() {
-            return Err(Fail::from("many inputs"));
-        }
-        let outputs = eval(alloc, &flat, values).ok().ok_or("no memory")?;
-        let plain = output_values(alloc, &library, 0, values, 4)?;
+        let outputs = hierarchies::output_values(alloc, flat, values)?;
+        let plain = output_values(alloc, library, 0, values, 4)?;
         if outputs.as_slice() != plain.as_slice() {
             return Ok(false);
         }
     }
     Ok(true)
+}
+
+/// Whether `eval` and the plain evaluation agree on the main model of a text.
+fn agree(alloc: Global, text: &[u8]) -> Result<bool, Fail> {
+    let library = read(alloc, text).ok().ok_or("refused text")?;
+    let flat = hierarchies::flat_of(alloc, &library, 0).ok_or("refused hierarchy")?;
+    agree_everywhere(alloc, &library, &flat)
 }
 
 #[test]

@@ -10,23 +10,26 @@
 //! where `mux.v` has a module `top` with one instance of `mux4`, whose body is `assign y = d[s]; assign n = ~s;`.
 ghost use Rattle.std.specs.Prelude.{◌<◌, length};
 
-use crate::{Cover, Instance, Library, Name, read};
+use eqc_blif::{Cover, Instance, Library, Name, read};
 use std::alloc::{AllocError, Global};
 use std::process::Abort;
 use std::test::Fail;
 
 type Row = (&'static str, &'static [u8], &'static [u8]);
 
+/// A text with a continued line and a latch.
+const LATCH: &[u8] = b".model f\n.inputs a \\\nb\n.outputs z\n.names a z\n.latch a z 0\n";
+
+/// A text with carriage returns.
+const CARRIAGE: &[u8] =
+    b".model f\r\n.inputs a \\ # two\r\nb\r\n.wire_load_slope 0.00\r\n.outputs z\r\n.names a b z\r\n1 1 1\r\n.end\r\n.model g\n.inputs a b\n.outputs z\n.names a b z\n11 1\n";
+
 /// A text for each rule of the format: its name, the text, and its library or the line and code of its first fault.
 static ROWS: [Row; 50] = [
-    (
-        "comment and continuation",
-        b".model f\n.inputs a \\\nb\n.outputs z\n.names a z\n.latch a z 0\n",
-        b"6 4",
-    ),
+    ("comment and continuation", LATCH, b"6 4"),
     (
         "carriage returns",
-        b".model f\r\n.inputs a \\ # two\r\nb\r\n.wire_load_slope 0.00\r\n.outputs z\r\n.names a b z\r\n1 1 1\r\n.end\r\n.model g\n.inputs a b\n.outputs z\n.names a b z\n11 1\n",
+        CARRIAGE,
         b"f(a b>z)[a b z:111]|g(a b>z)[a b z:111]",
     ),
     (
@@ -163,7 +166,7 @@ static ROWS: [Row; 50] = [
     ),
 ];
 
-/// From which length on a beginning of a text with a latch gives which answer.
+/// From which length on a beginning of `LATCH` gives which answer.
 static LATCH_STEPS: [(usize, &[u8]); 17] = [
     (0, b"0 13"),
     (1, b"1 3"),
@@ -184,7 +187,7 @@ static LATCH_STEPS: [(usize, &[u8]); 17] = [
     (51, b"6 4"),
 ];
 
-/// The same of a text with carriage returns.
+/// The same of `CARRIAGE`.
 static CARRIAGE_STEPS: [(usize, &[u8]); 41] = [
     (0, b"0 13"),
     (1, b"1 3"),
@@ -324,20 +327,22 @@ fn answer(alloc: Global, text: &[u8]) -> Result<Vec<u8>, AllocError> {
     }
 }
 
-#[test]
-fn reads_each_rule(rt: HostRuntime) -> Result<(), Fail> {
-    for (name, text, want) in ROWS.iter() {
+/// Each text gives its answer.
+fn check_rows(rt: &(impl Abort + AllocGlobal), rows: &[Row]) -> Result<(), AllocError> {
+    for (name, text, want) in rows {
         assert_eq!(rt; answer(rt.alloc(), text)?.as_slice(), *want, "{name}");
     }
     Ok(())
 }
 
 #[test]
-fn reads_what_others_write(rt: HostRuntime) -> Result<(), Fail> {
-    for (name, text, want) in WRITTEN.iter() {
-        assert_eq!(rt; answer(rt.alloc(), text)?.as_slice(), *want, "{name}");
-    }
-    Ok(())
+fn reads_each_rule(rt: HostRuntime) -> Result<(), AllocError> {
+    check_rows(&rt, ROWS.as_slice())
+}
+
+#[test]
+fn reads_what_others_write(rt: HostRuntime) -> Result<(), AllocError> {
+    check_rows(&rt, WRITTEN.as_slice())
 }
 
 /// Each beginning of a text gives the answer of the last step that is not past it.
@@ -363,10 +368,9 @@ fn check_beginnings(
 }
 
 #[test]
-fn reads_each_beginning(rt: HostRuntime) -> Result<(), Fail> {
-    check_beginnings(&rt, ROWS[0].1, LATCH_STEPS.as_slice())?;
-    check_beginnings(&rt, ROWS[1].1, CARRIAGE_STEPS.as_slice())?;
-    Ok(())
+fn reads_each_beginning(rt: HostRuntime) -> Result<(), AllocError> {
+    check_beginnings(&rt, LATCH, LATCH_STEPS.as_slice())?;
+    check_beginnings(&rt, CARRIAGE, CARRIAGE_STEPS.as_slice())
 }
 
 #[test]
@@ -380,14 +384,17 @@ fn refuses_a_long_text(rt: HostRuntime) -> Result<(), Fail> {
     Ok(())
 }
 
+/// Where the library of a text has a model of this name.
+fn found(alloc: Global, text: &[u8], name: &[u8]) -> Result<Option<usize>, Fail> {
+    let library = read(alloc, text).ok().ok_or("refused")?;
+    let name = Name::new(alloc, name)?;
+    Ok(library.find(&name))
+}
+
 #[test]
 fn finds_models(rt: HostRuntime) -> Result<(), Fail> {
-    let library = read(rt.alloc(), b".model f\n.end\n.model g\n")
-        .ok()
-        .ok_or("refused")?;
-    let g = Name::new(rt.alloc(), b"g")?;
-    let h = Name::new(rt.alloc(), b"h")?;
-    assert_eq!(rt; library.find(&g), Some(1));
-    assert_eq!(rt; library.find(&h), None);
+    let text = b".model f\n.end\n.model g\n";
+    assert_eq!(rt; found(rt.alloc(), text, b"g")?, Some(1));
+    assert_eq!(rt; found(rt.alloc(), text, b"h")?, None);
     Ok(())
 }

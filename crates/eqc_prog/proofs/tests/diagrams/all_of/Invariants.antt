@@ -1,6 +1,6 @@
 use Rattle.std.proofs.Common.{◌≡◌, ◌+◌}
 use Rattle.eqc_tree.specs.Holding.{Entry, copies, weight}
-use Rattle.eqc_plain.proofs.tests.all_of.Given as goal
+use Rattle.eqc_prog.proofs.tests.diagrams.all_of.Given as goal
 
 abbrev pub invariant-loop-i : goal.invariant-loop-i
 invariant-loop-i g l = record {

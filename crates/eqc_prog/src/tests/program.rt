@@ -1,0 +1,270 @@
+//! The program's command lines, texts and files with their reports and statuses. They are small enough to be worked out by
+//! hand from the rules of the format and of the command line.
+
+use super::streams::{Disk, Feed, NEVER};
+use super::{DIFFERENCE, EQUAL, PERMUTED, UNEQUAL, XOR, is_text};
+use crate::program;
+use std::alloc::{AllocError, Global};
+use std::process::Abort;
+
+/// The files that the command lines of the tests may name. One whose name ends in `!` fails at its first read.
+const FILES: [(&str, &str); 12] = [
+    ("equal", EQUAL),
+    ("unequal", UNEQUAL),
+    (
+        "and",
+        ".model m;.inputs x y;.outputs z;.names x y z;11 1;.end;.model n;.inputs q;.end;",
+    ),
+    (
+        "or",
+        ".model m;.inputs x y;.outputs z;.names x y z;1- 1;-1 1;",
+    ),
+    ("latch", ".model m;.latch a z 0;"),
+    ("broken!", ""),
+    ("yx", "y x"),
+    ("yx_with_comment", "y # x;x"),
+    ("aba", "a b a"),
+    ("ada", "a d a"),
+    ("a", "a"),
+    ("-x", "x y"),
+];
+
+/// The words of a command line, cut at spaces.
+pub fn words_of(alloc: Global, line: &str) -> Result<Vec<String>, AllocError> {
+    let mut words = Vec::new(alloc);
+    for word in line.split(' ') {
+        words.push(String::from_str(alloc, word)?)?;
+    }
+    Ok(words)
+}
+
+/// What a program wrote, and its status.
+#[derive(Drop)]
+pub struct Written {
+    pub status: u8,
+    pub out: Vec<u8>,
+    pub err: Vec<u8>,
+}
+
+/// What the program writes for a command line, over the files above.
+pub fn written_by(alloc: Global, line: &str, input: Feed<'_>) -> Result<Written, AllocError> {
+    let words = words_of(alloc, line)?;
+    let disk = Disk { files: &FILES };
+    let mut out = Vec::new(alloc);
+    let mut err = Vec::new(alloc);
+    let status = program(&(disk, alloc), &words, input, &mut out, &mut err);
+    Ok(Written { status, out, err })
+}
+
+/// Whether nothing but this report was written, with this status.
+pub fn reports(
+    alloc: Global,
+    line: &str,
+    input: Feed<'_>,
+    report: &str,
+    status: u8,
+) -> Result<bool, AllocError> {
+    let written = written_by(alloc, line, input)?;
+    Ok(written.status == status && is_text(&written.out, report) && written.err.is_empty())
+}
+
+/// Each text on standard input, which is the first in its row, gives its report and status.
+pub fn check_texts(
+    rt: &(impl Abort + AllocGlobal),
+    rows: &[(&str, &str, u8)],
+) -> Result<(), AllocError> {
+    for (text, report, status) in rows {
+        let found = reports(rt.alloc(), "eqc", Feed::whole(text), report, *status)?;
+        assert!(rt; found, "{text}");
+    }
+    Ok(())
+}
+
+/// Each command line, which is the first in its row, gives its report and status, where standard input has this text, or
+/// fails at one of its reads.
+fn check_lines(
+    rt: &(impl Abort + AllocGlobal),
+    text: &str,
+    fails_at: usize,
+    rows: &[(&str, &str, u8)],
+) -> Result<(), AllocError> {
+    for (line, report, status) in rows {
+        let input = Feed::new(text, NEVER, fails_at);
+        let found = reports(rt.alloc(), line, input, report, *status)?;
+        assert!(rt; found, "{line}");
+    }
+    Ok(())
+}
+
+/// Texts on standard input with their reports and statuses.
+static COMPARED: [(&str, &str, u8); 8] = [
+    (EQUAL, "equivalent;", 0),
+    (UNEQUAL, DIFFERENCE, 1),
+    (
+        ".model f;.inputs x;.outputs;.end;.model g;.inputs x;.outputs;.end;",
+        "equivalent;",
+        0,
+    ),
+    (
+        ".model f;.outputs z;.names z;.end;.model g;.outputs z;.names z;0;.end;",
+        "equivalent;",
+        0,
+    ),
+    (
+        ".model f;.outputs z;.names z;.end;.model g;.outputs z;.names z;1;.end;",
+        "differs at z;first=0;second=1;",
+        1,
+    ),
+    (
+        ".model f;.inputs a;.outputs p q;.names a p;1 1;.names a q;1 1;.end;.model g;.inputs a;.outputs q p;.names a p;0 1;.names q;.end;",
+        "differs at p;a=0;first=0;second=1;",
+        1,
+    ),
+    (XOR, DIFFERENCE, 1),
+    (
+        ".model f\r;.inputs a \\ # two\r;b\r;.wire_load_slope 0.00\r;.outputs z\r;.names a b z\r;1 1 1\r;.end\r;.model g;.inputs a b;.outputs z;.names a b z;11 1;",
+        "equivalent;",
+        0,
+    ),
+];
+
+#[test]
+fn texts_are_compared(rt: HostRuntime) -> Result<(), AllocError> {
+    check_texts(&rt, &COMPARED)
+}
+
+/// Texts on standard input with their refusals, whose status is 2.
+static REFUSED: [(&str, &str, u8); 18] = [
+    (
+        ".model f;.inputs a \\;b;.outputs z;.names a z;.latch a z 0;",
+        "refused first 6 4;",
+        2,
+    ),
+    (
+        ".model f;.inputs a b;.outputs z;.names a b z;11;",
+        "refused first 5 7;",
+        2,
+    ),
+    (
+        ".model f;.inputs a b;.outputs z;.names a b z;11 1;00 0;",
+        "refused first 6 8;",
+        2,
+    ),
+    (
+        ".model f;.inputs a b;.end;.model g;.inputs a c;.end;",
+        "refused pair 0 41;",
+        2,
+    ),
+    (
+        ".model f;.inputs a b;.outputs z;.names z;.end;.model g;.inputs a b;.end;",
+        "refused pair 0 42;",
+        2,
+    ),
+    (
+        ".model f;.inputs a b;.outputs a;.end;.model g;.inputs a b;.end;",
+        "refused pair 0 42;",
+        2,
+    ),
+    ("", "refused first 0 13;", 2),
+    (";", "refused first 0 13;", 2),
+    (
+        ".model f;.inputs x y;.outputs z;.names x y z;11 1;.end;",
+        "refused second 0 13;",
+        2,
+    ),
+    (".model f;.inputs a\u{1};", "refused first 2 1;", 2),
+    (".model f;.gate and2 A=a O=z;", "refused first 2 3;", 2),
+    (".model f;.end;.inputs a;", "refused first 3 5;", 2),
+    (".model f;.end;1 1;", "refused first 3 5;", 2),
+    ("1 1;", "refused first 1 6;", 2),
+    (".model f;.subckt h a;", "refused first 2 9;", 2),
+    (".model f;.names;", "refused first 2 10;", 2),
+    (".model f;.end;.model f;", "refused first 3 11;", 2),
+    (".model f;.inputs a a;", "refused first 2 12;", 2),
+];
+
+#[test]
+fn texts_are_refused(rt: HostRuntime) -> Result<(), AllocError> {
+    check_texts(&rt, &REFUSED)
+}
+
+/// Command lines with an order text, and texts on standard input.
+static ORDERED: [(&str, &str, &str, u8); 5] = [
+    ("eqc --order yx", XOR, DIFFERENCE, 1),
+    ("eqc --order aba", PERMUTED, "refused order 0 52;", 2),
+    ("eqc --order ada", PERMUTED, "refused order 0 51;", 2),
+    ("eqc --order=a", PERMUTED, "refused order 0 53;", 2),
+    ("eqc --order yx_with_comment", EQUAL, "equivalent;", 0),
+];
+
+#[test]
+fn an_order_changes_no_answer(rt: HostRuntime) -> Result<(), AllocError> {
+    for (line, text, report, status) in &ORDERED {
+        assert!(rt;
+            reports(rt.alloc(), line, Feed::whole(text), report, *status)?,
+            "{line}"
+        );
+    }
+    Ok(())
+}
+
+/// Command lines with numbers.
+static NUMBERED: [(&str, &str, u8); 9] = [
+    ("eqc --workers 65", "refused options 0 81;", 2),
+    ("eqc --nodes 0", "refused options 0 82;", 2),
+    ("eqc --cells 3", "refused options 0 83;", 2),
+    ("eqc --forks 17", "refused options 0 84;", 2),
+    ("eqc --workers 0 --cells 3", "refused options 0 81;", 2),
+    ("eqc --workers 4294967295", "refused options 0 81;", 2),
+    ("eqc --nodes=1", "stopped 71;", 3),
+    (
+        "eqc --nodes 1048574 --cells=1048576 --workers=64 --forks 16",
+        DIFFERENCE,
+        1,
+    ),
+    (
+        "eqc --forks 0 --cells 1 --workers 1 --nodes 9",
+        DIFFERENCE,
+        1,
+    ),
+];
+
+#[test]
+fn numbers_are_options(rt: HostRuntime) -> Result<(), AllocError> {
+    check_lines(&rt, UNEQUAL, NEVER, &NUMBERED)
+}
+
+/// Command lines with files.
+static FILED: [(&str, &str, u8); 13] = [
+    ("eqc equal", "equivalent;", 0),
+    ("eqc unequal", DIFFERENCE, 1),
+    ("eqc and or", DIFFERENCE, 1),
+    ("eqc or and", "differs at z;x=0;y=1;first=1;second=0;", 1),
+    ("eqc and and", "equivalent;", 0),
+    ("eqc and equal", "equivalent;", 0),
+    ("eqc or", "refused second 0 13;", 2),
+    ("eqc latch or", "refused first 2 4;", 2),
+    ("eqc or latch", "refused second 2 4;", 2),
+    ("eqc latch yx", "refused first 2 4;", 2),
+    ("eqc yx latch", "refused first 1 6;", 2),
+    ("eqc --order and or", "refused second 0 13;", 2),
+    ("eqc --workers 0 broken!", "refused options 0 81;", 2),
+];
+
+/// Command lines with options among their files.
+static MIXED: [(&str, &str, u8); 7] = [
+    ("eqc --order yx and or", DIFFERENCE, 1),
+    ("eqc and --order=yx or", DIFFERENCE, 1),
+    ("eqc and or --order a", "refused order 0 51;", 2),
+    ("eqc -- and or", DIFFERENCE, 1),
+    ("eqc --nodes 1 -- and or", "stopped 71;", 3),
+    ("eqc -- -x", "refused first 1 6;", 2),
+    ("eqc --order=-x and or", DIFFERENCE, 1),
+];
+
+/// Standard input fails here, and isn't read.
+#[test]
+fn files_are_compared(rt: HostRuntime) -> Result<(), AllocError> {
+    check_lines(&rt, "", 0, &FILED)?;
+    check_lines(&rt, "", 0, &MIXED)
+}
