@@ -94,11 +94,11 @@ one_signal f s h = record { each = one }
     one (suc k) lt = absurd (omega arith)
 
 -- one signal that has a reference
-pub one_ready : {X : Type 0} (table other : List (Option X)) (signals : List ℕ) (s t : ℕ) → other ≡ table → AreReady table signals → signals ≡ s ∷ [] → s ≡ t → IsSome (reference_of other t)
-one_ready table other signals s t is h e same =
-    let ready : AreReady table (s ∷ []) = subst (AreReady table) e h in
+pub one_ready : {X : Type 0} (table : List (Option X)) (signals : List ℕ) (s t : ℕ) → AreReady table signals → signals ≡ s ∷ [] → s ≡ t → IsSome (reference_of table t)
+one_ready table signals s t h is same =
+    let ready : AreReady table (s ∷ []) = subst (AreReady table) is h in
     let there : IsSome (reference_of table s) = ready.each 0 (omega arith) in
-    rw (is, ← same) there
+    rw (← same) there
 
 -- a table that was given back
 pub holds_none : {X : Type 0} (entry : X → Entry) (before d0 d1 : Holding) (t0 : List (Option X)) → Holds entry before d0 t0 → Moves entry d0 t0 d1 [] → Keeps before d1

@@ -25,7 +25,7 @@ use Rattle.eqc_check.specs.PairOf.{pair_refusal, order_refused, no_memory}
 use Rattle.eqc_check.specs.Refusing.{IsRefused, refusal_report, flat_answer}
 use Rattle.eqc_check.specs.Answer.{MainOf, inputs_of, outputs_of, netlist_of_model, order_answer, code_of_order, pair_answer, models_answer, second_answer, one_answer, two_answer, IsComparison, MayStop, Answers, as_wanted, was_stopped, texts_answer, read_texts}
 use Rattle.std.specs.Borrow.{Bor}
-use Rattle.eqc_check.specs.Sides.{netlist_of}
+use Rattle.eqc_check.specs.Comparing.{netlist_of}
 use Rattle.eqc_check.proofs.PlaceLemmas.{place_below, all_named, name_at}
 use Rattle.eqc_check.proofs.OrderedLemmas.{both_ways}
 use Rattle.eqc_check.proofs.MatchedLemmas.{place_of_name}

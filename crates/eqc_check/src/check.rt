@@ -3,12 +3,11 @@ ghost use Rattle.std.specs.List.{zip};
 ghost use Rattle.eqc_check.specs.Verdict.{first_value, differs_under, first_difference};
 ghost use Rattle.eqc_check.specs.Report.{difference_report, comparison, differs};
 ghost use Rattle.eqc_check.specs.ReportView.{report_of};
-ghost use Rattle.eqc_check.specs.Sides.{netlist_of};
+ghost use Rattle.eqc_check.specs.Comparing.{netlist_of};
 
 use crate::compare::compare_outputs;
-use crate::matched_pair::Pair;
+use crate::matched_pair::{Pair, recall_laws};
 use crate::report::Report;
-use crate::sides::Sides;
 use eqc_blif::Name;
 use eqc_flat::{Flat, eval};
 use eqc_plain::Plain;
@@ -42,7 +41,7 @@ fn output_value(
     requires size { length values.now ≡ length flat.now.inputs }
     ensures { IfOk result (λ value. value ≡ first_value (netlist_of flat.now) (slice_index_or flat.now.outputs output []) values.now) }
 {
-    let _lawful = flat.steps();
+    recall_laws(flat);
     match eval(alloc, flat, values) {
         Ok(outputs) => Ok(outputs[output]),
         Err(_) => Err(AllocError),
@@ -79,12 +78,11 @@ pub fn check_plain<R>(rt: &R, alloc: Global, pair: &Pair<'_>, nodes: u32) -> Res
     ensures report { IfOk result (λ report. report_of report ≡ comparison (netlist_of pair.now.first) (netlist_of pair.now.second)) }
     ensures only { IfErr result (λ s. s ≢ Stop.Threads) }
 {
-    let sides = Sides::of(pair);
-    let first = sides.first;
+    pair.recall_laws();
+    let first = pair.first();
     let inputs = first.inputs().len() as u16;
     let mut d = Plain::new(alloc, inputs, nodes)?;
-    let found = compare_outputs(alloc, rt, &mut d, sides)?;
-    match found {
+    match compare_outputs(alloc, rt, &mut d, pair)? {
         None => Ok(Report::Equivalent),
         Some((output, values)) => match differs_report(alloc, first, output, &values) {
             Ok(report) => Ok(report),

@@ -18,7 +18,6 @@ mod plan;
 mod report;
 mod reports;
 mod running;
-mod sides;
 mod table;
 #[cfg(test)]
 mod tests_calls;

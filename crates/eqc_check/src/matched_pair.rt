@@ -2,7 +2,7 @@ ghost use Rattle.std.specs.Prelude.{◌≡◌, true, map, length, IfOk, EachInde
 ghost use Rattle.eqc_check.specs.Verdict.{position_of};
 ghost use Rattle.eqc_check.specs.Matched.{same_names};
 ghost use Rattle.eqc_check.specs.PairOf.{IsPair, IsOrder, variables_in, first_variables, second_variables, second_signals};
-ghost use Rattle.eqc_flat.specs.Graph.{IsFlat};
+ghost use Rattle.eqc_flat.specs.Graph.{IsFlat, FollowsDrivers};
 
 use crate::order::Order;
 use eqc_flat::Flat;
@@ -28,6 +28,15 @@ impl<'a> Model for Pair<'a> {
     ghost view = { λ a. record { first = a.first.now; second = a.second.now; order = a.order.items } };
 
     ghost invariant = { λ a. IsLaidOut (record { first = a.first.now; second = a.second.now; order = a.order.items }) a.variables.items a.second_variables.items a.second_signals.items };
+}
+
+/// What holds of every flat netlist, for a proof of its caller: it does nothing. A netlist's laws are known only
+/// where a call states them.
+pub(crate) fn recall_laws(flat: &Flat<'_>)
+    ensures lawful { IsFlat flat.now }
+    ensures follows { FollowsDrivers flat.now }
+{
+    let _steps = flat.steps();
 }
 
 /// The values at these places. Fails where memory is refused.
@@ -78,6 +87,13 @@ impl<'a> Pair<'a> {
             second_variables,
             second_signals,
         })
+    }
+
+    /// What holds of every pair, for a proof of its caller: it does nothing.
+    pub(crate) fn recall_laws(&self)
+        ensures { IsPair self.now }
+    {
+        let _order = self.order();
     }
 
     /// The first netlist.

@@ -1,8 +1,7 @@
 ghost use Rattle.std.specs.Prelude.{◌≡◌, map, position, true, false, IfOk, MatchOption};
 ghost use Rattle.std.specs.Str.{bytes_eq};
 ghost use Rattle.eqc_blif.specs.Names.{has_twice};
-ghost use Rattle.eqc_check.specs.Verdict.{position_of};
-ghost use Rattle.eqc_check.specs.Matched.{has_all};
+ghost use Rattle.eqc_check.specs.Matched.{ArePlaces};
 
 use eqc_blif::Name;
 use indexmap::IndexSet;
@@ -11,7 +10,7 @@ use std::marker::Model;
 
 /// Where each of some names stands among them. None stands twice.
 #[derive(Drop)]
-pub(crate) struct NameIndex<'a> {
+struct NameIndex<'a> {
     names: IndexSet<&'a [u8]>,
 }
 
@@ -25,7 +24,7 @@ impl<'a> Model for NameIndex<'a> {
 
 impl<'a> NameIndex<'a> {
     /// The index of these names, or none where one stands twice. Fails where memory is refused.
-    pub(crate) fn of(alloc: Global, names: &[&'a [u8]]) -> Result<Option<NameIndex<'a>>, AllocError>
+    fn of(alloc: Global, names: &[&'a [u8]]) -> Result<Option<NameIndex<'a>>, AllocError>
         ensures { IfOk result (λ found. MatchOption found
             (has_twice (map (λ name. name.now) names.now) ≡ true)
             (λ index. (has_twice (map (λ name. name.now) names.now) ≡ false) × (index ≡ map (λ name. name.now) names.now))) }
@@ -47,14 +46,8 @@ impl<'a> NameIndex<'a> {
     }
 
     /// Where each of these names stands, or none where one of them isn't there. Fails where memory is refused.
-    pub(crate) fn positions(
-        &self,
-        alloc: Global,
-        names: &[&[u8]],
-    ) -> Result<Option<Vec<usize>>, AllocError>
-        ensures { IfOk result (λ found. MatchOption found
-            (has_all self.now (map (λ name. name.now) names.now) ≡ false)
-            (λ all. (has_all self.now (map (λ name. name.now) names.now) ≡ true) × (all.items ≡ map (position_of self.now) (map (λ name. name.now) names.now)))) }
+    fn positions(&self, alloc: Global, names: &[&[u8]]) -> Result<Option<Vec<usize>>, AllocError>
+        ensures { IfOk result (ArePlaces self.now (map (λ name. name.now) names.now)) }
     {
         let mut all = Vec::with_capacity(alloc, names.len())?;
         'names: for name in names {
@@ -65,6 +58,27 @@ impl<'a> NameIndex<'a> {
         }
         Ok(Some(all))
     }
+}
+
+/// Where each of the other names stands among these, of which none may stand twice, or none where one of the
+/// others isn't there. Fails where memory is refused.
+pub(crate) fn places_among(
+    alloc: Global,
+    names: &[&[u8]],
+    others: &[&[u8]],
+) -> Result<Option<Vec<usize>>, AllocError>
+    requires once { has_twice (map (λ name. name.now) names.now) ≡ false }
+    ensures { IfOk result (ArePlaces (map (λ name. name.now) names.now) (map (λ name. name.now) others.now)) }
+{
+    let index = NameIndex::of(alloc, names)?.unwrap();
+    index.positions(alloc, others)
+}
+
+/// Whether one of these names stands twice. Fails where memory is refused.
+pub(crate) fn has_twice(alloc: Global, names: &[&[u8]]) -> Result<bool, AllocError>
+    ensures { IfOk result (λ twice. twice ≡ has_twice (map (λ name. name.now) names.now)) }
+{
+    Ok(NameIndex::of(alloc, names)?.is_none())
 }
 
 /// The bytes of each of these names. Fails where memory is refused.

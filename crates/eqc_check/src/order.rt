@@ -6,7 +6,7 @@ ghost use Rattle.eqc_check.specs.Verdict.{position_of};
 ghost use Rattle.eqc_check.specs.Matched.{order_words, order_code, is_blank, is_word, line_words};
 ghost use Rattle.eqc_check.specs.PairOf.{IsOrder, variables_in, order_for, order_refusal, order_refused, no_memory};
 
-use crate::name_index::{NameIndex, bytes_of};
+use crate::name_index::{bytes_of, has_twice, places_among};
 use crate::report::{Refused, Side};
 use eqc_blif::Name;
 use std::alloc::{AllocError, Global};
@@ -164,19 +164,16 @@ fn read_places(
         return Err(refusal(2));
     }
     let words = order_words(alloc, text)?;
-    let Some(index) = NameIndex::of(alloc, inputs)? else {
-        unreachable!();
-    };
-    let Some(positions) = index.positions(alloc, &words)? else {
+    let Some(positions) = places_among(alloc, inputs, &words)? else {
         return Err(refusal(51));
     };
-    let Some(words) = NameIndex::of(alloc, &words)? else {
+    if has_twice(alloc, &words)? {
         return Err(refusal(52));
-    };
-    let Some(variables) = words.positions(alloc, inputs)? else {
-        return Err(refusal(53));
-    };
-    Ok((positions, variables))
+    }
+    match places_among(alloc, &words, inputs)? {
+        Some(variables) => Ok((positions, variables)),
+        None => Err(refusal(53)),
+    }
 }
 
 /// The order that a text gives to these inputs, or the text's refusal, or no memory.

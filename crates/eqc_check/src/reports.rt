@@ -6,6 +6,7 @@ ghost use Rattle.eqc_check.specs.ReportView.{report_of};
 ghost use Rattle.eqc_check.specs.Answer.{models_answer, one_answer, two_answer, read_texts, texts_answer, Answers, MayStop};
 
 use crate::check::check_plain;
+use crate::matched_pair::recall_laws;
 use crate::pairing::pair;
 use crate::report::{Refused, Report, Side};
 use eqc_blif::{Library, Refusal, read};
@@ -73,8 +74,8 @@ fn models_report<R>(
         Ok(g) => g,
         Err(Fault { code }) => return refused(Side::Second, Refusal { line: 0, code }),
     };
-    let _first = f.steps();
-    let _second = g.steps();
+    recall_laws(&f);
+    recall_laws(&g);
     flat_report(alloc, rt, &f, &g, order, nodes)
 }
 

@@ -1,6 +1,6 @@
 ghost use Rattle.std.specs.Prelude.{◌≡◌, ℕ, ◌<◌, ◌⊎◌, List, [], length, IfOk, IsSome, Some, None, Option, map, vec_len, slice_index, slice_set};
 ghost use Rattle.eqc_tree.specs.Holding.{IsHeld, Loses, weight};
-ghost use Rattle.eqc_check.specs.Building.{Moves, OwnsTable, Empties, Fills, Releases, reference_of};
+ghost use Rattle.eqc_check.specs.Building.{Moves, OwnsTable, OwnsBoth, LosesBoth, Empties, Fills, Releases, reference_of};
 
 use eqc_tree::References;
 use std::alloc::{AllocError, Global};
@@ -87,4 +87,20 @@ pub(crate) fn give_back_all<D: References>(d: &mut D, mut table: Vec<Option<D::R
         }
     }
     table.destroy_empty();
+}
+
+/// The references of signals of both netlists of a pair.
+pub(crate) struct Tables<X> {
+    pub(crate) first: Vec<Option<X>>,
+    pub(crate) second: Vec<Option<X>>,
+}
+
+/// Gives all references of two tables back.
+pub(crate) fn give_back_both<D: References>(d: &mut D, tables: Tables<D::Ref>)
+    requires { OwnsBoth D.entry (D.holding d.old) tables.first.items tables.second.items }
+    ensures { LosesBoth D.entry (D.holding d.old) (D.holding d.new) tables.first.items tables.second.items }
+{
+    let Tables { first, second } = tables;
+    give_back_all(d, first);
+    give_back_all(d, second);
 }

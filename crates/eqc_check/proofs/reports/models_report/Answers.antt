@@ -17,8 +17,8 @@ returns-in-Err-flatten-clause-stop g c = refused_stop side.Second (record { line
 
 pub returns-clause-report : goal.returns-clause-report
 returns-clause-report g c =
-    reported c.flat_report.result _ _ c.flat_report.ensures.report (flat_models c.in-Ok.f c.in-Ok-flatten.g (c.args.first.0.now, c.args.first.1) (c.args.second.0.now, c.args.second.1) (option_copied c.args.order) c.steps-first.ensures.lawful c.steps-second.ensures.lawful c.in-Ok.ensures.accepted c.in-Ok-flatten.ensures.accepted c.in-Ok.ensures.flat c.in-Ok-flatten.ensures.flat)
+    reported c.flat_report.result _ _ c.flat_report.ensures.report (flat_models c.in-Ok.f c.in-Ok-flatten.g (c.args.first.0.now, c.args.first.1) (c.args.second.0.now, c.args.second.1) (option_copied c.args.order) c.recall_laws.ensures.lawful c.recall_laws-2.ensures.lawful c.in-Ok.ensures.accepted c.in-Ok-flatten.ensures.accepted c.in-Ok.ensures.flat c.in-Ok-flatten.ensures.flat)
 
 pub returns-clause-stop : goal.returns-clause-stop
 returns-clause-stop g c =
-    stop_alike c.flat_report.result _ _ c.flat_report.ensures.stop (flat_models c.in-Ok.f c.in-Ok-flatten.g (c.args.first.0.now, c.args.first.1) (c.args.second.0.now, c.args.second.1) (option_copied c.args.order) c.steps-first.ensures.lawful c.steps-second.ensures.lawful c.in-Ok.ensures.accepted c.in-Ok-flatten.ensures.accepted c.in-Ok.ensures.flat c.in-Ok-flatten.ensures.flat)
+    stop_alike c.flat_report.result _ _ c.flat_report.ensures.stop (flat_models c.in-Ok.f c.in-Ok-flatten.g (c.args.first.0.now, c.args.first.1) (c.args.second.0.now, c.args.second.1) (option_copied c.args.order) c.recall_laws.ensures.lawful c.recall_laws-2.ensures.lawful c.in-Ok.ensures.accepted c.in-Ok-flatten.ensures.accepted c.in-Ok.ensures.flat c.in-Ok-flatten.ensures.flat)
