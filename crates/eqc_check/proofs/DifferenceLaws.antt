@@ -1,10 +1,9 @@
 -- The diagram of where an output of a pair differs: what it says, and its least assignment.
-use Rattle.std.proofs.Common.{◌≡◌, ℕ, ◌<◌, ◌≤◌, ◌+◌, Bool, false, List, [], length, find, get_or, refl, sym, ◌∙◌, ap, arith, Option, Some, None, Vec, Global, subst}
-use Rattle.std.specs.Option.{option_map}
-use Rattle.std.specs.List.{All}
-use Rattle.eqc_tree.specs.Holding.{Entry, Holding, copies, weight, says, Keeps, Gains, Loses}
+use Rattle.std.proofs.Common.{◌≡◌, ℕ, ◌<◌, ◌≤◌, ◌+◌, Bool, false, List, [], length, find, get_or, refl, sym, ◌∙◌, ap, arith, Option, Some, None, Result, Ok, Err, IfOk, OnErr, subst}
+use Rattle.eqc_tree.specs.Holding.{Entry, Holding, IsHeld, copies, weight, says, Keeps, Gains, Loses}
 use Rattle.eqc_tree.specs.Operation.{operate}
 use Rattle.eqc_tree.specs.declared.operation.Op.TheVariants.{Xor}
+use Rattle.eqc_tree.proofs.HoldingLemmas.{counts_itself}
 use Rattle.eqc_flat.specs.Graph.{value_of}
 use Rattle.eqc_check.specs.Building.{AreBuilt, HoldsBoth, OwnsBoth, OwnsTable, LosesBoth, tally, inputs_under, reference_of}
 use Rattle.eqc_check.specs.Assigned.{assigned, DependsOnlyOn, IsSatisfiable}
@@ -82,3 +81,25 @@ both_kept entry old new first second k h = record { held = λ e. omega (arith, k
 
 pub both_owned : {X : Type 0} (entry : X → Entry) (before now : Holding) (first second : List (Option X)) → HoldsBoth entry before now first second → OwnsBoth entry now first second
 both_owned entry before now first second h = record { held = λ e. omega (arith, h.held e) }
+
+pub difference_owned : {X E : Type 0} (entry : X → Entry) (d0 d1 d2 : Holding) (first second : List (Option X)) (result : Result X E) (f : (ℕ → Bool) → Bool) → HoldsBoth entry d0 d1 first second → IfOk result (λ r. Gains d1 d2 (entry r) f) → OnErr result (Keeps d1 d2) → OwnsBoth entry d2 first second
+difference_owned entry d0 d1 d2 first second (Ok r) f h ok stop = record { held = λ e. omega (arith, h.held e, ok.held e) }
+difference_owned entry d0 d1 d2 first second (Err e) f h ok stop = record { held = λ e. omega (arith, h.held e, stop.held e) }
+
+-- both tables were given back behind a call that keeps what is held
+pub both_given : {X : Type 0} (entry : X → Entry) (d0 d1 d2 d3 : Holding) (first second : List (Option X)) → HoldsBoth entry d0 d1 first second → Keeps d1 d2 → LosesBoth entry d2 d3 first second → Keeps d0 d3
+both_given entry d0 d1 d2 d3 first second h k l = record { variables = l.variables ∙ (k.variables ∙ h.variables); held = λ e. omega (arith, h.held e, k.held e, l.held e) }
+
+-- or behind one that makes a reference
+pub both_given_but : {X : Type 0} (entry : X → Entry) (d0 d1 d2 d3 : Holding) (first second : List (Option X)) (r : Entry) (f : (ℕ → Bool) → Bool) → HoldsBoth entry d0 d1 first second → Gains d1 d2 r f → LosesBoth entry d2 d3 first second → Gains d0 d3 r f
+both_given_but entry d0 d1 d2 d3 first second r f h g l = record { variables = l.variables ∙ (g.variables ∙ h.variables); held = λ e. omega (arith, h.held e, g.held e, l.held e); function = g.function }
+
+-- a reference that was made is held, and given back it leaves what was held before
+pub gained_held : (d0 d1 : Holding) (r : Entry) (f : (ℕ → Bool) → Bool) → Gains d0 d1 r f → IsHeld d1 r
+gained_held d0 d1 r f g = omega (arith, g.held r, counts_itself d0 r)
+
+pub gained_lost : (d0 d1 d2 : Holding) (r : Entry) (f : (ℕ → Bool) → Bool) → Gains d0 d1 r f → Loses d1 d2 r → Keeps d0 d2
+gained_lost d0 d1 d2 r f g l = record { variables = l.variables ∙ g.variables; held = λ e. omega (arith, g.held e, l.held e) }
+
+pub gained_says : (d0 d1 : Holding) (r : Entry) (p : PairOf) (o : ℕ) → Gains d0 d1 r (differs_at p o) → SaysDifference p o (says r)
+gained_says d0 d1 r p o g = record { each = g.function }

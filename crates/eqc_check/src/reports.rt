@@ -1,4 +1,4 @@
-ghost use Rattle.std.specs.Prelude.{◌≡◌, ◌<◌, ◌≤◌, ◌⊎◌, length, IfOk, IfErr, Ok, MatchResult};
+ghost use Rattle.std.specs.Prelude.{◌≡◌, ◌↔◌, ◌<◌, ◌≤◌, ◌⊎◌, IsTrue, length, IfOk, IfErr, Ok, MatchResult};
 ghost use Rattle.std.specs.Option.{option_copied};
 ghost use Rattle.eqc_blif.specs.Reading.{outcome};
 ghost use Rattle.eqc_check.specs.Refusing.{IsRefused, flat_answer};
@@ -14,12 +14,20 @@ use eqc_flat::{Fault, Flat, flatten};
 use eqc_tree::Stop;
 use std::alloc::Global;
 
+/// Whether a number among those of refusals tells that memory was refused, which is no refusal of a text: reading,
+/// flattening and pairing have one number for it.
+fn is_memory(code: u8) -> bool
+    ensures { IsTrue result ↔ (code ≡ 72) }
+{
+    code == 72
+}
+
 /// A refusal of a side as a report, or the stop for want of memory.
 fn refused(side: Side, refusal: Refusal) -> Result<Report, Stop>
     ensures { IsRefused side refusal result }
 {
     let Refusal { line, code } = refusal;
-    if code == 72 {
+    if is_memory(code) {
         return Err(Stop::Memory);
     }
     Ok(Report::Refused(Refused { side, line, code }))
@@ -41,12 +49,7 @@ fn flat_report<R>(
 {
     match pair(alloc, first, second, order) {
         Ok(pair) => check_plain(rt, alloc, &pair, nodes),
-        Err(refused) => {
-            if refused.code == 72 {
-                return Err(Stop::Memory);
-            }
-            Ok(Report::Refused(refused))
-        }
+        Err(Refused { side, line, code }) => refused(side, Refusal { line, code }),
     }
 }
 
