@@ -7,9 +7,9 @@ ghost use Rattle.eqc_check.specs.Building.{AreBuilt, AreReady, OwnsBoth, referen
 ghost use Rattle.eqc_check.specs.Comparing.{netlist_of, differs_at, SaysDifference, found_at, IsNext};
 
 use crate::build::build_both;
+use crate::build::table::{Tables, give_back_both, reference_at};
 use crate::least::{is_false, least_over};
-use crate::matched_pair::Pair;
-use crate::table::{Tables, give_back_both, reference_at};
+use crate::pairing::matched_pair::Pair;
 use eqc_tree::{Diagrams, Op, References, Stop};
 use std::alloc::Global;
 use std::slice::from_ref;

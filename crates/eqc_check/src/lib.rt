@@ -6,19 +6,14 @@ mod build;
 mod check;
 mod compare;
 mod cover;
+mod decide;
 mod ends;
 mod laws;
 mod least;
-mod matched_pair;
-mod name_index;
 mod options;
-mod order;
 mod pairing;
-mod plan;
 mod report;
-mod reports;
 mod running;
-mod table;
 #[cfg(test)]
 mod tests_calls;
 #[cfg(test)]
@@ -37,8 +32,8 @@ pub use laws::{
     least_difference_is_unique,
 };
 pub use least::least_assignment;
-pub use matched_pair::Pair;
 pub use options::{Options, options_fault};
+pub use pairing::matched_pair::Pair;
 pub use pairing::pair;
 pub use report::{Refused, Report, Side, Status, write_report};
 pub use running::{Texts, run};

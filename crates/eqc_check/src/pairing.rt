@@ -5,9 +5,13 @@ ghost use Rattle.eqc_check.specs.Verdict.{position_of};
 ghost use Rattle.eqc_check.specs.Matched.{same_names};
 ghost use Rattle.eqc_check.specs.PairOf.{order_for, pair_refusal, pair_refused, no_memory};
 
-use crate::matched_pair::Pair;
-use crate::name_index::{bytes_of, places_among};
-use crate::order::order_of;
+pub(crate) mod matched_pair;
+mod name_index;
+pub(crate) mod order;
+
+use crate::pairing::matched_pair::Pair;
+use crate::pairing::name_index::{bytes_of, places_among};
+use crate::pairing::order::order_of;
 use crate::report::{Refused, Side};
 use eqc_blif::Name;
 use eqc_flat::Flat;

@@ -6,7 +6,7 @@ ghost use Rattle.eqc_tree.specs.Holding.{Keeps};
 use crate::check::check_plain;
 use crate::compare::compare_output;
 use crate::least::least_assignment;
-use crate::matched_pair::Pair;
+use crate::pairing::matched_pair::Pair;
 use crate::pairing::pair;
 use crate::report::{Report, write_report};
 use crate::tests_run::lines;

@@ -1,6 +1,6 @@
 use crate::ends::{RunFault, read_text};
 use crate::options::{Options, options_fault};
-use crate::order::order_words;
+use crate::pairing::order::order_words;
 use crate::report::{Refused, Report, Side, write_report};
 use crate::tests_streams::{Drain, Endless, Feed, NEVER};
 use eqc_blif::Name;

@@ -22,7 +22,7 @@ pub loop-o-preserved : goal.loop-o-preserved
 loop-o-preserved g c =
     let outputs = rw c.first.ensures at c.outputs-o-end.ensures in
     let inside : c.loop-o.o < length c.args.pair.now.first.outputs = omega (arith, ap length outputs) in (
-      found_next c.args.pair.now.first c.args.pair.now.second c.loop-o.o c.loop-o.found _ inside c.in_ok-found.ensures.found c.loop-o.invariant.0,
-      within_next c.loop-o.o c.loop-o.found _ _ c.in_ok-found.ensures.found c.loop-o.invariant.1,
+      found_next c.args.pair.now.first c.args.pair.now.second c.loop-o.o c.loop-o.found c.in_ok-found.found inside c.in_ok-found.ensures.found c.loop-o.invariant.0,
+      within_next c.loop-o.o c.loop-o.found c.in_ok-found.found _ c.in_ok-found.ensures.found c.loop-o.invariant.1,
       keeps_twice _ _ _ c.loop-o.invariant.2 c.in_ok-found.ensures.kept,
     )
