@@ -103,3 +103,10 @@ gained_lost d0 d1 d2 r f g l = record { variables = l.variables ∙ g.variables;
 
 pub gained_says : (d0 d1 : Holding) (r : Entry) (p : PairOf) (o : ℕ) → Gains d0 d1 r (differs_at p o) → SaysDifference p o (says r)
 gained_says d0 d1 r p o g = record { each = g.function }
+
+-- a diagram that is given back whatever is found
+pub kept_lost : (d0 d1 d2 : Holding) (r : Entry) → Keeps d0 d1 → Loses d1 d2 r → Loses d0 d2 r
+kept_lost d0 d1 d2 r k l = record { variables = l.variables ∙ k.variables; held = λ e. omega (arith, k.held e, l.held e) }
+
+pub kept_held : (d0 d1 : Holding) (r : Entry) → Keeps d0 d1 → IsHeld d0 r → IsHeld d1 r
+kept_held d0 d1 r k h = omega (arith, k.held r, h)

@@ -55,3 +55,8 @@ returns-clause-holds g c = c.loop-k.invariant.holds
 
 pub returns-clause-built : goal.returns-clause-built
 returns-clause-built g c = c.loop-k.invariant.built
+
+pub build_signal-requires-clause-within : goal.build_signal-requires-clause-within
+build_signal-requires-clause-within g c =
+    let steps = c.steps-steps.ensures.steps in
+    rw steps (c.steps-steps.ensures.lawful.steps_within c.loop-k.k (omega (arith, ap length steps)))

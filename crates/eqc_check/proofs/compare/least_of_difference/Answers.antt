@@ -2,7 +2,7 @@ use Rattle.std.proofs.Common.{sym, ◌∙◌}
 use Rattle.eqc_tree.specs.Holding.{says}
 use Rattle.eqc_check.proofs.PairLaws.{variables_distinct}
 use Rattle.eqc_check.proofs.InputLemmas.{variables_below}
-use Rattle.eqc_check.proofs.DifferenceLaws.{differs_depends, least_is, none_is}
+use Rattle.eqc_check.proofs.DifferenceLaws.{differs_depends, least_is, none_is, kept_held, kept_lost}
 use Rattle.eqc_check.proofs.compare.least_of_difference.Goals as goal
 
 pub returns-then-is_false-clause-found : goal.returns-then-is_false-clause-found
@@ -19,3 +19,12 @@ least_over-least-requires-clause-depends g c = rw c.variables.ensures.each (diff
 
 pub returns-clause-found : goal.returns-clause-found
 returns-clause-found g c = (rw c.variables.ensures.each at c.in_ok-least.ensures.least) ∙ least_is c.args.pair.now c.args.output (says (g.D.References.entry c.args.difference)) c.recall_laws.ensures c.requires.output c.requires.function
+
+pub give_back-requires-2 : goal.give_back-requires-2
+give_back-requires-2 g c = kept_held _ _ _ c.least_over-least.ensures.kept c.requires.held
+
+pub returns-in_err-least-clause-lost : goal.returns-in_err-least-clause-lost
+returns-in_err-least-clause-lost g c = kept_lost _ _ _ _ c.least_over-least.ensures.kept c.give_back-2.ensures
+
+pub returns-clause-lost : goal.returns-clause-lost
+returns-clause-lost g c = kept_lost _ _ _ _ c.least_over-least.ensures.kept c.give_back-2.ensures
