@@ -1,17 +1,14 @@
 -- Values depend on the inputs alone; and the first of the outputs that differ, one output after another.
-use Rattle.std.proofs.Common.{◌≡◌, ℕ, zero, suc, ◌+◌, ◌<◌, ◌≤◌, Bool, true, false, List, [], ◌∷◌, ◌++◌, length, map, find, get_or, take, refl, sym, ◌∙◌, ap, arith, Option, Some, None, subst, Vec, Global, IfSome}
+use Rattle.std.proofs.Common.{◌≡◌, ℕ, zero, suc, ◌+◌, ◌<◌, Bool, true, false, List, [], ◌∷◌, ◌++◌, length, map, get_or, take, refl, sym, ◌∙◌, ap, arith, Option, Some, None, subst, Vec, Global, IfSome}
 use Rattle.std.specs.Option.{option_map, option_or}
 use Rattle.std.specs.List.{All}
 use Rattle.std.proofs.lemmas.List.{take_more, get_or_default}
 use Rattle.std.proofs.lemmas.Option.{same_Some}
-use Rattle.eqc_tree.specs.Holding.{Entry, says}
 use Rattle.eqc_tree.specs.Operation.{operate}
 use Rattle.eqc_tree.specs.declared.operation.Op.TheVariants.{Xor}
 use Rattle.eqc_blif.specs.Cover.{cover_value}
 use Rattle.eqc_flat.specs.Graph.{FlatOf, IsFlat, IsWithin, DriverOf, input, tie, cover, driver_at, driven, settled, value_of}
-use Rattle.eqc_check.specs.Building.{IsBuilt, inputs_under, reference_of}
-use Rattle.eqc_check.specs.Assigned.{assigned, DependsOnlyOn}
-use Rattle.eqc_check.specs.Verdict.{NetlistOf, assignments, position_of, values_for, is_different, first_value, second_value, differs_under, least_difference, first_difference}
+use Rattle.eqc_check.specs.Verdict.{NetlistOf, is_different, least_difference, first_difference}
 use Rattle.eqc_check.specs.Comparing.{netlist_of, found_at, listed, at_output, IsNext}
 
 pub xor_differs : (x y : Bool) → is_different x y ≡ operate Xor x y

@@ -1,4 +1,4 @@
-use Rattle.std.proofs.Common.{ℕ, ◌≡◌, ◌<◌, ◌∙◌, sym, ap, arith, List, Bool, get_or, length}
+use Rattle.std.proofs.Common.{◌<◌, ◌∙◌, sym, ap, arith, List, Bool, get_or, length}
 use Rattle.std.proofs.lemmas.List.{get_or-map}
 use Rattle.eqc_flat.specs.Graph.{value_of}
 use Rattle.eqc_flat.specs.Evaluating.{values_of}

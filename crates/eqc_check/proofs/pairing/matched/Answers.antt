@@ -1,4 +1,4 @@
-use Rattle.std.proofs.Common.{◌≡◌, ap, ◌∙◌}
+use Rattle.std.proofs.Common.{ap, ◌∙◌}
 use Rattle.eqc_check.proofs.NameLemmas.{bytes_in}
 use Rattle.eqc_check.proofs.PlaceLemmas.{places_as, same_places}
 use Rattle.eqc_check.proofs.pairing.matched.Goals as goal
