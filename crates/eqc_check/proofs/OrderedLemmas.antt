@@ -3,7 +3,6 @@ use Rattle.std.proofs.Common.{◌≡◌, ℕ, zero, suc, ◌+◌, ◌<◌, ◌�
 use Rattle.std.specs.List.{range_with_len}
 use Rattle.std.proofs.lemmas.List.{length-map, get_or-map}
 use Rattle.std.proofs.lemmas.List.FromFn.{length-range_with_len, get_or-range_with_len, get_or-map-range_with_len, length-map-range_with_len}
-use Rattle.std.proofs.lemmas.Bool.{le-ltb}
 use Rattle.std.proofs.lemmas.Grind.{same_number_lists}
 use Rattle.eqc_blif.specs.Names.{has_twice}
 use Rattle.eqc_check.specs.Verdict.{position_of}
@@ -83,10 +82,6 @@ taken_words inputs text taken = by (nat_lt 16777216 (length text)) (has_all inpu
     by false true true back e = absurd (cc)
     by false true false false e = absurd (cc)
     by false true false true e = (refl, refl, refl)
-
--- an order text whose words are inputs, none of them twice, but not all inputs
-pub input_missing : (inputs words : List (List ℕ)) (text : List ℕ) → words ≡ order_words text → length text ≤ 16777216 → has_all inputs words ≡ true → has_twice words ≡ false → has_all words inputs ≡ false → order_code inputs text ≡ Some 53
-input_missing inputs words text e short all once missing = rw (le-ltb 16777216 (length text) short, ← e, all, once, missing) refl
 
 -- an order text that is taken: its words' places among the inputs, and the inputs' among the words
 module _ (inputs : List (List ℕ)) (text : List ℕ) (once : has_twice inputs ≡ false) (few : length inputs ≤ 2048) (taken : order_code inputs text ≡ None) where
