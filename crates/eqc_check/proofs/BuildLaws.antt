@@ -5,7 +5,7 @@ use Rattle.std.proofs.lemmas.List.{get_or-set_same, get_or-set_other, take_more,
 use Rattle.std.proofs.lemmas.Bool.{cases_eq}
 use Rattle.std.proofs.Math.ListN.{length-set}
 use Rattle.eqc_tree.specs.Holding.{Entry, Holding, says, Keeps, Gains}
-use Rattle.eqc_flat.specs.Graph.{FlatOf, IsFlat, driver_at, dependencies, value_of, FollowsDrivers, driven, cover}
+use Rattle.eqc_flat.specs.Graph.{FlatOf, IsFlat, driver_at, dependencies, value_of, FollowsDrivers, driven, input, tie, cover}
 use Rattle.eqc_blif.specs.Cover.{cover_value}
 use Rattle.eqc_check.specs.Matching.{AreHeld, said}
 use Rattle.eqc_check.specs.Building.{held_by, tally, Holds, HoldsBoth, OwnsTable, Moves, Fills, Adds, Releases, IsBuilt, IsBuilding, IsPlan, AreReady, AreSignals, reference_of, inputs_under}
@@ -94,11 +94,11 @@ one_signal f s h = record { each = one }
     one (suc k) lt = absurd (omega arith)
 
 -- one signal that has a reference
-pub one_ready : {X : Type 0} (table other : List (Option X)) (signals : List ℕ) (s t : ℕ) → other ≡ table → AreReady table signals → signals ≡ s ∷ [] → s ≡ t → IsSome (reference_of other t)
-one_ready table other signals s t is h e same =
-    let ready : AreReady table (s ∷ []) = subst (AreReady table) e h in
+pub one_ready : {X : Type 0} (table : List (Option X)) (signals : List ℕ) (s t : ℕ) → AreReady table signals → signals ≡ s ∷ [] → s ≡ t → IsSome (reference_of table t)
+one_ready table signals s t h is same =
+    let ready : AreReady table (s ∷ []) = subst (AreReady table) is h in
     let there : IsSome (reference_of table s) = ready.each 0 (omega arith) in
-    rw (is, ← same) there
+    rw (← same) there
 
 -- a table that was given back
 pub holds_none : {X : Type 0} (entry : X → Entry) (before d0 d1 : Holding) (t0 : List (Option X)) → Holds entry before d0 t0 → Moves entry d0 t0 d1 [] → Keeps before d1
@@ -164,3 +164,26 @@ building_done entry f variables roots last before now table h inside p b = recor
 pub cover_follows : {X : Type 0} (entry : X → Entry) (f : FlatOf) (variables : List ℕ) (table : List (Option X)) (columns : List ℕ) (found : List (Bor X)) (rows : List (List ℕ)) (r s : ℕ) (a : ℕ → Bool) → FollowsDrivers f → s < length f.drivers → cover columns r ≡ driver_at f s → rows ≡ get_or f.rows r [] → IsBuilt entry f variables table → map (λ r. Some r.now) found ≡ map (reference_of table) columns → cover_value rows (said entry found a) ≡ value_of f (inputs_under variables a) s
 cover_follows entry f variables table columns found rows r s a follows inside is rows_are built e =
     rw (rows_are, found_said entry f variables table columns found a built e) (ap (driven f.rows (inputs_under variables a) (value_of f (inputs_under variables a))) is ∙ sym (follows (inputs_under variables a) s inside))
+
+-- the value of an input's diagram, and of a tie's
+pub input_follows : (f : FlatOf) (variables : List ℕ) (position s : ℕ) (a : ℕ → Bool) → FollowsDrivers f → s < length f.drivers → input position ≡ driver_at f s → a (get_or variables position 0) ≡ value_of f (inputs_under variables a) s
+input_follows f variables position s a follows inside is =
+    ap (driven f.rows (inputs_under variables a) (value_of f (inputs_under variables a))) is ∙ sym (follows (inputs_under variables a) s inside)
+
+pub tie_follows : {X : Type 0} (entry : X → Entry) (f : FlatOf) (variables : List ℕ) (table : List (Option X)) (other s : ℕ) (r : X) (a : ℕ → Bool) → FollowsDrivers f → s < length f.drivers → tie other ≡ driver_at f s → IsBuilt entry f variables table → reference_of table other ≡ Some r → says (entry r) a ≡ value_of f (inputs_under variables a) s
+tie_follows entry f variables table other s r a follows inside is built here =
+    built.values other r here a
+    ∙ (ap (driven f.rows (inputs_under variables a) (value_of f (inputs_under variables a))) is ∙ sym (follows (inputs_under variables a) s inside))
+
+-- a signal that was not built leaves the table as it was
+pub stopped_owned : {X : Type 0} (entry : X → Entry) (d0 d1 d2 : Holding) (table other : List (Option X)) → Holds entry d0 d1 table → Keeps d1 d2 → other ≡ table → OwnsTable entry d2 other
+stopped_owned entry d0 d1 d2 table other h k same = rw same (record { held = λ e. omega (arith, h.held e, k.held e) })
+
+pub stopped_keeps : {X : Type 0} (entry : X → Entry) (d0 d1 d2 d3 : Holding) (table other : List (Option X)) → Holds entry d0 d1 table → Keeps d1 d2 → other ≡ table → Moves entry d2 other d3 [] → Keeps d0 d3
+stopped_keeps entry d0 d1 d2 d3 table other h k same m =
+    let m' : Moves entry d2 table d3 [] = rw same at m in
+    record { variables = m'.variables ∙ (k.variables ∙ h.variables); held = λ e. omega (arith, h.held e, k.held e, m'.held e) }
+
+-- what holds of the table when a signal was added
+pub added_owned : {X : Type 0} (entry : X → Entry) (f : FlatOf) (variables : List ℕ) (d0 d1 d2 : Holding) (t1 t2 : List (Option X)) (s : ℕ) → Holds entry d0 d1 t1 → Adds entry f variables d1 t1 d2 t2 s → OwnsTable entry d2 t2
+added_owned entry f variables d0 d1 d2 t1 t2 s h a = record { held = λ e. omega (arith, h.held e, a.moves.held e) }

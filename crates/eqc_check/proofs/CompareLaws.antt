@@ -1,20 +1,15 @@
--- The functions of matched netlists' outputs, and what of them differs.
-use Rattle.std.proofs.Common.{◌≡◌, ℕ, zero, suc, ◌+◌, ◌<◌, ◌≤◌, Bool, true, false, List, [], ◌∷◌, ◌++◌, length, map, find, get_or, take, refl, sym, ◌∙◌, ap, arith, Option, Some, None, subst, Vec, Global, IfSome}
+-- Values depend on the inputs alone; and the first of the outputs that differ, one output after another.
+use Rattle.std.proofs.Common.{◌≡◌, ℕ, zero, suc, ◌+◌, ◌<◌, Bool, true, false, List, [], ◌∷◌, ◌++◌, length, map, get_or, take, refl, sym, ◌∙◌, ap, arith, Option, Some, None, subst, Vec, Global, IfSome}
 use Rattle.std.specs.Option.{option_map, option_or}
 use Rattle.std.specs.List.{All}
 use Rattle.std.proofs.lemmas.List.{take_more, get_or_default}
 use Rattle.std.proofs.lemmas.Option.{same_Some}
-use Rattle.eqc_tree.specs.Holding.{Entry, says}
 use Rattle.eqc_tree.specs.Operation.{operate}
 use Rattle.eqc_tree.specs.declared.operation.Op.TheVariants.{Xor}
 use Rattle.eqc_blif.specs.Cover.{cover_value}
 use Rattle.eqc_flat.specs.Graph.{FlatOf, IsFlat, IsWithin, DriverOf, input, tie, cover, driver_at, driven, settled, value_of}
-use Rattle.eqc_check.specs.Building.{IsBuilt, inputs_under, reference_of}
-use Rattle.eqc_check.specs.Assigned.{assigned, DependsOnlyOn}
-use Rattle.eqc_check.specs.Verdict.{NetlistOf, assignments, position_of, values_for, is_different, first_value, second_value, differs_under, least_difference, first_difference}
-use Rattle.eqc_check.specs.Sides.{AreMatched, netlist_of, found_at, listed, at_output, IsNext}
-use Rattle.eqc_check.proofs.MatchedLemmas.{place_of_name, assigned_value}
-use Rattle.eqc_check.proofs.FindLemmas.{find_agrees}
+use Rattle.eqc_check.specs.Verdict.{NetlistOf, is_different, least_difference, first_difference}
+use Rattle.eqc_check.specs.Comparing.{netlist_of, found_at, listed, at_output, IsNext}
 
 pub xor_differs : (x y : Bool) → is_different x y ≡ operate Xor x y
 xor_differs true y = refl
@@ -42,44 +37,6 @@ settled_agrees f a b (suc rounds) s h ab inside = driven_agrees f a b (settled f
 pub value_agrees : (f : FlatOf) (a b : ℕ → Bool) (s : ℕ) → IsFlat f → ((p : ℕ) → p < length f.inputs → a p ≡ b p) → s < length f.drivers → value_of f a s ≡ value_of f b s
 unfolding value_of
 value_agrees f a b s h ab inside = settled_agrees f a b (length f.drivers) s h ab inside
-
--- a signal's function depends on the variables of the inputs alone
-pub first_depends : {X : Type 0} (entry : X → Entry) (f g : FlatOf) (variables second_variables second_signals : List ℕ) (n : ℕ) (table : List (Option X)) (s : ℕ) (r : X) → IsFlat f → AreMatched f g variables second_variables second_signals n → IsBuilt entry f variables table → s < length f.drivers → reference_of table s ≡ Some r → DependsOnlyOn variables (says (entry r))
-first_depends entry f g variables second_variables second_signals n table s r h m b inside is x y same =
-    b.values s r is x ∙ (value_agrees f (inputs_under variables x) (inputs_under variables y) s h (λ p within. same p (omega (arith, m.first.size))) inside ∙ sym (b.values s r is y))
-
-pub second_depends : {X : Type 0} (entry : X → Entry) (f g : FlatOf) (variables second_variables second_signals : List ℕ) (n : ℕ) (table : List (Option X)) (s : ℕ) (r : X) → IsFlat g → AreMatched f g variables second_variables second_signals n → IsBuilt entry g second_variables table → s < length g.drivers → reference_of table s ≡ Some r → DependsOnlyOn variables (says (entry r))
-second_depends entry f g variables second_variables second_signals n table s r h m b inside is x y same =
-    b.values s r is x ∙ (value_agrees g (inputs_under second_variables x) (inputs_under second_variables y) s h
-    (λ p within. rw (m.same p within) (same (position_of f.inputs (get_or g.inputs p [])) (omega (arith, m.first.size, m.inputs p within)))) inside ∙ sym (b.values s r is y))
-
--- an output of the first netlist under an assignment, and the second's of its name
-first_value_is : (f g : FlatOf) (variables second_variables second_signals : List ℕ) (n o : ℕ) (a : List Bool) → IsFlat f → AreMatched f g variables second_variables second_signals n → o < length f.outputs → first_value (netlist_of f) (get_or f.outputs o []) a ≡ value_of f (inputs_under variables (assigned variables a)) (get_or f.output_signals o 0)
-first_value_is f g variables second_variables second_signals n o a h m inside =
-    ap (λ k. value_of f (values_for f.inputs a f.inputs) (get_or f.output_signals k 0)) (place_of_name f.outputs o h.outputs_differ inside)
-    ∙ value_agrees f (values_for f.inputs a f.inputs) (inputs_under variables (assigned variables a)) (get_or f.output_signals o 0) h (λ p within. sym (own p within)) (h.outputs_within o inside)
-  where
-    own : (p : ℕ) → p < length f.inputs → assigned variables a (get_or variables p 0) ≡ values_for f.inputs a f.inputs p
-    own p within =
-        let place : position_of f.inputs (get_or f.inputs p []) ≡ p = place_of_name f.inputs p h.inputs_differ within in
-        let P : ℕ → Type 0 = λ k. k < length variables → assigned variables a (get_or variables k 0) ≡ values_for f.inputs a f.inputs p in
-        subst P place (assigned_value variables f.inputs f.inputs a p m.distinct) (omega (arith, m.first.size))
-
-second_value_is : (f g : FlatOf) (variables second_variables second_signals : List ℕ) (n o : ℕ) (a : List Bool) → IsFlat g → AreMatched f g variables second_variables second_signals n → o < length f.outputs → second_value (netlist_of f) (netlist_of g) (get_or f.outputs o []) a ≡ value_of g (inputs_under second_variables (assigned variables a)) (get_or second_signals o 0)
-second_value_is f g variables second_variables second_signals n o a h m inside =
-    ap (value_of g (values_for f.inputs a g.inputs)) (sym (m.signals o inside))
-    ∙ value_agrees g (values_for f.inputs a g.inputs) (inputs_under second_variables (assigned variables a)) (get_or second_signals o 0) h
-    (λ p within. rw (m.same p within) (sym (assigned_value variables f.inputs g.inputs a p m.distinct (omega (arith, m.first.size, m.inputs p within))))) (m.within o inside)
-
--- where two diagrams differ is where the output does
-pub difference_is : {X : Type 0} (entry : X → Entry) (f g : FlatOf) (variables second_variables second_signals : List ℕ) (n o : ℕ) (first second : List (Option X)) (x y : X) → IsFlat f → IsFlat g → AreMatched f g variables second_variables second_signals n → o < length f.outputs → IsBuilt entry f variables first → IsBuilt entry g second_variables second → reference_of first (get_or f.output_signals o 0) ≡ Some x → reference_of second (get_or second_signals o 0) ≡ Some y
-    → find (λ a. is_different (says (entry x) (assigned variables a)) (says (entry y) (assigned variables a))) (assignments (length variables)) ≡ least_difference (netlist_of f) (netlist_of g) (get_or f.outputs o [])
-difference_is entry f g variables second_variables second_signals n o first second x y hf hg m inside bf bg ix iy =
-    rw m.first.size (find_agrees (length f.inputs) (λ a. is_different (says (entry x) (assigned variables a)) (says (entry y) (assigned variables a))) (differs_under (netlist_of f) (netlist_of g) (get_or f.outputs o []))
-    (λ a long.
-    let p : says (entry x) (assigned variables a) ≡ first_value (netlist_of f) (get_or f.outputs o []) a = bf.values (get_or f.output_signals o 0) x ix (assigned variables a) ∙ sym (first_value_is f g variables second_variables second_signals n o a hf m inside) in
-    let q : says (entry y) (assigned variables a) ≡ second_value (netlist_of f) (netlist_of g) (get_or f.outputs o []) a = bg.values (get_or second_signals o 0) y iy (assigned variables a) ∙ sym (second_value_is f g variables second_variables second_signals n o a hg m inside) in
-    rw (p, q) refl))
 
 -- the first difference of one output more
 first_push : (f g : NetlistOf) (outputs : List (List ℕ)) (output : List ℕ) → first_difference f g (outputs ++ output ∷ []) ≡ option_or (first_difference f g outputs) (option_map (λ a. (output, a)) (least_difference f g output))
@@ -135,26 +92,6 @@ next_here before o here found none e =
     items : (o : ℕ) (found : Option (Vec Bool Global)) → listed (option_map (λ v. (o, v)) found) ≡ at_output o (option_map (λ v. v.items) found)
     items o None = refl
     items o (Some v) = refl
-
--- the values of what is found at one output
-pub next_values : (o : ℕ) (here : Option (List Bool)) (found : Option (ℕ × Vec Bool Global)) → IsNext None o here found → option_map (λ p. p.1.items) found ≡ here
-next_values o None None n = refl
-next_values o None (Some q) n = absurd (let e : Some (q.0, q.1.items) ≡ None = n in cc)
-next_values o (Some a) None n = absurd (let e : None ≡ Some (o, a) = n in cc)
-next_values o (Some a) (Some q) n = ap (λ (p : ℕ × List Bool). Some p.1) (same_Some (q.0, q.1.items) (o, a) n)
-
--- over more variables
-pub matched_more : (f g : FlatOf) (variables second_variables second_signals : List ℕ) (n m : ℕ) → n ≤ m → AreMatched f g variables second_variables second_signals n → AreMatched f g variables second_variables second_signals m
-matched_more f g variables second_variables second_signals n m le h = record {
-  first = record { size = h.first.size; below = λ p lt. omega (arith, h.first.below p lt) };
-  distinct = h.distinct;
-  second = record { size = h.second.size; below = λ p lt. omega (arith, h.second.below p lt) };
-  inputs = h.inputs;
-  same = h.same;
-  size = h.size;
-  signals = h.signals;
-  within = h.within;
-}
 
 -- variables that are below a number
 pub below_all : (variables : List ℕ) (n : ℕ) → ((p : ℕ) → p < length variables → get_or variables p 0 < n) → All (λ v. v < n) variables

@@ -13,14 +13,17 @@ use Rattle.eqc_check.proofs.LeastLemmas.{found_least}
 use Rattle.eqc_check.proofs.PairLaws.{variables_at, variables_distinct}
 
 variables_long : (p : PairOf) → length (first_variables p) ≡ length p.first.inputs
+unfolding first_variables
 variables_long p = length-map-range_with_len (variable_in p.order) 0 (length p.first.inputs)
 
 -- a variable's input has that variable
 variable_back : (p : PairOf) (v : ℕ) → IsPair p → v < length p.first.inputs → get_or (first_variables p) (get_or p.order v 0) 0 ≡ v
+unfolding first_variables
 variable_back p v h inside = variables_at (length p.first.inputs) (get_or p.order v 0) p.order (h.ordered.position_within v inside) ∙ h.ordered.at_position v inside
 
 -- each variable is below the number of inputs
 pub variables_below : (p : PairOf) (m : ℕ) → IsPair p → length p.first.inputs ≤ m → All (λ v. v < m) (first_variables p)
+unfolding first_variables
 variables_below p m h le = below_all (first_variables p) m (λ i lt.
     let inside : i < length p.first.inputs = omega (arith, variables_long p) in
     omega (arith, variables_at (length p.first.inputs) i p.order inside, h.ordered.variable_within i inside))

@@ -21,6 +21,7 @@ pub mod PlaceLemmas
 pub mod OrderedLemmas
 pub mod PickLemmas
 pub mod PairLaws
+pub mod DifferenceLaws
 pub mod InputLemmas
 pub mod ReportsLaws
 pub mod RunLaws

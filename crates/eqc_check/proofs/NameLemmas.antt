@@ -1,9 +1,9 @@
 -- Lists of names: whether one is among them, where it stands, and whether one stands twice.
-use Rattle.std.proofs.Common.{◌≡◌, ℕ, suc, Bool, true, false, not, ◌||◌, cond, List, [], ◌∷◌, ◌++◌, map, refl, sym, ◌∙◌, ap, nat_eq, nat_lt, inl, inr, arith, ◌+◌, ◌<◌, length, take, drop, get_or, ltb, Some, None, position, Bor, if◌then◌else◌}
+use Rattle.std.proofs.Common.{◌≡◌, ℕ, suc, Bool, true, false, not, ◌||◌, cond, List, [], ◌∷◌, ◌++◌, map, refl, sym, ◌∙◌, ap, nat_eq, nat_lt, inl, inr, arith, ◌+◌, ◌<◌, ◌≤◌, length, take, drop, get_or, ltb, Some, None, position, Bor, if◌then◌else◌}
 use Rattle.std.specs.List.{list_any, position_or_len}
 use Rattle.std.specs.Str.{bytes_eq}
 use Rattle.std.proofs.Math.Seq.{split_at}
-use Rattle.std.proofs.lemmas.List.{map-append, take_more, get_or-map, length-map}
+use Rattle.std.proofs.lemmas.List.{map-append, take_more, take_all, get_or-map, length-map}
 use Rattle.std.proofs.lemmas.List.Folds.{list_any-append, list_all-append, list_all_at}
 use Rattle.std.proofs.lemmas.Bool.{cases_eq, cases_lt, or_parts, or_cases, ne_eqb, eq-eqb, true≢false, false≢true, lt-ltb, le-ltb}
 use Rattle.eqc_blif.specs.Names.{is_named, has_twice}
@@ -161,3 +161,7 @@ place_missing names words i d inside none =
     let word = (get_or words i d).now in
     let here : get_or (bytes_in words) i d.now ≡ word = get_or-map (λ (name : Bor (List ℕ)). name.now) words i d d.now inside in
     list_all_at (λ name. is_named names name) (bytes_in words) i d.now (omega (arith, length-map words (λ (name : Bor (List ℕ)). name.now))) (ap (is_named names) here ∙ named_missing names word none)
+
+-- the places of all names
+pub places_all : (self : List (List ℕ)) (names : List (Bor (List ℕ))) (i : ℕ) (all : List ℕ) → length names ≤ i → has_all self (bytes_in (take i names)) ≡ true → all ≡ map (position_of self) (bytes_in (take i names)) → (has_all self (bytes_in names) ≡ true) × (all ≡ map (position_of self) (bytes_in names))
+places_all self names i all whole each found = let e = take_all i names whole in (rw e at each, rw e at found)

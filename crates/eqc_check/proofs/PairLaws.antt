@@ -1,5 +1,5 @@
 -- A pair's netlists are matched, and the report on a difference.
-use Rattle.std.proofs.Common.{◌≡◌, ℕ, zero, suc, ◌+◌, ◌<◌, Bool, true, false, not, List, [], ◌∷◌, ◌++◌, length, take, get_or, refl, sym, ◌∙◌, ap, arith, subst, Some, true≢false}
+use Rattle.std.proofs.Common.{◌≡◌, ℕ, zero, suc, ◌+◌, ◌<◌, ◌≤◌, Bool, true, false, not, List, [], ◌∷◌, ◌++◌, length, take, get_or, refl, sym, ◌∙◌, ap, arith, Some, true≢false}
 use Rattle.std.specs.List.{zip}
 use Rattle.std.proofs.lemmas.List.{get_or-map, length-map}
 use Rattle.std.proofs.lemmas.List.FromFn.{length-map-range_with_len, get_or-map-range_with_len}
@@ -12,7 +12,8 @@ use Rattle.eqc_check.proofs.MatchedLemmas.{place_of_name}
 use Rattle.eqc_check.proofs.CompareLaws.{value_agrees}
 use Rattle.eqc_check.proofs.VerdictLemmas.{found_is_first}
 use Rattle.eqc_check.specs.PairOf.{PairOf, IsPair, variable_in, variables_in, first_variables, second_variables, second_signals, output_signal}
-use Rattle.eqc_check.specs.Sides.{AreMatched, netlist_of}
+use Rattle.eqc_check.specs.Building.{AreVariables, AreSignals}
+use Rattle.eqc_check.specs.Comparing.{netlist_of}
 use Rattle.eqc_check.proofs.PlaceLemmas.{place_below, all_named}
 use Rattle.eqc_check.proofs.OrderedLemmas.{both_ways}
 
@@ -21,14 +22,28 @@ variables_at n i order h = get_or-map-range_with_len (variable_in order) 0 n i i
 
 -- no two inputs have one variable
 pub variables_distinct : (p : PairOf) → IsPair p → AreDistinct (first_variables p)
+unfolding first_variables
 variables_distinct p h i j hi hj e =
     let ii : i < length p.first.inputs = omega (arith, length-map-range_with_len (variable_in p.order) 0 (length p.first.inputs)) in
     let jj : j < length p.first.inputs = omega (arith, length-map-range_with_len (variable_in p.order) 0 (length p.first.inputs)) in
     let same : variable_in p.order i ≡ variable_in p.order j = sym (variables_at (length p.first.inputs) i p.order ii) ∙ (e ∙ variables_at (length p.first.inputs) j p.order jj) in
     sym (h.ordered.at_variable i ii) ∙ (ap (λ v. get_or p.order v 0) same ∙ h.ordered.at_variable j jj)
 
-pub pair_matched : (p : PairOf) → IsFlat p.first → IsFlat p.second → IsPair p → AreMatched p.first p.second (first_variables p) (second_variables p) (second_signals p) (length p.first.inputs)
-pair_matched p hf hg h = record {
+-- each input of the second has the variable of the first's input of its name, and each output of the first has
+-- the signal of the second's output of its name
+pub record AreMatched (p : PairOf) : Type 0 where
+  pub first : AreVariables p.first (first_variables p) (length p.first.inputs)
+  pub distinct : AreDistinct (first_variables p)
+  pub second : AreVariables p.second (second_variables p) (length p.first.inputs)
+  pub inputs : (i : ℕ) → i < length p.second.inputs → position_of p.first.inputs (get_or p.second.inputs i []) < length p.first.inputs
+  pub same : (i : ℕ) → i < length p.second.inputs → get_or (second_variables p) i 0 ≡ get_or (first_variables p) (position_of p.first.inputs (get_or p.second.inputs i [])) 0
+  pub size : length (second_signals p) ≡ length p.first.outputs
+  pub signals : (o : ℕ) → o < length p.first.outputs → get_or (second_signals p) o 0 ≡ get_or p.second.output_signals (position_of p.second.outputs (get_or p.first.outputs o [])) 0
+  pub within : (o : ℕ) → o < length p.first.outputs → get_or (second_signals p) o 0 < length p.second.drivers
+
+pub pair_matched : (p : PairOf) → IsPair p → AreMatched p
+unfolding first_variables second_variables second_signals
+pair_matched p h = record {
   first = record {
     size = long;
     below = λ i lt. let inside : i < length p.first.inputs = omega (arith, long) in rw (variables_at (length p.first.inputs) i p.order inside) (h.ordered.variable_within i inside);
@@ -44,7 +59,7 @@ pair_matched p hf hg h = record {
   same = λ i inside. second_at i inside ∙ sym (variables_at (length p.first.inputs) (position_of p.first.inputs (get_or p.second.inputs i [])) p.order (input_below i inside));
   size = length-map p.first.outputs (output_signal p.second);
   signals = signal_at;
-  within = λ o inside. rw (signal_at o inside) (hg.outputs_within (position_of p.second.outputs (get_or p.first.outputs o [])) (place_below p.second.outputs (get_or p.first.outputs o []) (all_named p.second.outputs p.first.outputs ((both_ways p.first.outputs p.second.outputs h.same_outputs).1) o inside)));
+  within = λ o inside. rw (signal_at o inside) (h.second_flat.outputs_within (position_of p.second.outputs (get_or p.first.outputs o [])) (place_below p.second.outputs (get_or p.first.outputs o []) (all_named p.second.outputs p.first.outputs ((both_ways p.first.outputs p.second.outputs h.same_outputs).1) o inside)));
 }
   where
     long : length (first_variables p) ≡ length p.first.inputs
@@ -58,6 +73,20 @@ pair_matched p hf hg h = record {
 
     signal_at : (o : ℕ) → o < length p.first.outputs → get_or (second_signals p) o 0 ≡ get_or p.second.output_signals (position_of p.second.outputs (get_or p.first.outputs o [])) 0
     signal_at o inside = get_or-map (output_signal p.second) p.first.outputs o [] 0 inside
+
+-- over any number of variables that is no smaller
+pub first_within : (p : PairOf) (n : ℕ) → IsPair p → length p.first.inputs ≤ n → AreVariables p.first (first_variables p) n
+first_within p n h le = let m = (pair_matched p h).first in record { size = m.size; below = λ i lt. omega (arith, m.below i lt) }
+
+pub second_within : (p : PairOf) (n : ℕ) → IsPair p → length p.first.inputs ≤ n → AreVariables p.second (second_variables p) n
+second_within p n h le = let m = (pair_matched p h).second in record { size = m.size; below = λ i lt. omega (arith, m.below i lt) }
+
+-- the signals of all outputs
+pub first_roots : (p : PairOf) → IsPair p → AreSignals p.first p.first.output_signals
+first_roots p h = record { each = λ o lt. h.first_flat.outputs_within o (omega (arith, h.first_flat.each_output)) }
+
+pub second_roots : (p : PairOf) → IsPair p → AreSignals p.second (second_signals p)
+second_roots p h = let m = pair_matched p h in record { each = λ o lt. m.within o (omega (arith, m.size)) }
 
 -- one more name with its value
 pub zipped_more : {A B : Type 0} (xs : List A) (ys : List B) (i : ℕ) (d : A) (e : B) → i < length xs → i < length ys → zip (take (i + 1) xs) (take (i + 1) ys) ≡ zip (take i xs) (take i ys) ++ (get_or xs i d, get_or ys i e) ∷ []
@@ -93,14 +122,3 @@ difference_reported f g output a report found is =
 
 pub difference_long : (f g : FlatOf) (output : List ℕ) (a : List Bool) → first_difference (netlist_of f) (netlist_of g) f.outputs ≡ Some (output, a) → length a ≡ length f.inputs
 difference_long f g output a found = (found_is_first (netlist_of f) (netlist_of g) f.outputs output a found).least.long
-
--- the netlists of a pair, behind other names
-pub matched_as : (p : PairOf) (f g : FlatOf) (variables seconds signals : List ℕ) (n : ℕ) → f ≡ p.first → g ≡ p.second → IsFlat f → IsFlat g → IsPair p → variables ≡ first_variables p → seconds ≡ second_variables p → signals ≡ second_signals p → n ≡ length f.inputs → AreMatched f g variables seconds signals n
-matched_as p f g variables seconds signals n ef eg hf hg h ev es et en =
-    let hf' : IsFlat p.first = subst IsFlat ef hf in
-    let hg' : IsFlat p.second = subst IsFlat eg hg in
-    let en' : n ≡ length p.first.inputs = en ∙ ap (λ (x : FlatOf). length x.inputs) ef in
-    rw (ef, eg, ev, es, et, en') (pair_matched p hf' hg' h)
-
-pub reported_as : (f g f' g' : FlatOf) (report : ReportOf) → f' ≡ f → g' ≡ g → report ≡ comparison (netlist_of f') (netlist_of g') → report ≡ comparison (netlist_of f) (netlist_of g)
-reported_as f g f' g' report ef eg e = e ∙ (ap (λ (x : FlatOf). comparison (netlist_of x) (netlist_of g')) ef ∙ ap (λ (x : FlatOf). comparison (netlist_of f) (netlist_of x)) eg)

@@ -12,3 +12,7 @@ picked_more values places i d x all more inside below at is grown =
 -- all of them
 pub picked_all : {X : Type 0} (values : List X) (places : List ℕ) (i : ℕ) (d : X) (all : List X) → length places ≤ i → all ≡ map (λ place. get_or values place d) (take i places) → all ≡ map (λ place. get_or values place d) places
 picked_all values places i d all whole is = is ∙ ap (map (λ place. get_or values place d)) (take_all i places whole)
+
+-- one more number of a list
+pub taken_more : (xs : List ℕ) (i : ℕ) (old new : List ℕ) → i < length xs → old ≡ take i xs → new ≡ old ++ get_or xs i 0 ∷ [] → new ≡ take (i + 1) xs
+taken_more xs i old new inside o n = n ∙ (ap (λ l. l ++ get_or xs i 0 ∷ []) o ∙ sym (take_more xs i 0 inside))

@@ -1,5 +1,5 @@
 -- Two lists of the same names, none twice: where each name of one stands in the other.
-use Rattle.std.proofs.Common.{◌≡◌, ℕ, zero, suc, ◌<◌, ◌≤◌, true, false, List, [], ◌∷◌, map, length, get_or, eqb, refl, sym, ◌∙◌, ap, arith, rules, inl, inr, ◌⊎◌}
+use Rattle.std.proofs.Common.{◌≡◌, ℕ, zero, suc, ◌<◌, ◌≤◌, Bool, true, false, not, Option, Some, None, Result, Ok, Err, Vec, IfOk, MatchOption, List, [], ◌∷◌, map, length, get_or, eqb, refl, sym, ◌∙◌, ap, arith, rules, inl, inr, ◌⊎◌}
 use Rattle.std.specs.List.{position_or_len, range_with_len}
 use Rattle.std.specs.Str.{bytes_eq}
 use Rattle.std.proofs.lemmas.Slice.Eq.{bytes_eq-Decides}
@@ -12,7 +12,10 @@ use Rattle.std.proofs.lemmas.Grind.{same_number_lists}
 use Rattle.std.proofs.lemmas.Map.Steps.{le-length_from_below}
 use Rattle.eqc_blif.specs.Names.{is_named, has_twice}
 use Rattle.eqc_check.specs.Verdict.{position_of}
-use Rattle.eqc_check.specs.Matched.{has_all}
+use Rattle.std.specs.Option.{is_some}
+use Rattle.std.specs.declared.alloc.Global.{Global}
+use Rattle.std.specs.declared.alloc.AllocError.{AllocError}
+use Rattle.eqc_check.specs.Matched.{has_all, same_names, ArePlaces}
 use Rattle.eqc_check.proofs.NameLemmas.{named_at, bytes_eq-sym}
 
 same_bytes : (a b : List ℕ) → bytes_eq a b ≡ true → a ≡ b
@@ -109,6 +112,20 @@ module _ (xs ws : List (List ℕ)) (xs_once : has_twice xs ≡ false) (ws_once :
       (λ i inside.
       let less : i < length xs = omega (arith, length-map xs (position_of ws)) in
       get_or-map (position_of ws) xs i [] 0 less ∙ (sym (variable_at i less) ∙ sym (get_or-map-range_with_len (λ i. position_or_len (λ other. eqb i other) (map (position_of xs) ws)) 0 (length xs) i i 0 less (omega arith))))
+
+-- places behind other names of the two lists
+pub places_as : (names others xs ys : List (List ℕ)) (found : Option (Vec ℕ Global)) → xs ≡ names → ys ≡ others → ArePlaces xs ys found → ArePlaces names others found
+places_as names others xs ys found ex ey h = rw (ex, ey) at h
+
+-- where both lists have each other's names, their places are those of lists with the same names
+pub same_places : (names others xs ys : List (List ℕ)) (back : Option (Vec ℕ Global)) (none : Bool) (result : Result (Option (Vec ℕ Global)) AllocError) → xs ≡ names → ys ≡ others → ArePlaces others names back → is_some back ≡ not none → none ≡ false → IfOk result (ArePlaces xs ys)
+    → IfOk result (λ found. MatchOption found (same_names names others ≡ false) (λ all. (same_names names others ≡ true) × (all.items ≡ map (position_of names) others)))
+same_places names others xs ys None none result ex ey back some here h = absurd (false≢true (rw here at some))
+same_places names others xs ys (Some v) none (Err e) ex ey back some here h = tt
+same_places names others xs ys (Some v) none (Ok None) ex ey back some here h =
+    let h' = places_as names others xs ys None ex ey h in rw h' refl
+same_places names others xs ys (Some v) none (Ok (Some all)) ex ey back some here h =
+    let h' = places_as names others xs ys (Some all) ex ey h in (rw (h'.0, back.0) refl, h'.1)
 
 -- ---- the order that is declared
 

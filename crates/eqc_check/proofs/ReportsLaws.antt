@@ -25,7 +25,7 @@ use Rattle.eqc_check.specs.PairOf.{pair_refusal, order_refused, no_memory}
 use Rattle.eqc_check.specs.Refusing.{IsRefused, refusal_report, flat_answer}
 use Rattle.eqc_check.specs.Answer.{MainOf, inputs_of, outputs_of, netlist_of_model, order_answer, code_of_order, pair_answer, models_answer, second_answer, one_answer, two_answer, IsComparison, MayStop, Answers, as_wanted, was_stopped, texts_answer, read_texts}
 use Rattle.std.specs.Borrow.{Bor}
-use Rattle.eqc_check.specs.Sides.{netlist_of}
+use Rattle.eqc_check.specs.Comparing.{netlist_of}
 use Rattle.eqc_check.proofs.PlaceLemmas.{place_below, all_named, name_at}
 use Rattle.eqc_check.proofs.OrderedLemmas.{both_ways}
 use Rattle.eqc_check.proofs.MatchedLemmas.{place_of_name}
@@ -206,6 +206,14 @@ flat_stopped f g order (Err stop) none other =
     (may_stop (comparison (netlist_of f) (netlist_of g)) stop (compares (netlist_of f) (netlist_of g) (first_difference (netlist_of f) (netlist_of g) f.outputs)) other)
 
 -- a refusal that is no report is want of memory
+-- a refusal of two netlists as a pair
+pub pair_reported : (f g : FlatOf) (order : Option (List ℕ)) (r : Refused) (result : Result Report Stop) → IsRefused r.side (record { line = r.line; code = r.code }) result → (r ≡ no_memory) ⊎ (pair_refusal f g order ≡ Some r) → IfOk result (λ report. report_of report ≡ flat_answer f g order)
+pair_reported f g order r (Err stop) h e = tt
+pair_reported f g order r (Ok report) h e = elim e [
+  | inl none ↦ absurd (h.0 (ap (λ (x : Refused). x.code) none))
+  | inr is ↦ ap report_of h.1 ∙ rw is refl
+]
+
 pub refused_stop : (s : Side) (refusal : Refusal) (result : Result Report Stop) (wanted : ReportOf) → IsRefused s refusal result → IfErr result (MayStop wanted)
 refused_stop s refusal (Ok report) wanted h = tt
 refused_stop s refusal (Err stop) wanted h = subst (MayStop wanted) (sym h.1) tt

@@ -108,6 +108,9 @@ popped_held entry d old new r is h = omega (arith, counts_itself d (entry r), h.
 pub popped : {X : Type 0} (entry : X → Entry) (d0 d1 d2 : Holding) (t0 old new : List (Option X)) (r : X) → old ≡ new ++ Some r ∷ [] → Moves entry d0 t0 d1 old → Loses d1 d2 (entry r) → Moves entry d0 t0 d2 new
 popped entry d0 d1 d2 t0 old new r is m l = record { variables = l.variables ∙ m.variables; held = λ e. omega (arith, m.held e, l.held e, tally_end entry old new (Some r) e is) }
 
+pub popped_owned : {X : Type 0} (entry : X → Entry) (d1 d2 : Holding) (old new : List (Option X)) (r : X) → old ≡ new ++ Some r ∷ [] → OwnsTable entry d1 old → Loses d1 d2 (entry r) → OwnsTable entry d2 new
+popped_owned entry d1 d2 old new r is h l = record { held = λ e. omega (arith, h.held e, l.held e, tally_end entry old new (Some r) e is) }
+
 pub popped_none : {X : Type 0} (entry : X → Entry) (d0 d1 : Holding) (t0 old new : List (Option X)) → old ≡ new ++ None ∷ [] → Moves entry d0 t0 d1 old → Moves entry d0 t0 d1 new
 popped_none entry d0 d1 t0 old new is m = record { variables = m.variables; held = λ e. omega (arith, m.held e, tally_end entry old new None e is) }
 

@@ -2,6 +2,7 @@
 use Rattle.std.specs.Prelude.{◌≡◌, ℕ, ◌+◌, ◌<◌, ◌≤◌, Bool, List, length, Option, Some, None, slice_index, slice_index_or, sum_by, IsSome, slice_set, ◌⊎◌}
 use Rattle.eqc_tree.specs.Holding.{Entry, Holding, copies, weight, says}
 use Rattle.eqc_flat.specs.Graph.{FlatOf, driver_at, dependencies, value_of}
+use Rattle.eqc_check.specs.PairOf.{PairOf, first_variables, second_variables}
 
 -- the values of the inputs, where an input at a position has the value of its variable
 abbrev pub inputs_under : List ℕ → (ℕ → Bool) → ℕ → Bool
@@ -30,6 +31,15 @@ pub record HoldsBoth {X : Type 0} (entry : X → Entry) (before now : Holding) (
 pub record OwnsTable {X : Type 0} (entry : X → Entry) (d : Holding) (table : List (Option X)) : Type 0 where
   pub held : (e : Entry) → tally entry table e ≤ copies d e
 
+-- the references of two tables are held
+pub record OwnsBoth {X : Type 0} (entry : X → Entry) (d : Holding) (first second : List (Option X)) : Type 0 where
+  pub held : (e : Entry) → tally entry first e + tally entry second e ≤ copies d e
+
+-- the references of two tables were given back
+pub record LosesBoth {X : Type 0} (entry : X → Entry) (old new : Holding) (first second : List (Option X)) : Type 0 where
+  pub variables : new.variables ≡ old.variables
+  pub held : (e : Entry) → copies new e + tally entry first e + tally entry second e ≡ copies old e
+
 -- an object and a table: what one gains the other gains
 pub record Moves {X : Type 0} (entry : X → Entry) (old : Holding) (old_table : List (Option X)) (new : Holding) (new_table : List (Option X)) : Type 0 where
   pub variables : new.variables ≡ old.variables
@@ -42,6 +52,11 @@ reference_of table s = slice_index_or table s None
 pub record IsBuilt {X : Type 0} (entry : X → Entry) (f : FlatOf) (variables : List ℕ) (table : List (Option X)) : Type 0 where
   pub size : length table ≡ length f.drivers
   pub values : (s : ℕ) (r : X) → reference_of table s ≡ Some r → (a : ℕ → Bool) → says (entry r) a ≡ value_of f (inputs_under variables a) s
+
+-- the references of two tables say the values of the signals of a pair's netlists
+pub record AreBuilt {X : Type 0} (entry : X → Entry) (p : PairOf) (table other : List (Option X)) : Type 0 where
+  pub first : IsBuilt entry p.first (first_variables p) table
+  pub second : IsBuilt entry p.second (second_variables p) other
 
 -- each of these signals has a reference
 pub record AreReady {X : Type 0} (table : List (Option X)) (signals : List ℕ) : Type 0 where

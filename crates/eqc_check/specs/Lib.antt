@@ -10,7 +10,7 @@ pub mod Matching
 pub mod Building
 pub mod Assigned
 pub mod Narrowing
-pub mod Sides
+pub mod Comparing
 pub mod Refusing
 pub mod Sources
 pub mod Answer

@@ -1,8 +1,10 @@
 -- Whether two netlists have the same inputs and outputs, and the order of variables that a text gives: words
 -- between blanks and line ends, `#` cutting to the end of its line.
-use Rattle.std.specs.Prelude.{ℕ, Bool, ◌||◌, ◌&&◌, not, List, length, filter, nat_lt, ◌==◌, Option, Some, None, if◌then◌else◌}
+use Rattle.std.specs.Prelude.{◌≡◌, ℕ, Bool, true, false, ◌||◌, ◌&&◌, not, List, length, map, filter, nat_lt, ◌==◌, Option, Some, None, Vec, MatchOption, if◌then◌else◌}
+use Rattle.std.specs.declared.alloc.Global.{Global}
 use Rattle.std.specs.List.{list_all, before_first, slice_split, flat_map}
 use Rattle.eqc_blif.specs.Names.{is_named, has_twice}
+use Rattle.eqc_check.specs.Verdict.{position_of}
 
 -- whether each name of the second list is in the first
 abbrev pub has_all : List (List ℕ) → List (List ℕ) → Bool
@@ -11,6 +13,13 @@ has_all names others = list_all (λ name. is_named names name) others
 -- whether two lists have the same names
 abbrev pub same_names : List (List ℕ) → List (List ℕ) → Bool
 same_names xs ys = has_all xs ys && has_all ys xs
+
+-- where each of the others stands among the names, or none where one of them isn't there
+abbrev pub ArePlaces : List (List ℕ) → List (List ℕ) → Option (Vec ℕ Global) → Type 0
+ArePlaces names others found =
+    MatchOption found
+    (has_all names others ≡ false)
+    (λ all. (has_all names others ≡ true) × (all.items ≡ map (position_of names) others))
 
 -- a space, a tab or a CR
 abbrev pub is_blank : ℕ → Bool

@@ -3,7 +3,7 @@
 use Rattle.std.specs.Prelude.{◌≡◌, ℕ, ◌<◌, ◌≤◌, Bool, true, false, not, List, length, map, slice_index_or, ◌==◌, Option, Some, None, if◌then◌else◌}
 use Rattle.std.specs.List.{position_or_len, range_with_len}
 use Rattle.std.specs.Option.{option_map, option_map_or}
-use Rattle.eqc_flat.specs.Graph.{FlatOf}
+use Rattle.eqc_flat.specs.Graph.{FlatOf, IsFlat}
 use Rattle.eqc_check.specs.Verdict.{position_of}
 use Rattle.eqc_check.specs.Matched.{same_names, order_words, order_code}
 use Rattle.eqc_check.specs.declared.report.Refused.{Refused}
@@ -40,10 +40,10 @@ abbrev pub input_values : PairOf → List Bool → ℕ → Bool
 input_values p values v = slice_index_or values (slice_index_or p.order v 0) false
 
 -- the variables of the first netlist's inputs, and of the second's
-abbrev pub first_variables : PairOf → List ℕ
+unfoldable pub first_variables : PairOf → List ℕ
 first_variables p = variables_in (length p.first.inputs) p.order
 
-abbrev pub second_variables : PairOf → List ℕ
+unfoldable pub second_variables : PairOf → List ℕ
 second_variables p = map (λ name. variable_of p (position_of p.first.inputs name)) p.second.inputs
 
 -- the signal of the output of a name
@@ -51,11 +51,13 @@ abbrev pub output_signal : FlatOf → List ℕ → ℕ
 output_signal f name = slice_index_or f.output_signals (position_of f.outputs name) 0
 
 -- the second netlist's signal for each of the first one's outputs
-abbrev pub second_signals : PairOf → List ℕ
+unfoldable pub second_signals : PairOf → List ℕ
 second_signals p = map (output_signal p.second) p.first.outputs
 
 -- what holds of every pair
 pub record IsPair (p : PairOf) : Type 0 where
+  pub first_flat : IsFlat p.first
+  pub second_flat : IsFlat p.second
   pub few_inputs : length p.first.inputs ≤ 2048
   pub same_inputs : same_names p.first.inputs p.second.inputs ≡ true
   pub same_outputs : same_names p.first.outputs p.second.outputs ≡ true

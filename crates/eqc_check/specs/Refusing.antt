@@ -8,7 +8,7 @@ use Rattle.eqc_check.specs.declared.report.Refused.{Refused}
 use Rattle.eqc_check.specs.declared.report.Side.{Side}
 use Rattle.eqc_check.specs.Report.{ReportOf, refused, comparison}
 use Rattle.eqc_check.specs.PairOf.{pair_refusal}
-use Rattle.eqc_check.specs.Sides.{netlist_of}
+use Rattle.eqc_check.specs.Comparing.{netlist_of}
 use Rattle.eqc_tree.specs.declared.stopping.Stop.{Stop}
 use Rattle.eqc_tree.specs.declared.stopping.Stop.TheVariants.{Memory}
 

@@ -1,13 +1,15 @@
-ghost use Rattle.std.specs.Prelude.{◌≡◌, ◌≢◌, ℕ, ◌<◌, List, length, IfOk, IfErr, OnOk, OnErr, Some, map, slice_index};
+ghost use Rattle.std.specs.Prelude.{◌≡◌, ◌≢◌, ℕ, ◌<◌, ◌≤◌, List, length, IfOk, IfErr, OnOk, OnErr, Some, map, slice_index};
 ghost use Rattle.eqc_tree.specs.Holding.{Keeps, Gains};
 ghost use Rattle.eqc_flat.specs.Graph.{driver_at, dependencies, value_of};
-ghost use Rattle.eqc_check.specs.Building.{Holds, HoldsBoth, OwnsTable, IsBuilt, AreReady, AreSignals, AreVariables, Adds, inputs_under, reference_of};
-ghost use Rattle.eqc_check.specs.Sides.{AreMatched};
+ghost use Rattle.eqc_check.specs.Building.{Holds, HoldsBoth, OwnsTable, IsBuilt, AreBuilt, AreReady, AreSignals, AreVariables, Adds, inputs_under, reference_of};
 
+mod plan;
+pub(crate) mod table;
+
+use crate::build::plan::last_uses;
+use crate::build::table::{Tables, empty_table, give_back_all, put, reference_at, release};
 use crate::cover::cover_diagram;
-use crate::plan::last_uses;
-use crate::sides::Sides;
-use crate::table::{empty_table, give_back_all, put, reference_at, release};
+use crate::pairing::matched_pair::{Pair, recall_laws};
 use eqc_flat::{Driver, Flat};
 use eqc_tree::{Diagrams, References, Stop};
 use std::alloc::{AllocError, Global};
@@ -48,7 +50,7 @@ fn driver_diagram<R, D: Diagrams<R>>(
     ensures stop { OnErr result (Keeps (D.holding d.old) (D.holding d.new)) }
     ensures only { IfErr result (λ s. s ≢ Stop.Threads) }
 {
-    let _lawful = flat.steps();
+    recall_laws(flat);
     match flat.driver(s) {
         Driver::Input(position) => d.literal(rt, variables[*position as usize]),
         Driver::Tie(other) => d.copy(reference_at(table, *other)),
@@ -128,38 +130,37 @@ pub(crate) fn build<R, D: Diagrams<R>>(
     Ok(table)
 }
 
-/// The diagrams of signals of both netlists: a table for the first and one for the second.
+/// The diagrams of signals of both netlists of a pair, over the pair's variables.
 pub(crate) fn build_both<R, D: Diagrams<R>>(
     alloc: Global,
     rt: &R,
     d: &mut D,
-    sides: Sides<'_>,
+    pair: &Pair<'_>,
     first_roots: &[u32],
     second_roots: &[u32],
-) -> Result<(Vec<Option<D::Ref>>, Vec<Option<D::Ref>>), Stop>
-    requires matched { AreMatched sides.first.now sides.second.now sides.variables.now sides.second_variables.now sides.second_signals.now (D.holding d.old).variables }
-    requires first_roots { AreSignals sides.first.now first_roots.now }
-    requires second_roots { AreSignals sides.second.now second_roots.now }
-    ensures holds { IfOk result (λ both. HoldsBoth D.entry (D.holding d.old) (D.holding d.new) both.0.items both.1.items) }
-    ensures first_built { IfOk result (λ both. IsBuilt D.entry sides.entry.first.now sides.entry.variables.now both.0.items) }
-    ensures second_built { IfOk result (λ both. IsBuilt D.entry sides.entry.second.now sides.entry.second_variables.now both.1.items) }
-    ensures first_ready { IfOk result (λ both. AreReady both.0.items first_roots.now) }
-    ensures second_ready { IfOk result (λ both. AreReady both.1.items second_roots.now) }
+) -> Result<Tables<D::Ref>, Stop>
+    requires variables { length pair.now.first.inputs ≤ (D.holding d.old).variables }
+    requires first_roots { AreSignals pair.now.first first_roots.now }
+    requires second_roots { AreSignals pair.now.second second_roots.now }
+    ensures holds { IfOk result (λ tables. HoldsBoth D.entry (D.holding d.old) (D.holding d.new) tables.first.items tables.second.items) }
+    ensures built { IfOk result (λ tables. AreBuilt D.entry pair.now tables.first.items tables.second.items) }
+    ensures first_ready { IfOk result (λ tables. AreReady tables.first.items first_roots.now) }
+    ensures second_ready { IfOk result (λ tables. AreReady tables.second.items second_roots.now) }
     ensures stop { OnErr result (Keeps (D.holding d.old) (D.holding d.new)) }
     ensures only { IfErr result (λ s. s ≢ Stop.Threads) }
 {
-    let Sides {
-        first,
-        second,
-        variables,
-        second_variables,
-        ..
-    } = sides;
-    let table = build(alloc, rt, d, first, variables, first_roots)?;
-    match build(alloc, rt, d, second, second_variables, second_roots) {
-        Ok(second_table) => Ok((table, second_table)),
+    let first = build(alloc, rt, d, pair.first(), pair.variables(), first_roots)?;
+    match build(
+        alloc,
+        rt,
+        d,
+        pair.second(),
+        pair.second_variables(),
+        second_roots,
+    ) {
+        Ok(second) => Ok(Tables { first, second }),
         Err(stop) => {
-            give_back_all(d, table);
+            give_back_all(d, first);
             Err(stop)
         }
     }

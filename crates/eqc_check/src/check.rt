@@ -1,14 +1,13 @@
-ghost use Rattle.std.specs.Prelude.{◌≡◌, ◌≢◌, ◌<◌, ◌≤◌, Bool, true, false, List, length, Some, IfOk, IfErr, slice_index_or, not, []};
+ghost use Rattle.std.specs.Prelude.{◌≡◌, ◌≢◌, ◌<◌, ◌≤◌, Bool, true, false, List, length, Some, IfOk, IfErr, IfSome, slice_index_or, not, []};
 ghost use Rattle.std.specs.List.{zip};
 ghost use Rattle.eqc_check.specs.Verdict.{first_value, differs_under, first_difference};
 ghost use Rattle.eqc_check.specs.Report.{difference_report, comparison, differs};
 ghost use Rattle.eqc_check.specs.ReportView.{report_of};
-ghost use Rattle.eqc_check.specs.Sides.{netlist_of};
+ghost use Rattle.eqc_check.specs.Comparing.{netlist_of, found_at};
 
 use crate::compare::compare_outputs;
-use crate::matched_pair::Pair;
+use crate::pairing::matched_pair::{Pair, recall_laws};
 use crate::report::Report;
-use crate::sides::Sides;
 use eqc_blif::Name;
 use eqc_flat::{Flat, eval};
 use eqc_plain::Plain;
@@ -42,7 +41,7 @@ fn output_value(
     requires size { length values.now ≡ length flat.now.inputs }
     ensures { IfOk result (λ value. value ≡ first_value (netlist_of flat.now) (slice_index_or flat.now.outputs output []) values.now) }
 {
-    let _lawful = flat.steps();
+    recall_laws(flat);
     match eval(alloc, flat, values) {
         Ok(outputs) => Ok(outputs[output]),
         Err(_) => Err(AllocError),
@@ -71,6 +70,26 @@ fn differs_report(
     })
 }
 
+/// The first output of a pair that differs, by its position, with its least assignment, found over a new store of
+/// `nodes` nodes.
+fn compare_plain<R>(
+    rt: &R,
+    alloc: Global,
+    pair: &Pair<'_>,
+    nodes: u32,
+) -> Result<Option<(usize, Vec<bool>)>, Stop>
+    requires some { 1 ≤ nodes }
+    requires few { nodes ≤ 1048574 }
+    ensures found { IfOk result (λ found. found_at pair.now.first found ≡ first_difference (netlist_of pair.now.first) (netlist_of pair.now.second) pair.now.first.outputs) }
+    ensures within { IfOk result (λ found. IfSome found (λ p. p.0 < length pair.now.first.outputs)) }
+    ensures only { IfErr result (λ s. s ≢ Stop.Threads) }
+{
+    pair.recall_laws();
+    let inputs = pair.first().inputs().len() as u16;
+    let mut d = Plain::new(alloc, inputs, nodes)?;
+    compare_outputs(alloc, rt, &mut d, pair)
+}
+
 /// Compares a pair on this thread with a store of `nodes` nodes, 1 to 1,048,574: the report, or why it stopped:
 /// the node limit 71, want of memory 72, the limit of references 73.
 pub fn check_plain<R>(rt: &R, alloc: Global, pair: &Pair<'_>, nodes: u32) -> Result<Report, Stop>
@@ -79,14 +98,9 @@ pub fn check_plain<R>(rt: &R, alloc: Global, pair: &Pair<'_>, nodes: u32) -> Res
     ensures report { IfOk result (λ report. report_of report ≡ comparison (netlist_of pair.now.first) (netlist_of pair.now.second)) }
     ensures only { IfErr result (λ s. s ≢ Stop.Threads) }
 {
-    let sides = Sides::of(pair);
-    let first = sides.first;
-    let inputs = first.inputs().len() as u16;
-    let mut d = Plain::new(alloc, inputs, nodes)?;
-    let found = compare_outputs(alloc, rt, &mut d, sides)?;
-    match found {
+    match compare_plain(rt, alloc, pair, nodes)? {
         None => Ok(Report::Equivalent),
-        Some((output, values)) => match differs_report(alloc, first, output, &values) {
+        Some((output, values)) => match differs_report(alloc, pair.first(), output, &values) {
             Ok(report) => Ok(report),
             Err(_) => Err(Stop::Memory),
         },

@@ -7,7 +7,7 @@ ghost use Rattle.eqc_check.specs.PairOf.{input_values};
 ghost use Rattle.eqc_check.specs.Verdict.{assignments};
 ghost use Rattle.eqc_check.specs.VerdictLaws.{IsLeast};
 
-use crate::matched_pair::Pair;
+use crate::pairing::matched_pair::Pair;
 use eqc_tree::{Diagrams, Op, References, Stop};
 use std::alloc::{AllocError, Global};
 

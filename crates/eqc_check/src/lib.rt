@@ -6,21 +6,15 @@ mod build;
 mod check;
 mod compare;
 mod cover;
+mod decide;
 mod ends;
 mod laws;
 mod least;
-mod matched_pair;
-mod name_index;
 mod options;
-mod order;
 mod pairing;
-mod plan;
 mod report;
-mod reports;
 mod rows;
 mod running;
-mod sides;
-mod table;
 
 pub use check::check_plain;
 pub use compare::compare_output;
@@ -31,8 +25,8 @@ pub use laws::{
     least_difference_is_unique,
 };
 pub use least::least_assignment;
-pub use matched_pair::Pair;
 pub use options::{Options, options_fault};
+pub use pairing::matched_pair::Pair;
 pub use pairing::pair;
 pub use report::{Refused, Report, Side, Status, write_report};
 pub use running::{Texts, run};

@@ -5,9 +5,13 @@ ghost use Rattle.eqc_check.specs.Verdict.{position_of};
 ghost use Rattle.eqc_check.specs.Matched.{same_names};
 ghost use Rattle.eqc_check.specs.PairOf.{order_for, pair_refusal, pair_refused, no_memory};
 
-use crate::matched_pair::Pair;
-use crate::name_index::{NameIndex, bytes_of};
-use crate::order::order_of;
+pub(crate) mod matched_pair;
+mod name_index;
+pub(crate) mod order;
+
+use crate::pairing::matched_pair::Pair;
+use crate::pairing::name_index::{bytes_of, places_among};
+use crate::pairing::order::order_of;
 use crate::report::{Refused, Side};
 use eqc_blif::Name;
 use eqc_flat::Flat;
@@ -45,16 +49,10 @@ fn matched(alloc: Global, names: &[Name], others: &[Name]) -> Result<Option<Vec<
 {
     let names = bytes_of(alloc, names)?;
     let others = bytes_of(alloc, others)?;
-    let (Some(index), Some(other_index)) = (
-        NameIndex::of(alloc, &names)?,
-        NameIndex::of(alloc, &others)?,
-    ) else {
-        unreachable!();
-    };
-    if other_index.positions(alloc, &names)?.is_none() {
+    if places_among(alloc, &others, &names)?.is_none() {
         return Ok(None);
     }
-    index.positions(alloc, &others)
+    places_among(alloc, &names, &others)
 }
 
 /// The pair of two netlists, whose inputs and outputs are matched by name, with the order of an order text,

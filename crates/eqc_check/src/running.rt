@@ -7,10 +7,10 @@ ghost use Rattle.eqc_check.specs.Report.{text, stopped};
 ghost use Rattle.eqc_check.specs.Options.{options_code};
 ghost use Rattle.eqc_check.specs.Running.{IsReport, IsReportFor, IsShown, IsWritten, IsCutShort, IsAnswered, IsCutOff};
 
+use crate::decide::texts_report;
 use crate::ends::{RunFault, read_text};
 use crate::options::{Options, options_fault};
 use crate::report::{Refused, Report, Side, Status, write_report};
-use crate::reports::texts_report;
 use eqc_tree::Stop;
 use std::alloc::Global;
 use std::io::{Read, Write};

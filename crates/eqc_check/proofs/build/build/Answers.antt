@@ -1,7 +1,7 @@
 use Rattle.std.proofs.Common.{◌∙◌, ap, arith, ◌≡◌, length, subst, ◌<◌, get_or}
 use Rattle.eqc_check.specs.Building.{IsBuilding}
 use Rattle.eqc_check.proofs.PlanLaws.{read_positive, read_none}
-use Rattle.eqc_check.proofs.BuildLaws.{building_start, building_ready, building_more, building_skip, building_done}
+use Rattle.eqc_check.proofs.BuildLaws.{building_start, building_ready, building_more, building_skip, building_done, holds_owned, stopped_owned, stopped_keeps, added_owned}
 use Rattle.eqc_check.proofs.build.build.Goals as goal
 use Rattle.eqc_check.proofs.build.build.Goals.{then-index-gt0+in-Ok-build_signal, else-index-gt0}
 
@@ -34,3 +34,29 @@ pub returns-clause-ready : goal.returns-clause-ready
 returns-clause-ready g c =
     let at_end : c.loop-k.k ≡ length c.args.flat.now.steps = omega (arith, ap length c.steps-steps.ensures.steps) in
     building_done g.D.References.entry c.args.flat.now c.args.variables.now c.args.roots.now c.in-Ok.last.items _ _ c.loop-k.table.items c.steps-steps.ensures.lawful c.requires.roots c.in-Ok.ensures (subst (IsBuilding g.D.References.entry c.args.flat.now c.args.variables.now c.in-Ok.last.items _ _ c.loop-k.table.items) at_end c.loop-k.invariant)
+
+pub build_signal-requires-clause-variables : goal.build_signal-requires-clause-variables
+build_signal-requires-clause-variables g c = rw c.loop-k.invariant.holds.variables c.requires.variables
+
+pub build_signal-requires-clause-owned : goal.build_signal-requires-clause-owned
+build_signal-requires-clause-owned g c = holds_owned g.D.References.entry _ _ _ c.loop-k.invariant.holds
+
+pub give_back_all-requires : goal.give_back_all-requires
+give_back_all-requires g c = stopped_owned g.D.References.entry _ _ _ c.loop-k.table.items _ c.loop-k.invariant.holds c.in-Err.ensures.stop c.in-Err.ensures.table
+
+pub returns-in-Err-clause-stop : goal.returns-in-Err-clause-stop
+returns-in-Err-clause-stop g c = stopped_keeps g.D.References.entry _ _ _ _ c.loop-k.table.items _ c.loop-k.invariant.holds c.in-Err.ensures.stop c.in-Err.ensures.table c.give_back_all.ensures
+
+pub release-requires-clause-owned : goal.release-requires-clause-owned
+release-requires-clause-owned g c = added_owned g.D.References.entry _ _ _ _ _ _ _ _ c.loop-k.invariant.holds c.in-Ok-build_signal.ensures.ok
+
+pub returns-clause-holds : goal.returns-clause-holds
+returns-clause-holds g c = c.loop-k.invariant.holds
+
+pub returns-clause-built : goal.returns-clause-built
+returns-clause-built g c = c.loop-k.invariant.built
+
+pub build_signal-requires-clause-within : goal.build_signal-requires-clause-within
+build_signal-requires-clause-within g c =
+    let steps = c.steps-steps.ensures.steps in
+    rw steps (c.steps-steps.ensures.lawful.steps_within c.loop-k.k (omega (arith, ap length steps)))

@@ -1,4 +1,4 @@
-use Rattle.std.proofs.Common.{◌≡◌, get_or, ◌∙◌, [], length}
+use Rattle.std.proofs.Common.{◌≡◌, get_or, ◌∙◌, []}
 use Rattle.std.specs.List.{zip}
 use Rattle.std.proofs.lemmas.List.{get_or_default}
 use Rattle.eqc_check.proofs.check.differs_report.Goals as goal

@@ -1,28 +1,28 @@
 use Rattle.std.proofs.Common.{ap, arith, length, ◌<◌}
-use Rattle.eqc_check.proofs.TableLaws.{owned_kept}
 use Rattle.eqc_check.proofs.HeldLaws.{keeps_twice}
+use Rattle.eqc_check.proofs.PairLaws.{pair_matched}
 use Rattle.eqc_check.proofs.CompareLaws.{found_next, within_next}
+use Rattle.eqc_check.proofs.DifferenceLaws.{both_kept}
 use Rattle.eqc_check.proofs.compare.compare_tables.Goals as goal
 
-pub next_difference-requires-clause-matched : goal.next_difference-requires-clause-matched
-next_difference-requires-clause-matched g c = rw c.loop-o.invariant.2.variables c.requires.matched
+pub next_difference-requires-clause-owned : goal.next_difference-requires-clause-owned
+next_difference-requires-clause-owned g c = both_kept g.D.References.entry _ _ _ _ c.loop-o.invariant.2 c.requires.owned
 
 pub next_difference-requires-clause-first_ready : goal.next_difference-requires-clause-first_ready
-next_difference-requires-clause-first_ready g c = c.requires.first_ready.each c.loop-o.o (omega (arith, ap length c.outputs-outputs.ensures, c.steps-lawful.ensures.lawful.each_output))
+next_difference-requires-clause-first_ready g c =
+    let outputs = rw c.first.ensures at c.outputs-o-end.ensures in
+    c.requires.first_ready.each c.loop-o.o (omega (arith, ap length outputs, c.recall_laws.ensures.first_flat.each_output))
 
 pub next_difference-requires-clause-second_ready : goal.next_difference-requires-clause-second_ready
-next_difference-requires-clause-second_ready g c = c.requires.second_ready.each c.loop-o.o (omega (arith, ap length c.outputs-outputs.ensures, c.requires.matched.size))
-
-pub next_difference-requires-clause-first_owned : goal.next_difference-requires-clause-first_owned
-next_difference-requires-clause-first_owned g c = owned_kept g.D.References.entry _ _ c.args.first.now c.loop-o.invariant.2 c.requires.first_owned
-
-pub next_difference-requires-clause-second_owned : goal.next_difference-requires-clause-second_owned
-next_difference-requires-clause-second_owned g c = owned_kept g.D.References.entry _ _ c.args.second.now c.loop-o.invariant.2 c.requires.second_owned
+next_difference-requires-clause-second_ready g c =
+    let outputs = rw c.first.ensures at c.outputs-o-end.ensures in
+    c.requires.second_ready.each c.loop-o.o (omega (arith, ap length outputs, (pair_matched c.args.pair.now c.recall_laws.ensures).size))
 
 pub loop-o-preserved : goal.loop-o-preserved
 loop-o-preserved g c =
-    let inside : c.loop-o.o < length c.args.sides.first.now.outputs = omega (arith, ap length c.outputs-outputs.ensures) in (
-      found_next c.args.sides.first.now c.args.sides.second.now c.loop-o.o c.loop-o.found _ inside c.in_ok-found.ensures.found c.loop-o.invariant.0,
-      within_next c.loop-o.o c.loop-o.found _ _ c.in_ok-found.ensures.found c.loop-o.invariant.1,
+    let outputs = rw c.first.ensures at c.outputs-o-end.ensures in
+    let inside : c.loop-o.o < length c.args.pair.now.first.outputs = omega (arith, ap length outputs) in (
+      found_next c.args.pair.now.first c.args.pair.now.second c.loop-o.o c.loop-o.found c.in_ok-found.found inside c.in_ok-found.ensures.found c.loop-o.invariant.0,
+      within_next c.loop-o.o c.loop-o.found c.in_ok-found.found _ c.in_ok-found.ensures.found c.loop-o.invariant.1,
       keeps_twice _ _ _ c.loop-o.invariant.2 c.in_ok-found.ensures.kept,
     )

@@ -1,0 +1,112 @@
+-- The diagram of where an output of a pair differs: what it says, and its least assignment.
+use Rattle.std.proofs.Common.{◌≡◌, ℕ, ◌<◌, Bool, false, List, [], length, find, get_or, refl, sym, ◌∙◌, ap, arith, Option, Some, None, Result, Ok, Err, IfOk, OnErr, subst}
+use Rattle.eqc_tree.specs.Holding.{Entry, Holding, IsHeld, says, Keeps, Gains, Loses}
+use Rattle.eqc_tree.specs.Operation.{operate}
+use Rattle.eqc_tree.specs.declared.operation.Op.TheVariants.{Xor}
+use Rattle.eqc_tree.proofs.HoldingLemmas.{counts_itself}
+use Rattle.eqc_flat.specs.Graph.{value_of}
+use Rattle.eqc_check.specs.Building.{AreBuilt, HoldsBoth, OwnsBoth, OwnsTable, LosesBoth, inputs_under, reference_of}
+use Rattle.eqc_check.specs.Assigned.{assigned, DependsOnlyOn}
+use Rattle.eqc_check.specs.Verdict.{assignments, position_of, values_for, first_value, second_value, least_difference}
+use Rattle.eqc_check.specs.PairOf.{PairOf, IsPair, first_variables, second_variables, second_signals}
+use Rattle.eqc_check.specs.Comparing.{netlist_of, differs_at, SaysDifference}
+use Rattle.eqc_check.proofs.MatchedLemmas.{place_of_name, assigned_value, IsDifference, least_of_difference, none_of_difference}
+use Rattle.eqc_check.proofs.CompareLaws.{value_agrees, xor_differs}
+use Rattle.eqc_check.proofs.PairLaws.{AreMatched, pair_matched}
+
+-- two diagrams that say an output's values differ where it does
+pub xor_says : {X : Type 0} (entry : X → Entry) (p : PairOf) (o : ℕ) (first second : List (Option X)) (x y : X) (a : ℕ → Bool) → AreBuilt entry p first second → reference_of first (get_or p.first.output_signals o 0) ≡ Some x → reference_of second (get_or (second_signals p) o 0) ≡ Some y → operate Xor (says (entry x) a) (says (entry y) a) ≡ differs_at p o a
+unfolding differs_at
+xor_says entry p o first second x y a b ix iy =
+    rw (b.first.values (get_or p.first.output_signals o 0) x ix a, b.second.values (get_or (second_signals p) o 0) y iy a)
+    (sym (xor_differs (value_of p.first (inputs_under (first_variables p) a) (get_or p.first.output_signals o 0)) (value_of p.second (inputs_under (second_variables p) a) (get_or (second_signals p) o 0))))
+
+-- an output of the first netlist under an assignment
+first_value_is : (p : PairOf) (o : ℕ) (a : List Bool) → IsPair p → o < length p.first.outputs → value_of p.first (inputs_under (first_variables p) (assigned (first_variables p) a)) (get_or p.first.output_signals o 0) ≡ first_value (netlist_of p.first) (get_or p.first.outputs o []) a
+first_value_is p o a h inside =
+    sym (ap (λ k. value_of p.first (values_for p.first.inputs a p.first.inputs) (get_or p.first.output_signals k 0)) (place_of_name p.first.outputs o h.first_flat.outputs_differ inside)
+    ∙ value_agrees p.first (values_for p.first.inputs a p.first.inputs) (inputs_under (first_variables p) (assigned (first_variables p) a)) (get_or p.first.output_signals o 0) h.first_flat (λ i within. sym (own i within)) (h.first_flat.outputs_within o inside))
+  where
+    m : AreMatched p
+    m = pair_matched p h
+
+    own : (i : ℕ) → i < length p.first.inputs → assigned (first_variables p) a (get_or (first_variables p) i 0) ≡ values_for p.first.inputs a p.first.inputs i
+    own i within =
+        let place : position_of p.first.inputs (get_or p.first.inputs i []) ≡ i = place_of_name p.first.inputs i h.first_flat.inputs_differ within in
+        let P : ℕ → Type 0 = λ k. k < length (first_variables p) → assigned (first_variables p) a (get_or (first_variables p) k 0) ≡ values_for p.first.inputs a p.first.inputs i in
+        subst P place (assigned_value (first_variables p) p.first.inputs p.first.inputs a i m.distinct) (omega (arith, m.first.size))
+
+-- and the second's of its name
+second_value_is : (p : PairOf) (o : ℕ) (a : List Bool) → IsPair p → o < length p.first.outputs → value_of p.second (inputs_under (second_variables p) (assigned (first_variables p) a)) (get_or (second_signals p) o 0) ≡ second_value (netlist_of p.first) (netlist_of p.second) (get_or p.first.outputs o []) a
+second_value_is p o a h inside =
+    let m = pair_matched p h in
+    sym (ap (value_of p.second (values_for p.first.inputs a p.second.inputs)) (sym (m.signals o inside))
+    ∙ value_agrees p.second (values_for p.first.inputs a p.second.inputs) (inputs_under (second_variables p) (assigned (first_variables p) a)) (get_or (second_signals p) o 0) h.second_flat
+    (λ i within. rw (m.same i within) (sym (assigned_value (first_variables p) p.first.inputs p.second.inputs a i m.distinct (omega (arith, m.first.size, m.inputs i within))))) (m.within o inside))
+
+-- where the signals of an output differ is where the output does
+differs_is : (p : PairOf) (o : ℕ) (f : (ℕ → Bool) → Bool) → IsPair p → o < length p.first.outputs → SaysDifference p o f → IsDifference (netlist_of p.first) (netlist_of p.second) (get_or p.first.outputs o []) (first_variables p) f
+unfolding differs_at
+differs_is p o f h inside s = record {
+  size = (pair_matched p h).first.size;
+  agrees = λ a long. s.each (assigned (first_variables p) a) ∙ rw (first_value_is p o a h inside, second_value_is p o a h inside) refl;
+}
+
+-- it depends on the variables of the inputs alone
+pub differs_depends : (p : PairOf) (o : ℕ) (f : (ℕ → Bool) → Bool) → IsPair p → o < length p.first.outputs → SaysDifference p o f → DependsOnlyOn (first_variables p) f
+unfolding differs_at
+differs_depends p o f h inside s x y same =
+    let m = pair_matched p h in
+    let first = value_agrees p.first (inputs_under (first_variables p) x) (inputs_under (first_variables p) y) (get_or p.first.output_signals o 0) h.first_flat (λ i within. same i (omega (arith, m.first.size))) (h.first_flat.outputs_within o inside) in
+    let second = value_agrees p.second (inputs_under (second_variables p) x) (inputs_under (second_variables p) y) (get_or (second_signals p) o 0) h.second_flat
+    (λ i within. rw (m.same i within) (same (position_of p.first.inputs (get_or p.second.inputs i [])) (omega (arith, m.first.size, m.inputs i within)))) (m.within o inside) in
+    s.each x ∙ (rw (first, second) (sym (s.each y)))
+
+pub least_is : (p : PairOf) (o : ℕ) (f : (ℕ → Bool) → Bool) → IsPair p → o < length p.first.outputs → SaysDifference p o f → find (λ a. f (assigned (first_variables p) a)) (assignments (length (first_variables p))) ≡ least_difference (netlist_of p.first) (netlist_of p.second) (get_or p.first.outputs o [])
+least_is p o f h inside s = least_of_difference (netlist_of p.first) (netlist_of p.second) (get_or p.first.outputs o []) (first_variables p) f (differs_is p o f h inside s)
+
+pub none_is : (p : PairOf) (o : ℕ) (f : (ℕ → Bool) → Bool) → IsPair p → o < length p.first.outputs → SaysDifference p o f → ((a : ℕ → Bool) → f a ≡ false) → least_difference (netlist_of p.first) (netlist_of p.second) (get_or p.first.outputs o []) ≡ None
+none_is p o f h inside s never = none_of_difference (netlist_of p.first) (netlist_of p.second) (get_or p.first.outputs o []) (first_variables p) f (differs_is p o f h inside s) never
+
+-- ---- two tables
+
+pub first_owned : {X : Type 0} (entry : X → Entry) (d : Holding) (first second : List (Option X)) → OwnsBoth entry d first second → OwnsTable entry d first
+first_owned entry d first second h = record { held = λ e. omega (arith, h.held e) }
+
+pub second_owned : {X : Type 0} (entry : X → Entry) (d : Holding) (first second : List (Option X)) → OwnsBoth entry d first second → OwnsTable entry d second
+second_owned entry d first second h = record { held = λ e. omega (arith, h.held e) }
+
+pub both_kept : {X : Type 0} (entry : X → Entry) (old new : Holding) (first second : List (Option X)) → Keeps old new → OwnsBoth entry old first second → OwnsBoth entry new first second
+both_kept entry old new first second k h = record { held = λ e. omega (arith, k.held e, h.held e) }
+
+pub both_owned : {X : Type 0} (entry : X → Entry) (before now : Holding) (first second : List (Option X)) → HoldsBoth entry before now first second → OwnsBoth entry now first second
+both_owned entry before now first second h = record { held = λ e. omega (arith, h.held e) }
+
+pub difference_owned : {X E : Type 0} (entry : X → Entry) (d0 d1 d2 : Holding) (first second : List (Option X)) (result : Result X E) (f : (ℕ → Bool) → Bool) → HoldsBoth entry d0 d1 first second → IfOk result (λ r. Gains d1 d2 (entry r) f) → OnErr result (Keeps d1 d2) → OwnsBoth entry d2 first second
+difference_owned entry d0 d1 d2 first second (Ok r) f h ok stop = record { held = λ e. omega (arith, h.held e, ok.held e) }
+difference_owned entry d0 d1 d2 first second (Err e) f h ok stop = record { held = λ e. omega (arith, h.held e, stop.held e) }
+
+-- both tables were given back behind a call that keeps what is held
+pub both_given : {X : Type 0} (entry : X → Entry) (d0 d1 d2 d3 : Holding) (first second : List (Option X)) → HoldsBoth entry d0 d1 first second → Keeps d1 d2 → LosesBoth entry d2 d3 first second → Keeps d0 d3
+both_given entry d0 d1 d2 d3 first second h k l = record { variables = l.variables ∙ (k.variables ∙ h.variables); held = λ e. omega (arith, h.held e, k.held e, l.held e) }
+
+-- or behind one that makes a reference
+pub both_given_but : {X : Type 0} (entry : X → Entry) (d0 d1 d2 d3 : Holding) (first second : List (Option X)) (r : Entry) (f : (ℕ → Bool) → Bool) → HoldsBoth entry d0 d1 first second → Gains d1 d2 r f → LosesBoth entry d2 d3 first second → Gains d0 d3 r f
+both_given_but entry d0 d1 d2 d3 first second r f h g l = record { variables = l.variables ∙ (g.variables ∙ h.variables); held = λ e. omega (arith, h.held e, g.held e, l.held e); function = g.function }
+
+-- a reference that was made is held, and given back it leaves what was held before
+pub gained_held : (d0 d1 : Holding) (r : Entry) (f : (ℕ → Bool) → Bool) → Gains d0 d1 r f → IsHeld d1 r
+gained_held d0 d1 r f g = omega (arith, g.held r, counts_itself d0 r)
+
+pub gained_lost : (d0 d1 d2 : Holding) (r : Entry) (f : (ℕ → Bool) → Bool) → Gains d0 d1 r f → Loses d1 d2 r → Keeps d0 d2
+gained_lost d0 d1 d2 r f g l = record { variables = l.variables ∙ g.variables; held = λ e. omega (arith, g.held e, l.held e) }
+
+pub gained_says : (d0 d1 : Holding) (r : Entry) (p : PairOf) (o : ℕ) → Gains d0 d1 r (differs_at p o) → SaysDifference p o (says r)
+gained_says d0 d1 r p o g = record { each = g.function }
+
+-- a diagram that is given back whatever is found
+pub kept_lost : (d0 d1 d2 : Holding) (r : Entry) → Keeps d0 d1 → Loses d1 d2 r → Loses d0 d2 r
+kept_lost d0 d1 d2 r k l = record { variables = l.variables ∙ k.variables; held = λ e. omega (arith, k.held e, l.held e) }
+
+pub kept_held : (d0 d1 : Holding) (r : Entry) → Keeps d0 d1 → IsHeld d0 r → IsHeld d1 r
+kept_held d0 d1 r k h = omega (arith, k.held r, h)

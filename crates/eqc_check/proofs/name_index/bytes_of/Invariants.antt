@@ -1,6 +1,0 @@
-use Rattle.std.proofs.Common.{◌≡◌, take}
-use Rattle.eqc_check.proofs.NameLemmas.{bytes_in}
-use Rattle.eqc_check.proofs.name_index.bytes_of.Given as goal
-
-abbrev pub invariant-names : goal.invariant-names
-invariant-names l = bytes_in l.all.items ≡ take l.name-index l.names

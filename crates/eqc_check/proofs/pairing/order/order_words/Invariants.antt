@@ -1,0 +1,11 @@
+use Rattle.std.proofs.Common.{◌≡◌, ◌++◌, length, eqb}
+use Rattle.std.specs.List.{flat_map, slice_split}
+use Rattle.eqc_check.specs.Matched.{line_words, order_words}
+use Rattle.eqc_check.proofs.NameLemmas.{bytes_in}
+use Rattle.eqc_check.proofs.pairing.order.order_words.Given as goal
+
+abbrev pub invariant-lines : goal.invariant-lines
+invariant-lines l = bytes_in l.words.items ++ flat_map line_words (slice_split (λ b. eqb b 10) l.rest) ≡ order_words l.text
+
+abbrev pub decreases-lines : goal.decreases-lines
+decreases-lines l = length l.rest

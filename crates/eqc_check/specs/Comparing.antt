@@ -1,0 +1,44 @@
+-- What a comparison of two flat netlists finds.
+use Rattle.std.specs.Prelude.{◌≡◌, ℕ, Bool, List, slice_index, slice_index_or, [], Option, Some, None, Vec}
+use Rattle.std.specs.declared.alloc.Global.{Global}
+use Rattle.std.specs.Option.{option_map}
+use Rattle.eqc_flat.specs.Graph.{FlatOf, value_of}
+use Rattle.eqc_check.specs.Building.{inputs_under}
+use Rattle.eqc_check.specs.PairOf.{PairOf, first_variables, second_variables, second_signals}
+use Rattle.eqc_check.specs.Verdict.{NetlistOf, position_of, is_different}
+
+-- a flat netlist as its user sees it
+abbrev pub netlist_of : FlatOf → NetlistOf
+netlist_of f = record {
+  inputs = f.inputs;
+  outputs = f.outputs;
+  value = λ output a. value_of f a (slice_index f.output_signals (position_of f.outputs output));
+}
+
+-- whether the signals of an output have different values, under values of a pair's variables
+unfoldable pub differs_at : PairOf → ℕ → (ℕ → Bool) → Bool
+differs_at p output a =
+    is_different
+    (value_of p.first (inputs_under (first_variables p) a) (slice_index p.first.output_signals output))
+    (value_of p.second (inputs_under (second_variables p) a) (slice_index (second_signals p) output))
+
+-- a function is true where an output differs
+pub record SaysDifference (p : PairOf) (output : ℕ) (f : (ℕ → Bool) → Bool) : Type 0 where
+  pub each : (a : ℕ → Bool) → f a ≡ differs_at p output a
+
+-- an output by its position with an assignment, as an output by its name
+abbrev pub found_at : FlatOf → Option (ℕ × Vec Bool Global) → Option (List ℕ × List Bool)
+found_at f found = option_map (λ p. (slice_index_or f.outputs p.0 [], p.1.items)) found
+
+-- what was found, with its values as a list
+abbrev pub listed : Option (ℕ × Vec Bool Global) → Option (ℕ × List Bool)
+listed found = option_map (λ p. (p.0, p.1.items)) found
+
+-- values that are found at an output
+abbrev pub at_output : ℕ → Option (List Bool) → Option (ℕ × List Bool)
+at_output output here = option_map (λ a. (output, a)) here
+
+-- what was found before an output stays; else what is found is that output with the values that are found here
+abbrev pub IsNext : Option (ℕ × Vec Bool Global) → ℕ → Option (List Bool) → Option (ℕ × Vec Bool Global) → Type 0
+IsNext (Some before) output here found = found ≡ Some before
+IsNext None output here found = listed found ≡ at_output output here
