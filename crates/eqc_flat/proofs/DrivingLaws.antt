@@ -13,10 +13,11 @@ use Rattle.eqc_flat.specs.Graph.{DriverOf, cover, IsWithinSizes}
 use Rattle.eqc_flat.specs.Hierarchy.{model, model_at, paths}
 use Rattle.eqc_flat.specs.Signals.{from_input, from_signal, from_cover, Driving, signals, input_drivings, cover_driving, pair_driving, instance_drivings, drivings_at, drivings}
 use Rattle.eqc_flat.specs.Flattened.{path_at, model_of, signal_at, signals_here, source_of}
-use Rattle.eqc_flat.specs.Filling.{all_rows, IsFilled}
+use Rattle.eqc_flat.specs.RowTable.{all_rows}
+use Rattle.eqc_flat.specs.DriverTable.{IsFilled}
 use Rattle.eqc_flat.specs.Drivers.{driver_of}
 use Rattle.eqc_flat.specs.declared.driver.Driver.{Driver}
-use Rattle.eqc_flat.proofs.FillingLaws.{filled_free, filled_again}
+use Rattle.eqc_flat.proofs.DriverTableLaws.{filled_free, filled_again}
 use Rattle.eqc_flat.proofs.NamingLaws.{no_instance}
 
 abbrev pub no_driving : Driving

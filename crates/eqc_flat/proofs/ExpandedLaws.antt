@@ -12,7 +12,7 @@ use Rattle.eqc_blif.specs.Names.{is_named, has_twice}
 use Rattle.eqc_flat.specs.Hierarchy.{model, callees, paths}
 use Rattle.eqc_flat.specs.Graph.{ends_within}
 use Rattle.eqc_flat.specs.Codes.{is_recursive}
-use Rattle.eqc_flat.specs.Filling.{rows_of, IsRowTable}
+use Rattle.eqc_flat.specs.RowTable.{rows_of, IsRowTable}
 use Rattle.eqc_flat.specs.Signals.{once_each, cover_names, actuals, names_of, signals_at, signals}
 use Rattle.eqc_flat.specs.Flattened.{path_at, model_of, signal_at, first_signal, named_here, all_named}
 use Rattle.eqc_flat.specs.Instances.{IsGrowing}

@@ -14,7 +14,7 @@ pub mod PathLaws
 pub mod NumberLaws
 pub mod HierarchyValues
 pub mod InstanceLaws
-pub mod FillingLaws
+pub mod DriverTableLaws
 pub mod NamingLaws
 pub mod ExpandedLaws
 pub mod OrderLaws

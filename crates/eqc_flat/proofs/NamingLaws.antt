@@ -14,7 +14,7 @@ use Rattle.eqc_flat.specs.Hierarchy.{model, model_number, callees, reached, mode
 use Rattle.eqc_flat.specs.Signals.{cover_names, actuals, once_each, names_of}
 use Rattle.eqc_flat.specs.Codes.{formals, has_unknown_formal}
 use Rattle.eqc_flat.specs.Flattened.{path_at}
-use Rattle.eqc_flat.specs.Filling.{rows_of, all_rows}
+use Rattle.eqc_flat.specs.RowTable.{rows_of, all_rows}
 use Rattle.eqc_flat.proofs.Distinct.{Member, member_left, member_right, member_get, member_piece, member_map}
 use Rattle.eqc_flat.proofs.NumberLaws.{same_bytes, bytes_same}
 use Rattle.eqc_flat.proofs.PathLaws.{models_reached}

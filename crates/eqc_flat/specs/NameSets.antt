@@ -1,4 +1,4 @@
--- Sets of names, in the order in which the names were put in.
+-- For the proofs alone: sets of names, in the order in which the names were put in.
 use Rattle.std.specs.Prelude.{ℕ, List, [], ◌∷◌, ◌++◌, if◌then◌else◌}
 use Rattle.eqc_blif.specs.Names.{is_named}
 

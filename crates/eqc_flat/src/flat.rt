@@ -113,7 +113,8 @@ impl<'a> Flat<'a> {
 
     /// The signal of each output.
     pub fn output_signals(&self) -> &[u32]
-        ensures { result.now ≡ self.now.output_signals }
+        ensures signals { result.now ≡ self.now.output_signals }
+        ensures lawful { IsFlat self.now }
     {
         self.output_signals.as_slice()
     }
@@ -145,17 +146,21 @@ impl<'a> Flat<'a> {
 
     /// The instance and the name of signal `s`, which is one of this netlist. Instance 0 is the main model.
     pub fn signal(&self, s: u32) -> (u32, &[u8])
-        requires { s < length self.now.signals }
-        ensures { (result.0, result.1.now) ≡ slice_index_or self.now.signals s (0, []) }
+        requires { s < length self.now.drivers }
+        ensures signal { (result.0, result.1.now) ≡ slice_index_or self.now.signals s (0, []) }
+        ensures instance { result.0 ≤ length self.now.places }
+        ensures lawful { IsFlat self.now }
     {
         self.signals[s as usize]
     }
 
-    /// The parent of instance `i`, from 1 on, and the position of its `.subckt` there.
+    /// The parent of instance `i`, from 1 on, and the position of its `.subckt` there. The parent is an instance before it.
     pub fn place(&self, i: u32) -> (u32, u32)
         requires some { 1 ≤ i }
         requires there { i ≤ length self.now.places }
-        ensures { result ≡ slice_index_or self.now.places (i - 1) (0, 0) }
+        ensures place { result ≡ slice_index_or self.now.places (i - 1) (0, 0) }
+        ensures parent { result.0 < i }
+        ensures lawful { IsFlat self.now }
     {
         self.places[i as usize - 1]
     }

@@ -3,14 +3,14 @@ ghost use Rattle.eqc_blif.specs.Names.{has_twice};
 ghost use Rattle.eqc_flat.specs.Hierarchy.{model};
 ghost use Rattle.eqc_flat.specs.Drivers.{driver_of};
 ghost use Rattle.eqc_flat.specs.Codes.{flat_code};
-ghost use Rattle.eqc_flat.specs.Filling.{IsDriven};
+ghost use Rattle.eqc_flat.specs.DriverTable.{IsDriven};
 ghost use Rattle.eqc_flat.specs.Ordering.{IsOrder};
 ghost use Rattle.eqc_flat.specs.Flattened.{IsFlatOf};
 
 use crate::calls::Calls;
 use crate::driver::Driver;
+use crate::driver_table::{drivers_of, signals_of};
 use crate::fault::Fault;
-use crate::filling::{drivers_of, signals_of};
 use crate::flat::Flat;
 use crate::hierarchy::Hierarchy;
 use crate::model_faults::first_model_fault;

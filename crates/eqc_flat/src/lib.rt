@@ -5,9 +5,9 @@
 mod calls;
 mod condition;
 mod driver;
+mod driver_table;
 mod evaluation;
 mod fault;
-mod filling;
 mod flat;
 mod flattening;
 mod graph;

@@ -1,7 +1,7 @@
 ghost use Rattle.std.specs.Prelude.{◌≡◌, ◌+◌, ◌<◌, ◌^◌, ◌++◌, [], length, map, slice_index_or, IfOk, OnOk};
 ghost use Rattle.eqc_blif.specs.Netlist.{no_cover};
 ghost use Rattle.eqc_flat.specs.Hierarchy.{model};
-ghost use Rattle.eqc_flat.specs.Filling.{rows_of, all_rows};
+ghost use Rattle.eqc_flat.specs.RowTable.{rows_of, all_rows};
 
 use eqc_blif::{Cover, Library, Name};
 use std::alloc::{AllocError, Global};
@@ -18,7 +18,7 @@ pub(crate) struct RowTable<'a> {
 impl<'a> Model for RowTable<'a> {
     ghost use Rattle.std.specs.Prelude.{List, map};
     ghost use Rattle.eqc_blif.specs.Netlist.{ModelOf};
-    ghost use Rattle.eqc_flat.specs.Filling.{IsRowTable};
+    ghost use Rattle.eqc_flat.specs.RowTable.{IsRowTable};
 
     ghost Value = { List ModelOf };
 

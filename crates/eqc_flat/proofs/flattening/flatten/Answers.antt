@@ -4,7 +4,7 @@ use Rattle.eqc_blif.specs.Netlist.{ModelOf}
 use Rattle.eqc_flat.specs.Drivers.{driver_of}
 use Rattle.eqc_flat.specs.Codes.{is_too_large, has_many_inputs}
 use Rattle.eqc_flat.specs.ModelFaults.{HasNoModelFault}
-use Rattle.eqc_flat.specs.Filling.{IsDriven, IsDriverFault}
+use Rattle.eqc_flat.specs.DriverTable.{IsDriven, IsDriverFault}
 use Rattle.eqc_flat.proofs.CodeLaws.{code_29, code_30, driver_code, many_inputs, few_inputs, accepted, circular, driven_closed, few_drivers}
 use Rattle.eqc_flat.proofs.flattening.flatten.Goals as goal
 

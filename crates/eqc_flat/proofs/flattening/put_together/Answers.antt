@@ -6,7 +6,7 @@ use Rattle.eqc_flat.specs.Drivers.{driver_of}
 use Rattle.eqc_flat.specs.Hierarchy.{model}
 use Rattle.eqc_flat.specs.Signals.{names_of, signals}
 use Rattle.eqc_flat.specs.Flattened.{signals_here, IsFlatOf}
-use Rattle.eqc_flat.specs.Filling.{all_rows}
+use Rattle.eqc_flat.specs.RowTable.{all_rows}
 use Rattle.eqc_flat.proofs.NamingLaws.{output_named}
 use Rattle.eqc_flat.proofs.FlatLaws.{IsParts, flat_same, expanded_few, parts_flat, parts_flat_of}
 use Rattle.eqc_flat.proofs.flattening.put_together.Goals as goal

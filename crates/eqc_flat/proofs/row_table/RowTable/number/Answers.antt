@@ -1,7 +1,7 @@
 use Rattle.std.proofs.Common.{◌≡◌, ◌+◌, ◌<◌, ℕ, List, [], length, slice_index_or, arith, ◌∙◌, ap, subst}
 use Rattle.eqc_blif.specs.Netlist.{ModelOf, no_cover}
 use Rattle.eqc_flat.specs.Hierarchy.{model}
-use Rattle.eqc_flat.specs.Filling.{all_rows}
+use Rattle.eqc_flat.specs.RowTable.{all_rows}
 use Rattle.eqc_flat.proofs.NamingLaws.{rows_at, rows_inside}
 use Rattle.eqc_flat.proofs.ExpandedLaws.{row_first, row_firsts}
 use Rattle.eqc_flat.proofs.row_table.RowTable.number.Goals as goal
