@@ -18,6 +18,7 @@ pub mod DriverTableLaws
 pub mod NamingLaws
 pub mod ExpandedLaws
 pub mod OrderLaws
+pub mod StoredDriverLaws
 pub mod DrivingLaws
 pub mod FlatLaws
 pub mod CodeLaws

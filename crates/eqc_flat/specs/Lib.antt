@@ -12,6 +12,7 @@ pub mod NameSets
 pub mod ModelFaults
 pub mod Instances
 pub mod RowTable
+pub mod StoredDrivers
 pub mod DriverTable
 pub mod Ordering
 pub mod Known

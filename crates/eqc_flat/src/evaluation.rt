@@ -7,6 +7,7 @@ ghost use Rattle.eqc_flat.specs.Evaluating.{values_of};
 use crate::driver::Driver;
 use crate::fault::Fault;
 use crate::flat::Flat;
+use crate::signals::Signals;
 use eqc_blif::Name;
 use std::alloc::{AllocError, Global};
 
@@ -65,13 +66,13 @@ fn cover_value(rows: &[Name], values: &[bool]) -> bool
 }
 
 /// The values of these signals.
-fn read(alloc: Global, values: &[bool], signals: &[u32]) -> Result<Vec<bool>, AllocError>
-    requires { (k : ℕ) → k < length signals.now → slice_index signals.now k < length values.now }
-    ensures { IfOk result (λ read. read.items ≡ map (values_of values.now) signals.now) }
+fn read(alloc: Global, values: &[bool], signals: Signals<'_>) -> Result<Vec<bool>, AllocError>
+    requires { (k : ℕ) → k < length signals → slice_index signals k < length values.now }
+    ensures { IfOk result (λ read. read.items ≡ map (values_of values.now) signals.entry) }
 {
     let mut read = Vec::with_capacity(alloc, signals.len())?;
-    for s in signals {
-        read.push(values[*s as usize])?;
+    for k in 0..signals.len() {
+        read.push(values[signals.get(k) as usize])?;
     }
     Ok(read)
 }
@@ -91,11 +92,11 @@ fn driver_value(
 {
     let _lawful = flat.steps();
     match flat.driver(s) {
-        Driver::Input(position) => Ok(inputs[*position as usize]),
-        Driver::Tie(other) => Ok(values[*other as usize]),
+        Driver::Input(position) => Ok(inputs[position as usize]),
+        Driver::Tie(other) => Ok(values[other as usize]),
         Driver::Cover { columns, rows } => {
             let columns = read(alloc, values, columns)?;
-            Ok(cover_value(flat.rows(*rows), &columns))
+            Ok(cover_value(flat.rows(rows), &columns))
         }
     }
 }
@@ -123,7 +124,7 @@ fn output_values(alloc: Global, flat: &Flat<'_>, inputs: &[bool]) -> Result<Vec<
 {
     let _lawful = flat.steps();
     let values = signal_values(alloc, flat, inputs)?;
-    let outputs = read(alloc, &values, flat.output_signals())?;
+    let outputs = read(alloc, &values, Signals::of(flat.output_signals()))?;
     Ok(outputs)
 }
 

@@ -3,6 +3,7 @@ ghost use Rattle.eqc_flat.specs.Graph.{driver_at, FollowsDrivers, IsFlat};
 ghost use Rattle.eqc_flat.specs.Drivers.{driver_of};
 
 use crate::driver::Driver;
+use crate::drivers::Drivers;
 use eqc_blif::Name;
 use std::marker::Model;
 
@@ -14,7 +15,7 @@ pub struct Flat<'a> {
     output_signals: Vec<u32>,
     signals: Vec<(u32, &'a [u8])>,
     places: Vec<(u32, u32)>,
-    drivers: Vec<Driver>,
+    drivers: Drivers,
     rows: Vec<&'a [Name]>,
     steps: Vec<u32>,
 }
@@ -25,15 +26,13 @@ impl<'a> Model for Flat<'a> {
 
     ghost Value = { FlatOf };
 
-    ghost use Rattle.eqc_flat.specs.Drivers.{driver_of};
-
     ghost view = { λ a. record {
       inputs = a.inputs.now;
       outputs = a.outputs.now;
       output_signals = a.output_signals.items;
       signals = map (λ p. (p.0, p.1.now)) a.signals.items;
       places = a.places.items;
-      drivers = map driver_of a.drivers.items;
+      drivers = a.drivers;
       rows = map (λ r. r.now) a.rows.items;
       steps = a.steps.items;
     } };
@@ -44,7 +43,7 @@ impl<'a> Model for Flat<'a> {
       output_signals = a.output_signals.items;
       signals = map (λ p. (p.0, p.1.now)) a.signals.items;
       places = a.places.items;
-      drivers = map driver_of a.drivers.items;
+      drivers = a.drivers;
       rows = map (λ r. r.now) a.rows.items;
       steps = a.steps.items;
     }) };
@@ -59,7 +58,7 @@ impl<'a> Flat<'a> {
         output_signals: Vec<u32>,
         signals: Vec<(u32, &'a [u8])>,
         places: Vec<(u32, u32)>,
-        drivers: Vec<Driver>,
+        drivers: Drivers,
         rows: Vec<&'a [Name]>,
         steps: Vec<u32>,
     ) -> Flat<'a>
@@ -69,7 +68,7 @@ impl<'a> Flat<'a> {
           output_signals = output_signals.items;
           signals = map (λ p. (p.0, p.1.now)) signals.items;
           places = places.items;
-          drivers = map driver_of drivers.items;
+          drivers = drivers;
           rows = map (λ r. r.now) rows.items;
           steps = steps.items;
         }) }
@@ -79,7 +78,7 @@ impl<'a> Flat<'a> {
           output_signals = output_signals.items;
           signals = map (λ p. (p.0, p.1.now)) signals.entry.items;
           places = places.items;
-          drivers = map driver_of drivers.items;
+          drivers = drivers;
           rows = map (λ r. r.now) rows.entry.items;
           steps = steps.items;
         } }
@@ -129,11 +128,11 @@ impl<'a> Flat<'a> {
     }
 
     /// What drives signal `s`, which is one of this netlist.
-    pub fn driver(&self, s: u32) -> &Driver
+    pub fn driver(&self, s: u32) -> Driver<'_>
         requires { s < length self.now.drivers }
-        ensures { driver_of result.now ≡ driver_at self.now s }
+        ensures { driver_of result ≡ driver_at self.now s }
     {
-        &self.drivers[s as usize]
+        self.drivers.get(s as usize)
     }
 
     /// The rows of number `r`, which the driver of a signal of this netlist names.

@@ -6,6 +6,7 @@ mod calls;
 mod condition;
 mod driver;
 mod driver_table;
+mod drivers;
 mod evaluation;
 mod fault;
 mod flat;
@@ -23,6 +24,8 @@ mod reach;
 mod row_table;
 mod search;
 mod signal_order;
+mod signals;
+mod stored_driver;
 #[cfg(test)]
 mod tests_hierarchies;
 
@@ -35,3 +38,4 @@ pub use laws::{
     accepted_have_values, covers_depend_on_columns_alone, values_are_there_for_all,
     values_depend_on_inputs_alone, values_stay,
 };
+pub use signals::Signals;

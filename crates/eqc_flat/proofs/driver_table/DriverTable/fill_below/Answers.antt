@@ -8,7 +8,7 @@ use Rattle.eqc_flat.specs.Hierarchy.{model, callees, model_at}
 use Rattle.eqc_flat.specs.Signals.{Driving, names_of, pair_driving, instance_drivings}
 use Rattle.eqc_flat.specs.Flattened.{path_at, model_of}
 use Rattle.eqc_flat.specs.Instances.{first_below}
-use Rattle.eqc_flat.specs.DriverTable.{IsFilled}
+use Rattle.eqc_flat.specs.DriverTable.{IsTable}
 use Rattle.eqc_flat.proofs.InstanceLaws.{next_path, next_inside, next_model}
 use Rattle.eqc_flat.proofs.NamingLaws.{no_instance, callee_count, formal_known, formal_named, actual_named}
 use Rattle.eqc_flat.proofs.DrivingLaws.{piece_more, instance_at}
@@ -108,7 +108,7 @@ loop-p-preserved c =
     record {
       size = c.fill_pairs.ensures.size ∙ c.loop-p.invariant.size;
       step = λ done h.
-          let P : List Driving → Type 0 = λ l. IsFilled library top c.fill_pairs.new.self.0 c.fill_pairs.new.self.1 l in
+          let P : List Driving → Type 0 = λ l. IsTable library top c.fill_pairs.new.self.0 c.fill_pairs.new.self.1 l in
           subst P (sym (piece_more f done all c.loop-p.p (0, no_instance) (omega (arith, length-enumerate_from 0 here.instances, inside)) ∙ ap (λ (l : List Driving). (done ++ flat_map f (take c.loop-p.p all)) ++ l) piece))
           (c.fill_pairs.ensures.step (done ++ flat_map f (take c.loop-p.p all)) (c.loop-p.invariant.step done h));
     }
@@ -121,5 +121,5 @@ returns-clause-step c = λ done h.
     let path = path_at library top c.args.i in
     let insts : c.instances-instances.result.now ≡ here.instances = c.instances-instances.ensures ∙ (ap (λ (l : List ModelOf). (model l c.model.result).instances) c.library.ensures ∙ ap (λ (m : ℕ). (model library m).instances) c.model.ensures.number) in
     let all = enumerate_from 0 here.instances in
-    let P : List (ℕ × InstanceOf) → Type 0 = λ l. IsFilled library top c.loop-p.self.0 c.loop-p.self.1 (done ++ flat_map (instance_drivings library top path) l) in
+    let P : List (ℕ × InstanceOf) → Type 0 = λ l. IsTable library top c.loop-p.self.0 c.loop-p.self.1 (done ++ flat_map (instance_drivings library top path) l) in
     subst P (take_all c.loop-p.p all (omega (arith, length-enumerate_from 0 here.instances, ap length insts, c.loop-p-test.false))) (c.loop-p.invariant.step done h)

@@ -6,7 +6,7 @@ use Rattle.eqc_blif.specs.Names.{is_named}
 use Rattle.eqc_flat.specs.Hierarchy.{model}
 use Rattle.eqc_flat.specs.Signals.{Driving, names_of, input_drivings}
 use Rattle.eqc_flat.specs.Flattened.{signal_at}
-use Rattle.eqc_flat.specs.DriverTable.{IsFilled}
+use Rattle.eqc_flat.specs.DriverTable.{IsTable}
 use Rattle.eqc_flat.proofs.NamingLaws.{input_named}
 use Rattle.eqc_flat.proofs.DrivingLaws.{no_driving, behind_more, behind_all, input_at, input_count}
 use Rattle.eqc_flat.proofs.driver_table.DriverTable.fill_inputs.Goals as goal
@@ -36,7 +36,7 @@ loop-k-preserved c =
     record {
       size = c.drive.ensures.size ∙ c.loop-k.invariant.size;
       step = λ done h.
-          let P : List Driving → Type 0 = λ l. IsFilled library top c.drive.new.self.0 c.drive.new.self.1 l in
+          let P : List Driving → Type 0 = λ l. IsTable library top c.drive.new.self.0 c.drive.new.self.1 l in
           subst P (sym (behind_more done all c.loop-k.k no_driving (omega (arith, input_count main.inputs, inside))))
           (c.drive.ensures.step library top (done ++ take c.loop-k.k all) (get_or all c.loop-k.k no_driving) (c.loop-k.invariant.step done h) target (ap (λ (d : Driving). d.1) here) inside);
     }
@@ -47,5 +47,5 @@ returns-clause-step c = λ done h.
     let top = c.args.hierarchy.now.1 in
     let main = model library top in
     let inputs : c.inputs-inputs.result.now ≡ main.inputs = c.inputs-inputs.ensures.names ∙ (ap (λ (n : ℕ). (model c.library.result.now n).inputs) c.top.ensures.top ∙ ap (λ (l : List ModelOf). (model l c.args.hierarchy.now.1).inputs) c.library.ensures) in
-    let P : List Driving → Type 0 = λ l. IsFilled library top c.loop-k.self.0 c.loop-k.self.1 l in
+    let P : List Driving → Type 0 = λ l. IsTable library top c.loop-k.self.0 c.loop-k.self.1 l in
     subst P (behind_all done (input_drivings (enumerate_from 0 main.inputs)) c.loop-k.k (omega (arith, input_count main.inputs, ap length inputs, c.loop-k-test.false))) (c.loop-k.invariant.step done h)

@@ -1,10 +1,10 @@
 use Rattle.std.proofs.Common.{arith, ◌≡◌, ◌<◌, ◌+◌, ◌++◌, ◌∷◌, ◌∙◌, sym, ap, subst, [], ℕ, List, map, take, length, get_or, Option, Bool}
 use Rattle.std.proofs.lemmas.List.{get_or_default, length-map}
 use Rattle.eqc_blif.specs.Names.{is_named}
-use Rattle.eqc_flat.specs.Graph.{DriverOf}
+use Rattle.eqc_flat.specs.declared.stored_driver.StoredDriver.{StoredDriver}
 use Rattle.eqc_flat.specs.Signals.{Driving, from_signal, names_of, pair_driving}
 use Rattle.eqc_flat.specs.Flattened.{path_at, model_of, signal_at}
-use Rattle.eqc_flat.specs.DriverTable.{IsFilled}
+use Rattle.eqc_flat.specs.DriverTable.{IsTable}
 use Rattle.eqc_flat.proofs.DrivingLaws.{no_driving, behind_more, behind_all, pair_at, pair_input, pair_output}
 use Rattle.eqc_flat.proofs.driver_table.DriverTable.fill_pairs.Goals as goal
 use Rattle.eqc_flat.proofs.driver_table.DriverTable.fill_pairs.Goals.{then-is_input, else-is_input}
@@ -44,21 +44,21 @@ loop-j-preserved c =
     elim c.if-is_input.branch [
       | then-is_input w ↦
           let d = driving ∙ pair_input path c.args.p callee pair (sym is ∙ w.if-is_input.true) in
-          let P : List (Option DriverOf) × Bool → Type 0 = λ v. (length v.0 ≡ length c.args.self.now.0) × ((done : List Driving) → IsFilled library top c.args.self.now.0 c.args.self.now.1 done → IsFilled library top v.0 v.1 (done ++ take (c.loop-j.j + 1) all)) in
+          let P : List (Option StoredDriver) × Bool → Type 0 = λ v. (length v.0 ≡ length c.args.self.now.0) × ((done : List Driving) → IsTable library top c.args.self.now.0 c.args.self.now.1 done → IsTable library top v.0 v.1 (done ++ take (c.loop-j.j + 1) all)) in
           let both = subst P (sym w.self-is) (
             w.drive.ensures.size ∙ c.loop-j.invariant.size,
             λ done h.
-                let Q : List Driving → Type 0 = λ l. IsFilled library top w.drive.new.self.0 w.drive.new.self.1 l in
+                let Q : List Driving → Type 0 = λ l. IsTable library top w.drive.new.self.0 w.drive.new.self.1 l in
                 subst Q (sym (more done)) (w.drive.ensures.step library top (done ++ take c.loop-j.j all) (get_or all c.loop-j.j no_driving) (c.loop-j.invariant.step done h) (ap (λ (d : Driving). d.0) d ∙ sym inner) (ap (λ (d : Driving). d.1) d ∙ ap from_signal (sym outer)) c.signal-outer.ensures.within),
           ) in
           record { size = both.0; step = both.1 }
       | else-is_input w ↦
           let d = driving ∙ pair_output path c.args.p callee pair (sym is ∙ w.if-is_input.false) in
-          let P : List (Option DriverOf) × Bool → Type 0 = λ v. (length v.0 ≡ length c.args.self.now.0) × ((done : List Driving) → IsFilled library top c.args.self.now.0 c.args.self.now.1 done → IsFilled library top v.0 v.1 (done ++ take (c.loop-j.j + 1) all)) in
+          let P : List (Option StoredDriver) × Bool → Type 0 = λ v. (length v.0 ≡ length c.args.self.now.0) × ((done : List Driving) → IsTable library top c.args.self.now.0 c.args.self.now.1 done → IsTable library top v.0 v.1 (done ++ take (c.loop-j.j + 1) all)) in
           let both = subst P (sym w.self-is) (
             w.drive-else-is_input.ensures.size ∙ c.loop-j.invariant.size,
             λ done h.
-                let Q : List Driving → Type 0 = λ l. IsFilled library top w.drive-else-is_input.new.self.0 w.drive-else-is_input.new.self.1 l in
+                let Q : List Driving → Type 0 = λ l. IsTable library top w.drive-else-is_input.new.self.0 w.drive-else-is_input.new.self.1 l in
                 subst Q (sym (more done)) (w.drive-else-is_input.ensures.step library top (done ++ take c.loop-j.j all) (get_or all c.loop-j.j no_driving) (c.loop-j.invariant.step done h) (ap (λ (d : Driving). d.0) d ∙ sym outer) (ap (λ (d : Driving). d.1) d ∙ ap from_signal (sym inner)) c.formal-inner.ensures.within),
           ) in
           record { size = both.0; step = both.1 }
@@ -69,5 +69,5 @@ returns-clause-step c = λ done h.
     let library = c.args.hierarchy.now.0 in
     let top = c.args.hierarchy.now.1 in
     let all = map (pair_driving (path_at library top c.args.i) c.args.p (model_of library top c.args.child)) c.args.pairs.now in
-    let P : List Driving → Type 0 = λ l. IsFilled library top c.loop-j.self.0 c.loop-j.self.1 l in
+    let P : List Driving → Type 0 = λ l. IsTable library top c.loop-j.self.0 c.loop-j.self.1 l in
     subst P (behind_all done all c.loop-j.j (omega (arith, length-map c.args.pairs.now (pair_driving (path_at library top c.args.i) c.args.p (model_of library top c.args.child)), c.loop-j-test.false))) (c.loop-j.invariant.step done h)

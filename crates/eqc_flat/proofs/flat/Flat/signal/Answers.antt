@@ -1,4 +1,4 @@
-use Rattle.std.proofs.Common.{◌≡◌, ◌<◌, ◌≤◌, ℕ, List, Bor, [], length, map, slice_index_or, arith, ap, sym, ◌∙◌}
+use Rattle.std.proofs.Common.{◌<◌, ◌≤◌, ℕ, List, Bor, [], length, map, slice_index_or, arith, ap, sym, ◌∙◌}
 use Rattle.std.proofs.lemmas.List.{get_or-map, length-map}
 use Rattle.eqc_flat.specs.Graph.{FlatOf}
 use Rattle.eqc_flat.proofs.flat.Flat.signal.Goals as goal
