@@ -22,5 +22,7 @@ pub mod StoredDriverLaws
 pub mod DrivingLaws
 pub mod FlatLaws
 pub mod CodeLaws
+pub mod SignalLaws
+pub mod RecursionLaws
 pub mod DepthLaws
 pub mod InputLaws

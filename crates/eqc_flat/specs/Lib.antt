@@ -6,6 +6,7 @@ pub mod Codes
 pub mod Evaluating
 pub mod Flattened
 pub mod ValueLaws
+pub mod HierarchyLaws
 pub mod Reaching
 pub mod Searching
 pub mod NameSets
