@@ -10,7 +10,7 @@ use crate::build::plan::last_uses;
 use crate::build::table::{Tables, empty_table, give_back_all, put, reference_at, release};
 use crate::cover::cover_diagram;
 use crate::pairing::matched_pair::{Pair, recall_laws};
-use eqc_flat::{Driver, Flat};
+use eqc_flat::{Driver, Flat, Signals};
 use eqc_tree::{Diagrams, References, Stop};
 use std::alloc::{AllocError, Global};
 
@@ -18,15 +18,15 @@ use std::alloc::{AllocError, Global};
 fn references<'a, X>(
     alloc: Global,
     table: &'a [Option<X>],
-    signals: &[u32],
+    signals: &Signals<'_>,
 ) -> Result<Vec<&'a X>, AllocError>
     requires within { (k : ℕ) → k < length signals.now → slice_index signals.now k < length table.now }
     requires ready { AreReady table.now signals.now }
     ensures { IfOk result (λ found. map (λ r. Some r.now) found.items ≡ map (reference_of table.now) signals.now) }
 {
     let mut found = Vec::new(alloc);
-    for s in signals {
-        found.push(reference_at(table, *s))?;
+    for k in 0..signals.len() {
+        found.push(reference_at(table, signals.get(k)))?;
     }
     Ok(found)
 }
@@ -52,13 +52,13 @@ fn driver_diagram<R, D: Diagrams<R>>(
 {
     recall_laws(flat);
     match flat.driver(s) {
-        Driver::Input(position) => d.literal(rt, variables[*position as usize]),
-        Driver::Tie(other) => d.copy(reference_at(table, *other)),
+        Driver::Input(position) => d.literal(rt, variables[position as usize]),
+        Driver::Tie(other) => d.copy(reference_at(table, other)),
         Driver::Cover { columns, rows } => {
-            let Ok(columns) = references(alloc, table, columns) else {
+            let Ok(columns) = references(alloc, table, &columns) else {
                 return Err(Stop::Memory);
             };
-            cover_diagram(alloc, rt, d, &columns, flat.rows(*rows))
+            cover_diagram(alloc, rt, d, &columns, flat.rows(rows))
         }
     }
 }
@@ -124,7 +124,7 @@ pub(crate) fn build<R, D: Diagrams<R>>(
                 }
             }
             let uses = flat.driver(s).dependencies();
-            release(d, &mut table, &last, uses, k as u32 + 1);
+            release(d, &mut table, &last, &uses, k as u32 + 1);
         }
     }
     Ok(table)

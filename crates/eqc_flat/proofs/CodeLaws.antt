@@ -9,10 +9,10 @@ use Rattle.eqc_flat.specs.Codes.{is_too_large, has_many_inputs, is_driven_twice,
 use Rattle.eqc_flat.specs.Graph.{DriverOf}
 use Rattle.eqc_flat.specs.Hierarchy.{model, paths}
 use Rattle.eqc_flat.specs.Searching.{IsClosed}
-use Rattle.eqc_flat.specs.Filling.{IsDriven, IsDriverFault}
+use Rattle.eqc_flat.specs.DriverTable.{IsDriven, IsDriverFault}
 use Rattle.eqc_flat.specs.Ordering.{signal_deps, IsOrder, IsCircular}
 use Rattle.eqc_flat.proofs.Distinct.{Member}
-use Rattle.eqc_flat.proofs.FillingLaws.{not_driven_twice, not_undriven}
+use Rattle.eqc_flat.proofs.DriverTableLaws.{not_driven_twice, not_undriven}
 use Rattle.eqc_flat.proofs.FlatLaws.{are_sourced, in_order_not_cyclic, circular_cyclic}
 use Rattle.eqc_flat.specs.ModelFaults.{HasNoModelFault}
 

@@ -11,13 +11,16 @@ use Rattle.eqc_blif.specs.Netlist.{ModelOf, InstanceOf, CoverOf, no_model}
 use Rattle.eqc_blif.specs.Names.{is_named}
 use Rattle.eqc_flat.specs.Graph.{DriverOf, cover, IsWithinSizes}
 use Rattle.eqc_flat.specs.Hierarchy.{model, model_at, paths}
-use Rattle.eqc_flat.specs.Signals.{from_input, from_signal, from_cover, Driving, signals, input_drivings, cover_driving, pair_driving, instance_drivings, drivings_at, drivings}
-use Rattle.eqc_flat.specs.Flattened.{path_at, model_of, signal_at, signals_here, source_of}
-use Rattle.eqc_flat.specs.Filling.{all_rows, IsFilled}
-use Rattle.eqc_flat.specs.Drivers.{driver_of}
-use Rattle.eqc_flat.specs.declared.driver.Driver.{Driver}
-use Rattle.eqc_flat.proofs.FillingLaws.{filled_free, filled_again}
-use Rattle.eqc_flat.proofs.NamingLaws.{no_instance}
+use Rattle.eqc_flat.specs.Signals.{from_input, from_signal, from_cover, Driving, names_of, signals, input_drivings, cover_driving, pair_driving, instance_drivings, drivings_at, drivings}
+use Rattle.eqc_flat.specs.Flattened.{path_at, model_of, first_signal, signal_at, signals_here, source_of}
+use Rattle.eqc_flat.specs.RowTable.{all_rows}
+use Rattle.eqc_flat.specs.DriverTable.{IsFilled}
+use Rattle.eqc_flat.specs.NameSets.{place_in}
+use Rattle.eqc_flat.specs.StoredDrivers.{places_in, driver_from}
+use Rattle.eqc_flat.specs.declared.stored_driver.StoredDriver.{StoredDriver}
+use Rattle.eqc_flat.proofs.DriverTableLaws.{filled_free, filled_again}
+use Rattle.eqc_flat.proofs.NamingLaws.{no_instance, found_first, named_at}
+use Rattle.eqc_flat.proofs.ExpandedLaws.{signal_is, signal_within}
 
 abbrev pub no_driving : Driving
 no_driving = (record { path = []; name = [] }, from_input 0)
@@ -95,24 +98,24 @@ within_more n s all now h here grown k inside = rw grown (elim (cases_lt k (leng
   | inr new ↦ (let size : length now ≡ length all + 1 = ap length grown ∙ length_push all s in let last : length all ≡ k = omega (arith, size, inside, new) in let same : get_or (all ++ s ∷ []) k 0 ≡ s = get_or_push all s 0 k last in rw same here)
 ])
 
-slot_none : (slots : List (Option Driver)) (t : ℕ) (o : Option Driver) → t < length slots → o ≡ get_or slots t o → is_some o ≡ false → slice_index_or (map (option_map driver_of) slots) t None ≡ None
-slot_none slots t None inside read e = get_or-map (option_map driver_of) slots t None None inside ∙ ap (option_map driver_of) (sym read)
-slot_none slots t (Some x) inside read e = absurd (true≢false e)
+slot_none : (columns : List (List ℕ)) (slots : List (Option StoredDriver)) (t : ℕ) (o : Option StoredDriver) → t < length slots → o ≡ get_or slots t o → is_some o ≡ false → slice_index_or (map (option_map (driver_from columns)) slots) t None ≡ None
+slot_none columns slots t None inside read e = get_or-map (option_map (driver_from columns)) slots t None None inside ∙ ap (option_map (driver_from columns)) (sym read)
+slot_none columns slots t (Some x) inside read e = absurd (true≢false e)
 
-slot_some : (slots : List (Option Driver)) (t : ℕ) (o : Option Driver) → t < length slots → o ≡ get_or slots t o → is_some o ≡ true → (old : DriverOf) × (slice_index_or (map (option_map driver_of) slots) t None ≡ Some old)
-slot_some slots t None inside read e = absurd (true≢false (sym e))
-slot_some slots t (Some x) inside read e = (driver_of x, get_or-map (option_map driver_of) slots t (Some x) None inside ∙ ap (option_map driver_of) (sym read))
+slot_some : (columns : List (List ℕ)) (slots : List (Option StoredDriver)) (t : ℕ) (o : Option StoredDriver) → t < length slots → o ≡ get_or slots t o → is_some o ≡ true → (old : DriverOf) × (slice_index_or (map (option_map (driver_from columns)) slots) t None ≡ Some old)
+slot_some columns slots t None inside read e = absurd (true≢false (sym e))
+slot_some columns slots t (Some x) inside read e = (driver_from columns x, get_or-map (option_map (driver_from columns)) slots t (Some x) None inside ∙ ap (option_map (driver_from columns)) (sym read))
 
 -- a driver for a signal whose slot is taken
-pub drive_taken : (library : List ModelOf) (top : ℕ) (slots : List (Option Driver)) (twice : Bool) (done : List Driving) (t : ℕ) (o : Option Driver) (d : Driving) → IsFilled library top (map (option_map driver_of) slots) twice done → t < length slots → o ≡ get_or slots t o → is_some o ≡ true → d.0 ≡ signal_at library top t → IsFilled library top (map (option_map driver_of) slots) true (done ++ d ∷ [])
-drive_taken library top slots twice done t o d h inside read e target =
-    let (old, taken) = slot_some slots t o inside read e in
-    filled_again library top (map (option_map driver_of) slots) twice done t old d h (omega (arith, length-map slots (option_map driver_of), inside)) taken target
+pub drive_taken : (library : List ModelOf) (top : ℕ) (columns : List (List ℕ)) (slots : List (Option StoredDriver)) (twice : Bool) (done : List Driving) (t : ℕ) (o : Option StoredDriver) (d : Driving) → IsFilled library top (map (option_map (driver_from columns)) slots) twice done → t < length slots → o ≡ get_or slots t o → is_some o ≡ true → d.0 ≡ signal_at library top t → IsFilled library top (map (option_map (driver_from columns)) slots) true (done ++ d ∷ [])
+drive_taken library top columns slots twice done t o d h inside read e target =
+    let (old, taken) = slot_some columns slots t o inside read e in
+    filled_again library top (map (option_map (driver_from columns)) slots) twice done t old d h (omega (arith, length-map slots (option_map (driver_from columns)), inside)) taken target
 
 -- a driver for a signal whose slot is free
-pub drive_free : (library : List ModelOf) (top : ℕ) (slots : List (Option Driver)) (twice : Bool) (done : List Driving) (t : ℕ) (o : Option Driver) (driver : Driver) (d : Driving) → IsFilled library top (map (option_map driver_of) slots) twice done → t < length slots → o ≡ get_or slots t o → is_some o ≡ false → d.0 ≡ signal_at library top t → d.1 ≡ source_of (signal_at library top) (all_rows library) (driver_of driver) → IsWithinSizes (length (model library top).inputs) (length (signals library top)) (length (all_rows library)) (driver_of driver) → IsFilled library top (map (option_map driver_of) (set slots t (Some driver))) twice (done ++ d ∷ [])
-drive_free library top slots twice done t o driver d h inside read e target source small =
-    rw (map-set (option_map driver_of) slots t (Some driver)) (filled_free library top (map (option_map driver_of) slots) twice done t (driver_of driver) d h (omega (arith, length-map slots (option_map driver_of), inside)) (slot_none slots t o inside read e) target source small)
+pub drive_free : (library : List ModelOf) (top : ℕ) (columns : List (List ℕ)) (slots : List (Option StoredDriver)) (twice : Bool) (done : List Driving) (t : ℕ) (o : Option StoredDriver) (driver : StoredDriver) (d : Driving) → IsFilled library top (map (option_map (driver_from columns)) slots) twice done → t < length slots → o ≡ get_or slots t o → is_some o ≡ false → d.0 ≡ signal_at library top t → d.1 ≡ source_of (signal_at library top) (all_rows library) (driver_from columns driver) → IsWithinSizes (length (model library top).inputs) (length (signals library top)) (length (all_rows library)) (driver_from columns driver) → IsFilled library top (map (option_map (driver_from columns)) (set slots t (Some driver))) twice (done ++ d ∷ [])
+drive_free library top columns slots twice done t o driver d h inside read e target source small =
+    rw (map-set (option_map (driver_from columns)) slots t (Some driver)) (filled_free library top (map (option_map (driver_from columns)) slots) twice done t (driver_from columns driver) d h (omega (arith, length-map slots (option_map (driver_from columns)), inside)) (slot_none columns slots t o inside read e) target source small)
 
 -- the covers of an instance's model, read from the library by its number
 pub covers_of : (library read : List ModelOf) (top i m : ℕ) (covers : List CoverOf) → read ≡ library → m ≡ model_at library top (path_at library top i) → covers ≡ (model read m).covers → covers ≡ (model_of library top i).covers
@@ -126,13 +129,31 @@ cover_there library m k h = elim (cases_lt m (length library)) [
 ]
 
 -- empty slots, and slots that are all taken, as slots of drivers of the graph
-pub none_mapped : (n : ℕ) → map (option_map driver_of) (replicate {A = Option Driver} n None) ≡ replicate {A = Option DriverOf} n None
-none_mapped zero = refl
-none_mapped (suc n) = ap (λ xs. None ∷ xs) (none_mapped n)
+pub none_mapped : (columns : List (List ℕ)) (n : ℕ) → map (option_map (driver_from columns)) (replicate {A = Option StoredDriver} n None) ≡ replicate {A = Option DriverOf} n None
+none_mapped columns zero = refl
+none_mapped columns (suc n) = ap (λ xs. None ∷ xs) (none_mapped columns n)
 
-pub some_mapped : (drivers : List Driver) → map (option_map driver_of) (map {B = Option Driver} (λ (d : Driver). Some d) drivers) ≡ map {B = Option DriverOf} (λ (d : DriverOf). Some d) (map driver_of drivers)
-some_mapped [] = refl
-some_mapped (d ∷ drivers) = ap (λ xs. Some (driver_of d) ∷ xs) (some_mapped drivers)
+pub some_mapped : (columns : List (List ℕ)) (drivers : List StoredDriver) → map (option_map (driver_from columns)) (map {B = Option StoredDriver} (λ (d : StoredDriver). Some d) drivers) ≡ map {B = Option DriverOf} (λ (d : DriverOf). Some d) (map (driver_from columns) drivers)
+some_mapped columns [] = refl
+some_mapped columns (d ∷ drivers) = ap (λ xs. Some (driver_from columns d) ∷ xs) (some_mapped columns drivers)
 
-pub slot_empty : (slots : List (Option Driver)) (s : ℕ) → s < length slots → slice_index_or slots s None ≡ None → slice_index_or (map (option_map driver_of) slots) s None ≡ None
-slot_empty slots s inside free = get_or-map (option_map driver_of) slots s None None inside ∙ ap (option_map driver_of) free
+pub slot_empty : (columns : List (List ℕ)) (slots : List (Option StoredDriver)) (s : ℕ) → s < length slots → slice_index_or slots s None ≡ None → slice_index_or (map (option_map (driver_from columns)) slots) s None ≡ None
+slot_empty columns slots s inside free = get_or-map (option_map (driver_from columns)) slots s None None inside ∙ ap (option_map (driver_from columns)) free
+
+-- the columns of a cover, by their places among the names of its model, are its signals in an instance
+pub column_signals : (library : List ModelOf) (top i n : ℕ) (columns : List (List ℕ)) → i < length (paths library top) → n ≡ first_signal library top i → ((j : ℕ) → j < length columns → is_named (names_of (model_of library top i)) (slice_index_or columns j []) ≡ true) → map (signal_at library top) (map (λ p. n + p) (places_in (names_of (model_of library top i)) columns)) ≡ signals_here library top i columns
+column_signals library top i n [] inside first named = refl
+column_signals library top i n (x ∷ columns) inside first named =
+    let names = names_of (model_of library top i) in
+    let there = found_first names x (named 0 (omega arith)) in
+    let here : signal_at library top (n + place_in names x) ≡ record { path = path_at library top i; name = x } = signal_is library top i n (place_in names x) x inside first there (named_at names x (place_in names x) refl there) in
+    let others = column_signals library top i n columns inside first (λ j h. named (suc j) (omega (arith, h))) in
+    ap (λ s. s ∷ map (signal_at library top) (map (λ p. n + p) (places_in names columns))) here ∙ ap (λ ss. record { path = path_at library top i; name = x } ∷ ss) others
+
+-- and they are among the signals
+pub columns_inside : (library : List ModelOf) (top i n : ℕ) (columns : List (List ℕ)) → i < length (paths library top) → n ≡ first_signal library top i → ((j : ℕ) → j < length columns → is_named (names_of (model_of library top i)) (slice_index_or columns j []) ≡ true) → (k : ℕ) → k < length (map (λ p. n + p) (places_in (names_of (model_of library top i)) columns)) → slice_index_or (map (λ p. n + p) (places_in (names_of (model_of library top i)) columns)) k 0 < length (signals library top)
+columns_inside library top i n [] inside first named k h = absurd (omega (arith, h))
+columns_inside library top i n (x ∷ columns) inside first named zero h =
+    let names = names_of (model_of library top i) in
+    signal_within library top i n (place_in names x) inside first (found_first names x (named 0 (omega arith)))
+columns_inside library top i n (x ∷ columns) inside first named (suc k) h = columns_inside library top i n columns inside first (λ j l. named (suc j) (omega (arith, l))) k (omega (arith, h))

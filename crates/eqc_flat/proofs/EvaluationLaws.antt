@@ -6,7 +6,8 @@ use Rattle.std.proofs.lemmas.Bool.{cases_eq, and_parts, true≢false}
 use Rattle.std.proofs.Math.ListN.{length-set}
 use Rattle.eqc_blif.specs.Cover.{cover_value, row_matches}
 use Rattle.eqc_flat.specs.Graph.{FlatOf, IsFlat, DriverOf, input, tie, cover, driver_at, dependencies, driven, value_of, FollowsDrivers, among, in_order}
-use Rattle.eqc_flat.specs.Evaluating.{values_of, AreKnown}
+use Rattle.eqc_flat.specs.Evaluating.{values_of}
+use Rattle.eqc_flat.specs.Known.{AreKnown}
 use Rattle.eqc_flat.proofs.Depth.{among_cases}
 use Rattle.eqc_flat.proofs.Orders.{all_among}
 use Rattle.eqc_flat.proofs.Members.{among_at, at_among}

@@ -1,10 +1,10 @@
 -- What is read off a hierarchy whose instances were all found.
-use Rattle.std.proofs.Common.{◌≡◌, ℕ, suc, ◌+◌, ◌<◌, inl, inr, Bool, true, false, not, ◌||◌, List, [], ◌∷◌, ◌++◌, length, map, take, get_or, refl, sym, ◌∙◌, ap, arith, nat_lt, if◌then◌else◌}
+use Rattle.std.proofs.Common.{◌≡◌, ℕ, suc, ◌+◌, ◌<◌, ◌≤◌, inl, inr, Bool, true, false, not, ◌||◌, List, [], ◌∷◌, ◌++◌, length, map, take, drop, get_or, refl, sym, ◌∙◌, ap, arith, nat_lt, if◌then◌else◌}
 use Rattle.std.specs.Prelude.{slice_index_or, filter}
 use Rattle.std.specs.List.{flat_map, list_any, position_or_len, range_with_len}
 use Rattle.std.specs.Str.{bytes_eq}
 use Rattle.std.proofs.lemmas.Bool.{true≢false, cases_lt, lt-ltb, le-ltb}
-use Rattle.std.proofs.lemmas.List.{ext_get_or, map-append, append_assoc, append-nil, take_more, map-id}
+use Rattle.std.proofs.lemmas.List.{ext_get_or, take-append-drop, length-append, map-append, append_assoc, append-nil, take_more, map-id}
 use Rattle.std.proofs.lemmas.List.FromFn.{get_or-map-range_with_len, length-map-range_with_len, map-range_with_len_more}
 use Rattle.std.proofs.lemmas.Grind.{flat_map-append}
 use Rattle.eqc_blif.specs.Netlist.{ModelOf, no_model}
@@ -12,7 +12,7 @@ use Rattle.eqc_blif.specs.Names.{is_named, has_twice}
 use Rattle.eqc_flat.specs.Hierarchy.{model, callees, paths}
 use Rattle.eqc_flat.specs.Graph.{ends_within}
 use Rattle.eqc_flat.specs.Codes.{is_recursive}
-use Rattle.eqc_flat.specs.Filling.{rows_of, IsRowTable}
+use Rattle.eqc_flat.specs.RowTable.{rows_of, IsRowTable}
 use Rattle.eqc_flat.specs.Signals.{once_each, cover_names, actuals, names_of, signals_at, signals}
 use Rattle.eqc_flat.specs.Flattened.{path_at, model_of, signal_at, first_signal, named_here, all_named}
 use Rattle.eqc_flat.specs.Instances.{IsGrowing}
@@ -135,3 +135,12 @@ pub range_more : {X : Type 0} (f : ℕ → List X) (k : ℕ) → flat_map f (ran
 range_more f k =
     ap (flat_map f) (sym (map-id (range_with_len 0 (k + 1))) ∙ (map-range_with_len_more (λ (i : ℕ). i) 0 k k (omega arith) ∙ ap (λ xs. xs ++ k ∷ []) (map-id (range_with_len 0 k))))
     ∙ (flat_map-append f (range_with_len 0 k) (k ∷ []) ∙ ap (λ xs. flat_map f (range_with_len 0 k) ++ xs) (append-nil (f k)))
+
+-- the first signal of an instance is at most as far as there are signals
+pub first_most : (library : List ModelOf) (top i : ℕ) → first_signal library top i ≤ length (signals library top)
+unfolding signals
+first_most library top i =
+    let f = signals_at library top in
+    let all = paths library top in
+    let whole : flat_map f all ≡ flat_map f (take i all) ++ flat_map f (drop i all) = ap (flat_map f) (sym (take-append-drop i all)) ∙ flat_map-append f (take i all) (drop i all) in
+    omega (arith, ap length whole, length-append (flat_map f (take i all)) (flat_map f (drop i all)))

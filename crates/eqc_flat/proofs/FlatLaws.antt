@@ -1,5 +1,5 @@
 -- The flat netlist put together from its parts keeps what flat netlists keep, and is that of its hierarchy.
-use Rattle.std.proofs.Common.{◌≡◌, ℕ, zero, suc, ◌+◌, ◌<◌, ◌≤◌, inl, inr, true, false, List, [], ◌∷◌, length, map, get_or, refl, sym, ◌∙◌, ap, subst, arith, Some, None}
+use Rattle.std.proofs.Common.{◌≡◌, ℕ, zero, suc, ◌+◌, ◌-◌, ◌<◌, ◌≤◌, inl, inr, true, false, List, [], ◌∷◌, length, map, get_or, refl, sym, ◌∙◌, ap, subst, arith, Some, None}
 use Rattle.std.specs.Prelude.{slice_index_or}
 use Rattle.std.specs.List.{range_with_len}
 use Rattle.std.proofs.lemmas.List.{length-map, get_or-map}
@@ -9,7 +9,8 @@ use Rattle.eqc_flat.specs.Graph.{DriverOf, input, tie, cover, dependencies, ends
 use Rattle.eqc_flat.specs.Hierarchy.{model, paths}
 use Rattle.eqc_flat.specs.Signals.{SignalOf, signals}
 use Rattle.eqc_flat.specs.Flattened.{no_signal, path_at, signal_at, signals_here, named_here, all_named, IsFlatOf}
-use Rattle.eqc_flat.specs.Filling.{all_rows, IsDriven}
+use Rattle.eqc_flat.specs.RowTable.{all_rows}
+use Rattle.eqc_flat.specs.DriverTable.{IsDriven}
 use Rattle.eqc_flat.specs.Ordering.{signal_deps, IsOrder, IsCircular}
 use Rattle.eqc_flat.specs.Flattening.{put_together}
 use Rattle.eqc_flat.specs.Instances.{IsExpanded}
@@ -17,7 +18,7 @@ use Rattle.eqc_flat.proofs.InstanceLaws.{found_signals}
 use Rattle.eqc_flat.specs.Codes.{is_cyclic}
 use Rattle.eqc_flat.proofs.Distinct.{Member, member_get, all_pieces, member_of_map}
 use Rattle.eqc_flat.proofs.Depth.{ordered_ends}
-use Rattle.eqc_flat.proofs.FillingLaws.{sourced}
+use Rattle.eqc_flat.proofs.DriverTableLaws.{sourced}
 use Rattle.eqc_flat.proofs.ExpandedLaws.{signals_named}
 use Rattle.eqc_flat.proofs.HierarchyValues.{IsSourced, not_cyclic, cyclic, output_there}
 
@@ -75,34 +76,6 @@ in_order_not_cyclic library top drivers steps h o = not_cyclic library top (put_
 pub circular_cyclic : (library : List ModelOf) (top : ℕ) (drivers : List DriverOf) → IsDriven library top drivers → IsCircular drivers → is_cyclic library top ≡ true
 circular_cyclic library top drivers h (s, inside, never) = cyclic library top (put_together library top [] [] [] drivers []) (are_sourced library top [] [] [] drivers [] h) s inside never
 
--- the parts make a flat netlist
-pub parts_flat : (library : List ModelOf) (top : ℕ) (output_signals : List ℕ) (named : List (ℕ × List ℕ)) (places : List (ℕ × ℕ)) (drivers : List DriverOf) (steps : List ℕ) → IsParts library top output_signals named places drivers steps → IsFlat (put_together library top output_signals named places drivers steps)
-parts_flat library top output_signals named places drivers steps h = record {
-  few_inputs = h.few_inputs;
-  few_signals = omega (arith, size, h.few_signals);
-  each_named = ap length h.named_all ∙ (sym (ap length (signals_named library top) ∙ length-map (all_named library top) (λ (s : ℕ × List ℕ). record { path = path_at library top s.0; name = s.1 })) ∙ sym size);
-  each_output = outputs;
-  inputs_differ = h.inputs_once;
-  outputs_differ = h.outputs_once;
-  outputs_within = λ o inside. let less = h.outputs_within o (omega (arith, inside, outputs)) in omega (arith, less, size);
-  drivers_within = λ s inside. let P : ℕ → Type 0 = λ n. IsWithinSizes (length (model library top).inputs) n (length (all_rows library)) (slice_index_or drivers s (input 0)) in subst P (sym size) (driver_within library top drivers s h.driven inside);
-  steps_within = h.ordered.within;
-  ordered = h.ordered.ordered;
-  each_step = h.ordered.each;
-  step_count = h.ordered.count;
-  once = h.ordered.once;
-}
-  where
-    size : length drivers ≡ length (signals library top)
-    size = driven_size library top drivers h.driven
-
-    outputs : length output_signals ≡ length (model library top).outputs
-    outputs = sym (length-map output_signals (signal_at library top)) ∙ (ap length h.outputs_of ∙ length-map (model library top).outputs (λ (name : List ℕ). record { path = path_at library top 0; name = name }))
-
--- signals of names of the main model
-main_signals : (library : List ModelOf) (top : ℕ) (names : List (List ℕ)) → path_at library top 0 ≡ [] → signals_here library top 0 names ≡ map (λ name. record { path = []; name = name }) names
-main_signals library top names root = ap (λ (p : List ℕ). map (λ (name : List ℕ). record { path = p; name = name }) names) root
-
 -- each named signal is of an instance that is there
 named_in : (library : List ModelOf) (top : ℕ) (s : ℕ × List ℕ) → Member s (all_named library top) → s.0 < length (paths library top)
 named_in library top s h = all_pieces (λ t. t.0 < length (paths library top)) (named_here library top) (range_with_len 0 (length (paths library top))) each s h
@@ -119,6 +92,42 @@ named_in library top s h = all_pieces (λ t. t.0 < length (paths library top)) (
         let number : i ≡ t.0 = ap (λ (p : ℕ × List ℕ). p.0) same in
         omega (arith, less, number)
 
+-- the instance of each signal is there
+instances_there : (library : List ModelOf) (top : ℕ) (output_signals : List ℕ) (named : List (ℕ × List ℕ)) (places : List (ℕ × ℕ)) (drivers : List DriverOf) (steps : List ℕ) → IsParts library top output_signals named places drivers steps → (s : ℕ) → s < length named → (slice_index_or named s (0, [])).0 ≤ length places
+instances_there library top output_signals named places drivers steps h s inside =
+    let here : (slice_index_or named s (0, [])).0 < length (paths library top) = named_in library top (slice_index_or named s (0, [])) (let P : List (ℕ × List ℕ) → Type 0 = λ l. Member (slice_index_or named s (0, [])) l in subst P h.named_all (member_get named s (0, []) inside)) in
+    omega (arith, here, ap length h.placed, length-map places (λ (place : ℕ × ℕ). place.1 ∷ path_at library top place.0))
+
+-- the parts make a flat netlist
+pub parts_flat : (library : List ModelOf) (top : ℕ) (output_signals : List ℕ) (named : List (ℕ × List ℕ)) (places : List (ℕ × ℕ)) (drivers : List DriverOf) (steps : List ℕ) → IsParts library top output_signals named places drivers steps → IsFlat (put_together library top output_signals named places drivers steps)
+parts_flat library top output_signals named places drivers steps h = record {
+  few_inputs = h.few_inputs;
+  few_signals = omega (arith, size, h.few_signals);
+  each_named = ap length h.named_all ∙ (sym (ap length (signals_named library top) ∙ length-map (all_named library top) (λ (s : ℕ × List ℕ). record { path = path_at library top s.0; name = s.1 })) ∙ sym size);
+  each_output = outputs;
+  inputs_differ = h.inputs_once;
+  outputs_differ = h.outputs_once;
+  outputs_within = λ o inside. let less = h.outputs_within o (omega (arith, inside, outputs)) in omega (arith, less, size);
+  drivers_within = λ s inside. let P : ℕ → Type 0 = λ n. IsWithinSizes (length (model library top).inputs) n (length (all_rows library)) (slice_index_or drivers s (input 0)) in subst P (sym size) (driver_within library top drivers s h.driven inside);
+  steps_within = h.ordered.within;
+  instances_within = instances_there library top output_signals named places drivers steps h;
+  parents_before = λ i some there. let before = h.parents (i - 1) (omega (arith, some, there)) in omega (arith, before, some);
+  ordered = h.ordered.ordered;
+  each_step = h.ordered.each;
+  step_count = h.ordered.count;
+  once = h.ordered.once;
+}
+  where
+    size : length drivers ≡ length (signals library top)
+    size = driven_size library top drivers h.driven
+
+    outputs : length output_signals ≡ length (model library top).outputs
+    outputs = sym (length-map output_signals (signal_at library top)) ∙ (ap length h.outputs_of ∙ length-map (model library top).outputs (λ (name : List ℕ). record { path = path_at library top 0; name = name }))
+
+-- signals of names of the main model
+main_signals : (library : List ModelOf) (top : ℕ) (names : List (List ℕ)) → path_at library top 0 ≡ [] → signals_here library top 0 names ≡ map (λ name. record { path = []; name = name }) names
+main_signals library top names root = ap (λ (p : List ℕ). map (λ (name : List ℕ). record { path = p; name = name }) names) root
+
 -- the parts make the flat netlist of their hierarchy
 pub parts_flat_of : (library : List ModelOf) (top : ℕ) (output_signals : List ℕ) (named : List (ℕ × List ℕ)) (places : List (ℕ × ℕ)) (drivers : List DriverOf) (steps : List ℕ) → IsParts library top output_signals named places drivers steps → IsFlatOf library top (put_together library top output_signals named places drivers steps)
 parts_flat_of library top output_signals named places drivers steps h = record {
@@ -128,9 +137,7 @@ parts_flat_of library top output_signals named places drivers steps h = record {
   placed = h.placed;
   parents = h.parents;
   named = signals_named library top ∙ ap (map (λ (s : ℕ × List ℕ). record { path = path_at library top s.0; name = s.1 })) (sym h.named_all);
-  named_within = λ s inside.
-      let here : (slice_index_or named s (0, [])).0 < length (paths library top) = named_in library top (slice_index_or named s (0, [])) (let P : List (ℕ × List ℕ) → Type 0 = λ l. Member (slice_index_or named s (0, [])) l in subst P h.named_all (member_get named s (0, []) inside)) in
-      omega (arith, here, ap length h.placed, length-map places (λ (place : ℕ × ℕ). place.1 ∷ path_at library top place.0));
+  named_within = instances_there library top output_signals named places drivers steps h;
   sourced = (are_sourced library top output_signals named places drivers steps h.driven).sourced;
   values = λ a o inside.
       let from : o < length output_signals = omega (arith, inside, ap length main, length-map output_signals (signal_at library top), length-map {B = SignalOf} (model library top).outputs (λ (name : List ℕ). record { path = []; name = name })) in

@@ -14,12 +14,15 @@ pub mod PathLaws
 pub mod NumberLaws
 pub mod HierarchyValues
 pub mod InstanceLaws
-pub mod FillingLaws
+pub mod DriverTableLaws
 pub mod NamingLaws
 pub mod ExpandedLaws
 pub mod OrderLaws
+pub mod StoredDriverLaws
 pub mod DrivingLaws
 pub mod FlatLaws
 pub mod CodeLaws
+pub mod SignalLaws
+pub mod RecursionLaws
 pub mod DepthLaws
 pub mod InputLaws

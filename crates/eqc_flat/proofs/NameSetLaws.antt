@@ -9,8 +9,9 @@ use Rattle.std.proofs.lemmas.List.Sums.{fold-append}
 use Rattle.std.proofs.lemmas.List.Elements.{filter-append}
 use Rattle.std.proofs.lemmas.Bool.{cases_eq, cases_lt, and_parts, or_parts, or_cases, ne_eqb, eq-eqb, eqb-true, true≢false, false≢true, lt-ltb, le-ltb}
 use Rattle.eqc_blif.specs.Names.{is_named, has_twice}
-use Rattle.eqc_blif.specs.Netlist.{ModelOf}
-use Rattle.eqc_flat.specs.NameSets.{with_name}
+use Rattle.eqc_blif.specs.Netlist.{ModelOf, CoverOf}
+use Rattle.eqc_flat.specs.NameSets.{with_name, place_in}
+use Rattle.eqc_flat.specs.StoredDrivers.{places_in, columns_in}
 use Rattle.eqc_flat.specs.Signals.{once_each, cover_names, actuals, names_of}
 
 -- the bytes of slices
@@ -289,3 +290,102 @@ some_other f names xs i x has inside here e absent =
 -- names that are put in after others
 pub ports_made : (inputs outputs a b : List (List ℕ)) → a ≡ fold with_name [] inputs → b ≡ fold with_name a outputs → b ≡ once_each (inputs ++ outputs)
 ports_made inputs outputs a b ea eb = eb ∙ (ap (λ l. fold with_name l outputs) ea ∙ (sym (fold-append with_name [] inputs outputs) ∙ fold_once (inputs ++ outputs)))
+
+-- ---- where a name stands
+
+-- a place in names is the same with more names behind
+place_before : (names more : List (List ℕ)) (name : List ℕ) → is_named names name ≡ true → place_in (names ++ more) name ≡ place_in names name
+place_before [] more name e = absurd (true≢false (sym e))
+place_before (x ∷ names) more name e = by (bytes_eq name x) refl e (place_before names more name)
+  where
+    by : (b : Bool) → bytes_eq name x ≡ b → (b || is_named names name) ≡ true → (is_named names name ≡ true → place_in (names ++ more) name ≡ place_in names name) → place_in ((x ∷ names) ++ more) name ≡ place_in (x ∷ names) name
+    by true h e rest = rw h refl
+    by false h e rest = rw (h, rest e) refl
+
+bytes_self : (xs : List ℕ) → bytes_eq xs xs ≡ true
+bytes_self [] = refl
+bytes_self (x ∷ xs) = rw (eq-eqb x x refl, bytes_self xs) refl
+
+-- a name that is put at the end stands where it was looked for
+place_behind : (names : List (List ℕ)) (name : List ℕ) → place_in (names ++ name ∷ []) name ≡ place_in names name
+place_behind [] name = rw (bytes_self name) refl
+place_behind (x ∷ names) name = ap (λ n. cond (not (bytes_eq name x)) (1 + n) 0) (place_behind names name)
+
+-- a name that is put in stands where it was looked for
+place_put : (names : List (List ℕ)) (name : List ℕ) → place_in (with_name names name) name ≡ place_in names name
+place_put names name = by (is_named names name) refl
+  where
+    by : (b : Bool) → is_named names name ≡ b → place_in (with_name names name) name ≡ place_in names name
+    by true e = rw e refl
+    by false e = rw e (place_behind names name)
+
+named_put : (names : List (List ℕ)) (name : List ℕ) → is_named (with_name names name) name ≡ true
+named_put names name = by (is_named names name) refl
+  where
+    or_true : (b : Bool) → (b || true) ≡ true
+    or_true true = refl
+    or_true false = refl
+
+    by : (b : Bool) → is_named names name ≡ b → is_named (with_name names name) name ≡ true
+    by true e = rw e e
+    by false e = rw (e, named_append names (name ∷ []) name, bytes_self name) (or_true (is_named names name))
+
+-- and stays there, whatever is put in later
+place_stays : (names later : List (List ℕ)) (name : List ℕ) → is_named names name ≡ true → place_in (fold with_name names later) name ≡ place_in names name
+place_stays names [] name e = refl
+place_stays names (x ∷ later) name e = by (is_named names x) refl (place_stays names later name e) (place_stays (names ++ x ∷ []) later name (named_append names (x ∷ []) name ∙ or_here (is_named names name) (is_named (x ∷ []) name) e))
+  where
+    or_here : (a b : Bool) → a ≡ true → (a || b) ≡ true
+    or_here true b h = refl
+    or_here false b h = absurd (true≢false (sym h))
+
+    by : (b : Bool) → is_named names x ≡ b → place_in (fold with_name names later) name ≡ place_in names name → place_in (fold with_name (names ++ x ∷ []) later) name ≡ place_in (names ++ x ∷ []) name → place_in (fold with_name (with_name names x) later) name ≡ place_in names name
+    by true h same more = ap (λ ns. place_in (fold with_name ns later) name) (let kept : with_name names x ≡ names = rw h refl in kept) ∙ same
+    by false h same more = ap (λ ns. place_in (fold with_name ns later) name) (with_new names x h) ∙ (more ∙ place_before names (x ∷ []) name e)
+
+-- the place at which a slice is put in
+pub place_kept : (keys new : List (Bor (List ℕ))) (name : Bor (List ℕ)) (place : ℕ) (later : List (List ℕ)) → place ≡ position_or_len (λ (key : Bor (List ℕ)). bytes_eq name.now key.now) keys → bytes_in new ≡ with_name (bytes_in keys) name.now → place ≡ place_in (fold with_name (bytes_in new) later) name.now
+place_kept keys new name place later at put =
+    at
+    ∙ (sym (first_mapped (λ other. bytes_eq name.now other) (λ (key : Bor (List ℕ)). key.now) keys)
+    ∙ (sym (place_put (bytes_in keys) name.now)
+    ∙ (sym (place_stays (with_name (bytes_in keys) name.now) later name.now (named_put (bytes_in keys) name.now))
+    ∙ ap (λ ns. place_in (fold with_name ns later) name.now) (sym put))))
+
+-- ---- the places of columns
+
+-- one column more
+pub places_more : (names next : List (List ℕ)) (places now : List ℕ) (columns : List (List ℕ)) (k place : ℕ) (column : List ℕ) → k < length columns → column ≡ get_or columns k column → ((later : List (List ℕ)) → places ≡ places_in (fold with_name names later) (take k columns)) → next ≡ with_name names column → ((later : List (List ℕ)) → place ≡ place_in (fold with_name next later) column) → now ≡ places ++ place ∷ [] → (later : List (List ℕ)) → now ≡ places_in (fold with_name next later) (take (k + 1) columns)
+places_more names next places now columns k place column inside read before put here grown = λ later.
+    let all = fold with_name next later in
+    let old : places ≡ places_in all (take k columns) = before (column ∷ later) ∙ ap (λ ns. places_in (fold with_name ns later) (take k columns)) (sym put) in
+    grown
+    ∙ (ap (λ xs. xs ++ place ∷ []) old
+    ∙ (ap (λ n. places_in all (take k columns) ++ n ∷ []) (here later)
+    ∙ (sym (map-append (place_in all) (take k columns) (column ∷ []))
+    ∙ ap (places_in all) (ap (λ x. take k columns ++ x ∷ []) read ∙ sym (take_more columns k column inside)))))
+
+-- one cover more
+pub columns_grown : (names middle next : List (List ℕ)) (before old now : List (List ℕ)) (covers : List CoverOf) (k : ℕ) (cover : CoverOf) (places : List ℕ) → k < length covers → cover ≡ get_or covers k cover → ((later : List (List ℕ)) → old ≡ before ++ columns_in (fold with_name names later) (take k covers)) → middle ≡ fold with_name names cover.columns → ((later : List (List ℕ)) → places ≡ places_in (fold with_name middle later) cover.columns) → next ≡ with_name middle cover.output → now ≡ old ++ places ∷ [] → (later : List (List ℕ)) → now ≡ before ++ columns_in (fold with_name next later) (take (k + 1) covers)
+columns_grown names middle next before old now covers k cover places inside read kept first here put grown = λ later.
+    let all = fold with_name next later in
+    let last : fold with_name middle (cover.output ∷ later) ≡ all = ap (λ ns. fold with_name ns later) (sym put) in
+    let whole : fold with_name names (cover.columns ++ cover.output ∷ later) ≡ all = fold-append with_name names cover.columns (cover.output ∷ later) ∙ (ap (λ ns. fold with_name ns (cover.output ∷ later)) (sym first) ∙ last) in
+    let f = λ (c : CoverOf). places_in all c.columns in
+    let old_is : old ≡ before ++ map f (take k covers) = kept (cover.columns ++ cover.output ∷ later) ∙ ap (λ ns. before ++ columns_in ns (take k covers)) whole in
+    let new : places ≡ f cover = here (cover.output ∷ later) ∙ ap (λ ns. places_in ns cover.columns) last in
+    grown
+    ∙ (ap (λ xs. xs ++ places ∷ []) old_is
+    ∙ (ap (λ x. (before ++ map f (take k covers)) ++ x ∷ []) new
+    ∙ (append_assoc before (map f (take k covers)) (f cover ∷ [])
+    ∙ ap (λ xs. before ++ xs) (sym (map-append f (take k covers) (cover ∷ [])) ∙ ap (map f) (ap (λ x. take k covers ++ x ∷ []) read ∙ sym (take_more covers k cover inside))))))
+
+-- one name more of a list that is put in
+pub put_more : (a xs : List (List ℕ)) (k : ℕ) (x : List ℕ) → k < length xs → x ≡ get_or xs k x → with_name (fold with_name a (take k xs)) x ≡ fold with_name a (take (k + 1) xs)
+put_more a xs k x inside read = sym (fold-append with_name a (take k xs) (x ∷ [])) ∙ ap (fold with_name a) (ap (λ y. take k xs ++ y ∷ []) read ∙ sym (take_more xs k x inside))
+
+-- the names of one cover more
+pub cover_put : (a names middle next : List (List ℕ)) (covers : List CoverOf) (k : ℕ) (cover : CoverOf) → k < length covers → cover ≡ get_or covers k cover → names ≡ fold with_name a (flat_map cover_names (take k covers)) → middle ≡ fold with_name names cover.columns → next ≡ with_name middle cover.output → next ≡ fold with_name a (flat_map cover_names (take (k + 1) covers))
+cover_put a names middle next covers k cover inside read is first last =
+    let put : next ≡ fold with_name names (cover_names cover) = last ∙ (ap (λ l. with_name l cover.output) first ∙ sym (fold-append with_name names cover.columns (cover.output ∷ []))) in
+    put ∙ (ap (λ l. fold with_name l (cover_names cover)) is ∙ (fold_flat_more cover_names a (take k covers) cover ∙ ap (λ cs. fold with_name a (flat_map cover_names cs)) (ap (λ y. take k covers ++ y ∷ []) read ∙ sym (take_more covers k cover inside))))

@@ -4,7 +4,7 @@ use Rattle.std.specs.Prelude.{slice_index_or, filter}
 use Rattle.std.specs.List.{flat_map, list_any, position_or_len}
 use Rattle.std.specs.Str.{bytes_eq}
 use Rattle.std.proofs.lemmas.Bool.{true≢false, or_cases, or_left, cases_lt, lt-ltb}
-use Rattle.std.proofs.lemmas.List.{get_or-map, get_or_past, length-map}
+use Rattle.std.proofs.lemmas.List.{get_or-map, get_or_past, length-map, map-append, take_more}
 use Rattle.std.proofs.lemmas.List.Concat.{get_or-flat_map}
 use Rattle.std.proofs.lemmas.List.Folds.{length-flat_map-take}
 use Rattle.std.proofs.lemmas.List.Sums.{passes_at_first}
@@ -14,7 +14,7 @@ use Rattle.eqc_flat.specs.Hierarchy.{model, model_number, callees, reached, mode
 use Rattle.eqc_flat.specs.Signals.{cover_names, actuals, once_each, names_of}
 use Rattle.eqc_flat.specs.Codes.{formals, has_unknown_formal}
 use Rattle.eqc_flat.specs.Flattened.{path_at}
-use Rattle.eqc_flat.specs.Filling.{rows_of, all_rows}
+use Rattle.eqc_flat.specs.RowTable.{rows_of, all_rows}
 use Rattle.eqc_flat.proofs.Distinct.{Member, member_left, member_right, member_get, member_piece, member_map}
 use Rattle.eqc_flat.proofs.NumberLaws.{same_bytes, bytes_same}
 use Rattle.eqc_flat.proofs.PathLaws.{models_reached}
@@ -202,3 +202,11 @@ position_is names name k e found =
 
 pub position_first : (names : List (List ℕ)) (name : List ℕ) (k : ℕ) → is_named names name ≡ true → Some k ≡ position (λ other. bytes_eq name other) names → k ≡ position_or_len (λ other. bytes_eq name other) names
 position_first names name k e found = let h : Some k ≡ Some (position_or_len (λ other. bytes_eq name other) names) = found ∙ position_found names name e in cc
+
+-- the names of one model more
+pub sets_more : (library : List ModelOf) (m : ℕ) (sets now : List (List (List ℕ))) (set : List (List ℕ)) → sets ≡ map names_of (take m library) → m < length library → set ≡ names_of (model library m) → now ≡ sets ++ set ∷ [] → now ≡ map names_of (take (m + 1) library)
+sets_more library m sets now set is inside here grown =
+    grown
+    ∙ (ap (λ l. l ++ set ∷ []) is
+    ∙ (ap (λ x. map names_of (take m library) ++ x ∷ []) here
+    ∙ (sym (map-append names_of (take m library) (model library m ∷ [])) ∙ ap (map names_of) (sym (take_more library m no_model inside)))))

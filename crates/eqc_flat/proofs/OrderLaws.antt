@@ -22,7 +22,7 @@ split_at x (y ∷ xs) (inl same) = ([], xs, ap (λ z. z ∷ xs) same)
 split_at x (y ∷ xs) (inr there) = let (front, back, is) = split_at x xs there in (y ∷ front, back, ap (λ zs. y ∷ zs) is)
 
 -- different members of a list are at most as many as the list has places
-at_most : (ys xs : List ℕ) → Distinct ys → ((y : ℕ) → Member y ys → Member y xs) → length ys ≤ length xs
+pub at_most : (ys xs : List ℕ) → Distinct ys → ((y : ℕ) → Member y ys → Member y xs) → length ys ≤ length xs
 at_most [] xs d h = omega arith
 at_most (y ∷ ys) xs d h =
     let (front, back, is) = split_at y xs (h y (inl refl)) in

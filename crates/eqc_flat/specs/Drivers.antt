@@ -6,4 +6,4 @@ use Rattle.eqc_flat.specs.declared.driver.Driver.TheVariants.{Input, Tie, Cover}
 abbrev pub driver_of : Driver → DriverOf
 driver_of (Input position) = input position
 driver_of (Tie other) = tie other
-driver_of (Cover columns rows) = cover columns.items rows
+driver_of (Cover columns rows) = cover columns rows

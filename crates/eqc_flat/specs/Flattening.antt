@@ -1,9 +1,9 @@
--- The flat netlist of a main model, put together from its parts.
+-- For the proofs alone: the flat netlist of a main model, put together from its parts.
 use Rattle.std.specs.Prelude.{ℕ, List}
 use Rattle.eqc_blif.specs.Netlist.{ModelOf}
 use Rattle.eqc_flat.specs.Graph.{DriverOf, FlatOf}
 use Rattle.eqc_flat.specs.Hierarchy.{model}
-use Rattle.eqc_flat.specs.Filling.{all_rows}
+use Rattle.eqc_flat.specs.RowTable.{all_rows}
 
 abbrev pub put_together : List ModelOf → ℕ → List ℕ → List (ℕ × List ℕ) → List (ℕ × ℕ) → List DriverOf → List ℕ → FlatOf
 put_together library top output_signals signals places drivers steps = record {

@@ -1,5 +1,5 @@
 -- A flat netlist: numbered signals, each with what drives it, and the value of each under values of the inputs.
-use Rattle.std.specs.Prelude.{◌≡◌, ℕ, zero, suc, ◌<◌, ◌≤◌, Bool, true, false, ◌||◌, ◌&&◌, List, [], ◌∷◌, length, map, slice_index_or, ◌==◌}
+use Rattle.std.specs.Prelude.{◌≡◌, ℕ, zero, suc, ◌-◌, ◌<◌, ◌≤◌, Bool, true, false, ◌||◌, ◌&&◌, List, [], ◌∷◌, length, map, slice_index_or, ◌==◌}
 use Rattle.std.specs.List.{list_all}
 use Rattle.eqc_blif.specs.Cover.{cover_value}
 use Rattle.eqc_blif.specs.Names.{has_twice}
@@ -88,6 +88,9 @@ pub record IsFlat (f : FlatOf) : Type 0 where
   pub outputs_within : (o : ℕ) → o < length f.outputs → slice_index_or f.output_signals o 0 < length f.drivers
   pub drivers_within : (s : ℕ) → s < length f.drivers → IsWithin f (driver_at f s)
   pub steps_within : (k : ℕ) → k < length f.steps → slice_index_or f.steps k 0 < length f.drivers
+  -- the instance of each signal is there, and the parent of each instance stands before it
+  pub instances_within : (s : ℕ) → s < length f.signals → (slice_index_or f.signals s (0, [])).0 ≤ length f.places
+  pub parents_before : (i : ℕ) → 1 ≤ i → i ≤ length f.places → (slice_index_or f.places (i - 1) (0, 0)).0 < i
   -- the steps have each signal once, after those that it depends on
   pub ordered : in_order (λ s. dependencies (driver_at f s)) [] f.steps ≡ true
   pub each_step : (s : ℕ) → s < length f.drivers → among f.steps s ≡ true

@@ -1,4 +1,4 @@
--- The instances of a hierarchy while they are found: the first q of the list, each numbered by its place there.
+-- For the proofs alone: the instances of a hierarchy while they are found: the first q of the list, each numbered by its place there.
 use Rattle.std.specs.Prelude.{◌≡◌, ℕ, ◌+◌, ◌<◌, ◌≤◌, List, [], ◌∷◌, length, map, take, slice_index_or}
 use Rattle.std.specs.List.{flat_map, range_with_len}
 use Rattle.eqc_blif.specs.Netlist.{ModelOf}

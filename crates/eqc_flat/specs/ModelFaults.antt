@@ -1,4 +1,4 @@
--- The faults of the models that a main model reaches, told before any signal is numbered.
+-- For the proofs alone: the faults of the models that a main model reaches, told before any signal is numbered.
 use Rattle.std.specs.Prelude.{◌≡◌, ℕ, ◌+◌, ◌==◌, Bool, false, not, List, ◌++◌, length, map}
 use Rattle.std.specs.List.{list_any, range_with_len}
 use Rattle.eqc_blif.specs.Netlist.{ModelOf, InstanceOf}

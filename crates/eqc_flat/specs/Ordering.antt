@@ -1,4 +1,4 @@
--- An order of numbered signals in which each stands after those that it depends on, and circles.
+-- For the proofs alone: an order of numbered signals in which each stands after those that it depends on, and circles.
 use Rattle.std.specs.Prelude.{◌≡◌, ℕ, ◌<◌, true, false, List, [], length, slice_index_or}
 use Rattle.eqc_flat.specs.Graph.{DriverOf, input, dependencies, among, in_order, ends_within}
 

@@ -1,4 +1,4 @@
--- The calls of a library, and the list of the models that a main model reaches while it grows.
+-- For the proofs alone: the calls of a library, and the list of the models that a main model reaches while it grows.
 use Rattle.std.specs.Prelude.{◌≡◌, ℕ, ◌+◌, ◌<◌, ◌≤◌, Bool, true, false, not, List, length, map, slice_index_or}
 use Rattle.std.specs.List.{list_all, list_any, count_by, range_with_len}
 use Rattle.eqc_blif.specs.Netlist.{ModelOf, InstanceOf}

@@ -1,4 +1,4 @@
--- A search in depth along dependencies: what its state keeps.
+-- For the proofs alone: a search in depth along dependencies: what its state keeps.
 use Rattle.std.specs.Prelude.{◌≡◌, ℕ, ◌+◌, ◌<◌, Bool, true, false, not, ◌&&◌, List, [], ◌∷◌, length, take, map, slice_get, slice_index_or, Some, nat_lt}
 use Rattle.std.specs.List.{list_all, count_by}
 use Rattle.eqc_flat.specs.Graph.{among, in_order}

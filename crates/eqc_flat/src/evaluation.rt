@@ -1,77 +1,22 @@
 ghost use Rattle.std.specs.Prelude.{◌≡◌, ℕ, ◌<◌, false, length, map, IfOk, IfErr, slice_index, slice_index_or};
-ghost use Rattle.std.specs.List.{list_any};
-ghost use Rattle.eqc_blif.specs.Cover.{allows, row_matches, is_on, cover_value};
 ghost use Rattle.eqc_flat.specs.Graph.{driver_at, driven, value_of};
 ghost use Rattle.eqc_flat.specs.Evaluating.{values_of};
 
 use crate::driver::Driver;
 use crate::fault::Fault;
 use crate::flat::Flat;
-use eqc_blif::Name;
+use crate::signals::Signals;
+use eqc_blif::cover_value;
 use std::alloc::{AllocError, Global};
 
-/// Whether the byte of a column allows a value.
-fn allows(byte: u8, value: bool) -> bool
-    ensures { result ≡ allows byte value }
-{
-    match byte {
-        b'0' => !value,
-        b'1' => value,
-        _ => true,
-    }
-}
-
-/// Whether a row matches the values of its columns.
-fn row_matches(row: &[u8], values: &[bool]) -> bool
-    ensures { result ≡ row_matches row.now values.now }
-{
-    for (i, value) in values.iter().enumerate() {
-        if i >= row.len() {
-            return true;
-        }
-        if !allows(row[i], *value) {
-            return false;
-        }
-    }
-    true
-}
-
-/// Whether one of these rows matches the values of its columns.
-fn some_matches(rows: &[Name], values: &[bool]) -> bool
-    ensures { result ≡ list_any (λ row. row_matches row values.now) rows.now }
-{
-    rows.iter().any(|row| row_matches(row.as_bytes(), values))
-}
-
-/// Whether a row ends in `1`.
-fn is_on(row: &[u8]) -> bool
-    ensures { result ≡ is_on row.now }
-{
-    match row.last() {
-        Some(byte) => *byte == b'1',
-        None => false,
-    }
-}
-
-/// The value of a cover with these rows under the values of its columns.
-fn cover_value(rows: &[Name], values: &[bool]) -> bool
-    ensures { result ≡ cover_value rows.now values.now }
-{
-    let Some(row) = rows.first() else {
-        return false;
-    };
-    let some = some_matches(rows, values);
-    if is_on(row.as_bytes()) { some } else { !some }
-}
-
 /// The values of these signals.
-fn read(alloc: Global, values: &[bool], signals: &[u32]) -> Result<Vec<bool>, AllocError>
-    requires { (k : ℕ) → k < length signals.now → slice_index signals.now k < length values.now }
-    ensures { IfOk result (λ read. read.items ≡ map (values_of values.now) signals.now) }
+fn read(alloc: Global, values: &[bool], signals: Signals<'_>) -> Result<Vec<bool>, AllocError>
+    requires { (k : ℕ) → k < length signals → slice_index signals k < length values.now }
+    ensures { IfOk result (λ read. read.items ≡ map (values_of values.now) signals.entry) }
 {
     let mut read = Vec::with_capacity(alloc, signals.len())?;
-    for s in signals {
-        read.push(values[*s as usize])?;
+    for k in 0..signals.len() {
+        read.push(values[signals.get(k) as usize])?;
     }
     Ok(read)
 }
@@ -91,11 +36,11 @@ fn driver_value(
 {
     let _lawful = flat.steps();
     match flat.driver(s) {
-        Driver::Input(position) => Ok(inputs[*position as usize]),
-        Driver::Tie(other) => Ok(values[*other as usize]),
+        Driver::Input(position) => Ok(inputs[position as usize]),
+        Driver::Tie(other) => Ok(values[other as usize]),
         Driver::Cover { columns, rows } => {
             let columns = read(alloc, values, columns)?;
-            Ok(cover_value(flat.rows(*rows), &columns))
+            Ok(cover_value(flat.rows(rows), &columns))
         }
     }
 }
@@ -123,7 +68,7 @@ fn output_values(alloc: Global, flat: &Flat<'_>, inputs: &[bool]) -> Result<Vec<
 {
     let _lawful = flat.steps();
     let values = signal_values(alloc, flat, inputs)?;
-    let outputs = read(alloc, &values, flat.output_signals())?;
+    let outputs = read(alloc, &values, Signals::of(flat.output_signals()))?;
     Ok(outputs)
 }
 

@@ -3,6 +3,7 @@ ghost use Rattle.eqc_flat.specs.Graph.{driver_at, FollowsDrivers, IsFlat};
 ghost use Rattle.eqc_flat.specs.Drivers.{driver_of};
 
 use crate::driver::Driver;
+use crate::drivers::Drivers;
 use eqc_blif::Name;
 use std::marker::Model;
 
@@ -14,7 +15,7 @@ pub struct Flat<'a> {
     output_signals: Vec<u32>,
     signals: Vec<(u32, &'a [u8])>,
     places: Vec<(u32, u32)>,
-    drivers: Vec<Driver>,
+    drivers: Drivers,
     rows: Vec<&'a [Name]>,
     steps: Vec<u32>,
 }
@@ -25,15 +26,13 @@ impl<'a> Model for Flat<'a> {
 
     ghost Value = { FlatOf };
 
-    ghost use Rattle.eqc_flat.specs.Drivers.{driver_of};
-
     ghost view = { λ a. record {
       inputs = a.inputs.now;
       outputs = a.outputs.now;
       output_signals = a.output_signals.items;
       signals = map (λ p. (p.0, p.1.now)) a.signals.items;
       places = a.places.items;
-      drivers = map driver_of a.drivers.items;
+      drivers = a.drivers;
       rows = map (λ r. r.now) a.rows.items;
       steps = a.steps.items;
     } };
@@ -44,7 +43,7 @@ impl<'a> Model for Flat<'a> {
       output_signals = a.output_signals.items;
       signals = map (λ p. (p.0, p.1.now)) a.signals.items;
       places = a.places.items;
-      drivers = map driver_of a.drivers.items;
+      drivers = a.drivers;
       rows = map (λ r. r.now) a.rows.items;
       steps = a.steps.items;
     }) };
@@ -59,7 +58,7 @@ impl<'a> Flat<'a> {
         output_signals: Vec<u32>,
         signals: Vec<(u32, &'a [u8])>,
         places: Vec<(u32, u32)>,
-        drivers: Vec<Driver>,
+        drivers: Drivers,
         rows: Vec<&'a [Name]>,
         steps: Vec<u32>,
     ) -> Flat<'a>
@@ -69,7 +68,7 @@ impl<'a> Flat<'a> {
           output_signals = output_signals.items;
           signals = map (λ p. (p.0, p.1.now)) signals.items;
           places = places.items;
-          drivers = map driver_of drivers.items;
+          drivers = drivers;
           rows = map (λ r. r.now) rows.items;
           steps = steps.items;
         }) }
@@ -79,7 +78,7 @@ impl<'a> Flat<'a> {
           output_signals = output_signals.items;
           signals = map (λ p. (p.0, p.1.now)) signals.entry.items;
           places = places.items;
-          drivers = map driver_of drivers.items;
+          drivers = drivers;
           rows = map (λ r. r.now) rows.entry.items;
           steps = steps.items;
         } }
@@ -113,7 +112,8 @@ impl<'a> Flat<'a> {
 
     /// The signal of each output.
     pub fn output_signals(&self) -> &[u32]
-        ensures { result.now ≡ self.now.output_signals }
+        ensures signals { result.now ≡ self.now.output_signals }
+        ensures lawful { IsFlat self.now }
     {
         self.output_signals.as_slice()
     }
@@ -128,11 +128,11 @@ impl<'a> Flat<'a> {
     }
 
     /// What drives signal `s`, which is one of this netlist.
-    pub fn driver(&self, s: u32) -> &Driver
+    pub fn driver(&self, s: u32) -> Driver<'_>
         requires { s < length self.now.drivers }
-        ensures { driver_of result.now ≡ driver_at self.now s }
+        ensures { driver_of result ≡ driver_at self.now s }
     {
-        &self.drivers[s as usize]
+        self.drivers.get(s as usize)
     }
 
     /// The rows of number `r`, which the driver of a signal of this netlist names.
@@ -145,17 +145,21 @@ impl<'a> Flat<'a> {
 
     /// The instance and the name of signal `s`, which is one of this netlist. Instance 0 is the main model.
     pub fn signal(&self, s: u32) -> (u32, &[u8])
-        requires { s < length self.now.signals }
-        ensures { (result.0, result.1.now) ≡ slice_index_or self.now.signals s (0, []) }
+        requires { s < length self.now.drivers }
+        ensures signal { (result.0, result.1.now) ≡ slice_index_or self.now.signals s (0, []) }
+        ensures instance { result.0 ≤ length self.now.places }
+        ensures lawful { IsFlat self.now }
     {
         self.signals[s as usize]
     }
 
-    /// The parent of instance `i`, from 1 on, and the position of its `.subckt` there.
+    /// The parent of instance `i`, from 1 on, and the position of its `.subckt` there. The parent is an instance before it.
     pub fn place(&self, i: u32) -> (u32, u32)
         requires some { 1 ≤ i }
         requires there { i ≤ length self.now.places }
-        ensures { result ≡ slice_index_or self.now.places (i - 1) (0, 0) }
+        ensures place { result ≡ slice_index_or self.now.places (i - 1) (0, 0) }
+        ensures parent { result.0 < i }
+        ensures lawful { IsFlat self.now }
     {
         self.places[i as usize - 1]
     }

@@ -1,19 +1,19 @@
-ghost use Rattle.std.specs.Prelude.{◌≡◌, ◌⊎◌, ◌<◌, ◌≤◌, length, map, slice_index_or, None, Some, false, IfOk, IfErr};
+ghost use Rattle.std.specs.Prelude.{◌≡◌, ◌⊎◌, ◌<◌, ◌≤◌, length, slice_index_or, None, Some, false, IfOk, IfErr};
 ghost use Rattle.eqc_blif.specs.Names.{has_twice};
 ghost use Rattle.eqc_flat.specs.Hierarchy.{model};
-ghost use Rattle.eqc_flat.specs.Drivers.{driver_of};
 ghost use Rattle.eqc_flat.specs.Codes.{flat_code};
-ghost use Rattle.eqc_flat.specs.Filling.{IsDriven};
+ghost use Rattle.eqc_flat.specs.DriverTable.{IsDriven};
 ghost use Rattle.eqc_flat.specs.Ordering.{IsOrder};
 ghost use Rattle.eqc_flat.specs.Flattened.{IsFlatOf};
 
 use crate::calls::Calls;
-use crate::driver::Driver;
+use crate::driver_table::{drivers_of, signals_of};
+use crate::drivers::Drivers;
 use crate::fault::Fault;
-use crate::filling::{drivers_of, signals_of};
 use crate::flat::Flat;
 use crate::hierarchy::Hierarchy;
 use crate::model_faults::first_model_fault;
+use crate::naming::Naming;
 use crate::row_table::RowTable;
 use crate::signal_order::order_of;
 use eqc_blif::Library;
@@ -27,13 +27,13 @@ fn put_together<'a>(
     alloc: Global,
     hierarchy: Hierarchy<'a>,
     rows: RowTable<'a>,
-    drivers: Vec<Driver>,
+    drivers: Drivers,
     steps: Vec<u32>,
 ) -> Result<Flat<'a>, AllocError>
     requires same { rows ≡ hierarchy.0 }
     requires few { length (model hierarchy.0 hierarchy.1).inputs ≤ 2048 }
-    requires driven { IsDriven hierarchy.0 hierarchy.1 (map driver_of drivers.items) }
-    requires ordered { IsOrder (map driver_of drivers.items) steps.items }
+    requires driven { IsDriven hierarchy.0 hierarchy.1 drivers }
+    requires ordered { IsOrder drivers steps.items }
     ensures { IfOk result (λ flat. IsFlatOf hierarchy.entry.0 hierarchy.entry.1 flat) }
 {
     let library = hierarchy.library();
@@ -75,14 +75,15 @@ pub fn flatten(alloc: Global, library: &Library, top: usize) -> Result<Flat<'_>,
     if let Some(code) = first_model_fault(alloc, &calls, top)? {
         return Err(Fault { code });
     }
-    let Some(hierarchy) = Hierarchy::of(alloc, calls, top)? else {
+    let (naming, columns) = Naming::of(alloc, library)?;
+    let Some(hierarchy) = Hierarchy::of(alloc, calls, naming, top)? else {
         return Err(Fault { code: 29 });
     };
     if library.inputs(top).len() > MAX_INPUTS {
         return Err(Fault { code: 30 });
     }
     let rows = RowTable::of(alloc, library)?;
-    let drivers = match drivers_of(alloc, &hierarchy, &rows) {
+    let drivers = match drivers_of(alloc, &hierarchy, &rows, columns) {
         Ok(drivers) => drivers,
         Err(fault) => return Err(fault),
     };

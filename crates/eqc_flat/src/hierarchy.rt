@@ -4,7 +4,7 @@ ghost use Rattle.eqc_flat.specs.Hierarchy.{model, model_at, paths};
 ghost use Rattle.eqc_flat.specs.Signals.{names_of, signals};
 ghost use Rattle.eqc_flat.specs.Codes.{is_recursive, is_too_large};
 ghost use Rattle.eqc_flat.specs.Instances.{IsGrowing};
-ghost use Rattle.eqc_flat.specs.Flattened.{path_at, model_of, signal_at, named_here, all_named};
+ghost use Rattle.eqc_flat.specs.Flattened.{path_at, model_of, first_signal, signal_at, named_here, all_named};
 
 use crate::calls::Calls;
 use crate::instances::Instances;
@@ -39,15 +39,16 @@ impl<'a> Hierarchy<'a> {
     pub(crate) fn of(
         alloc: Global,
         calls: Calls<'a>,
+        naming: Naming<'a>,
         top: usize,
     ) -> Result<Option<Hierarchy<'a>>, AllocError>
+        requires same { naming ≡ calls }
         requires there { top < length calls }
         requires ends { is_recursive calls top ≡ false }
         ensures { IfOk result (λ found. MatchOption found
             (is_too_large calls.entry top ≡ true)
             (λ hierarchy. (is_too_large calls.entry top ≡ false) × (hierarchy ≡ (calls.entry, top)))) }
     {
-        let naming = Naming::of(alloc, calls.library())?;
         let Some(instances) = Instances::of(alloc, &calls, &naming, top)? else {
             return Ok(None);
         };
@@ -101,6 +102,15 @@ impl<'a> Hierarchy<'a> {
         ensures few { length (paths self.now.0 self.now.1) ≤ 1048577 }
     {
         self.instances.models[i]
+    }
+
+    /// The first signal of instance `i`, which its other signals follow in the order of the names of its model.
+    pub(crate) fn first_signal(&self, i: usize) -> usize
+        requires { i < length (paths self.now.0 self.now.1) }
+        ensures first { result ≡ first_signal self.now.0 self.now.1 i }
+        ensures small { result ≤ 1048576 }
+    {
+        self.instances.firsts[i]
     }
 
     /// The signal at position `k` among those of instance `i`.

@@ -1,3 +1,4 @@
+ghost use Rattle.eqc_flat.specs.HierarchyLaws.{SignalsStandOnce, SignalsAreNamesOfInstances, RecursiveWhereReached};
 ghost use Rattle.eqc_flat.specs.ValueLaws.{ValuesStay, ValuesAreThereForAll, AcceptedHaveValues, ValuesDependOnInputsAlone, CoversDependOnColumnsAlone};
 
 /// The value of a signal at a depth is its value at every greater depth.
@@ -23,4 +24,20 @@ pub fn values_depend_on_inputs_alone()
 /// The value of a signal that a cover drives depends on the values of the cover's columns alone.
 pub fn covers_depend_on_columns_alone()
     ensures { CoversDependOnColumnsAlone }
+{}
+
+/// No flat signal stands twice in the list of signals.
+pub fn signals_stand_once()
+    ensures { SignalsStandOnce }
+{}
+
+/// Without recursion a signal stands in the list of signals exactly when its path is an instance in whose model its name
+/// occurs.
+pub fn signals_are_names_of_instances()
+    ensures { SignalsAreNamesOfInstances }
+{}
+
+/// The condition of code 22 holds exactly when the main model is or reaches a model that reaches itself.
+pub fn recursive_where_reached()
+    ensures { RecursiveWhereReached }
 {}

@@ -5,9 +5,10 @@
 mod calls;
 mod condition;
 mod driver;
+mod driver_table;
+mod drivers;
 mod evaluation;
 mod fault;
-mod filling;
 mod flat;
 mod flattening;
 mod graph;
@@ -23,6 +24,8 @@ mod reach;
 mod row_table;
 mod search;
 mod signal_order;
+mod signals;
+mod stored_driver;
 
 pub use driver::Driver;
 pub use evaluation::eval;
@@ -30,6 +33,8 @@ pub use fault::Fault;
 pub use flat::Flat;
 pub use flattening::flatten;
 pub use laws::{
-    accepted_have_values, covers_depend_on_columns_alone, values_are_there_for_all,
+    accepted_have_values, covers_depend_on_columns_alone, recursive_where_reached,
+    signals_are_names_of_instances, signals_stand_once, values_are_there_for_all,
     values_depend_on_inputs_alone, values_stay,
 };
+pub use signals::Signals;

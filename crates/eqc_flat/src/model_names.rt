@@ -1,19 +1,42 @@
-ghost use Rattle.std.specs.Prelude.{◌≡◌, ◌<◌, length, IfOk, OnOk};
+ghost use Rattle.std.specs.Prelude.{◌≡◌, ℕ, ◌<◌, ◌++◌, List, length, map, IfOk, OnOk};
 ghost use Rattle.std.specs.List.{fold, flat_map};
 ghost use Rattle.eqc_flat.specs.Hierarchy.{model};
 ghost use Rattle.eqc_flat.specs.NameSets.{with_name};
 ghost use Rattle.eqc_flat.specs.Signals.{cover_names, actuals, names_of};
+ghost use Rattle.eqc_flat.specs.StoredDrivers.{places_in, columns_in, columns_of};
 
 use crate::name_set::NameSet;
-use eqc_blif::{Cover, Instance, Library};
+use eqc_blif::{Cover, Instance, Library, Name};
 use std::alloc::{AllocError, Global};
 
-/// Puts in the names of the columns and the output of each of these covers.
-fn insert_covers<'a>(names: &mut NameSet<'a>, covers: &'a [Cover]) -> Result<(), AllocError>
-    ensures { OnOk result (names.new ≡ fold with_name names.old (flat_map cover_names covers.now)) }
+/// Puts in the names of these columns, and answers the place of each.
+fn insert_columns<'a>(
+    alloc: Global,
+    names: &mut NameSet<'a>,
+    columns: &'a [Name],
+) -> Result<Vec<u32>, AllocError>
+    ensures names { OnOk result (names.new ≡ fold with_name names.old columns.now) }
+    ensures places { IfOk result (λ places. (later : List (List ℕ)) → places.items ≡ places_in (fold with_name names.new later) columns.now) }
+{
+    let mut places = Vec::with_capacity(alloc, columns.len())?;
+    'columns: for column in columns {
+        places.push(names.place(column)?)?;
+    }
+    Ok(places)
+}
+
+/// Puts in the names of the columns and the output of each of these covers, and the places of the columns behind others.
+fn insert_covers<'a>(
+    alloc: Global,
+    names: &mut NameSet<'a>,
+    columns: &mut Vec<Vec<u32>>,
+    covers: &'a [Cover],
+) -> Result<(), AllocError>
+    ensures names { OnOk result (names.new ≡ fold with_name names.old (flat_map cover_names covers.now)) }
+    ensures columns { OnOk result ((later : List (List ℕ)) → map (λ c. c.items) columns.new.items ≡ map (λ c. c.items) columns.old.items ++ columns_in (fold with_name names.new later) covers.now) }
 {
     'covers: for cover in covers {
-        names.insert_all(&cover.columns)?;
+        columns.push(insert_columns(alloc, names, &cover.columns)?)?;
         names.insert(&cover.output)?;
     }
     Ok(())
@@ -40,19 +63,22 @@ fn insert_actuals<'a>(names: &mut NameSet<'a>, instances: &'a [Instance]) -> Res
 }
 
 /// The names that occur in model `m` of a library, which is below the number of models: those of its inputs, outputs,
-/// covers and actuals, each once. Fails where memory is refused.
+/// covers and actuals, each once. The places of its covers' columns among them go behind `columns`. Fails where memory is
+/// refused.
 pub(crate) fn names_of<'a>(
     alloc: Global,
     library: &'a Library,
     m: usize,
+    columns: &mut Vec<Vec<u32>>,
 ) -> Result<NameSet<'a>, AllocError>
     requires { m < length library.now }
-    ensures { IfOk result (λ names. names ≡ names_of (model library.now m)) }
+    ensures names { IfOk result (λ names. names ≡ names_of (model library.now m)) }
+    ensures columns { OnOk result (map (λ c. c.items) columns.new.items ≡ map (λ c. c.items) columns.old.items ++ columns_of (model library.now m)) }
 {
     let mut names = NameSet::new(alloc);
     names.insert_all(library.inputs(m))?;
     names.insert_all(library.outputs(m))?;
-    insert_covers(&mut names, library.covers(m))?;
+    insert_covers(alloc, &mut names, columns, library.covers(m))?;
     insert_actuals(&mut names, library.instances(m))?;
     Ok(names)
 }

@@ -1,8 +1,8 @@
-ghost use Rattle.std.specs.Prelude.{◌≡◌, ◌<◌, [], length, position, slice_index_or, not, IfOk, OnOk};
+ghost use Rattle.std.specs.Prelude.{◌≡◌, ℕ, ◌<◌, List, [], length, position, slice_index_or, not, IfOk, OnOk};
 ghost use Rattle.std.specs.List.{fold};
 ghost use Rattle.std.specs.Str.{bytes_eq};
 ghost use Rattle.eqc_blif.specs.Names.{is_named};
-ghost use Rattle.eqc_flat.specs.NameSets.{with_name};
+ghost use Rattle.eqc_flat.specs.NameSets.{with_name, place_in};
 
 use eqc_blif::Name;
 use indexmap::IndexSet;
@@ -50,6 +50,19 @@ impl<'a> NameSet<'a> {
     {
         let fresh = self.names.insert(name.as_bytes())?;
         Ok(fresh)
+    }
+
+    /// Puts a name in, unless it is there, and answers where it stands. Fails where memory is refused, and where there are
+    /// more names than memory has room for.
+    pub(crate) fn place(&mut self, name: &'a Name) -> Result<u32, AllocError>
+        ensures names { OnOk result (self.new ≡ with_name self.old name.now) }
+        ensures place { IfOk result (λ place. (later : List (List ℕ)) → place ≡ place_in (fold with_name self.new later) name.now) }
+    {
+        let (place, _) = self.names.insert_full(name.as_bytes())?;
+        if place > u32::MAX as usize {
+            return Err(AllocError);
+        }
+        Ok(place as u32)
     }
 
     /// Puts these names in, in order. Fails where memory is refused.

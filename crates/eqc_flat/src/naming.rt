@@ -1,9 +1,10 @@
-ghost use Rattle.std.specs.Prelude.{◌≡◌, ◌<◌, [], length, true, slice_index_or, IfOk};
+ghost use Rattle.std.specs.Prelude.{◌≡◌, ◌<◌, [], length, map, true, slice_index_or, IfOk};
 ghost use Rattle.std.specs.List.{position_or_len};
 ghost use Rattle.std.specs.Str.{bytes_eq};
 ghost use Rattle.eqc_blif.specs.Names.{is_named};
 ghost use Rattle.eqc_flat.specs.Hierarchy.{model};
 ghost use Rattle.eqc_flat.specs.Signals.{names_of};
+ghost use Rattle.eqc_flat.specs.StoredDrivers.{all_columns};
 
 use crate::model_names::names_of;
 use crate::name_set::NameSet;
@@ -31,15 +32,21 @@ impl<'a> Model for Naming<'a> {
 }
 
 impl<'a> Naming<'a> {
-    /// The names of a library's models. Fails where memory is refused.
-    pub(crate) fn of(alloc: Global, library: &'a Library) -> Result<Naming<'a>, AllocError>
-        ensures { IfOk result (λ naming. naming ≡ library.now) }
+    /// The names of a library's models, and the places of the columns of each cover, model by model. Fails where memory
+    /// is refused.
+    pub(crate) fn of(
+        alloc: Global,
+        library: &'a Library,
+    ) -> Result<(Naming<'a>, Vec<Vec<u32>>), AllocError>
+        ensures library { IfOk result (λ made. made.0 ≡ library.now) }
+        ensures columns { IfOk result (λ made. map (λ c. c.items) made.1.items ≡ all_columns library.now) }
     {
         let mut sets = Vec::new(alloc);
+        let mut columns = Vec::new(alloc);
         for m in 0..library.models() {
-            sets.push(names_of(alloc, library, m)?)?;
+            sets.push(names_of(alloc, library, m, &mut columns)?)?;
         }
-        Ok(Naming { library, sets })
+        Ok((Naming { library, sets }, columns))
     }
 
     /// The number of names in model `m`; there are none in a model that isn't there.

@@ -1,7 +1,9 @@
 ghost use Rattle.std.specs.Prelude.{◌≡◌, ◌+◌, ◌<◌, ◌^◌, ◌++◌, [], length, map, slice_index_or, IfOk, OnOk};
 ghost use Rattle.eqc_blif.specs.Netlist.{no_cover};
 ghost use Rattle.eqc_flat.specs.Hierarchy.{model};
-ghost use Rattle.eqc_flat.specs.Filling.{rows_of, all_rows};
+ghost use Rattle.eqc_flat.specs.RowTable.{rows_of, all_rows};
+ghost use Rattle.eqc_flat.specs.Signals.{names_of};
+ghost use Rattle.eqc_flat.specs.StoredDrivers.{places_in, all_columns};
 
 use eqc_blif::{Cover, Library, Name};
 use std::alloc::{AllocError, Global};
@@ -18,7 +20,7 @@ pub(crate) struct RowTable<'a> {
 impl<'a> Model for RowTable<'a> {
     ghost use Rattle.std.specs.Prelude.{List, map};
     ghost use Rattle.eqc_blif.specs.Netlist.{ModelOf};
-    ghost use Rattle.eqc_flat.specs.Filling.{IsRowTable};
+    ghost use Rattle.eqc_flat.specs.RowTable.{IsRowTable};
 
     ghost Value = { List ModelOf };
 
@@ -64,6 +66,7 @@ impl<'a> RowTable<'a> {
         requires model { m < length self.now }
         requires cover { k < length (model self.now m).covers }
         ensures within { result < length (all_rows self.now) }
+        ensures columns { slice_index_or (all_columns self.now) result [] ≡ places_in (names_of (model self.now m)) (slice_index_or (model self.now m).covers k no_cover).columns }
         ensures rows { slice_index_or (all_rows self.now) result [] ≡ (slice_index_or (model self.now m).covers k no_cover).rows }
     {
         (self.firsts[m] + k) as u32

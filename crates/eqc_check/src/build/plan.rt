@@ -1,17 +1,18 @@
 ghost use Rattle.std.specs.Prelude.{◌≡◌, ℕ, ◌+◌, ◌<◌, ◌≤◌, length, IfOk, slice_index};
 ghost use Rattle.eqc_check.specs.Building.{IsPlan, AreSignals, IsMarked};
 
-use eqc_flat::Flat;
+use eqc_flat::{Flat, Signals};
 use std::alloc::{AllocError, Global};
 
 /// Notes the step `at` for those of the signals for which no step is noted.
-fn mark(last: &mut Vec<u32>, signals: &[u32], at: u32)
+fn mark(last: &mut Vec<u32>, signals: &Signals<'_>, at: u32)
     requires { (k : ℕ) → k < length signals.now → slice_index signals.now k < length last.old.items }
     ensures { IsMarked last.old.items last.new.items signals.now (length signals.now) at }
 {
-    for s in signals {
-        if last[*s as usize] == 0 {
-            last[*s as usize] = at;
+    for k in 0..signals.len() {
+        let s = signals.get(k) as usize;
+        if last[s] == 0 {
+            last[s] = at;
         }
     }
 }
@@ -29,13 +30,13 @@ pub(crate) fn last_uses(
     let steps = flat.steps();
     let end = steps.len() as u32 + 1;
     let mut last = vec![in alloc; 0u32; steps.len()]?;
-    mark(&mut last, roots, end);
+    mark(&mut last, &Signals::of(roots), end);
     let mut k = steps.len();
     while k > 0 {
         k -= 1;
         let s = steps[k];
         if last[s as usize] > 0 {
-            mark(&mut last, flat.driver(s).dependencies(), k as u32 + 1);
+            mark(&mut last, &flat.driver(s).dependencies(), k as u32 + 1);
         }
     }
     Ok(last)

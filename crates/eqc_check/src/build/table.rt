@@ -2,6 +2,7 @@ ghost use Rattle.std.specs.Prelude.{◌≡◌, ℕ, ◌<◌, ◌⊎◌, List, []
 ghost use Rattle.eqc_tree.specs.Holding.{IsHeld, Loses, weight};
 ghost use Rattle.eqc_check.specs.Building.{Moves, OwnsTable, OwnsBoth, LosesBoth, Empties, Fills, Releases, reference_of};
 
+use eqc_flat::Signals;
 use eqc_tree::References;
 use std::alloc::{AllocError, Global};
 
@@ -61,7 +62,7 @@ pub(crate) fn release<D: References>(
     d: &mut D,
     table: &mut Vec<Option<D::Ref>>,
     last: &[u32],
-    signals: &[u32],
+    signals: &Signals<'_>,
     at: u32,
 )
     requires within { (k : ℕ) → k < length signals.now → slice_index signals.now k < length table.old.items }
@@ -69,9 +70,10 @@ pub(crate) fn release<D: References>(
     requires owned { OwnsTable D.entry (D.holding d.old) table.old.items }
     ensures { Releases D.entry (D.holding d.old) table.old.items (D.holding d.new) table.new.items last.now at }
 {
-    for s in signals {
-        if last[*s as usize] == at {
-            take_back(d, table, *s);
+    for k in 0..signals.len() {
+        let s = signals.get(k);
+        if last[s as usize] == at {
+            take_back(d, table, s);
         }
     }
 }

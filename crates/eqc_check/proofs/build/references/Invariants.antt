@@ -2,5 +2,5 @@ use Rattle.std.proofs.Common.{◌≡◌, map, take, Some}
 use Rattle.eqc_check.specs.Building.{reference_of}
 use Rattle.eqc_check.proofs.build.references.Given as goal
 
-abbrev pub invariant-loop-s : goal.invariant-loop-s
-invariant-loop-s g l = map (λ r. Some r.now) l.found.items ≡ map (reference_of l.table) (take l.s-index l.signals)
+abbrev pub invariant-loop-k : goal.invariant-loop-k
+invariant-loop-k g l = map (λ r. Some r.now) l.found.items ≡ map (reference_of l.table) (take l.k l.signals)

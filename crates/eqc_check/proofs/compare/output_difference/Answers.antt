@@ -17,15 +17,15 @@ apply-requires-clause-g g c = owned_held g.D.References.entry _ c.args.tables.no
 
 pub returns-clause-ok : goal.returns-clause-ok
 returns-clause-ok g c =
-    let first = rw (c.deref.ensures.value, c.output_signals.ensures, c.first.ensures) at c.reference_at.ensures in
+    let first = rw (c.deref.ensures.value, c.output_signals.ensures.signals, c.first.ensures) at c.reference_at.ensures in
     let second = rw (c.deref-2.ensures.value, c.second_signals.ensures.each) at c.reference_at-2.ensures in
     gains_as g.D.References.entry _ _ c.apply.result _ (differs_at c.args.pair.now c.args.output) (λ a. xor_says g.D.References.entry c.args.pair.now c.args.output c.args.tables.now.first.items c.args.tables.now.second.items c.reference_at.result.now c.reference_at-2.result.now a c.requires.built first second) c.apply.ensures.ok
 
 pub reference_at-requires-clause-within : goal.reference_at-requires-clause-within
-reference_at-requires-clause-within g c = rw (c.deref.ensures.value, c.requires.built.first.size, c.output_signals.ensures, c.first.ensures) (c.recall_laws.ensures.first_flat.outputs_within c.args.output c.requires.output)
+reference_at-requires-clause-within g c = rw (c.deref.ensures.value, c.requires.built.first.size, c.output_signals.ensures.signals, c.first.ensures) (c.recall_laws.ensures.first_flat.outputs_within c.args.output c.requires.output)
 
 pub reference_at-requires-clause-some : goal.reference_at-requires-clause-some
-reference_at-requires-clause-some g c = rw (c.deref.ensures.value, c.output_signals.ensures, c.first.ensures) c.requires.first_ready
+reference_at-requires-clause-some g c = rw (c.deref.ensures.value, c.output_signals.ensures.signals, c.first.ensures) c.requires.first_ready
 
 pub reference_at-requires-2-clause-within : goal.reference_at-requires-2-clause-within
 reference_at-requires-2-clause-within g c = rw (c.deref-2.ensures.value, c.requires.built.second.size, c.second_signals.ensures.each) ((pair_matched c.args.pair.now c.recall_laws.ensures).within c.args.output c.requires.output)

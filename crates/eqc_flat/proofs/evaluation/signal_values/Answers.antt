@@ -1,5 +1,6 @@
 use Rattle.std.proofs.Common.{ap, arith, length, ◌<◌, ◌≡◌, subst}
-use Rattle.eqc_flat.specs.Evaluating.{AreKnown, values_of}
+use Rattle.eqc_flat.specs.Evaluating.{values_of}
+use Rattle.eqc_flat.specs.Known.{AreKnown}
 use Rattle.eqc_flat.proofs.EvaluationLaws.{known_more, known_all}
 use Rattle.eqc_flat.proofs.evaluation.signal_values.Goals as goal
 

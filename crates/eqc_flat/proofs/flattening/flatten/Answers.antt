@@ -1,10 +1,8 @@
-use Rattle.std.proofs.Common.{◌≡◌, ◌∙◌, ℕ, List, map, length, inr, sym, ap, subst, arith, true, false}
-use Rattle.std.proofs.lemmas.List.{length-map}
+use Rattle.std.proofs.Common.{◌≡◌, ◌∙◌, ℕ, List, length, inr, refl, sym, ap, subst, arith, true, false}
 use Rattle.eqc_blif.specs.Netlist.{ModelOf}
-use Rattle.eqc_flat.specs.Drivers.{driver_of}
 use Rattle.eqc_flat.specs.Codes.{is_too_large, has_many_inputs}
 use Rattle.eqc_flat.specs.ModelFaults.{HasNoModelFault}
-use Rattle.eqc_flat.specs.Filling.{IsDriven, IsDriverFault}
+use Rattle.eqc_flat.specs.DriverTable.{IsDriven, IsDriverFault}
 use Rattle.eqc_flat.proofs.CodeLaws.{code_29, code_30, driver_code, many_inputs, few_inputs, accepted, circular, driven_closed, few_drivers}
 use Rattle.eqc_flat.proofs.flattening.flatten.Goals as goal
 
@@ -51,10 +49,10 @@ order_of-requires-clause-few c =
     let small : is_too_large library top ≡ false = sym (ap (λ (l : List ModelOf). is_too_large l top) c.in_ok-calls.ensures) ∙ found.0 in
     let same : c.in-Some-2.hierarchy ≡ (library, top) = found.1 ∙ ap (λ (l : List ModelOf). (l, top)) c.in_ok-calls.ensures in
     let few : has_many_inputs library top ≡ false = few_inputs library top (omega (arith, c.if-inputs-gt-MAX_INPUTS.false, ap length c.inputs.ensures.names)) in
-    let Q : List ModelOf × ℕ → Type 0 = λ v. IsDriven v.0 v.1 (map driver_of c.in-Ok.drivers.items) in
-    let driven : IsDriven library top (map driver_of c.in-Ok.drivers.items) = subst Q same (rw c.in-Ok.is at c.drivers_of.ensures.driven) in
-    let most = few_drivers library top (map driver_of c.in-Ok.drivers.items) small driven in
-    omega (arith, most, length-map c.in-Ok.drivers.items driver_of, c.in-Ok.drivers.ok.0)
+    let Q : List ModelOf × ℕ → Type 0 = λ v. IsDriven v.0 v.1 c.in-Ok.drivers in
+    let driven : IsDriven library top c.in-Ok.drivers = subst Q same (rw c.in-Ok.is at c.drivers_of.ensures.driven) in
+    let most = few_drivers library top c.in-Ok.drivers small driven in
+    most
 
 pub order_of-requires-clause-closed : goal.order_of-requires-clause-closed
 order_of-requires-clause-closed c =
@@ -66,9 +64,9 @@ order_of-requires-clause-closed c =
     let small : is_too_large library top ≡ false = sym (ap (λ (l : List ModelOf). is_too_large l top) c.in_ok-calls.ensures) ∙ found.0 in
     let same : c.in-Some-2.hierarchy ≡ (library, top) = found.1 ∙ ap (λ (l : List ModelOf). (l, top)) c.in_ok-calls.ensures in
     let few : has_many_inputs library top ≡ false = few_inputs library top (omega (arith, c.if-inputs-gt-MAX_INPUTS.false, ap length c.inputs.ensures.names)) in
-    let Q : List ModelOf × ℕ → Type 0 = λ v. IsDriven v.0 v.1 (map driver_of c.in-Ok.drivers.items) in
-    let driven : IsDriven library top (map driver_of c.in-Ok.drivers.items) = subst Q same (rw c.in-Ok.is at c.drivers_of.ensures.driven) in
-    driven_closed library top (map driver_of c.in-Ok.drivers.items) (length c.in-Ok.drivers.items) (sym (length-map c.in-Ok.drivers.items driver_of)) driven
+    let Q : List ModelOf × ℕ → Type 0 = λ v. IsDriven v.0 v.1 c.in-Ok.drivers in
+    let driven : IsDriven library top c.in-Ok.drivers = subst Q same (rw c.in-Ok.is at c.drivers_of.ensures.driven) in
+    driven_closed library top c.in-Ok.drivers (length c.in-Ok.drivers) refl driven
 
 pub returns-in_default-3-clause-refused : goal.returns-in_default-3-clause-refused
 returns-in_default-3-clause-refused c =
@@ -80,9 +78,9 @@ returns-in_default-3-clause-refused c =
     let small : is_too_large library top ≡ false = sym (ap (λ (l : List ModelOf). is_too_large l top) c.in_ok-calls.ensures) ∙ found.0 in
     let same : c.in-Some-2.hierarchy ≡ (library, top) = found.1 ∙ ap (λ (l : List ModelOf). (l, top)) c.in_ok-calls.ensures in
     let few : has_many_inputs library top ≡ false = few_inputs library top (omega (arith, c.if-inputs-gt-MAX_INPUTS.false, ap length c.inputs.ensures.names)) in
-    let Q : List ModelOf × ℕ → Type 0 = λ v. IsDriven v.0 v.1 (map driver_of c.in-Ok.drivers.items) in
-    let driven : IsDriven library top (map driver_of c.in-Ok.drivers.items) = subst Q same (rw c.in-Ok.is at c.drivers_of.ensures.driven) in
-    inr (circular library top (map driver_of c.in-Ok.drivers.items) none small few driven (rw c.in_default-3.is at c.in_ok-steps.ensures))
+    let Q : List ModelOf × ℕ → Type 0 = λ v. IsDriven v.0 v.1 c.in-Ok.drivers in
+    let driven : IsDriven library top c.in-Ok.drivers = subst Q same (rw c.in-Ok.is at c.drivers_of.ensures.driven) in
+    inr (circular library top c.in-Ok.drivers none small few driven (rw c.in_default-3.is at c.in_ok-steps.ensures))
 
 pub returns-clause-accepted : goal.returns-clause-accepted
 returns-clause-accepted c =
@@ -94,6 +92,6 @@ returns-clause-accepted c =
     let small : is_too_large library top ≡ false = sym (ap (λ (l : List ModelOf). is_too_large l top) c.in_ok-calls.ensures) ∙ found.0 in
     let same : c.in-Some-2.hierarchy ≡ (library, top) = found.1 ∙ ap (λ (l : List ModelOf). (l, top)) c.in_ok-calls.ensures in
     let few : has_many_inputs library top ≡ false = few_inputs library top (omega (arith, c.if-inputs-gt-MAX_INPUTS.false, ap length c.inputs.ensures.names)) in
-    let Q : List ModelOf × ℕ → Type 0 = λ v. IsDriven v.0 v.1 (map driver_of c.in-Ok.drivers.items) in
-    let driven : IsDriven library top (map driver_of c.in-Ok.drivers.items) = subst Q same (rw c.in-Ok.is at c.drivers_of.ensures.driven) in
-    accepted library top (map driver_of c.in-Ok.drivers.items) c.in-Some-3.steps.items none small few driven (rw c.in-Some-3.is at c.in_ok-steps.ensures)
+    let Q : List ModelOf × ℕ → Type 0 = λ v. IsDriven v.0 v.1 c.in-Ok.drivers in
+    let driven : IsDriven library top c.in-Ok.drivers = subst Q same (rw c.in-Ok.is at c.drivers_of.ensures.driven) in
+    accepted library top c.in-Ok.drivers c.in-Some-3.steps.items none small few driven (rw c.in-Some-3.is at c.in_ok-steps.ensures)

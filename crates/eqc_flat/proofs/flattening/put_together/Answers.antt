@@ -2,11 +2,10 @@ use Rattle.std.proofs.Common.{◌≡◌, ◌≤◌, ◌∙◌, [], ℕ, List, Bo
 use Rattle.eqc_blif.specs.Netlist.{ModelOf}
 use Rattle.eqc_blif.specs.Names.{is_named, has_twice}
 use Rattle.eqc_flat.specs.Graph.{FlatOf, IsFlat}
-use Rattle.eqc_flat.specs.Drivers.{driver_of}
 use Rattle.eqc_flat.specs.Hierarchy.{model}
 use Rattle.eqc_flat.specs.Signals.{names_of, signals}
 use Rattle.eqc_flat.specs.Flattened.{signals_here, IsFlatOf}
-use Rattle.eqc_flat.specs.Filling.{all_rows}
+use Rattle.eqc_flat.specs.RowTable.{all_rows}
 use Rattle.eqc_flat.proofs.NamingLaws.{output_named}
 use Rattle.eqc_flat.proofs.FlatLaws.{IsParts, flat_same, expanded_few, parts_flat, parts_flat_of}
 use Rattle.eqc_flat.proofs.flattening.put_together.Goals as goal
@@ -31,7 +30,7 @@ new-requires c =
     let os = c.in_ok-output_signals.output_signals.items in
     let named = map {B = ℕ × List ℕ} (λ (p : ℕ × Bor (List ℕ)). (p.0, p.1.now)) c.in_ok-signals.signals.items in
     let places = c.into_places-places.result.items in
-    let drivers = map driver_of c.args.drivers.items in
+    let drivers = c.args.drivers in
     let steps = c.args.steps.items in
     let parts : IsParts library top os named places drivers steps = record {
       few_inputs = c.requires.few;
@@ -63,7 +62,7 @@ returns c =
     let os = c.in_ok-output_signals.output_signals.items in
     let named = map {B = ℕ × List ℕ} (λ (p : ℕ × Bor (List ℕ)). (p.0, p.1.now)) c.in_ok-signals.signals.items in
     let places = c.into_places-places.result.items in
-    let drivers = map driver_of c.args.drivers.items in
+    let drivers = c.args.drivers in
     let steps = c.args.steps.items in
     let parts : IsParts library top os named places drivers steps = record {
       few_inputs = c.requires.few;

@@ -1,5 +1,5 @@
 use Rattle.eqc_check.specs.Building.{IsMarked}
 use Rattle.eqc_check.proofs.build.plan.mark.Given as goal
 
-abbrev pub invariant-loop-s : goal.invariant-loop-s
-invariant-loop-s l = IsMarked l.initial.last.items l.last.items l.signals l.s-index l.at
+abbrev pub invariant-loop-k : goal.invariant-loop-k
+invariant-loop-k l = IsMarked l.initial.last.items l.last.items l.signals l.k l.at

@@ -1,8 +1,11 @@
 use Rattle.std.proofs.Common.{◌≡◌, ◌+◌, ◌<◌, ℕ, List, [], length, slice_index_or, arith, ◌∙◌, ap, subst}
 use Rattle.eqc_blif.specs.Netlist.{ModelOf, no_cover}
 use Rattle.eqc_flat.specs.Hierarchy.{model}
-use Rattle.eqc_flat.specs.Filling.{all_rows}
+use Rattle.eqc_flat.specs.RowTable.{all_rows}
 use Rattle.eqc_flat.proofs.NamingLaws.{rows_at, rows_inside}
+use Rattle.eqc_flat.specs.Signals.{names_of}
+use Rattle.eqc_flat.specs.StoredDrivers.{places_in, all_columns}
+use Rattle.eqc_flat.proofs.StoredDriverLaws.{columns_at}
 use Rattle.eqc_flat.proofs.ExpandedLaws.{row_first, row_firsts}
 use Rattle.eqc_flat.proofs.row_table.RowTable.number.Goals as goal
 
@@ -55,3 +58,14 @@ returns-clause-rows c =
     let inside = rows_inside library c.args.m c.args.k there cover in
     let P : List ModelOf → Type 0 = λ l. slice_index_or (all_rows l) (c.index.result.now + c.args.k) [] ≡ (slice_index_or (model l c.args.m).covers c.args.k no_cover).rows in
     subst P c.self.view_is (ap (λ (n : ℕ). slice_index_or (all_rows library) (n + c.args.k) []) first ∙ rows_at library c.args.m c.args.k there cover)
+
+pub returns-clause-columns : goal.returns-clause-columns
+returns-clause-columns c =
+    let firsts = c.self.inside.firsts.items in
+    let h = c.self.invariant in
+    let library = c.self.inside.library.now in
+    let there : c.args.m < length library = omega (arith, c.requires.model, ap length c.self.view_is) in
+    let cover : c.args.k < length (model library c.args.m).covers = omega (arith, c.requires.cover, ap (λ (l : List ModelOf). length (model l c.args.m).covers) c.self.view_is) in
+    let first = row_first library firsts _ c.args.m c.index.result.now h there c.index.ensures in
+    let P : List ModelOf → Type 0 = λ l. slice_index_or (all_columns l) (c.index.result.now + c.args.k) [] ≡ places_in (names_of (model l c.args.m)) (slice_index_or (model l c.args.m).covers c.args.k no_cover).columns in
+    subst P c.self.view_is (ap (λ (n : ℕ). slice_index_or (all_columns library) (n + c.args.k) []) first ∙ columns_at library c.args.m c.args.k there cover)

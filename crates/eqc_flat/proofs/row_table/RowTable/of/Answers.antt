@@ -3,7 +3,7 @@ use Rattle.std.specs.List.{flat_map, range_with_len}
 use Rattle.std.proofs.lemmas.List.{length-map}
 use Rattle.std.proofs.lemmas.List.FromFn.{map-range_with_len_more}
 use Rattle.eqc_blif.specs.Netlist.{CoverOf}
-use Rattle.eqc_flat.specs.Filling.{rows_of}
+use Rattle.eqc_flat.specs.RowTable.{rows_of}
 use Rattle.eqc_flat.proofs.ExpandedLaws.{rows_more}
 use Rattle.eqc_flat.proofs.row_table.RowTable.of.Goals as goal
 

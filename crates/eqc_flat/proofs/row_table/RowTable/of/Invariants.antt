@@ -1,6 +1,6 @@
 use Rattle.std.proofs.Common.{◌≡◌, take, map, length, ℕ, List, Bor}
 use Rattle.std.specs.List.{flat_map, range_with_len}
-use Rattle.eqc_flat.specs.Filling.{rows_of}
+use Rattle.eqc_flat.specs.RowTable.{rows_of}
 use Rattle.eqc_flat.proofs.row_table.RowTable.of.Given as goal
 
 abbrev pub invariant-loop-m : goal.invariant-loop-m

@@ -1,0 +1,15 @@
+use Rattle.std.proofs.Common.{◌≡◌, ◌∙◌, arith, ap, map, replicate, ℕ, Option, None}
+use Rattle.std.specs.Option.{option_map}
+use Rattle.eqc_flat.specs.Graph.{DriverOf}
+use Rattle.eqc_flat.specs.StoredDrivers.{all_columns, driver_from}
+use Rattle.eqc_flat.proofs.DriverTableLaws.{filled_none}
+use Rattle.eqc_flat.proofs.DrivingLaws.{none_mapped}
+use Rattle.eqc_flat.proofs.driver_table.DriverTable.new.Goals as goal
+
+pub returns : goal.returns
+returns c = λ library top e.
+    let count : c.loop-k._k ≡ c.args.count = omega (arith, c.loop-k-test.false, c.loop-k.auto._k-end) in
+    let columns = all_columns library in
+    let slots : map (option_map (driver_from columns)) c.loop-k.slots.items ≡ replicate {A = Option DriverOf} c.args.count None =
+    ap (map (option_map (driver_from columns))) c.loop-k.invariant ∙ (none_mapped columns c.loop-k._k ∙ ap (λ (n : ℕ). replicate {A = Option DriverOf} n None) count) in
+    rw slots (filled_none library top c.args.count e)

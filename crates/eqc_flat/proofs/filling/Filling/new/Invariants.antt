@@ -1,6 +1,0 @@
-use Rattle.std.proofs.Common.{◌≡◌, replicate, Option, None}
-use Rattle.eqc_flat.specs.declared.driver.Driver.{Driver}
-use Rattle.eqc_flat.proofs.filling.Filling.new.Given as goal
-
-abbrev pub invariant-loop-k : goal.invariant-loop-k
-invariant-loop-k l = l.slots.items ≡ replicate {A = Option Driver} l._k None

@@ -1,0 +1,39 @@
+-- For the proofs alone: the table of the drivers of the numbered signals while they are found. Each signal has a slot.
+use Rattle.std.specs.Prelude.{◌≡◌, ◌⊎◌, ℕ, ◌<◌, Bool, true, false, List, [], ◌∷◌, length, map, Option, Some, None, slice_index_or, nat_lt}
+use Rattle.std.specs.List.{list_any}
+use Rattle.std.specs.Option.{option_map}
+use Rattle.eqc_blif.specs.Netlist.{ModelOf}
+use Rattle.eqc_flat.specs.Graph.{DriverOf, IsWithinSizes}
+use Rattle.eqc_flat.specs.Hierarchy.{model}
+use Rattle.eqc_flat.specs.Signals.{Driving, sources_in, signals, drivings}
+use Rattle.eqc_flat.specs.Codes.{is_driven_twice, is_undriven}
+use Rattle.eqc_flat.specs.Flattened.{signal_at, source_of}
+use Rattle.eqc_flat.specs.RowTable.{all_rows}
+use Rattle.eqc_flat.specs.StoredDrivers.{all_columns, driver_from}
+use Rattle.eqc_flat.specs.declared.stored_driver.StoredDriver.{StoredDriver}
+
+-- the driver of a slot as a list
+abbrev pub in_slot : Option DriverOf → List DriverOf
+in_slot None = []
+in_slot (Some driver) = driver ∷ []
+
+-- so far some drivings were gone through: a slot has what drives its signal among them, unless some signal was
+-- driven twice
+pub record IsFilled (library : List ModelOf) (top : ℕ) (slots : List (Option DriverOf)) (twice : Bool) (done : List Driving) : Type 0 where
+  pub size : length slots ≡ length (signals library top)
+  pub once : twice ≡ false → (s : ℕ) → s < length slots → sources_in done (signal_at library top s) ≡ map (source_of (signal_at library top) (all_rows library)) (in_slot (slice_index_or slots s None))
+  pub again : twice ≡ true → list_any (λ s. nat_lt 1 (length (sources_in done s))) (signals library top) ≡ true
+  pub within : (s : ℕ) (driver : DriverOf) → s < length slots → slice_index_or slots s None ≡ Some driver → IsWithinSizes (length (model library top).inputs) (length (signals library top)) (length (all_rows library)) driver
+
+-- the same of slots in the form in which drivers are kept
+abbrev pub IsTable : List ModelOf → ℕ → List (Option StoredDriver) → Bool → List Driving → Type 0
+IsTable library top slots twice done = IsFilled library top (map (option_map (driver_from (all_columns library))) slots) twice done
+
+-- each signal has one driver, and these are they
+abbrev pub IsDriven : List ModelOf → ℕ → List DriverOf → Type 0
+IsDriven library top drivers = IsFilled library top (map (λ driver. Some driver) drivers) false (drivings library top)
+
+-- why some signal has not one driver, or that memory was refused
+abbrev pub IsDriverFault : List ModelOf → ℕ → ℕ → Type 0
+IsDriverFault library top code =
+    (code ≡ 72) ⊎ (((code ≡ 26) × (is_driven_twice library top ≡ true)) ⊎ ((code ≡ 27) × (is_driven_twice library top ≡ false) × (is_undriven library top ≡ true)))
