@@ -1,10 +1,10 @@
 -- Evaluating in an order gives the values.
-use Rattle.std.proofs.Common.{◌⊎◌, zero, ◌≡◌, ℕ, suc, ◌+◌, ◌<◌, ◌≤◌, Bool, true, false, List, [], ◌∷◌, length, map, get_or, set, drop, refl, sym, ◌∙◌, ap, arith, inl, inr, subst}
+use Rattle.std.proofs.Common.{◌⊎◌, zero, ◌≡◌, ℕ, suc, ◌+◌, ◌<◌, Bool, true, false, List, [], ◌∷◌, length, map, get_or, set, refl, sym, ◌∙◌, ap, arith, inl, inr, subst}
 use Rattle.std.proofs.lemmas.List.{get_or-set_same, get_or-set_other}
 use Rattle.std.specs.List.{list_all}
 use Rattle.std.proofs.lemmas.Bool.{cases_eq, and_parts, true≢false}
 use Rattle.std.proofs.Math.ListN.{length-set}
-use Rattle.eqc_blif.specs.Cover.{cover_value, row_matches}
+use Rattle.eqc_blif.specs.Cover.{cover_value}
 use Rattle.eqc_flat.specs.Graph.{FlatOf, IsFlat, DriverOf, input, tie, cover, driver_at, dependencies, driven, value_of, FollowsDrivers, among, in_order}
 use Rattle.eqc_flat.specs.Evaluating.{values_of}
 use Rattle.eqc_flat.specs.Known.{AreKnown}
@@ -73,22 +73,6 @@ known_all f a values s h known inside =
 -- the values of the outputs' signals
 pub known_outputs : (f : FlatOf) (a : ℕ → Bool) (values : List Bool) → IsFlat f → ((s : ℕ) → s < length f.drivers → values_of values s ≡ value_of f a s) → map (values_of values) f.output_signals ≡ map (value_of f a) f.output_signals
 known_outputs f a values h known = map_same (values_of values) (value_of f a) f.output_signals (λ o inside. known (get_or f.output_signals o 0) (h.outputs_within o (omega (arith, h.each_output))))
-
--- ---- rows
-
-row_matches-nil : (vs : List Bool) → row_matches [] vs ≡ true
-row_matches-nil [] = refl
-row_matches-nil (v ∷ vs) = refl
-
--- a row that is over matches whatever is left
-pub row_matches-past : (i : ℕ) (row : List ℕ) (vs : List Bool) → length row ≤ i → true ≡ row_matches (drop i row) vs
-row_matches-past i row vs h = rw (drop_all i row h) (sym (row_matches-nil vs))
-  where
-    drop_all : (i : ℕ) (row : List ℕ) → length row ≤ i → drop i row ≡ []
-    drop_all zero [] h = refl
-    drop_all zero (b ∷ row) h = absurd (omega arith)
-    drop_all (suc i) [] h = refl
-    drop_all (suc i) (b ∷ row) h = drop_all i row (omega arith)
 
 -- the outputs' signals are among the signals
 pub outputs_small : (f : FlatOf) (signals : List ℕ) (n : ℕ) → IsFlat f → signals ≡ f.output_signals → n ≡ length f.drivers → (k : ℕ) → k < length signals → get_or signals k 0 < n
