@@ -4,12 +4,13 @@
 //! - `words`, `operations`, of `eqc_tree`; `diagrams`, of `eqc_plain`; `machine`, of `eqc_core`
 //! - `reading`, of `eqc_blif`; `hierarchies` and `random_hierarchies`, of `eqc_flat`
 //! - `pairs`, `reports`, `runs`, of `eqc_check`
-//! - `program`, `program_ends`, `compared_hierarchies`, of this crate
+//! - `program`, `program_ends`, `compared_hierarchies`, `costs`, of this crate
 //! - `streams`, the readers, writers and files that fail
 //!
 //! In the texts of `pairs` and of what comes after it `;` stands for LF.
 
 mod compared_hierarchies;
+mod costs;
 mod diagrams;
 mod hierarchies;
 mod machine;

@@ -1,9 +1,11 @@
 //! Flat netlists: the codes of a hierarchy's models, and the values of outputs, worked out by hand from the rules of the
 //! format.
 
+ghost use Rattle.std.specs.Prelude.{◌<◌, length};
+
 use eqc_blif::{Library, read};
-use eqc_flat::{Flat, eval, flatten};
-use std::alloc::Global;
+use eqc_flat::{Driver, Flat, eval, flatten};
+use std::alloc::{AllocError, Global};
 use std::process::Abort;
 use std::test::Fail;
 
@@ -129,4 +131,71 @@ static INSTANCES: [Row; 4] = [
 #[test]
 fn evaluates_hierarchies(rt: HostRuntime) -> Result<(), Fail> {
     check_values(&rt, INSTANCES.as_slice())
+}
+
+/// The name of a signal behind those of the positions on the way to its instance, from the main model down.
+fn path_of(alloc: Global, flat: &Flat<'_>, s: u32) -> Result<String, AllocError>
+    requires { s < length flat.now.drivers }
+{
+    let (instance, name) = flat.signal(s);
+    let mut path = String::new(alloc);
+    for byte in name {
+        path.push(*byte as char)?;
+    }
+    if instance == 0 {
+        return Ok(path);
+    }
+    let (parent, position) = flat.place(instance);
+    format!(in alloc; "{parent}.{position}.{path}")
+}
+
+/// What drives a signal, in one word: its kind and what it depends on.
+fn driver_word(alloc: Global, flat: &Flat<'_>, s: u32) -> Result<String, AllocError>
+    requires { s < length flat.now.drivers }
+{
+    let mut word = match flat.driver(s) {
+        Driver::Input(position) => format!(in alloc; "input {position}")?,
+        Driver::Tie(_) => String::from_str(alloc, "tie")?,
+        Driver::Cover { .. } => String::from_str(alloc, "cover")?,
+    };
+    let dependencies = flat.driver(s).dependencies();
+    for k in 0..dependencies.len() {
+        let other = dependencies.get(k);
+        word.push_str(&format!(in alloc; " {other}")?)?;
+    }
+    Ok(word)
+}
+
+/// The signals of a text's main model in the order of the steps: path and driver, with `;` behind each.
+fn signals_of(alloc: Global, text: &[u8]) -> Result<String, Fail> {
+    let library = read(alloc, text).ok().ok_or("refused")?;
+    let flat = flat_of(alloc, &library, 0).ok_or("refused hierarchy")?;
+    let mut all = String::new(alloc);
+    let steps = flat.steps();
+    for k in 0..steps.len() {
+        all.push_str(&path_of(alloc, &flat, steps[k])?)?;
+        all.push('=')?;
+        all.push_str(&driver_word(alloc, &flat, steps[k])?)?;
+        all.push(';')?;
+    }
+    Ok(all)
+}
+
+static SIGNALS: [(&[u8], &str); 2] = [
+    (
+        b".model f\n.inputs x y\n.outputs z\n.names x y z\n11 1\n",
+        "x=input 0;y=input 1;z=cover 0 1;",
+    ),
+    (
+        b".model f\n.inputs a\n.outputs z\n.subckt n i=a o=t\n.subckt n i=t o=z\n.end\n.model n\n.inputs i\n.outputs o\n.names i o\n0 1\n",
+        "a=input 0;0.0.i=tie 0;0.0.o=cover 3;t=tie 4;0.1.i=tie 2;0.1.o=cover 5;z=tie 6;",
+    ),
+];
+
+#[test]
+fn signals_have_names_places_and_drivers(rt: HostRuntime) -> Result<(), Fail> {
+    for (text, want) in SIGNALS.iter() {
+        assert_eq!(rt; signals_of(rt.alloc(), text)?.as_str(), *want);
+    }
+    Ok(())
 }

@@ -10,6 +10,20 @@ fn operations_have_their_numbers(rt: HostRuntime) {
 }
 
 #[test]
+fn numbers_have_their_operations(rt: HostRuntime) {
+    for (tag, op) in [
+        (0, None),
+        (1, Some(Op::And)),
+        (2, Some(Op::Or)),
+        (3, Some(Op::Xor)),
+        (4, Some(Op::AndNot)),
+        (5, None),
+    ] {
+        assert_eq!(rt; Op::of_tag(tag), op, "{tag}");
+    }
+}
+
+#[test]
 fn stops_have_their_codes(rt: HostRuntime) {
     for (stop, code) in [
         (Stop::NodeLimit, 71),

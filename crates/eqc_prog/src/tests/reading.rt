@@ -10,7 +10,9 @@
 //! where `mux.v` has a module `top` with one instance of `mux4`, whose body is `assign y = d[s]; assign n = ~s;`.
 ghost use Rattle.std.specs.Prelude.{◌<◌, length};
 
-use eqc_blif::{Cover, Instance, Library, Name, read};
+use eqc_blif::{
+    Cover, Instance, Library, Name, allows, cover_value, is_on, is_on_set, read, row_matches,
+};
 use std::alloc::{AllocError, Global};
 use std::process::Abort;
 use std::test::Fail;
@@ -397,4 +399,52 @@ fn finds_models(rt: HostRuntime) -> Result<(), Fail> {
     assert_eq!(rt; found(rt.alloc(), text, b"g")?, Some(1));
     assert_eq!(rt; found(rt.alloc(), text, b"h")?, None);
     Ok(())
+}
+
+/// Rows over two columns, values of these, whether the row matches, and whether it ends in `1`.
+static MATCHES: [(&[u8], [bool; 2], bool, bool); 5] = [
+    (b"0-1", [false, true], true, true),
+    (b"0-1", [true, true], false, true),
+    (b"110", [true, true], true, false),
+    (b"110", [true, false], false, false),
+    (b"--0", [false, false], true, false),
+];
+
+#[test]
+fn rows_match_values(rt: HostRuntime) {
+    for (row, values, matches, on) in MATCHES.iter() {
+        assert_eq!(rt; row_matches(row, values.as_slice()), *matches);
+        assert_eq!(rt; is_on(row), *on);
+    }
+    assert!(rt; allows(b'-', true) && allows(b'1', true) && !allows(b'0', true));
+}
+
+/// The value of the one cover of a text under these values of its columns, and whether its rows end in `1`.
+fn cover_of(alloc: Global, text: &[u8], values: &[bool]) -> Option<(bool, bool, bool)> {
+    let library = read(alloc, text).ok()?;
+    if library.models() == 0 {
+        return None;
+    }
+    let cover = library.covers(0).first()?;
+    Some((
+        cover.value(values),
+        cover_value(&cover.rows, values),
+        is_on_set(&cover.rows),
+    ))
+}
+
+/// Covers with values of their columns, their value, and whether their rows end in `1`.
+static COVERS: [(&[u8], [bool; 2], bool, bool); 4] = [
+    (b".names a b z\n1- 1\n-1 1\n", [false, true], true, true),
+    (b".names a b z\n1- 1\n-1 1\n", [false, false], false, true),
+    (b".names a b z\n11 0\n", [true, false], true, false),
+    (b".names a b z\n", [true, true], false, false),
+];
+
+#[test]
+fn covers_have_values(rt: HostRuntime) {
+    for (text, values, value, on) in COVERS.iter() {
+        let found = cover_of(rt.alloc(), text, values.as_slice());
+        assert_eq!(rt; found, Some((*value, *value, *on)));
+    }
 }
