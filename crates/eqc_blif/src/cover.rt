@@ -40,7 +40,8 @@ fn is_output_value(byte: u8) -> bool
     byte == b'0' || byte == b'1'
 }
 
-/// Whether all bytes are values of columns. All are looked at, which is faster than to stop at the first that is none.
+/// Whether all bytes are values of columns. The loop has no exit on the way, which makes it faster than one that stops at
+/// a wrong byte.
 fn are_column_values(bytes: &[u8]) -> bool
     ensures { result ≡ list_all is_column_value bytes.now }
 {

@@ -42,7 +42,7 @@ impl OpenModel {
         }
     }
 
-    /// Puts the cover that is being read to the others.
+    /// Ends the cover that is being read: it joins those of the model.
     pub(crate) fn close_cover(&mut self) -> Result<(), AllocError>
         ensures closed { OnOk result (self.new ≡ record { model = self.old.model; in_cover = false }) }
         ensures name { self.new.model.name ≡ self.old.model.name }

@@ -3,12 +3,14 @@ ghost use Rattle.eqc_tree.specs.Holding.{Keeps, Gains};
 ghost use Rattle.eqc_flat.specs.Graph.{driver_at, dependencies, value_of};
 ghost use Rattle.eqc_check.specs.Building.{Holds, HoldsBoth, OwnsTable, IsBuilt, AreBuilt, AreReady, AreSignals, AreVariables, Adds, inputs_under, reference_of};
 
+mod cover;
 mod plan;
+mod rows;
 pub(crate) mod table;
 
+use crate::build::cover::cover_diagram;
 use crate::build::plan::last_uses;
 use crate::build::table::{Tables, empty_table, give_back_all, put, reference_at, release};
-use crate::cover::cover_diagram;
 use crate::pairing::matched_pair::{Pair, recall_laws};
 use eqc_flat::{Driver, Flat, Signals};
 use eqc_tree::{Diagrams, References, Stop};

@@ -5,7 +5,6 @@
 mod build;
 mod check;
 mod compare;
-mod cover;
 mod decide;
 mod ends;
 mod laws;
@@ -13,7 +12,6 @@ mod least;
 mod options;
 mod pairing;
 mod report;
-mod rows;
 mod running;
 
 pub use check::check_plain;

@@ -1,4 +1,4 @@
-ghost use Rattle.std.specs.Prelude.{◌≡◌, ◌≢◌, ◌≤◌, IfOk, IfErr, OnErr, Err};
+ghost use Rattle.std.specs.Prelude.{◌≡◌, ◌≢◌, ◌≤◌, ◌×◌, IfOk, IfErr, OnErr, Err, None};
 ghost use Rattle.std.specs.Option.{option_map, option_copied};
 ghost use Rattle.eqc_check.specs.Sources.{MayBeRead, AreRead};
 ghost use Rattle.eqc_check.specs.ReportView.{report_of};
@@ -133,7 +133,7 @@ fn report_for<RT, R: Read + Drop>(
     options: &Options,
 ) -> Result<Report, RunFault>
     ensures report { IfOk result (λ report. IsReportFor (options_code options.now) R.remaining texts order (report_of report)) }
-    ensures fault { IfErr result (λ fault. fault ≡ RunFault.Read) }
+    ensures fault { IfErr result (λ fault. (fault ≡ RunFault.Read) × (options_code options.now ≡ None)) }
 {
     let nodes = options.nodes;
     match options_fault(options) {
@@ -149,8 +149,8 @@ fn report_for<RT, R: Read + Drop>(
 /// Compares two netlists and writes the report: the first two models of one text, or the main models of two, over
 /// the variable order of an order text or, without one, the order in which the first netlist declares its inputs.
 ///
-/// The options are looked at first. Then the texts are read whole: the first, the second, the order text. A read
-/// that fails is `Read`, 91, and then nothing is written. Want of memory anywhere before the writing is reported as
+/// The options are looked at first, and where one is out of its range no text is read. Else the texts are read whole:
+/// the first, the second, the order text. A read that fails is `Read`, 91, and then nothing is written. Want of memory anywhere before the writing is reported as
 /// `stopped 72`. A write that fails or takes nothing, or a flush that fails, is `Write`, 92, and then a part of a
 /// report was written. Nothing is tried again. The answer is the kind of the report.
 pub fn run<RT, R: Read + Drop, W: Write>(
@@ -163,7 +163,7 @@ pub fn run<RT, R: Read + Drop, W: Write>(
 ) -> Result<Status, RunFault>
     ensures answered { IfOk result (λ status. IsAnswered R.remaining texts order options.now (W.contents out.old) (W.contents out.new) status) }
     ensures write { result ≡ Err RunFault.Write → IsCutOff R.remaining texts order options.now (W.contents out.old) (W.contents out.new) }
-    ensures read { result ≡ Err RunFault.Read → out.new ≡ out.old }
+    ensures read { result ≡ Err RunFault.Read → (options_code options.now ≡ None) × (out.new ≡ out.old) }
     ensures memory { IfErr result (λ fault. fault ≢ RunFault.Memory) }
 {
     let report = match report_for(alloc, rt, texts, order, options) {

@@ -17,7 +17,7 @@ pub enum End {
     Helped,
     /// A file could not be opened, or a read or a write failed.
     Failed(RunFault),
-    /// The words are no command line, or memory was refused while they were read.
+    /// The words name no request that the program knows, or memory was refused while they were read.
     BadWords(Error),
 }
 

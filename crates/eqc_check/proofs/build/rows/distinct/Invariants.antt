@@ -1,6 +1,6 @@
 use Rattle.std.proofs.Common.{◌≡◌, map, take}
 use Rattle.eqc_check.specs.Matching.{MatchAlike}
-use Rattle.eqc_check.proofs.rows.distinct.Given as goal
+use Rattle.eqc_check.proofs.build.rows.distinct.Given as goal
 
 -- what was kept says what the rows so far say, and is what was seen
 abbrev pub invariant-rows : goal.invariant-rows

@@ -5,7 +5,7 @@ use Rattle.eqc_check.specs.Matching.{AreHeld}
 use Rattle.eqc_check.proofs.HeldLaws.{held_gains, held_rest, gains_as, joins_two}
 use Rattle.eqc_check.proofs.MatchingLaws.{no_columns, expansion_said}
 use Rattle.eqc_check.proofs.RowLaws.{free_columns, unconstrained_said}
-use Rattle.eqc_check.proofs.cover.+by_columns.Goals as goal
+use Rattle.eqc_check.proofs.build.cover.+by_columns.Goals as goal
 
 pub returns-in_default-clause-ok : goal.returns-in_default-clause-ok
 returns-in_default-clause-ok g t c = gains_as g.D.References.entry _ _ c.constant-in_default.result _ _ (λ a. no_columns g.D.References.entry c.args.on c.args.rows.now c.args.columns.now a (sym c.is_empty.ensures ∙ c.if-is_empty.false) (nil_from_length c.args.columns.now c.in_default.ensures.cases)) c.constant-in_default.ensures.ok

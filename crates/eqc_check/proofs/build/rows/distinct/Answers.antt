@@ -2,8 +2,8 @@ use Rattle.std.proofs.Common.{List, ℕ, [], ◌∷◌, ◌++◌, sym, ◌∙◌
 use Rattle.std.specs.List.{list_any}
 use Rattle.std.specs.Str.{bytes_eq}
 use Rattle.eqc_check.proofs.RowLaws.{distinct_more, distinct_stays, set_grows, set_has}
-use Rattle.eqc_check.proofs.rows.distinct.Goals as goal
-use Rattle.eqc_check.proofs.rows.distinct.Goals.{then-branch+in_ok-push, else-branch}
+use Rattle.eqc_check.proofs.build.rows.distinct.Goals as goal
+use Rattle.eqc_check.proofs.build.rows.distinct.Goals.{then-branch+in_ok-push, else-branch}
 
 pub rows-preserved : goal.rows-preserved
 rows-preserved c = elim c.if-branch.branch [

@@ -1,7 +1,7 @@
 use Rattle.std.proofs.Common.{rules}
 use Rattle.eqc_check.specs.Matching.{AreHeld}
 use Rattle.eqc_check.proofs.HeldLaws.{held_gains}
-use Rattle.eqc_check.proofs.cover.+by_rows.Goals as goal
+use Rattle.eqc_check.proofs.build.cover.+by_rows.Goals as goal
 
 pub by_rows-requires-2 : goal.by_rows-requires-2
 by_rows-requires-2 g t c =

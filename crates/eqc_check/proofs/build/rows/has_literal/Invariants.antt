@@ -1,7 +1,7 @@
 use Rattle.std.proofs.Common.{◌≡◌, drop}
 use Rattle.std.specs.List.{list_any}
 use Rattle.eqc_check.specs.Matching.{is_literal}
-use Rattle.eqc_check.proofs.rows.has_literal.Given as goal
+use Rattle.eqc_check.proofs.build.rows.has_literal.Given as goal
 
 -- the places that are left decide
 abbrev pub invariant-loop-byte : goal.invariant-loop-byte

@@ -1,6 +1,6 @@
 use Rattle.std.proofs.Common.{◌≡◌, map, drop}
 use Rattle.eqc_check.specs.Matching.{some_match}
-use Rattle.eqc_check.proofs.rows.some_match.Given as goal
+use Rattle.eqc_check.proofs.build.rows.some_match.Given as goal
 
 -- the rows that are left decide
 abbrev pub invariant-loop-row : goal.invariant-loop-row

@@ -2,7 +2,7 @@ use Rattle.std.proofs.Common.{rules, true, ◌&&◌, sym, ◌∙◌}
 use Rattle.eqc_check.specs.Matching.{said, AreHeld}
 use Rattle.eqc_check.proofs.HeldLaws.{gains_as, joins_two, held_gains, held_drop}
 use Rattle.eqc_check.proofs.MatchingLaws.{row_matches-empty, by_halves, by_short}
-use Rattle.eqc_check.proofs.cover.+by_row.Goals as goal
+use Rattle.eqc_check.proofs.build.cover.+by_row.Goals as goal
 
 pub returns-then-is_empty-clause-ok : goal.returns-then-is_empty-clause-ok
 returns-then-is_empty-clause-ok g t c = gains_as g.D.References.entry _ _ c.constant.result (λ _. true) _ (λ a. row_matches-empty c.args.row.now (said g.D.References.entry c.args.columns.now a) (sym c.is_empty.ensures ∙ c.if-is_empty.true)) c.constant.ensures.ok

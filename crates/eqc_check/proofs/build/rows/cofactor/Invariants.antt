@@ -1,6 +1,6 @@
 use Rattle.std.proofs.Common.{◌≡◌, map, take}
 use Rattle.eqc_check.specs.Matching.{cofactor}
-use Rattle.eqc_check.proofs.rows.cofactor.Given as goal
+use Rattle.eqc_check.proofs.build.rows.cofactor.Given as goal
 
 -- what was kept of the rows so far
 abbrev pub invariant-loop-row : goal.invariant-loop-row

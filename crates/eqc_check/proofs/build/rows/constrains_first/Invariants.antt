@@ -1,6 +1,6 @@
 use Rattle.std.proofs.Common.{◌≡◌, map, drop}
 use Rattle.eqc_check.specs.Matching.{constrains_first}
-use Rattle.eqc_check.proofs.rows.constrains_first.Given as goal
+use Rattle.eqc_check.proofs.build.rows.constrains_first.Given as goal
 
 -- the rows that are left decide
 abbrev pub invariant-loop-row : goal.invariant-loop-row

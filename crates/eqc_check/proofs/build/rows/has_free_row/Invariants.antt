@@ -1,6 +1,6 @@
 use Rattle.std.proofs.Common.{◌≡◌, map, drop}
 use Rattle.eqc_check.specs.Matching.{has_free_row}
-use Rattle.eqc_check.proofs.rows.has_free_row.Given as goal
+use Rattle.eqc_check.proofs.build.rows.has_free_row.Given as goal
 
 -- the rows that are left decide
 abbrev pub invariant-loop-row : goal.invariant-loop-row

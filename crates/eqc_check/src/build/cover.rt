@@ -4,7 +4,7 @@ ghost use Rattle.eqc_tree.specs.Holding.{IsHeld, says, Keeps, Gains, Loses};
 ghost use Rattle.eqc_blif.specs.Cover.{row_matches, cover_value};
 ghost use Rattle.eqc_check.specs.Matching.{some_match, cofactor, agrees, AreHeld, said, of_two, Swaps};
 
-use crate::rows::{cofactor, constrains_first, has_free_row, plan_cover, some_match};
+use crate::build::rows::{cofactor, constrains_first, has_free_row, plan_cover, some_match};
 use eqc_blif::{Name, is_on_set};
 use eqc_tree::{Diagrams, Op, References, Stop};
 use std::alloc::Global;

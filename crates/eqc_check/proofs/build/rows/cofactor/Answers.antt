@@ -1,7 +1,7 @@
 use Rattle.std.proofs.Common.{ap, ◌∙◌, arith}
 use Rattle.eqc_check.proofs.MatchingLaws.{cofactor_more, kept_row, left_row}
-use Rattle.eqc_check.proofs.rows.cofactor.Goals as goal
-use Rattle.eqc_check.proofs.rows.cofactor.Goals.{in-Some+in_ok-push, in_default}
+use Rattle.eqc_check.proofs.build.rows.cofactor.Goals as goal
+use Rattle.eqc_check.proofs.build.rows.cofactor.Goals.{in-Some+in_ok-push, in_default}
 
 pub loop-row-preserved : goal.loop-row-preserved
 loop-row-preserved c = elim c.match-without_first.branch [
