@@ -8,3 +8,4 @@ pub mod Reading
 pub mod Steps
 pub mod Laws
 pub mod PlainText
+pub mod Rule

@@ -7,6 +7,7 @@ ghost use Rattle.eqc_blif.specs.Steps.{TakesRow};
 
 use crate::name::Name;
 use crate::rows::cover_value;
+use crate::rule::Rule;
 use crate::sparing::push_sparing;
 use crate::words::names_in;
 use std::alloc::{AllocError, Global};
@@ -115,10 +116,10 @@ impl Cover {
     {
         let row = Name::without_blanks(alloc, line)?;
         if !has_row_shape(self.columns.len(), row.as_bytes()) {
-            return Ok(Some(7));
+            return Ok(Some(Rule::RowShape.code()));
         }
         if differs_from_first(self.rows.as_slice(), row.as_bytes()) {
-            return Ok(Some(8));
+            return Ok(Some(Rule::RowOutput.code()));
         }
         push_sparing(&mut self.rows, row)?;
         Ok(None)

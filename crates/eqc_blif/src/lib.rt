@@ -1,5 +1,13 @@
-//! Netlists in the Berkeley Logic Interchange Format (BLIF): from the bytes of a text to its library of
-//! models, or to the number and code of its first fault.
+//! Netlists in the Berkeley Logic Interchange Format (BLIF 1992): from the bytes of a text to its library of models, or to
+//! the number of the line and the code of its first fault.
+//!
+//! What a text means is said in `specs/Lines.antt`, `specs/Words.antt` and `specs/Reading.antt`. Read the modules in this order:
+//!
+//! - `reading`, the call; `library`, what it gives; `rule` and `refusal`, why it gives none
+//! - `lines`, how bytes become logical lines; `words`, their words; `kind`, the statement that a line is
+//! - `reader`, what was read so far, and one more line; `open_model`, a statement in a model; `declarations`, what it declares
+//! - `cover` and `rows`, a cover and what its rows mean; `instance`; `name`, `name_list`, `names`, `sparing`, how they are stored
+//! - `laws`, facts about the definitions, as functions without a body
 #![tactic(auto)]
 
 mod cover;
@@ -17,6 +25,7 @@ mod reader;
 mod reading;
 mod refusal;
 mod rows;
+mod rule;
 mod sparing;
 mod words;
 
@@ -32,3 +41,4 @@ pub use name::Name;
 pub use reading::read;
 pub use refusal::Refusal;
 pub use rows::{allows, cover_value, is_on, is_on_set, row_matches};
+pub use rule::{RULES, Rule};

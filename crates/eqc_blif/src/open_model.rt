@@ -8,6 +8,7 @@ use crate::declarations::Declarations;
 use crate::instance::Instance;
 use crate::kind::Kind;
 use crate::name::Name;
+use crate::rule::Rule;
 use crate::sparing::push_sparing;
 use crate::words::{pairs_in, split_word};
 use std::alloc::{AllocError, Global};
@@ -64,7 +65,7 @@ impl OpenModel {
     {
         self.close_cover()?;
         if !self.declarations.inputs.add_words(alloc, line)? {
-            return Ok(Some(12));
+            return Ok(Some(Rule::NameTwice.code()));
         }
         Ok(None)
     }
@@ -80,7 +81,7 @@ impl OpenModel {
     {
         self.close_cover()?;
         if !self.declarations.outputs.add_words(alloc, line)? {
-            return Ok(Some(12));
+            return Ok(Some(Rule::NameTwice.code()));
         }
         Ok(None)
     }
@@ -95,7 +96,7 @@ impl OpenModel {
         ensures name { self.new.model.name ≡ self.old.model.name }
     {
         let Some(cover) = Cover::opened(alloc, line)? else {
-            return Ok(Some(10));
+            return Ok(Some(Rule::NoWord.code()));
         };
         self.close_cover()?;
         self.cover = Some(cover);
@@ -112,10 +113,10 @@ impl OpenModel {
         ensures name { self.new.model.name ≡ self.old.model.name }
     {
         let Some((model, rest)) = split_word(line) else {
-            return Ok(Some(10));
+            return Ok(Some(Rule::NoWord.code()));
         };
         let Some(pairs) = pairs_in(alloc, rest)? else {
-            return Ok(Some(9));
+            return Ok(Some(Rule::NoPair.code()));
         };
         let model = Name::new(alloc, model)?;
         self.close_cover()?;
@@ -129,7 +130,7 @@ impl OpenModel {
         ensures name { self.new.model.name ≡ self.old.model.name }
     {
         let Some(cover) = &mut self.cover else {
-            return Ok(Some(6));
+            return Ok(Some(Rule::RowOutsideCover.code()));
         };
         let code = cover.take_row(alloc, line)?;
         Ok(code)

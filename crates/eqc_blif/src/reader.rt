@@ -9,6 +9,7 @@ use crate::kind::{Kind, kind_of};
 use crate::library::Library;
 use crate::name::Name;
 use crate::open_model::OpenModel;
+use crate::rule::Rule;
 use crate::words::split_first;
 use indexmap::IndexMap;
 use std::alloc::{AllocError, Global};
@@ -102,7 +103,7 @@ impl Reader {
         let name = Name::new(alloc, word)?;
         self.close()?;
         if self.closed.contains_key(&name) {
-            return Ok(Some(11));
+            return Ok(Some(Rule::ModelTwice.code()));
         }
         self.open_model = Some(OpenModel::new(alloc, name));
         Ok(None)
@@ -113,7 +114,7 @@ impl Reader {
         ensures { IfOk result (λ code. Takes self.old Kind.End [] [] code self.new) }
     {
         if self.open_model.is_none() {
-            return Ok(Some(5));
+            return Ok(Some(Rule::BehindEnd.code()));
         }
         self.close()?;
         Ok(None)
@@ -131,7 +132,7 @@ impl Reader {
         ensures { IfOk result (λ code. Takes self.old kind (words rest.now) (without_blanks line.now) code self.new) }
     {
         let Some(model) = &mut self.open_model else {
-            return Ok(Some(5));
+            return Ok(Some(Rule::BehindEnd.code()));
         };
         let code = model.take(alloc, kind, rest, line)?;
         Ok(code)
@@ -150,8 +151,8 @@ impl Reader {
         match kind {
             Kind::Model => self.take_model(alloc, rest),
             Kind::End => self.take_end(),
-            Kind::Unknown => Ok(Some(3)),
-            Kind::Latch => Ok(Some(4)),
+            Kind::Unknown => Ok(Some(Rule::UnknownCommand.code())),
+            Kind::Latch => Ok(Some(Rule::Latch.code())),
             Kind::Skipped => Ok(None),
             _ => self.take_in_model(alloc, kind, rest, line),
         }
@@ -162,7 +163,7 @@ impl Reader {
         ensures { IfOk result (λ code. TakesLine self.old line.now code self.new) }
     {
         if has_bad_byte(line) {
-            return Ok(Some(1));
+            return Ok(Some(Rule::ControlByte.code()));
         }
         let (word, rest) = split_first(line);
         let kind = kind_of(word);

@@ -5,6 +5,7 @@ use crate::library::Library;
 use crate::lines::Lines;
 use crate::reader::Reader;
 use crate::refusal::Refusal;
+use crate::rule::Rule;
 use std::alloc::Global;
 
 /// How many bytes a text may have.
@@ -20,7 +21,7 @@ pub fn read(alloc: Global, text: &[u8]) -> Result<Library, Refusal>
     ensures fault { IfErr result (λ refusal. (refusal ≡ record { line = 0; code = 72 }) ⊎ (outcome text.now ≡ Err (refusal.line, refusal.code))) }
 {
     if text.len() > MAX_BYTES {
-        return Err(Refusal { line: 0, code: 2 });
+        return Err(Rule::TextTooLong.without_line());
     }
     let mut lines = Lines::new(text);
     let mut joined = Vec::new(alloc);
@@ -36,7 +37,7 @@ pub fn read(alloc: Global, text: &[u8]) -> Result<Library, Refusal>
     }
     let library = reader.finish()?;
     if library.models() == 0 {
-        return Err(Refusal { line: 0, code: 13 });
+        return Err(Rule::NoModel.without_line());
     }
     Ok(library)
 }

@@ -9,6 +9,7 @@ use Rattle.std.proofs.lemmas.Bool.{cases_eq, cases_lt, or_parts, or_cases, ne_eq
 use Rattle.eqc_blif.specs.Names.{is_named, has_twice}
 use Rattle.eqc_check.specs.Verdict.{position_of}
 use Rattle.eqc_check.specs.Matched.{has_all}
+use Rattle.eqc_flat.specs.NameSets.{with_name}
 
 -- the bytes of slices
 abbrev pub bytes_in : List (Bor (List ℕ)) → List (List ℕ)
@@ -103,16 +104,12 @@ named_missing names name e = by (nat_lt (position_of names name) (length names))
 
 -- ---- the set of names so far
 
--- the set has a name exactly when the names have it
-seen_named : (keys : List (Bor (List ℕ))) (names : List (List ℕ)) (name : List ℕ) → bytes_in keys ≡ names → list_any (λ (key : Bor (List ℕ)). bytes_eq name key.now) keys ≡ is_named names name
-seen_named keys names name e = sym (any_mapped (λ other. bytes_eq name other) (λ (key : Bor (List ℕ)). key.now) keys) ∙ ap (λ xs. list_any (λ other. bytes_eq name other) xs) e
-
 -- a name that the set has stands twice
-pub seen_twice : (keys names : List (Bor (List ℕ))) (i : ℕ) (d : Bor (List ℕ)) (fresh : Bool) → i < length names → bytes_in keys ≡ bytes_in (take i names)
-    → fresh ≡ not (list_any (λ (key : Bor (List ℕ)). bytes_eq (get_or names i d).now key.now) keys) → fresh ≡ false → has_twice (bytes_in names) ≡ true
-seen_twice keys names i d fresh inside e f stale =
+pub seen_twice : (set : List (List ℕ)) (names : List (Bor (List ℕ))) (i : ℕ) (d : Bor (List ℕ)) (fresh : Bool) → i < length names → set ≡ bytes_in (take i names)
+    → fresh ≡ not (is_named set (get_or names i d).now) → fresh ≡ false → has_twice (bytes_in names) ≡ true
+seen_twice set names i d fresh inside e f stale =
     let name = (get_or names i d).now in
-    let seen : is_named (bytes_in (take i names)) name ≡ true = sym (seen_named keys (bytes_in (take i names)) name e) ∙ by (list_any (λ (key : Bor (List ℕ)). bytes_eq name key.now) keys) (sym f ∙ stale) in
+    let seen : is_named (bytes_in (take i names)) name ≡ true = sym (ap (λ l. is_named l name) e) ∙ by (is_named set name) (sym f ∙ stale) in
     let split : bytes_in names ≡ bytes_in (take i names) ++ name ∷ bytes_in (drop (suc i) names) = ap bytes_in (split_at names i d inside) ∙ map-append (λ (name : Bor (List ℕ)). name.now) (take i names) (get_or names i d ∷ drop (suc i) names) in
     ap has_twice split ∙ twice_there (bytes_in (take i names)) (bytes_in (drop (suc i) names)) name seen
   where
@@ -121,17 +118,16 @@ seen_twice keys names i d fresh inside e f stale =
     by false h = absurd (true≢false h)
 
 -- a name that the set didn't have
-pub seen_more : (keys new names : List (Bor (List ℕ))) (i : ℕ) (d : Bor (List ℕ)) (fresh : Bool) → i < length names → bytes_in keys ≡ bytes_in (take i names) → has_twice (bytes_in (take i names)) ≡ false
-    → fresh ≡ not (list_any (λ (key : Bor (List ℕ)). bytes_eq (get_or names i d).now key.now) keys) → fresh ≡ true
-    → new ≡ (if list_any (λ (key : Bor (List ℕ)). bytes_eq (get_or names i d).now key.now) keys then keys else keys ++ get_or names i d ∷ [])
-    → (bytes_in new ≡ bytes_in (take (i + 1) names)) × (has_twice (bytes_in (take (i + 1) names)) ≡ false)
-seen_more keys new names i d fresh inside e once f is n =
+pub seen_more : (set new : List (List ℕ)) (names : List (Bor (List ℕ))) (i : ℕ) (d : Bor (List ℕ)) (fresh : Bool) → i < length names → set ≡ bytes_in (take i names) → has_twice (bytes_in (take i names)) ≡ false
+    → fresh ≡ not (is_named set (get_or names i d).now) → fresh ≡ true → new ≡ with_name set (get_or names i d).now
+    → (new ≡ bytes_in (take (i + 1) names)) × (has_twice (bytes_in (take (i + 1) names)) ≡ false)
+seen_more set new names i d fresh inside e once f is n =
     let name = (get_or names i d).now in
-    let absent : list_any (λ (key : Bor (List ℕ)). bytes_eq name key.now) keys ≡ false = by (list_any (λ (key : Bor (List ℕ)). bytes_eq name key.now) keys) (sym f ∙ is) in
-    let unnamed : is_named (bytes_in (take i names)) name ≡ false = sym (seen_named keys (bytes_in (take i names)) name e) ∙ absent in
+    let absent : is_named set name ≡ false = by (is_named set name) (sym f ∙ is) in
+    let unnamed : is_named (bytes_in (take i names)) name ≡ false = sym (ap (λ l. is_named l name) e) ∙ absent in
     let more = bytes_more names i d inside in
-    let grown : new ≡ keys ++ get_or names i d ∷ [] = n ∙ ap (λ b. if b then keys else keys ++ get_or names i d ∷ []) absent in (
-      ap bytes_in grown ∙ (map-append (λ (name : Bor (List ℕ)). name.now) keys (get_or names i d ∷ []) ∙ (ap (λ l. l ++ name ∷ []) e ∙ sym more)),
+    let grown : new ≡ set ++ name ∷ [] = n ∙ ap (λ b. if b then set else set ++ name ∷ []) absent in (
+      grown ∙ (ap (λ l. l ++ name ∷ []) e ∙ sym more),
       ap has_twice more ∙ once_more (bytes_in (take i names)) name once unnamed,
     )
   where

@@ -1,6 +1,6 @@
 -- Runs over readers and a writer whose bytes are known.
 use Rattle.std.proofs.Common.{◌≡◌, ◌⊎◌, inl, inr, ℕ, true, List, length, take, refl, ◌∙◌, ap, arith, subst, Option, Some, None, Ok, Err, IfSome, Result, IfOk, OnErr}
-use Rattle.eqc_check.specs.declared.ends.RunFault.{RunFault}
+use Rattle.eqc_check.specs.declared.io.fault.RunFault.{RunFault}
 use Rattle.std.proofs.lemmas.Bool.{cases_lt, lt-ltb}
 use Rattle.std.proofs.lemmas.List.{take_all, length-take-le}
 use Rattle.std.specs.Io.KnownBytes.{Appends, Keeps}

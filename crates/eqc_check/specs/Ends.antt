@@ -1,8 +1,8 @@
 -- What a run reads of a text, what it has written where a write failed, and the numbers of these faults.
 use Rattle.std.specs.Prelude.{◌≡◌, ℕ, ◌≤◌, List, ◌++◌, length, take, Option}
 use Rattle.std.specs.Io.KnownBytes.{Appends, Consumes}
-use Rattle.eqc_check.specs.declared.ends.RunFault.{RunFault}
-use Rattle.eqc_check.specs.declared.ends.RunFault.TheVariants.{Memory, Read, Write}
+use Rattle.eqc_check.specs.declared.io.fault.RunFault.{RunFault}
+use Rattle.eqc_check.specs.declared.io.fault.RunFault.TheVariants.{Memory, Read, Write}
 
 -- known bytes of a writer grow by a prefix of the text
 abbrev pub AppendsPrefix : Option (List ℕ) → Option (List ℕ) → List ℕ → Type 0

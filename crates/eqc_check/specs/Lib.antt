@@ -5,6 +5,7 @@ pub mod VerdictLaws
 pub mod Matched
 pub mod PairOf
 pub mod Report
+pub mod Rule
 pub mod ReportView
 pub mod Matching
 pub mod Building

@@ -1,4 +1,4 @@
-ghost use Rattle.std.specs.Prelude.{◌≡◌, ◌↔◌, ◌<◌, ◌≤◌, ◌⊎◌, IsTrue, length, IfOk, IfErr, Ok, MatchResult};
+ghost use Rattle.std.specs.Prelude.{◌≡◌, ◌<◌, ◌≤◌, ◌⊎◌, length, IfOk, IfErr, Ok, MatchResult};
 ghost use Rattle.std.specs.Option.{option_copied};
 ghost use Rattle.eqc_blif.specs.Reading.{outcome};
 ghost use Rattle.eqc_check.specs.Refusing.{IsRefused, flat_answer};
@@ -9,27 +9,19 @@ use crate::check::check_plain;
 use crate::pairing::matched_pair::recall_laws;
 use crate::pairing::pair;
 use crate::report::{Refused, Report, Side};
-use eqc_blif::{Library, Refusal, read};
+use eqc_blif::{Library, Refusal, Rule, read};
 use eqc_flat::{Fault, Flat, flatten};
 use eqc_tree::Stop;
 use std::alloc::Global;
-
-/// Whether a number among those of refusals tells that memory was refused, which is no refusal of a text: reading,
-/// flattening and pairing have one number for it.
-fn is_memory(code: u8) -> bool
-    ensures { IsTrue result ↔ (code ≡ 72) }
-{
-    code == 72
-}
 
 /// A refusal of a side as a report, or the stop for want of memory.
 fn refused(side: Side, refusal: Refusal) -> Result<Report, Stop>
     ensures { IsRefused side refusal result }
 {
-    let Refusal { line, code } = refusal;
-    if is_memory(code) {
+    if refusal.is_memory() {
         return Err(Stop::Memory);
     }
+    let Refusal { line, code } = refusal;
     Ok(Report::Refused(Refused { side, line, code }))
 }
 
@@ -100,7 +92,7 @@ fn one_report<R>(
         Err(refusal) => return refused(Side::First, refusal),
     };
     if library.models() < 2 {
-        return refused(Side::Second, Refusal { line: 0, code: 13 });
+        return refused(Side::Second, Rule::NoModel.without_line());
     }
     models_report(alloc, rt, (&library, 0), (&library, 1), order, nodes)
 }

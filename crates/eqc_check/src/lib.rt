@@ -1,22 +1,32 @@
-//! Compares two netlists and reports: pairs of flat netlists matched by name, the diagrams of their outputs
-//! over any `Diagrams`, the first differing output with its least assignment, and the report's bytes.
+//! Compares two netlists and reports: pairs of flat netlists matched by name, the diagrams of their outputs over any
+//! `Diagrams`, the first differing output with its least assignment, and the report's bytes.
+//!
+//! What the report has to be is said in `specs/Answer.antt`, `specs/Verdict.antt` and `specs/Report.antt`. Read the modules in this
+//! order, the way of the data:
+//!
+//! - `running`, texts in and a report out, over `io`, readers and writers; `decide`, which refusal or comparison it is
+//! - `pairing`, two netlists as a pair; `options` and `rule`, what is asked for and what is refused
+//! - `build`, the diagrams of signals; `compare`, one output; `least`, its least assignment; `check`, all outputs
+//! - `report`, reports and their bytes; `laws`, facts about the definitions, as functions without a body
 #![tactic(auto, using(eqc_tree::proofs::HoldingLemmas::counts_itself))]
 
 mod build;
 mod check;
 mod compare;
 mod decide;
-mod ends;
+mod io;
 mod laws;
 mod least;
 mod options;
 mod pairing;
 mod report;
+mod rule;
 mod running;
 
 pub use check::check_plain;
 pub use compare::compare_output;
-pub use ends::RunFault;
+pub use io::fault::RunFault;
+pub use io::writing::write_text;
 pub use laws::{
     difference_is_of_values, first_difference_is_first, first_difference_is_none_where_equal,
     inputs_are_matched_by_name, least_difference_is_least, least_difference_is_none_where_equal,
@@ -26,5 +36,7 @@ pub use least::least_assignment;
 pub use options::{Options, options_fault};
 pub use pairing::matched_pair::Pair;
 pub use pairing::pair;
-pub use report::{Refused, Report, Side, Status, write_report};
+pub use report::text::write_report;
+pub use report::{Refused, Report, Side, Status};
+pub use rule::{OPTION_RULES, PAIR_RULES, Rule};
 pub use running::{Texts, run};

@@ -1,6 +1,8 @@
 ghost use Rattle.std.specs.Prelude.{◌≡◌};
 ghost use Rattle.eqc_check.specs.Options.{options_code, is_cell_count};
 
+use crate::rule::Rule;
+
 const MAX_WORKERS: u32 = 64;
 
 const MAX_NODES: u32 = 1_048_574;
@@ -33,16 +35,16 @@ pub fn options_fault(options: &Options) -> Option<u8>
         forks,
     } = *options;
     if !(1..=MAX_WORKERS).contains(&workers) {
-        return Some(81);
+        return Some(Rule::Workers.code());
     }
     if !(1..=MAX_NODES).contains(&nodes) {
-        return Some(82);
+        return Some(Rule::Nodes.code());
     }
     if !is_cell_count(cells) {
-        return Some(83);
+        return Some(Rule::Cells.code());
     }
     if forks > MAX_FORKS {
-        return Some(84);
+        return Some(Rule::Forks.code());
     }
     None
 }

@@ -13,6 +13,7 @@ use crate::pairing::matched_pair::Pair;
 use crate::pairing::name_index::{bytes_of, places_among};
 use crate::pairing::order::order_of;
 use crate::report::{Refused, Side};
+use crate::rule::Rule;
 use eqc_blif::Name;
 use eqc_flat::Flat;
 use std::alloc::{AllocError, Global};
@@ -23,7 +24,7 @@ impl From<AllocError> for Refused {
     ghost from_gives = { λ _ refused. refused ≡ no_memory };
 
     fn from(_error: AllocError) -> Refused {
-        refusal(72)
+        refusal(eqc_blif::Rule::Memory.code())
     }
 }
 
@@ -71,10 +72,10 @@ pub fn pair<'a>(
     ensures refused { IfErr result (λ refused. (refused ≡ no_memory) ⊎ (pair_refusal first.now second.now (option_copied order.entry) ≡ Some refused)) }
 {
     let Some(inputs) = matched(alloc, first.inputs(), second.inputs())? else {
-        return Err(refusal(41));
+        return Err(refusal(Rule::OtherInputs.code()));
     };
     let Some(outputs) = matched(alloc, second.outputs(), first.outputs())? else {
-        return Err(refusal(42));
+        return Err(refusal(Rule::OtherOutputs.code()));
     };
     let order = order_of(alloc, first.inputs(), order)?;
     Ok(Pair::laid_out(alloc, first, second, &inputs, &outputs, order)?)

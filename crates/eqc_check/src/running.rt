@@ -1,4 +1,4 @@
-ghost use Rattle.std.specs.Prelude.{◌≡◌, ◌≢◌, ◌≤◌, ◌×◌, IfOk, IfErr, OnErr, Err, None};
+ghost use Rattle.std.specs.Prelude.{◌≡◌, ◌≢◌, ◌≤◌, IfOk, IfErr, OnErr, Err, None};
 ghost use Rattle.std.specs.Option.{option_map, option_copied};
 ghost use Rattle.eqc_check.specs.Sources.{MayBeRead, AreRead};
 ghost use Rattle.eqc_check.specs.ReportView.{report_of};
@@ -8,9 +8,11 @@ ghost use Rattle.eqc_check.specs.Options.{options_code};
 ghost use Rattle.eqc_check.specs.Running.{IsReport, IsReportFor, IsShown, IsWritten, IsCutShort, IsAnswered, IsCutOff};
 
 use crate::decide::texts_report;
-use crate::ends::{RunFault, read_text};
+use crate::io::fault::RunFault;
+use crate::io::reading::read_text;
 use crate::options::{Options, options_fault};
-use crate::report::{Refused, Report, Side, Status, write_report};
+use crate::report::text::write_report;
+use crate::report::{Refused, Report, Side, Status};
 use eqc_tree::Stop;
 use std::alloc::Global;
 use std::io::{Read, Write};

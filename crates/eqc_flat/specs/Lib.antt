@@ -3,6 +3,7 @@ pub mod Drivers
 pub mod Hierarchy
 pub mod Signals
 pub mod Codes
+pub mod Rule
 pub mod Evaluating
 pub mod Flattened
 pub mod ValueLaws

@@ -1,4 +1,4 @@
--- For the proofs alone: sets of names, in the order in which the names were put in.
+-- Sets of names, in the order in which the names were put in.
 use Rattle.std.specs.Prelude.{ℕ, List, [], ◌∷◌, ◌++◌, if◌then◌else◌}
 use Rattle.std.specs.List.{position_or_len}
 use Rattle.std.specs.Str.{bytes_eq}

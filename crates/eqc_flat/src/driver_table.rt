@@ -17,6 +17,7 @@ use crate::drivers::Drivers;
 use crate::fault::Fault;
 use crate::hierarchy::Hierarchy;
 use crate::row_table::RowTable;
+use crate::rule::Rule;
 use crate::stored_driver::StoredDriver;
 use eqc_blif::{Cover, Library, Name};
 use std::alloc::{AllocError, Global};
@@ -236,8 +237,8 @@ fn taken(
     Ok(Some(all))
 }
 
-/// The driver of each flat signal, over the columns of all covers by their numbers. Answers 26 where a signal is driven twice, 27 where one isn't driven, and 72 where
-/// memory is refused.
+/// The driver of each flat signal, over the columns of all covers by their numbers. Answers 26 where a signal is driven
+/// twice, 27 where one isn't driven, and 72 where memory is refused.
 pub(crate) fn drivers_of(
     alloc: Global,
     hierarchy: &Hierarchy<'_>,
@@ -254,10 +255,10 @@ pub(crate) fn drivers_of(
     let mut table = DriverTable::new(alloc, hierarchy.signals())?;
     table.fill(hierarchy, rows);
     if table.twice {
-        return Err(Fault { code: 26 });
+        return Err(Rule::DrivenTwice.fault());
     }
     match taken(alloc, table.slots)? {
         Some(stored) => Ok(Drivers::new(stored, columns)),
-        None => Err(Fault { code: 27 }),
+        None => Err(Rule::Undriven.fault()),
     }
 }

@@ -34,7 +34,7 @@ fn driver_value(
     requires values { length values.now ≡ length flat.now.drivers }
     ensures { IfOk result (λ value. value ≡ driven flat.now.rows (values_of inputs.now) (values_of values.now) (driver_at flat.now s)) }
 {
-    let _lawful = flat.steps();
+    flat.recall_laws();
     match flat.driver(s) {
         Driver::Input(position) => Ok(inputs[position as usize]),
         Driver::Tie(other) => Ok(values[other as usize]),
@@ -66,7 +66,7 @@ fn output_values(alloc: Global, flat: &Flat<'_>, inputs: &[bool]) -> Result<Vec<
     requires { length inputs.now ≡ length flat.now.inputs }
     ensures { IfOk result (λ outputs. outputs.items ≡ map (value_of flat.now (values_of inputs.now)) flat.now.output_signals) }
 {
-    let _lawful = flat.steps();
+    flat.recall_laws();
     let values = signal_values(alloc, flat, inputs)?;
     let outputs = read(alloc, &values, Signals::of(flat.output_signals()))?;
     Ok(outputs)

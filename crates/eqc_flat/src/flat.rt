@@ -127,6 +127,15 @@ impl<'a> Flat<'a> {
         self.steps.as_slice()
     }
 
+    /// What holds of every flat netlist, for a proof of its caller: it does nothing. A netlist's laws are known only
+    /// where a call states them.
+    pub(crate) fn recall_laws(&self)
+        ensures lawful { IsFlat self.now }
+        ensures follows { FollowsDrivers self.now }
+    {
+        let _steps = self.steps();
+    }
+
     /// What drives signal `s`, which is one of this netlist.
     pub fn driver(&self, s: u32) -> Driver<'_>
         requires { s < length self.now.drivers }

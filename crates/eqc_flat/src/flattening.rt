@@ -15,6 +15,7 @@ use crate::hierarchy::Hierarchy;
 use crate::model_faults::first_model_fault;
 use crate::naming::Naming;
 use crate::row_table::RowTable;
+use crate::rule::Rule;
 use crate::signal_order::order_of;
 use eqc_blif::Library;
 use std::alloc::{AllocError, Global};
@@ -77,10 +78,10 @@ pub fn flatten(alloc: Global, library: &Library, top: usize) -> Result<Flat<'_>,
     }
     let (naming, columns) = Naming::of(alloc, library)?;
     let Some(hierarchy) = Hierarchy::of(alloc, calls, naming, top)? else {
-        return Err(Fault { code: 29 });
+        return Err(Rule::TooLarge.fault());
     };
     if library.inputs(top).len() > MAX_INPUTS {
-        return Err(Fault { code: 30 });
+        return Err(Rule::ManyInputs.fault());
     }
     let rows = RowTable::of(alloc, library)?;
     let drivers = match drivers_of(alloc, &hierarchy, &rows, columns) {
@@ -88,7 +89,7 @@ pub fn flatten(alloc: Global, library: &Library, top: usize) -> Result<Flat<'_>,
         Err(fault) => return Err(fault),
     };
     let Some(steps) = order_of(alloc, &drivers)? else {
-        return Err(Fault { code: 28 });
+        return Err(Rule::Circle.fault());
     };
     let flat = put_together(alloc, hierarchy, rows, drivers, steps)?;
     Ok(flat)

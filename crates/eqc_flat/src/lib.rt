@@ -1,5 +1,14 @@
-//! Flat netlists: a library and its main model become one list of numbered signals, each with what drives
-//! it, or the first fault of the hierarchy.
+//! Flat netlists: a library and its main model become one list of numbered signals, each with what drives it, or the first
+//! fault of the hierarchy.
+//!
+//! What a hierarchy means is said in `specs/Hierarchy.antt`, `specs/Signals.antt` and `specs/Codes.antt`. Read the modules in this
+//! order:
+//!
+//! - `flattening`, the call; `flat`, `driver` and `signals`, what it gives; `rule` and `fault`, why it gives none
+//! - `calls` and `reach`, which models are reached; `model_faults`, what is asked of them, by `condition` and `instance_conditions`
+//! - `naming` and `model_names`, the names of each model, by `name_set`; `hierarchy` and `instances`, the instances in a row
+//! - `driver_table` and `drivers`, what drives each signal, by `stored_driver` and `row_table`
+//! - `signal_order`, an order by dependency, by `search` over a `graph`; `evaluation`, values; `laws`, facts about the definitions
 #![tactic(auto)]
 
 mod calls;
@@ -22,6 +31,7 @@ mod name_set;
 mod naming;
 mod reach;
 mod row_table;
+mod rule;
 mod search;
 mod signal_order;
 mod signals;
@@ -37,4 +47,6 @@ pub use laws::{
     signals_are_names_of_instances, signals_stand_once, values_are_there_for_all,
     values_depend_on_inputs_alone, values_stay,
 };
+pub use name_set::NameSet;
+pub use rule::{RULES, Rule};
 pub use signals::Signals;

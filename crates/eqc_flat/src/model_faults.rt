@@ -8,6 +8,7 @@ use crate::calls::Calls;
 use crate::condition::some_instance;
 use crate::instance_conditions::{LeavesInputOut, NamesFormalTwice, NamesNoFormal, NamesNoModel};
 use crate::reach::reached_models;
+use crate::rule::Rule;
 use crate::search::Search;
 use eqc_blif::Library;
 use std::alloc::{AllocError, Global};
@@ -80,19 +81,19 @@ pub(crate) fn first_model_fault(
     let library = calls.library();
     let models = reached_models(alloc, calls, top)?;
     if has_no_such_model(alloc, library, &models)? {
-        return Ok(Some(21));
+        return Ok(Some(Rule::NoSuchModel.code()));
     }
     if is_recursive(alloc, calls, top)? {
-        return Ok(Some(22));
+        return Ok(Some(Rule::Recursion.code()));
     }
     if has_unknown_formal(alloc, library, &models)? {
-        return Ok(Some(23));
+        return Ok(Some(Rule::UnknownFormal.code()));
     }
     if has_formal_twice(alloc, library, &models)? {
-        return Ok(Some(24));
+        return Ok(Some(Rule::FormalTwice.code()));
     }
     if has_missing_formal(alloc, library, &models)? {
-        return Ok(Some(25));
+        return Ok(Some(Rule::MissingInput.code()));
     }
     Ok(None)
 }

@@ -12,9 +12,9 @@ use std::marker::Model;
 /// Up to so many names are compared one by one, which takes less time than to look one up.
 const FEW: usize = 8;
 
-/// Names, each once, in the order in which they were put in.
+/// Names, each once, in the order in which they were put in. Contracts see their list.
 #[derive(Drop)]
-pub(crate) struct NameSet<'a> {
+pub struct NameSet<'a> {
     names: IndexSet<&'a [u8]>,
 }
 
@@ -35,7 +35,7 @@ fn place_among(names: &[&[u8]], name: &[u8]) -> Option<usize>
 
 impl<'a> NameSet<'a> {
     /// A set without names.
-    pub(crate) fn new(alloc: Global) -> NameSet<'a>
+    pub fn new(alloc: Global) -> NameSet<'a>
         ensures { result ≡ [] }
     {
         NameSet {
@@ -43,12 +43,21 @@ impl<'a> NameSet<'a> {
         }
     }
 
+    /// Puts the name of these bytes in, unless it is there, and answers whether it was not. Fails where memory is refused.
+    pub fn insert_bytes(&mut self, name: &'a [u8]) -> Result<bool, AllocError>
+        ensures fresh { IfOk result (λ fresh. fresh ≡ not (is_named self.old name.now)) }
+        ensures names { OnOk result (self.new ≡ with_name self.old name.now) }
+    {
+        let fresh = self.names.insert(name)?;
+        Ok(fresh)
+    }
+
     /// Puts a name in, unless it is there, and answers whether it was not. Fails where memory is refused.
     pub(crate) fn insert(&mut self, name: &'a Name) -> Result<bool, AllocError>
         ensures fresh { IfOk result (λ fresh. fresh ≡ not (is_named self.old name.now)) }
         ensures names { OnOk result (self.new ≡ with_name self.old name.now) }
     {
-        let fresh = self.names.insert(name.as_bytes())?;
+        let fresh = self.insert_bytes(name.as_bytes())?;
         Ok(fresh)
     }
 
@@ -90,8 +99,8 @@ impl<'a> NameSet<'a> {
         self.names.get_index(k).copied().unwrap()
     }
 
-    /// Where a name stands, if it is there.
-    pub(crate) fn position(&self, name: &[u8]) -> Option<usize>
+    /// Where a name stands, counted from 0, if it is there.
+    pub fn position(&self, name: &[u8]) -> Option<usize>
         ensures { result ≡ position (λ other. bytes_eq name.now other) self.now }
     {
         if self.names.len() <= FEW {

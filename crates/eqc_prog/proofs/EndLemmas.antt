@@ -11,8 +11,8 @@ use Rattle.clap.specs.declared.error.kind.ErrorKind.{ErrorKind}
 use Rattle.clap.specs.declared.error.kind.ErrorKind.TheVariants.{DisplayHelp, OutOfMemory}
 use Rattle.eqc_check.specs.Ends.{AppendsPrefix}
 use Rattle.eqc_check.specs.Running.{IsCutOff}
-use Rattle.eqc_check.specs.declared.ends.RunFault.{RunFault}
-use Rattle.eqc_check.specs.declared.ends.RunFault.TheVariants.{Memory, Read, Write}
+use Rattle.eqc_check.specs.declared.io.fault.RunFault.{RunFault}
+use Rattle.eqc_check.specs.declared.io.fault.RunFault.TheVariants.{Memory, Read, Write}
 use Rattle.eqc_prog.specs.Sources.{source_remaining, AreAskedFor}
 use Rattle.eqc_prog.specs.declared.command_line.Request.{Request}
 use Rattle.eqc_prog.specs.declared.ending.End.TheVariants.{Failed}

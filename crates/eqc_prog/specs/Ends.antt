@@ -8,8 +8,8 @@ use Rattle.clap.specs.Kinds.{HasKind, IsAmong}
 use Rattle.clap.specs.Values.{kind_of}
 use Rattle.clap.specs.declared.error.kind.ErrorKind.TheVariants.{DisplayHelp, OutOfMemory}
 use Rattle.clap.specs.declared.error.Error.{Error}
-use Rattle.eqc_check.specs.declared.ends.RunFault.{RunFault}
-use Rattle.eqc_check.specs.declared.ends.RunFault.TheVariants as run_fault
+use Rattle.eqc_check.specs.declared.io.fault.RunFault.{RunFault}
+use Rattle.eqc_check.specs.declared.io.fault.RunFault.TheVariants as run_fault
 use Rattle.eqc_check.specs.declared.options.Options.{Options}
 use Rattle.eqc_check.specs.declared.report.Status.TheVariants.{Equivalent, Differs, Refused, Stopped}
 use Rattle.eqc_check.specs.declared.running.Texts.{Texts}

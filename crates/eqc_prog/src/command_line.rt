@@ -7,7 +7,7 @@ ghost use Rattle.clap.specs.Simple.{app_of};
 ghost use Rattle.clap.specs.Walk.{rows_of, rule_of};
 ghost use Rattle.eqc_prog.specs.CommandLine.{eqc_app, number_rule, order_rule, path_rule, number_of, rows_asked, IsAsked};
 
-use crate::help::{ABOUT, ANSWERS, USAGE};
+use crate::help::{ABOUT, USAGE};
 use clap::{Arg, ArgMatches, Command, Error, value_parser};
 use eqc_check::Options;
 use std::alloc::{AllocError, Global};
@@ -58,14 +58,14 @@ fn order_path<'a>(alloc: Global) -> Arg<'a>
     .long("order")
 }
 
-/// The command line of the program.
-fn command<'a>(alloc: Global) -> Result<Command<'a>, AllocError>
+/// The command line of the program; its help ends with `answers`.
+fn command<'a>(alloc: Global, answers: &'a str) -> Result<Command<'a>, AllocError>
     ensures { IfOk result (λ c. app_of c ≡ eqc_app) }
 {
     Command::new(alloc, "eqc")
         .about(ABOUT)
         .override_usage(USAGE)
-        .after_help(ANSWERS)
+        .after_help(answers)
         .arg(number(
             alloc,
             "workers",
@@ -119,13 +119,18 @@ fn request_of<'a>(matches: &ArgMatches<'a>) -> Option<Request<'a>>
     })
 }
 
-/// Reads a command line, the program's name first. A bad one, a request for help and want of memory are errors.
-pub fn read_words<'a>(alloc: Global, words: &'a [String]) -> Result<Request<'a>, Error>
+/// Reads a command line, the program's name first. A bad one, a request for help and want of memory are errors. The help
+/// ends with `answers`.
+pub fn read_words<'a>(
+    alloc: Global,
+    answers: &'a str,
+    words: &'a [String],
+) -> Result<Request<'a>, Error>
     ensures taken { IfOk result (λ _. fault_of eqc_app (map string_bytes words.now) ≡ []) }
     ensures asked { IfOk result (IsAsked (rows_asked (map string_bytes words.now))) }
     ensures refused { IfErr result (HasKind (fault_of eqc_app (map string_bytes words.now))) }
 {
-    let matches = command(alloc)?.try_get_matches_from(words)?;
+    let matches = command(alloc, answers)?.try_get_matches_from(words)?;
     match request_of(&matches) {
         Some(request) => Ok(request),
         // Each number has a default and has passed its parser, so none is missing.

@@ -2,9 +2,8 @@
 ghost use Rattle.std.specs.Prelude.{◌≡◌};
 ghost use Rattle.eqc_prog.specs.Ends.{fault_text, status_code, IsTold};
 
-use crate::writing::write_bytes;
 use clap::Error;
-use eqc_check::{RunFault, Status};
+use eqc_check::{RunFault, Status, write_text};
 use std::alloc::Global;
 use std::io::Write;
 
@@ -56,11 +55,11 @@ pub fn tell<E: Write>(alloc: Global, end: &End, err: &mut E)
     match end {
         End::Reported(_) | End::Helped => {}
         End::Failed(fault) => {
-            let _ = write_bytes(err, fault_line(*fault).as_bytes());
+            let _ = write_text(err, fault_line(*fault).as_bytes());
         }
         End::BadWords(error) => {
             if let Ok(text) = format!(in alloc; "{error}") {
-                let _ = write_bytes(err, text.as_bytes());
+                let _ = write_text(err, text.as_bytes());
             }
         }
     }

@@ -8,7 +8,6 @@ mod source;
 mod start;
 #[cfg(test)]
 mod tests;
-mod writing;
 
 use start::program;
 use std::process::ExitCode;

@@ -5,11 +5,11 @@ ghost use Rattle.eqc_prog.specs.Ends.{IsRunEnd, IsHelpEnd, IsEnd, IsDone};
 
 use crate::command_line::{Request, read_words};
 use crate::ending::{End, tell};
+use crate::help::answers;
 use crate::source::open;
-use crate::writing::write_bytes;
 use clap::Error;
 use clap::error::ErrorKind;
-use eqc_check::{RunFault, run};
+use eqc_check::{RunFault, run, write_text};
 use std::alloc::{AllocError, Global};
 use std::io::{Read, Write};
 use std::rt::Files;
@@ -28,7 +28,7 @@ fn write_help<W: Write>(alloc: Global, help: Error, out: &mut W) -> End
     let Ok(text) = format!(in alloc; "{help}") else {
         return End::BadWords(Error::from(AllocError));
     };
-    match write_bytes(out, text.as_bytes()) {
+    match write_text(out, text.as_bytes()) {
         Ok(()) => End::Helped,
         Err(_) => End::Failed(RunFault::Write),
     }
@@ -68,7 +68,13 @@ fn perform<RT: Files + AllocGlobal, R: Read + Drop, W: Write>(
 ) -> End
     ensures { IsEnd R.remaining RT.File.remaining (map string_bytes words.now) input (W.contents out.old) (W.contents out.new) result }
 {
-    let error = match read_words(rt.alloc(), words) {
+    let answers = answers(rt.alloc());
+    // A comparison goes on where memory is refused for what only the help shows.
+    let shown = match &answers {
+        Ok(text) => text.as_str(),
+        Err(_) => "",
+    };
+    let error = match read_words(rt.alloc(), shown, words) {
         Ok(request) => return compare(rt, &request, input, out),
         Err(error) => error,
     };

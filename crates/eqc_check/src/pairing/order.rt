@@ -8,6 +8,7 @@ ghost use Rattle.eqc_check.specs.PairOf.{IsOrder, variables_in, order_for, order
 
 use crate::pairing::name_index::{bytes_of, has_twice, places_among};
 use crate::report::{Refused, Side};
+use crate::rule::Rule;
 use eqc_blif::Name;
 use std::alloc::{AllocError, Global};
 
@@ -161,18 +162,18 @@ fn read_places(
     ensures refused { IfErr result (λ refused. (refused ≡ no_memory) ⊎ (option_map order_refused (order_code (map (λ input. input.now) inputs.now) text.now) ≡ Some refused)) }
 {
     if text.len() > MAX_TEXT {
-        return Err(refusal(2));
+        return Err(refusal(eqc_blif::Rule::TextTooLong.code()));
     }
     let words = order_words(alloc, text)?;
     let Some(positions) = places_among(alloc, inputs, &words)? else {
-        return Err(refusal(51));
+        return Err(refusal(Rule::UnknownWord.code()));
     };
     if has_twice(alloc, &words)? {
-        return Err(refusal(52));
+        return Err(refusal(Rule::WordTwice.code()));
     }
     match places_among(alloc, &words, inputs)? {
         Some(variables) => Ok((positions, variables)),
-        None => Err(refusal(53)),
+        None => Err(refusal(Rule::InputLeftOut.code())),
     }
 }
 

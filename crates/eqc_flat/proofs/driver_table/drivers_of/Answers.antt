@@ -18,7 +18,7 @@ returns-then-table-clause-refused c =
     let filled = c.fill.ensures (c.in_ok-table.ensures library top c.signals.ensures.count) in
     let P : List (Option StoredDriver) × Bool → Type 0 = λ v. IsTable library top v.0 v.1 (drivings library top) in
     let Q : Bool → Type 0 = λ b. IsTable library top c.table.inside.slots.items b (drivings library top) in
-    inr (inl (refl, driven_twice library top (map (option_map (driver_from (all_columns library))) c.table.inside.slots.items) (subst Q c.if-table.true (subst P (sym c.table.view_is) filled))))
+    inr (inl (c.fault.ensures, driven_twice library top (map (option_map (driver_from (all_columns library))) c.table.inside.slots.items) (subst Q c.if-table.true (subst P (sym c.table.view_is) filled))))
 
 pub new-requires-in-Some : goal.new-requires-in-Some
 new-requires-in-Some c =
@@ -58,4 +58,4 @@ returns-in-None-clause-refused c =
     let kept = map (option_map (driver_from (all_columns library))) c.table.inside.slots.items in
     let once = subst Q c.if-table.false (subst P (sym c.table.view_is) filled) in
     let (s, inside, free) = rw c.in-None.is at c.in_ok-stored.ensures in
-    inr (inr (refl, not_driven_twice library top kept once, undriven library top kept s once (omega (arith, inside, length-map c.table.inside.slots.items (option_map (driver_from (all_columns library))))) (slot_empty (all_columns library) c.table.inside.slots.items s inside free)))
+    inr (inr (c.fault-in-None.ensures, not_driven_twice library top kept once, undriven library top kept s once (omega (arith, inside, length-map c.table.inside.slots.items (option_map (driver_from (all_columns library))))) (slot_empty (all_columns library) c.table.inside.slots.items s inside free)))

@@ -13,7 +13,7 @@ returns-in_default-2-clause-refused c =
     let P : List ModelOf → Type 0 = λ l. HasNoModelFault l top in
     let none : HasNoModelFault library top = subst P c.in_ok-calls.ensures (rw c.in_default.is at c.in_ok-code.ensures) in
     let large : is_too_large library top ≡ true = sym (ap (λ (l : List ModelOf). is_too_large l top) c.in_ok-calls.ensures) ∙ (rw c.in_default-2.is at c.in_ok-hierarchy.ensures) in
-    inr (code_29 library top none large)
+    rw c.fault.ensures (inr (code_29 library top none large))
 
 pub returns-then-inputs-gt-MAX_INPUTS-clause-refused : goal.returns-then-inputs-gt-MAX_INPUTS-clause-refused
 returns-then-inputs-gt-MAX_INPUTS-clause-refused c =
@@ -24,7 +24,7 @@ returns-then-inputs-gt-MAX_INPUTS-clause-refused c =
     let found = rw c.in-Some-2.is at c.in_ok-hierarchy.ensures in
     let small : is_too_large library top ≡ false = sym (ap (λ (l : List ModelOf). is_too_large l top) c.in_ok-calls.ensures) ∙ found.0 in
     let same : c.in-Some-2.hierarchy ≡ (library, top) = found.1 ∙ ap (λ (l : List ModelOf). (l, top)) c.in_ok-calls.ensures in
-    inr (code_30 library top none small (many_inputs library top (omega (arith, c.if-inputs-gt-MAX_INPUTS.true, ap length c.inputs.ensures.names))))
+    rw c.fault-then-inputs-gt-MAX_INPUTS.ensures (inr (code_30 library top none small (many_inputs library top (omega (arith, c.if-inputs-gt-MAX_INPUTS.true, ap length c.inputs.ensures.names)))))
 
 pub returns-in-Err-clause-refused : goal.returns-in-Err-clause-refused
 returns-in-Err-clause-refused c =
@@ -80,7 +80,7 @@ returns-in_default-3-clause-refused c =
     let few : has_many_inputs library top ≡ false = few_inputs library top (omega (arith, c.if-inputs-gt-MAX_INPUTS.false, ap length c.inputs.ensures.names)) in
     let Q : List ModelOf × ℕ → Type 0 = λ v. IsDriven v.0 v.1 c.in-Ok.drivers in
     let driven : IsDriven library top c.in-Ok.drivers = subst Q same (rw c.in-Ok.is at c.drivers_of.ensures.driven) in
-    inr (circular library top c.in-Ok.drivers none small few driven (rw c.in_default-3.is at c.in_ok-steps.ensures))
+    rw c.fault-in_default-3.ensures (inr (circular library top c.in-Ok.drivers none small few driven (rw c.in_default-3.is at c.in_ok-steps.ensures)))
 
 pub returns-clause-accepted : goal.returns-clause-accepted
 returns-clause-accepted c =

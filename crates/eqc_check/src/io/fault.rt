@@ -1,0 +1,39 @@
+ghost use Rattle.std.specs.Prelude.{◌≡◌};
+ghost use Rattle.eqc_check.specs.Ends.{fault_code};
+
+use std::alloc::AllocError;
+use thiserror::Error;
+
+/// Why a run ended without its report.
+#[derive(Clone, Copy, Debug, PartialEq, Eq, Error)]
+pub enum RunFault {
+    #[error("memory was refused")]
+    Memory,
+    #[error("a file could not be opened, or a read failed")]
+    Read,
+    #[error("a write failed")]
+    Write,
+}
+
+impl RunFault {
+    /// The number that is shown: 72, 91 or 92 in the order of the variants.
+    pub fn code(self) -> u8
+        ensures { result ≡ fault_code self }
+    {
+        match self {
+            RunFault::Memory => 72,
+            RunFault::Read => 91,
+            RunFault::Write => 92,
+        }
+    }
+}
+
+ghost use Rattle.eqc_check.specs.declared.io.fault.RunFault.TheVariants.{Memory};
+
+impl From<AllocError> for RunFault {
+    ghost from_gives = { λ _ fault. fault ≡ Memory };
+
+    fn from(_error: AllocError) -> RunFault {
+        RunFault::Memory
+    }
+}

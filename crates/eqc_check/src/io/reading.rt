@@ -1,0 +1,74 @@
+ghost use Rattle.std.specs.Prelude.{◌≡◌, ◌≢◌, ◌<◌, ◌≤◌, length, IfOk, IfErr, if◌then◌else◌, IfSome, IsTrue, false, vec_len};
+ghost use Rattle.std.specs.Io.KnownBytes.{Consumes, IsAtEnd};
+ghost use Rattle.eqc_check.specs.Ends.{Gives, bytes_read};
+
+use crate::io::Stage;
+use crate::io::fault::RunFault;
+use std::alloc::{AllocError, Global};
+use std::io::Read;
+
+/// The longest text that is read, in bytes: one more than the longest that is taken.
+const MOST_READ: usize = 16_777_217;
+
+/// How many bytes one read may give.
+const BLOCK: usize = 65_536;
+
+/// Reads a block onto the text, but not past its 16,777,217th byte, and says whether more may follow.
+fn read_more<R: Read>(
+    reader: &mut R,
+    stage: &mut Stage,
+    block: &mut [u8],
+    text: &mut Vec<u8>,
+) -> Result<bool, RunFault>
+    requires open { stage.old ≡ Stage.Open }
+    requires room { 0 < length block.old }
+    requires short { vec_len text.old < 16777217 }
+    ensures given { IfOk result (λ _. Gives (R.remaining reader.old) (R.remaining reader.new) text.old.items text.new.items) }
+    ensures grown { IfOk result (λ more. IsTrue more → vec_len text.old < vec_len text.new) }
+    ensures most { vec_len text.new ≤ 16777217 }
+    ensures end { IfOk result (λ more. more ≡ false → IsAtEnd (R.remaining reader.new)) }
+    ensures stage { IfOk result (λ more. stage.new ≡ (if more then Stage.Open else Stage.Done)) }
+    ensures fault { IfErr result (λ fault. fault ≢ RunFault.Write) }
+{
+    let room = block.len().min(MOST_READ - text.len());
+    let part = &mut block[..room];
+    match reader.read(part) {
+        Ok(0) => {
+            *stage = Stage::Done;
+            Ok(false)
+        }
+        Ok(n) => {
+            text.extend_from_slice(&part[..n])?;
+            Ok(true)
+        }
+        Err(_) => {
+            *stage = Stage::Failed;
+            Err(RunFault::Read)
+        }
+    }
+}
+
+fn new_block(alloc: Global) -> Result<Vec<u8>, AllocError>
+    ensures { IfOk result (λ block. vec_len block ≡ BLOCK) }
+{
+    vec![in alloc; 0; BLOCK]
+}
+
+/// Reads a text until its end or its 16,777,217th byte, in blocks. A read that fails is `Read`, and isn't
+/// tried again; a refused allocation is `Memory`.
+pub(crate) fn read_text<R: Read>(alloc: Global, reader: &mut R) -> Result<Vec<u8>, RunFault>
+    ensures text { IfOk result (λ text. IfSome (R.remaining reader.old) (λ bytes. text.items ≡ bytes_read bytes)) }
+    ensures rest { IfOk result (λ text. Consumes (R.remaining reader.old) (R.remaining reader.new) text.items) }
+    ensures most { IfOk result (λ text. vec_len text ≤ 16777217) }
+    ensures fault { IfErr result (λ fault. fault ≢ RunFault.Write) }
+{
+    let mut stage = Stage::Open;
+    let mut block = new_block(alloc)?;
+    let mut text = Vec::new(alloc);
+    'reads: while text.len() < MOST_READ {
+        if !read_more(reader, &mut stage, &mut block, &mut text)? {
+            return Ok(text);
+        }
+    }
+    Ok(text)
+}
