@@ -59,6 +59,14 @@ fn compare<RT: Files + AllocGlobal, R: Read + Drop, W: Write>(
     }
 }
 
+/// A text that only the help shows, or an empty one where memory was refused for it: a comparison goes on without.
+fn shown(text: &Result<String, AllocError>) -> &str {
+    match text {
+        Ok(text) => text.as_str(),
+        Err(_) => "",
+    }
+}
+
 /// Reads the words, and does what they ask for.
 fn perform<RT: Files + AllocGlobal, R: Read + Drop, W: Write>(
     rt: &RT,
@@ -69,12 +77,7 @@ fn perform<RT: Files + AllocGlobal, R: Read + Drop, W: Write>(
     ensures { IsEnd R.remaining RT.File.remaining (map string_bytes words.now) input (W.contents out.old) (W.contents out.new) result }
 {
     let answers = answers(rt.alloc());
-    // A comparison goes on where memory is refused for what only the help shows.
-    let shown = match &answers {
-        Ok(text) => text.as_str(),
-        Err(_) => "",
-    };
-    let error = match read_words(rt.alloc(), shown, words) {
+    let error = match read_words(rt.alloc(), shown(&answers), words) {
         Ok(request) => return compare(rt, &request, input, out),
         Err(error) => error,
     };
