@@ -5,7 +5,7 @@
 //! - `reading`, of `eqc_blif`; `hierarchies` and `random_hierarchies`, of `eqc_flat`
 //! - `pairs`, `reports`, `runs`, of `eqc_check`
 //! - `program`, `program_ends`, `compared_hierarchies`, `costs`, of this crate
-//! - `streams`, the readers, writers and files that fail
+//! - `messages`, of the errors of all crates; `streams`, the readers, writers and files that fail
 //!
 //! In the texts of `pairs` and of what comes after it `;` stands for LF.
 
@@ -14,6 +14,7 @@ mod costs;
 mod diagrams;
 mod hierarchies;
 mod machine;
+mod messages;
 mod operations;
 mod pairs;
 mod program;
