@@ -1,5 +1,5 @@
 -- Values of flat signals at greater depths, and under other values of the inputs.
-use Rattle.std.proofs.Common.{◌≡◌, ℕ, zero, suc, ◌+◌, ◌<◌, Bool, true, false, ◌||◌, List, [], ◌∷◌, length, map, get_or, refl, sym, ◌∙◌, ap, arith, Option, Some, None, zero-add}
+use Rattle.std.proofs.Common.{◌≡◌, ℕ, zero, suc, ◌+◌, ◌<◌, ◌⊎◌, inl, inr, Bool, true, false, ◌||◌, List, [], ◌∷◌, length, map, get_or, refl, sym, ◌∙◌, ap, arith, Option, Some, None, zero-add}
 use Rattle.std.specs.Prelude.{slice_get, is_none, is_some}
 use Rattle.std.specs.List.{list_any}
 use Rattle.std.specs.Option.{option_map, option_and_then}
@@ -74,10 +74,10 @@ values_are_there_for_all library top a b (suc d) s = by_source (slice_get (sourc
     by_source None h = refl
     by_source (Some source) h = mapped (made a source) (all_some (map (value_at library top a d) (needs source))) ∙ (h source ∙ sym (mapped (made b source) (all_some (map (value_at library top b d) (needs source)))))
 
--- without a code, no later condition holds either
-no_code : (condition : Bool) (code : ℕ) (later : Option ℕ) → code_if condition code later ≡ None → (condition ≡ false) × (later ≡ None)
-no_code true code later e = absurd (let some : Some code ≡ None = e in cc)
-no_code false code later e = (refl, e)
+-- a condition whose code does not apply does not hold
+no_code : (o : Option ℕ) (condition : Bool) (code : ℕ) (later : Option ℕ) → (Some code ≡ o → ⊥) → code_if condition code later ≡ o → (condition ≡ false) × (later ≡ o)
+no_code o true code later other e = absurd (other e)
+no_code o false code later other e = (refl, e)
 
 none_passes : (p : SignalOf → Bool) (xs : List SignalOf) (k : ℕ) → list_any p xs ≡ false → k < length xs → p (get_or xs k no_signal) ≡ false
 none_passes p [] k e h = absurd (omega arith)
@@ -92,19 +92,40 @@ none_passes p (x ∷ xs) (suc k) e h = none_passes p xs k (rest (p x) (list_any 
     rest false b k = k
     rest true b k = absurd (true≢false k)
 
-not_cyclic_code : (library : List ModelOf) (top : ℕ) → flat_code library top ≡ None → is_cyclic library top ≡ false
+-- what holds where no code but 28 applies
+pub record HasNoOtherCode (library : List ModelOf) (top : ℕ) (o : Option ℕ) : Type 0 where
+  pub not_recursive : is_recursive library top ≡ false
+  pub formals_known : has_unknown_formal library top ≡ false
+  pub driven_once : is_driven_twice library top ≡ false
+  pub driven : is_undriven library top ≡ false
+  pub left : code_if (is_cyclic library top) 28 None ≡ o
+
+pub no_other_code : (library : List ModelOf) (top : ℕ) (o : Option ℕ) → (o ≡ None) ⊎ (o ≡ Some 28) → flat_code library top ≡ o → HasNoOtherCode library top o
 unfolding flat_code
-not_cyclic_code library top e =
-    let a = no_code (has_no_such_model library top) 21 _ e in
-    let b = no_code (is_recursive library top) 22 _ a.1 in
-    let c = no_code (has_unknown_formal library top) 23 _ b.1 in
-    let d = no_code (has_formal_twice library top) 24 _ c.1 in
-    let f = no_code (has_missing_formal library top) 25 _ d.1 in
-    let g = no_code (is_too_large library top) 29 _ f.1 in
-    let h = no_code (has_many_inputs library top) 30 _ g.1 in
-    let i = no_code (is_driven_twice library top) 26 _ h.1 in
-    let j = no_code (is_undriven library top) 27 _ i.1 in
-    (no_code (is_cyclic library top) 28 None j.1).0
+no_other_code library top o kind e =
+    let a = no_code o (has_no_such_model library top) 21 _ (other 21 (λ k. omega (arith, k))) e in
+    let b = no_code o (is_recursive library top) 22 _ (other 22 (λ k. omega (arith, k))) a.1 in
+    let c = no_code o (has_unknown_formal library top) 23 _ (other 23 (λ k. omega (arith, k))) b.1 in
+    let d = no_code o (has_formal_twice library top) 24 _ (other 24 (λ k. omega (arith, k))) c.1 in
+    let f = no_code o (has_missing_formal library top) 25 _ (other 25 (λ k. omega (arith, k))) d.1 in
+    let g = no_code o (is_too_large library top) 29 _ (other 29 (λ k. omega (arith, k))) f.1 in
+    let h = no_code o (has_many_inputs library top) 30 _ (other 30 (λ k. omega (arith, k))) g.1 in
+    let i = no_code o (is_driven_twice library top) 26 _ (other 26 (λ k. omega (arith, k))) h.1 in
+    let j = no_code o (is_undriven library top) 27 _ (other 27 (λ k. omega (arith, k))) i.1 in
+    record { not_recursive = b.0; formals_known = c.0; driven_once = i.0; driven = j.0; left = j.1 }
+  where
+    other : (code : ℕ) → (code ≡ 28 → ⊥) → Some code ≡ o → ⊥
+    other code apart is = by kind
+      where
+        by : (o ≡ None) ⊎ (o ≡ Some 28) → ⊥
+        by (inl none) = absurd (let same : Some code ≡ None = is ∙ none in cc)
+        by (inr some) = apart (let same : Some code ≡ Some 28 = is ∙ some in inside same)
+          where
+            inside : Some code ≡ Some 28 → code ≡ 28
+            inside e = cc
+
+not_cyclic_code : (library : List ModelOf) (top : ℕ) → flat_code library top ≡ None → is_cyclic library top ≡ false
+not_cyclic_code library top e = (no_code None (is_cyclic library top) 28 None (λ k. absurd (let some : Some 28 ≡ None = k in cc)) (no_other_code library top None (inl refl) e).left).0
 
 pub accepted_have_values : AcceptedHaveValues
 unfolding is_cyclic

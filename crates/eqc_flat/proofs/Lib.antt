@@ -23,6 +23,9 @@ pub mod DrivingLaws
 pub mod FlatLaws
 pub mod CodeLaws
 pub mod SignalLaws
+pub mod CircleLaws
 pub mod RecursionLaws
 pub mod DepthLaws
+pub mod NeedLaws
+pub mod CyclicLaws
 pub mod InputLaws

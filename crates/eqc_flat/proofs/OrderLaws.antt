@@ -16,22 +16,22 @@ among_member [] x e = absurd (true≢false (sym e))
 among_member (y ∷ xs) x e = elim (or_cases (y == x) (among xs x) e) [ inl same ↦ inl (eqb-true y x same) | inr there ↦ inr (among_member xs x there) ]
 
 -- a list without one of its members
-split_at : (x : ℕ) (xs : List ℕ) → Member x xs → (front : List ℕ) × (back : List ℕ) × (xs ≡ front ++ x ∷ back)
+split_at : {X : Type 0} (x : X) (xs : List X) → Member x xs → (front : List X) × (back : List X) × (xs ≡ front ++ x ∷ back)
 split_at x [] h = absurd h
 split_at x (y ∷ xs) (inl same) = ([], xs, ap (λ z. z ∷ xs) same)
 split_at x (y ∷ xs) (inr there) = let (front, back, is) = split_at x xs there in (y ∷ front, back, ap (λ zs. y ∷ zs) is)
 
 -- different members of a list are at most as many as the list has places
-pub at_most : (ys xs : List ℕ) → Distinct ys → ((y : ℕ) → Member y ys → Member y xs) → length ys ≤ length xs
+pub at_most : {X : Type 0} (ys xs : List X) → Distinct ys → ((y : X) → Member y ys → Member y xs) → length ys ≤ length xs
 at_most [] xs d h = omega arith
-at_most (y ∷ ys) xs d h =
+at_most {X} (y ∷ ys) xs d h =
     let (front, back, is) = split_at y xs (h y (inl refl)) in
-    let rest : length ys ≤ length (front ++ back) = at_most ys (front ++ back) d.1 (λ z k. without z front back (λ e. d.0 (let P : ℕ → Type 0 = λ w. Member w ys in subst P e k)) (let P : List ℕ → Type 0 = λ w. Member z w in subst P is (h z (inr k)))) in
+    let rest : length ys ≤ length (front ++ back) = at_most ys (front ++ back) d.1 (λ z k. without z front back (λ e. d.0 (let P : X → Type 0 = λ w. Member w ys in subst P e k)) (let P : List X → Type 0 = λ w. Member z w in subst P is (h z (inr k)))) in
     let long : length xs ≡ length front + suc (length back) = ap length is ∙ length-append front (y ∷ back) in
     let short : length (front ++ back) ≡ length front + length back = length-append front back in
     omega (arith, rest, long, short)
   where
-    without : (z : ℕ) (front back : List ℕ) → (z ≡ y → ⊥) → Member z (front ++ y ∷ back) → Member z (front ++ back)
+    without : (z : X) (front back : List X) → (z ≡ y → ⊥) → Member z (front ++ y ∷ back) → Member z (front ++ back)
     without z front back other e = elim (member_append z front (y ∷ back) e) [
       | inl left ↦ member_left z front back left
       | inr right ↦ elim right [ inl same ↦ absurd (other (sym same)) | inr more ↦ member_right z front back more ]

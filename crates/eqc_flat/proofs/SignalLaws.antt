@@ -28,7 +28,8 @@ range_most a zero y h = absurd h
 range_most a (suc n) y (inl h) = omega (arith, h)
 range_most a (suc n) y (inr h) = let k : y < a + 1 + n = range_most (a + 1) n y h in omega (arith, k)
 
-member_place : {X : Type 0} (xs : List X) (x d : X) → Member x xs → (k : ℕ) × (k < length xs) × (get_or xs k d ≡ x)
+-- where a member stands
+pub member_place : {X : Type 0} (xs : List X) (x d : X) → Member x xs → (k : ℕ) × (k < length xs) × (get_or xs k d ≡ x)
 member_place [] x d h = absurd h
 member_place (y ∷ xs) x d (inl same) = (0, omega arith, same)
 member_place (y ∷ xs) x d (inr there) = let (k, inside, is) = member_place xs x d there in (suc k, omega (arith, inside), is)
@@ -43,7 +44,7 @@ instance_there library top _ g (inner position path i h) =
     subst P (sym g) (inr (member_piece (below library top) (paths library top) path (position ∷ path) (instance_there library top path g i) here))
 
 -- a path is an instance
-there_instance : (library : List ModelOf) (top n : ℕ) (path : List ℕ) → Member path (paths_within library top n) → IsInstance library top path
+pub there_instance : (library : List ModelOf) (top n : ℕ) (path : List ℕ) → Member path (paths_within library top n) → IsInstance library top path
 unfolding paths_within
 there_instance library top zero path (inl e) = let P : List ℕ → Type 0 = λ p. IsInstance library top p in subst P e main
 there_instance library top zero path (inr none) = absurd none
@@ -70,7 +71,8 @@ signal_origin library top s h =
     let P : SignalOf → Type 0 = λ t. IsInstance library top t.path × (is_named (occurring (model library (model_at library top t.path))) t.name ≡ true) in
     subst P same (there_instance library top (length library) path of, sym (names_occurring m name) ∙ member_named name (names_of m) there)) s h
 
-signal_member : (library : List ModelOf) (top : ℕ) (s : SignalOf) → IsGrowing library top → IsInstance library top s.path → is_named (occurring (model library (model_at library top s.path))) s.name ≡ true → Member s (signals library top)
+-- a name that occurs in an instance's model is a flat signal
+pub signal_member : (library : List ModelOf) (top : ℕ) (s : SignalOf) → IsGrowing library top → IsInstance library top s.path → is_named (occurring (model library (model_at library top s.path))) s.name ≡ true → Member s (signals library top)
 unfolding signals
 signal_member library top s g i named =
     let m = model library (model_at library top s.path) in

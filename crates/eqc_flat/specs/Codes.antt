@@ -52,7 +52,8 @@ is_driven_twice library top = list_any (λ s. nat_lt 1 (length (sources library 
 unfoldable pub is_undriven : List ModelOf → ℕ → Bool
 is_undriven library top = list_any (λ s. length (sources library top s) == 0) (signals library top)
 
--- 28: a flat signal that has no value at the depth of the number of flat signals, since it depends on itself
+-- 28: a flat signal that has no value at the depth of the number of flat signals, since it depends on itself or on one
+-- that does
 unfoldable pub is_cyclic : List ModelOf → ℕ → Bool
 is_cyclic library top = list_any (λ s. is_none (value_at library top (λ _. false) (length (signals library top)) s)) (signals library top)
 

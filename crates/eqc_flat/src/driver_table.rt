@@ -1,11 +1,11 @@
 ghost use Rattle.std.specs.Prelude.{◌≡◌, ℕ, ◌+◌, ◌<◌, ◌≤◌, ◌++◌, ◌∷◌, [], List, length, map, true, false, Some, slice_index_or, IfOk, IfErr, MatchOption, None};
 ghost use Rattle.std.specs.List.{flat_map, enumerate_from};
-ghost use Rattle.eqc_blif.specs.Netlist.{ModelOf, InstanceOf, CoverOf};
+ghost use Rattle.eqc_blif.specs.Netlist.{ModelOf};
 ghost use Rattle.eqc_blif.specs.Names.{is_named};
-ghost use Rattle.eqc_flat.specs.Graph.{DriverOf, IsWithinSizes};
+ghost use Rattle.eqc_flat.specs.Graph.{IsWithinSizes};
 ghost use Rattle.eqc_flat.specs.StoredDrivers.{all_columns, driver_from};
-ghost use Rattle.eqc_flat.specs.Hierarchy.{model, model_at, paths};
-ghost use Rattle.eqc_flat.specs.Signals.{Driving, names_of, signals, input_drivings, cover_driving, pair_driving, instance_drivings, drivings_at, drivings};
+ghost use Rattle.eqc_flat.specs.Hierarchy.{model, paths};
+ghost use Rattle.eqc_flat.specs.Signals.{Driving, names_of, signals, input_drivings, cover_driving, pair_driving, instance_drivings, drivings};
 ghost use Rattle.eqc_flat.specs.Codes.{has_unknown_formal};
 ghost use Rattle.eqc_flat.specs.Flattened.{path_at, model_of, signals_here, signal_at, source_of};
 ghost use Rattle.eqc_flat.specs.Instances.{first_below};

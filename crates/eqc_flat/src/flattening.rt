@@ -1,5 +1,4 @@
-ghost use Rattle.std.specs.Prelude.{◌≡◌, ◌⊎◌, ◌<◌, ◌≤◌, length, slice_index_or, None, Some, false, IfOk, IfErr};
-ghost use Rattle.eqc_blif.specs.Names.{has_twice};
+ghost use Rattle.std.specs.Prelude.{◌≡◌, ◌⊎◌, ◌<◌, ◌≤◌, length, None, Some, IfOk, IfErr};
 ghost use Rattle.eqc_flat.specs.Hierarchy.{model};
 ghost use Rattle.eqc_flat.specs.Codes.{flat_code};
 ghost use Rattle.eqc_flat.specs.DriverTable.{IsDriven};

@@ -1,5 +1,5 @@
-ghost use Rattle.std.specs.Prelude.{◌≡◌, [], not, map, length, slice_index_or, IfOk, ◌+◌, ◌<◌};
-ghost use Rattle.std.specs.List.{list_any, fold, range_with_len};
+ghost use Rattle.std.specs.Prelude.{◌≡◌, [], not, map, length, IfOk, ◌<◌};
+ghost use Rattle.std.specs.List.{list_any, fold};
 ghost use Rattle.std.specs.Str.{bytes_eq};
 ghost use Rattle.eqc_blif.specs.Names.{is_named, has_twice};
 ghost use Rattle.eqc_flat.specs.Codes.{formals};

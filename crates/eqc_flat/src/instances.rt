@@ -1,4 +1,4 @@
-ghost use Rattle.std.specs.Prelude.{◌≡◌, ℕ, ◌+◌, ◌<◌, ◌≤◌, ◌++◌, ◌∷◌, [], length, vec_len, true, false, IfOk, MatchOption};
+ghost use Rattle.std.specs.Prelude.{◌≡◌, ◌+◌, ◌<◌, ◌≤◌, ◌++◌, ◌∷◌, [], length, vec_len, true, false, IfOk, MatchOption};
 ghost use Rattle.eqc_flat.specs.Hierarchy.{paths};
 ghost use Rattle.eqc_flat.specs.Codes.{is_too_large};
 ghost use Rattle.eqc_flat.specs.Instances.{first_below, IsGrowing, IsFound};

@@ -1,4 +1,4 @@
-ghost use Rattle.eqc_flat.specs.HierarchyLaws.{SignalsStandOnce, SignalsAreNamesOfInstances, RecursiveWhereReached};
+ghost use Rattle.eqc_flat.specs.HierarchyLaws.{SignalsStandOnce, SignalsAreNamesOfInstances, RecursiveWhereReached, CyclicWhereReached};
 ghost use Rattle.eqc_flat.specs.ValueLaws.{ValuesStay, ValuesAreThereForAll, AcceptedHaveValues, ValuesDependOnInputsAlone, CoversDependOnColumnsAlone};
 
 /// The value of a signal at a depth is its value at every greater depth.
@@ -40,4 +40,10 @@ pub fn signals_are_names_of_instances()
 /// The condition of code 22 holds exactly when the main model is or reaches a model that reaches itself.
 pub fn recursive_where_reached()
     ensures { RecursiveWhereReached }
+{}
+
+/// Where no other code applies, code 28 does exactly when some flat signal depends on itself, by one signal or a chain of
+/// them.
+pub fn cyclic_where_reached()
+    ensures { CyclicWhereReached }
 {}

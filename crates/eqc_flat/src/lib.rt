@@ -43,9 +43,9 @@ pub use fault::Fault;
 pub use flat::Flat;
 pub use flattening::flatten;
 pub use laws::{
-    accepted_have_values, covers_depend_on_columns_alone, recursive_where_reached,
-    signals_are_names_of_instances, signals_stand_once, values_are_there_for_all,
-    values_depend_on_inputs_alone, values_stay,
+    accepted_have_values, covers_depend_on_columns_alone, cyclic_where_reached,
+    recursive_where_reached, signals_are_names_of_instances, signals_stand_once,
+    values_are_there_for_all, values_depend_on_inputs_alone, values_stay,
 };
 pub use name_set::NameSet;
 pub use rule::{RULES, Rule};

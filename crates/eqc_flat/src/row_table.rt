@@ -1,7 +1,7 @@
-ghost use Rattle.std.specs.Prelude.{◌≡◌, ◌+◌, ◌<◌, ◌^◌, ◌++◌, [], length, map, slice_index_or, IfOk, OnOk};
+ghost use Rattle.std.specs.Prelude.{◌≡◌, ◌+◌, ◌<◌, ◌++◌, [], length, map, slice_index_or, IfOk, OnOk};
 ghost use Rattle.eqc_blif.specs.Netlist.{no_cover};
 ghost use Rattle.eqc_flat.specs.Hierarchy.{model};
-ghost use Rattle.eqc_flat.specs.RowTable.{rows_of, all_rows};
+ghost use Rattle.eqc_flat.specs.RowTable.{all_rows};
 ghost use Rattle.eqc_flat.specs.Signals.{names_of};
 ghost use Rattle.eqc_flat.specs.StoredDrivers.{places_in, all_columns};
 

@@ -1,4 +1,4 @@
-ghost use Rattle.std.specs.Prelude.{◌≡◌, ℕ, ◌+◌, ◌^◌, ◌<◌, ◌≤◌, List, [], ◌∷◌, length, vec_len, IfOk, OnOk, true, false, ◌++◌, ◌-◌, ◌↔◌, take, slice_set, IsTrue};
+ghost use Rattle.std.specs.Prelude.{◌≡◌, ℕ, ◌+◌, ◌<◌, List, [], ◌∷◌, vec_len, IfOk, OnOk, true, false, ◌++◌, ◌-◌, ◌↔◌, take, slice_set, IsTrue};
 ghost use Rattle.eqc_flat.specs.Graph.{among, ends_within};
 ghost use Rattle.eqc_flat.specs.Searching.{stage_at, IsClosed, IsSearch};
 
