@@ -7,6 +7,7 @@ pub mod PairOf
 pub mod Report
 pub mod ReportView
 pub mod Matching
+pub mod Making
 pub mod Building
 pub mod Assigned
 pub mod Narrowing
