@@ -1,4 +1,5 @@
 pub mod MatchingLaws
+pub mod MakingLaws
 pub mod RowLaws
 pub mod HeldLaws
 pub mod TableLaws

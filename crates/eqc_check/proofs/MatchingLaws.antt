@@ -1,11 +1,11 @@
 -- Laws of rows, their columns and their values.
-use Rattle.std.proofs.Common.{◌≡◌, ℕ, zero, suc, ◌+◌, ◌<◌, ◌≤◌, Bool, true, false, ◌&&◌, ◌||◌, cond, List, [], ◌∷◌, ◌++◌, length, map, take, drop, refl, sym, ◌∙◌, ap, arith, ◌==◌, eqb-true, get_or, append-nil}
+use Rattle.std.proofs.Common.{◌≡◌, ℕ, zero, suc, ◌+◌, ◌<◌, ◌≤◌, Bool, true, false, ◌&&◌, ◌||◌, not, cond, List, [], ◌∷◌, ◌++◌, length, map, take, drop, refl, sym, ◌∙◌, ap, arith, ◌==◌, eqb-true, get_or, append-nil}
 use Rattle.std.proofs.lemmas.Bool.{false≢true}
 use Rattle.std.proofs.lemmas.List.{take_more, map-append}
 use Rattle.std.specs.Borrow.{Bor}
-use Rattle.eqc_blif.specs.Cover.{allows, row_matches}
+use Rattle.eqc_blif.specs.Cover.{allows, row_matches, is_on, is_on_set, cover_value}
 use Rattle.eqc_tree.specs.Holding.{Entry, says}
-use Rattle.eqc_check.specs.Matching.{some_match, cofactor, agrees, said, of_two}
+use Rattle.eqc_check.specs.Matching.{some_match, cofactor, agrees, said, of_two, MatchAlike}
 
 pub row_matches-nil : (vs : List Bool) → row_matches [] vs ≡ true
 row_matches-nil [] = refl
@@ -77,12 +77,11 @@ pub expansion : (on : Bool) (rows : List (List ℕ)) (v : Bool) (vs : List Bool)
 expansion on rows true vs = ap (agrees on) (sym (some_match-cofactor rows true vs))
 expansion on rows false vs = ap (agrees on) (sym (some_match-cofactor rows false vs))
 
-pub of_two_values : (on : Bool) (rows : List (List ℕ)) (x y : Bool) →
-    of_two (agrees on (some_match rows (false ∷ false ∷ []))) (agrees on (some_match rows (false ∷ true ∷ []))) (agrees on (some_match rows (true ∷ false ∷ []))) (agrees on (some_match rows (true ∷ true ∷ []))) x y ≡ agrees on (some_match rows (x ∷ y ∷ []))
-of_two_values on rows true true = refl
-of_two_values on rows true false = refl
-of_two_values on rows false true = refl
-of_two_values on rows false false = refl
+pub of_two_values : (on : Bool) (rows : List (List ℕ)) (neither one other both x y : Bool) → neither ≡ agrees on (some_match rows (false ∷ false ∷ [])) → one ≡ agrees on (some_match rows (false ∷ true ∷ [])) → other ≡ agrees on (some_match rows (true ∷ false ∷ [])) → both ≡ agrees on (some_match rows (true ∷ true ∷ [])) → of_two neither one other both x y ≡ agrees on (some_match rows (x ∷ y ∷ []))
+of_two_values on rows neither one other both true true e f g h = h
+of_two_values on rows neither one other both true false e f g h = g
+of_two_values on rows neither one other both false true e f g h = f
+of_two_values on rows neither one other both false false e f g h = e
 
 pub map_take : {A B : Type 0} (f : A → B) (n : ℕ) (xs : List A) → map f (take n xs) ≡ take n (map f xs)
 map_take f zero xs = refl
@@ -134,3 +133,86 @@ kept_row old new rest more n e = ap (map (λ (r : Bor (List ℕ)). r.now)) n ∙
 
 pub left_row : (old new : List (Bor (List ℕ))) (more : List (List ℕ)) → new ≡ old → [] ≡ more → map (λ r. r.now) new ≡ map (λ r. r.now) old ++ more
 left_row old new more n e = ap (map (λ (r : Bor (List ℕ)). r.now)) n ∙ (sym (append-nil (map (λ (r : Bor (List ℕ)). r.now) old)) ∙ ap (λ xs. map (λ (r : Bor (List ℕ)). r.now) old ++ xs) e)
+
+-- with no rows, none matches
+pub no_rows : {X : Type 0} (entry : X → Entry) (on : Bool) (rows : List (Bor (List ℕ))) (columns : List (Bor X)) (a : ℕ → Bool) → (length rows == 0) ≡ true → not on ≡ agrees on (some_match (map (λ r. r.now) rows) (said entry columns a))
+no_rows entry on [] columns a none = opposite on
+  where
+    opposite : (on : Bool) → not on ≡ agrees on false
+    opposite true = refl
+    opposite false = refl
+no_rows entry on (row ∷ rows) columns a none = let e : length (row ∷ rows) ≡ 0 = eqb-true _ _ none in absurd (omega arith)
+
+-- the one of a list
+pub alone : {A : Type 0} (xs : List A) (x : A) → 1 ≤ length xs → length xs < 2 → x ≡ get_or xs 0 x → xs ≡ x ∷ []
+alone [] x some few is = absurd (omega arith)
+alone (y ∷ []) x some few is = ap (λ z. z ∷ []) (sym is)
+alone (y ∷ z ∷ xs) x some few is = absurd (omega arith)
+
+-- two columns
+pub two_said : {X : Type 0} (entry : X → Entry) (on : Bool) (rows : List (List ℕ)) (x y : Bor X) (columns others : List (Bor X)) (a : ℕ → Bool) → columns ≡ x ∷ others → others ≡ y ∷ [] → agrees on (some_match rows (says (entry x.now) a ∷ says (entry y.now) a ∷ [])) ≡ agrees on (some_match rows (said entry columns a))
+two_said entry on rows x y columns others a e f = ap (λ cs. agrees on (some_match rows (said entry cs a))) (sym (e ∙ ap (λ rs. x ∷ rs) f))
+
+-- one column and the first byte of a row
+pub one_said : {X : Type 0} (entry : X → Entry) (row : List ℕ) (x : Bor X) (columns : List (Bor X)) (a : ℕ → Bool) → (length row == 0) ≡ false → columns ≡ x ∷ [] → allows (get_or row 0 0) (says (entry x.now) a) ≡ row_matches row (said entry columns a)
+one_said entry [] x columns a some e = absurd (false≢true (sym some))
+one_said entry (byte ∷ row) x columns a some e = rw e (sym (and_true (allows byte (says (entry x.now) a)) (row_matches row []) (row_matches-none row)))
+  where
+    and_true : (b t : Bool) → t ≡ true → (b && t) ≡ b
+    and_true true t e = e
+    and_true false t e = refl
+
+    row_matches-none : (row : List ℕ) → row_matches row [] ≡ true
+    row_matches-none [] = refl
+    row_matches-none (byte ∷ row) = refl
+
+pub no_columns_match : {X : Type 0} (entry : X → Entry) (row : List ℕ) (columns : List (Bor X)) (a : ℕ → Bool) → length columns < 1 → true ≡ row_matches row (said entry columns a)
+no_columns_match entry [] [] a none = refl
+no_columns_match entry (byte ∷ row) [] a none = refl
+no_columns_match entry row (x ∷ columns) a none = absurd (omega arith)
+
+-- the byte of one column asks for the opposite value, for the value, or for none
+pub allows-zero : (byte : ℕ) (v : Bool) → byte ≡ 48 → not v ≡ allows byte v
+allows-zero byte v e = rw e refl
+
+pub allows-one : (byte : ℕ) (v : Bool) → byte ≡ 49 → v ≡ allows byte v
+allows-one byte v e = rw e refl
+
+-- the halves of some rows
+pub some_match-halves : (n : ℕ) (rows some others : List (Bor (List ℕ))) (vs : List Bool) → some ≡ take n rows → others ≡ drop n rows → (some_match (map (λ r. r.now) some) vs || some_match (map (λ r. r.now) others) vs) ≡ some_match (map (λ r. r.now) rows) vs
+some_match-halves n rows some others vs e f =
+    rw (e, f, map_take (λ (r : Bor (List ℕ)). r.now) n rows, map_drop (λ (r : Bor (List ℕ)). r.now) n rows) (sym (some_match-split n (map (λ (r : Bor (List ℕ)). r.now) rows) vs))
+
+not_not : (b : Bool) → not (not b) ≡ b
+not_not true = refl
+not_not false = refl
+
+-- the opposite of the function of two values that has the opposite values
+pub opposite_of_two : (neither one other both x y : Bool) → neither ≡ true → not (of_two false (not one) (not other) (not both) x y) ≡ of_two neither one other both x y
+opposite_of_two neither one other both true true e = not_not both
+opposite_of_two neither one other both true false e = not_not other
+opposite_of_two neither one other both false true e = not_not one
+opposite_of_two neither one other both false false e = sym e
+
+pub of_two_neither : (neither one other both x y : Bool) → neither ≡ false → of_two false one other both x y ≡ of_two neither one other both x y
+of_two_neither true one other both x y e = absurd (false≢true (sym e))
+of_two_neither false one other both x y e = refl
+
+-- the value of a cover by rows that match alike
+pub covered_by : (on : Bool) (kept rows : List (List ℕ)) (vs : List Bool) → (length rows == 0) ≡ false → on ≡ is_on_set rows → MatchAlike kept rows → agrees on (some_match kept vs) ≡ cover_value rows vs
+covered_by on kept [] vs some is m = absurd (false≢true (sym some))
+covered_by on kept (row ∷ rows) vs some is m = ap (agrees on) (m.alike vs) ∙ by on (is_on row) (some_match (row ∷ rows) vs) is
+  where
+    by : (on other b : Bool) → on ≡ other → agrees on b ≡ cond other b (not b)
+    by true true b e = refl
+    by true false b e = absurd (false≢true (sym e))
+    by false true b e = absurd (false≢true e)
+    by false false true e = refl
+    by false false false e = refl
+
+pub covered_off : (kept rows : List (List ℕ)) (vs : List Bool) → (length rows == 0) ≡ false → false ≡ is_on_set rows → MatchAlike kept rows → not (some_match kept vs) ≡ cover_value rows vs
+covered_off kept rows vs some is m = opposite (some_match kept vs) ∙ covered_by false kept rows vs some is m
+  where
+    opposite : (b : Bool) → not b ≡ agrees false b
+    opposite true = refl
+    opposite false = refl

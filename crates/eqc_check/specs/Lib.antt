@@ -8,6 +8,7 @@ pub mod Report
 pub mod Rule
 pub mod ReportView
 pub mod Matching
+pub mod Making
 pub mod Building
 pub mod Assigned
 pub mod Narrowing

@@ -1,6 +1,7 @@
 ghost use Rattle.std.specs.Prelude.{◌≡◌, ◌≢◌, ℕ, ◌<◌, ◌≤◌, List, length, IfOk, IfErr, OnOk, OnErr, Some, map, slice_index};
-ghost use Rattle.eqc_tree.specs.Holding.{Keeps, Gains};
+ghost use Rattle.eqc_tree.specs.Holding.{Keeps};
 ghost use Rattle.eqc_flat.specs.Graph.{driver_at, dependencies, value_of};
+ghost use Rattle.eqc_check.specs.Making.{Makes};
 ghost use Rattle.eqc_check.specs.Building.{Holds, HoldsBoth, OwnsTable, IsBuilt, AreBuilt, AreReady, AreSignals, AreVariables, Adds, inputs_under, reference_of};
 
 mod cover;
@@ -48,9 +49,7 @@ fn driver_diagram<R, D: Diagrams<R>>(
     requires owned { OwnsTable D.entry (D.holding d.old) table.now }
     requires built { IsBuilt D.entry flat.now variables.now table.now }
     requires ready { AreReady table.now (dependencies (driver_at flat.now s)) }
-    ensures ok { IfOk result (λ r. Gains (D.holding d.old) (D.holding d.new) (D.entry r) (λ a. value_of flat.now (inputs_under variables.now a) s)) }
-    ensures stop { OnErr result (Keeps (D.holding d.old) (D.holding d.new)) }
-    ensures only { IfErr result (λ s. s ≢ Stop.Threads) }
+    ensures { Makes D.entry (D.holding d.old) (D.holding d.new) result (λ a. value_of flat.now (inputs_under variables.now a) s) }
 {
     recall_laws(flat);
     match flat.driver(s) {

@@ -1,8 +1,9 @@
-ghost use Rattle.std.specs.Prelude.{◌≡◌, ◌≢◌, ℕ, ◌<◌, ◌-◌, Bool, true, false, List, [], ◌∷◌, length, IfOk, IfErr, OnErr, map, not, option_to_list};
-ghost use Rattle.std.specs.Option.{option_copied};
-ghost use Rattle.eqc_tree.specs.Holding.{IsHeld, says, Keeps, Gains, Loses};
-ghost use Rattle.eqc_blif.specs.Cover.{row_matches, cover_value};
-ghost use Rattle.eqc_check.specs.Matching.{some_match, cofactor, agrees, AreHeld, said, of_two, Swaps};
+ghost use Rattle.std.specs.Prelude.{◌≡◌, ◌≢◌, ℕ, ◌<◌, ◌-◌, Bool, true, false, List, [], ◌∷◌, length, map, not, if◌then◌else◌};
+ghost use Rattle.eqc_tree.specs.Holding.{IsHeld, says};
+ghost use Rattle.eqc_tree.specs.Operation.{operate};
+ghost use Rattle.eqc_blif.specs.Cover.{allows, row_matches, cover_value};
+ghost use Rattle.eqc_check.specs.Matching.{some_match, cofactor, agrees, AreHeld, said, of_two};
+ghost use Rattle.eqc_check.specs.Making.{Makes, OwnsMade, OwnsInTurn, Inverts, Joins};
 
 use crate::build::rows::{cofactor, constrains_first, has_free_row, plan_cover, some_match};
 use eqc_blif::{Name, is_on_set};
@@ -13,6 +14,67 @@ fn agrees(on: bool, value: bool) -> bool
     ensures { result ≡ agrees on value }
 {
     if on { value } else { !value }
+}
+
+/// An operation on a reference and on one that was made after it. Both are given back; where the second was not made,
+/// the first is.
+fn joined<R, D: Diagrams<R>>(
+    rt: &R,
+    d: &mut D,
+    op: Op,
+    front: D::Ref,
+    back: Result<D::Ref, Stop>,
+) -> Result<D::Ref, Stop>
+    requires { OwnsInTurn D.entry (D.holding d.old) front back }
+    ensures { Joins D.entry (D.holding d.old) (D.holding d.new) front back result (λ _. operate op) }
+{
+    let back = match back {
+        Ok(back) => back,
+        Err(stop) => {
+            d.give_back(front);
+            return Err(stop);
+        }
+    };
+    let made = d.apply(rt, op, &front, &back);
+    d.give_back(front);
+    d.give_back(back);
+    made
+}
+
+/// The one reference where the column is true, and the other, which was made after it, where the column is false. Both
+/// are given back; where the second was not made, the first is.
+fn chosen<R, D: Diagrams<R>>(
+    rt: &R,
+    d: &mut D,
+    column: &D::Ref,
+    high: D::Ref,
+    low: Result<D::Ref, Stop>,
+) -> Result<D::Ref, Stop>
+    requires column { IsHeld (D.holding d.old) (D.entry column.now) }
+    requires owned { OwnsInTurn D.entry (D.holding d.old) high low }
+    ensures { Joins D.entry (D.holding d.old) (D.holding d.new) high low result (λ a x y. if says (D.entry column.now) a then x else y) }
+{
+    let low = match low {
+        Ok(low) => low,
+        Err(stop) => {
+            d.give_back(high);
+            return Err(stop);
+        }
+    };
+    let made = d.ite(rt, column, &high, &low);
+    d.give_back(high);
+    d.give_back(low);
+    made
+}
+
+/// The opposite of a function that was made, whose reference is given back.
+fn inverted<R, D: Diagrams<R>>(rt: &R, d: &mut D, f: Result<D::Ref, Stop>) -> Result<D::Ref, Stop>
+    requires { OwnsMade D.entry (D.holding d.old) f }
+    ensures { Inverts D.entry (D.holding d.old) (D.holding d.new) f result }
+{
+    let f = f?;
+    let all = d.constant(true);
+    joined(rt, d, Op::Xor, f, all)
 }
 
 /// The function of two references that is false where both are false, and else has these values: where only
@@ -26,9 +88,7 @@ fn false_at_false<R, D: Diagrams<R>>(
 ) -> Result<D::Ref, Stop>
     requires first { IsHeld (D.holding d.old) (D.entry first.now) }
     requires second { IsHeld (D.holding d.old) (D.entry second.now) }
-    ensures ok { IfOk result (λ r. Gains (D.holding d.old) (D.holding d.new) (D.entry r) (λ a. of_two false values.0 values.1 values.2 (says (D.entry first.now) a) (says (D.entry second.now) a))) }
-    ensures stop { OnErr result (Keeps (D.holding d.old) (D.holding d.new)) }
-    ensures only { IfErr result (λ s. s ≢ Stop.Threads) }
+    ensures { Makes D.entry (D.holding d.old) (D.holding d.new) result (λ a. of_two false values.0 values.1 values.2 (says (D.entry first.now) a) (says (D.entry second.now) a)) }
 {
     match values {
         (false, false, false) => d.constant(false),
@@ -40,26 +100,6 @@ fn false_at_false<R, D: Diagrams<R>>(
         (true, true, false) => d.apply(rt, Op::Xor, first, second),
         (true, true, true) => d.apply(rt, Op::Or, first, second),
     }
-}
-
-/// The opposite function. The reference is given back.
-fn inverted<R, D: Diagrams<R>>(rt: &R, d: &mut D, f: D::Ref) -> Result<D::Ref, Stop>
-    requires { IsHeld (D.holding d.old) (D.entry f) }
-    ensures ok { IfOk result (λ r. Swaps (D.holding d.old) (D.holding d.new) (D.entry f) (D.entry r) (λ a. not (says (D.entry f) a))) }
-    ensures stop { OnErr result (Loses (D.holding d.old) (D.holding d.new) (D.entry f)) }
-    ensures only { IfErr result (λ s. s ≢ Stop.Threads) }
-{
-    let all = match d.constant(true) {
-        Ok(all) => all,
-        Err(stop) => {
-            d.give_back(f);
-            return Err(stop);
-        }
-    };
-    let opposite = d.apply(rt, Op::Xor, &all, &f);
-    d.give_back(all);
-    d.give_back(f);
-    opposite
 }
 
 /// The function of two references with these values: where both are false, where only the second is true,
@@ -74,16 +114,34 @@ fn two_columns<R, D: Diagrams<R>>(
 ) -> Result<D::Ref, Stop>
     requires first { IsHeld (D.holding d.old) (D.entry first.now) }
     requires second { IsHeld (D.holding d.old) (D.entry second.now) }
-    ensures ok { IfOk result (λ r. Gains (D.holding d.old) (D.holding d.new) (D.entry r) (λ a. of_two neither values.0 values.1 values.2 (says (D.entry first.now) a) (says (D.entry second.now) a))) }
-    ensures stop { OnErr result (Keeps (D.holding d.old) (D.holding d.new)) }
-    ensures only { IfErr result (λ s. s ≢ Stop.Threads) }
+    ensures { Makes D.entry (D.holding d.old) (D.holding d.new) result (λ a. of_two neither values.0 values.1 values.2 (says (D.entry first.now) a) (says (D.entry second.now) a)) }
 {
     if !neither {
         return false_at_false(rt, d, first, second, values);
     }
     let opposite = (!values.0, !values.1, !values.2);
-    let f = false_at_false(rt, d, first, second, opposite)?;
+    let f = false_at_false(rt, d, first, second, opposite);
     inverted(rt, d, f)
+}
+
+/// The diagram that is true where whether one of the rows matches two columns is `on`.
+fn by_two_columns<R, D: Diagrams<R>>(
+    rt: &R,
+    d: &mut D,
+    first: &D::Ref,
+    second: &D::Ref,
+    rows: &[&[u8]],
+    on: bool,
+) -> Result<D::Ref, Stop>
+    requires first { IsHeld (D.holding d.old) (D.entry first.now) }
+    requires second { IsHeld (D.holding d.old) (D.entry second.now) }
+    ensures { Makes D.entry (D.holding d.old) (D.holding d.new) result (λ a. agrees on (some_match (map (λ r. r.now) rows.now) (says (D.entry first.now) a ∷ says (D.entry second.now) a ∷ []))) }
+{
+    let neither = agrees(on, some_match(rows, &[false, false]));
+    let one = agrees(on, some_match(rows, &[false, true]));
+    let other = agrees(on, some_match(rows, &[true, false]));
+    let both = agrees(on, some_match(rows, &[true, true]));
+    two_columns(rt, d, first, second, neither, (one, other, both))
 }
 
 /// The diagram that is true where whether one of the rows matches the columns is `on`. It goes by Shannon's
@@ -97,9 +155,7 @@ fn by_columns<R, D: Diagrams<R>>(
     on: bool,
 ) -> Result<D::Ref, Stop>
     requires { AreHeld D.entry (D.holding d.old) columns.now }
-    ensures ok { IfOk result (λ r. Gains (D.holding d.old) (D.holding d.new) (D.entry r) (λ a. agrees on (some_match (map (λ r. r.now) rows.now) (said D.entry columns.now a)))) }
-    ensures stop { OnErr result (Keeps (D.holding d.old) (D.holding d.new)) }
-    ensures only { IfErr result (λ s. s ≢ Stop.Threads) }
+    ensures { Makes D.entry (D.holding d.old) (D.holding d.new) result (λ a. agrees on (some_match (map (λ r. r.now) rows.now) (said D.entry columns.now a))) }
 {
     if rows.is_empty() {
         return d.constant(!on);
@@ -117,11 +173,7 @@ fn by_columns<R, D: Diagrams<R>>(
         return by_columns(alloc, rt, d, others, &rest, on);
     }
     if let [second] = others {
-        let neither = agrees(on, some_match(rows, &[false, false]));
-        let one = agrees(on, some_match(rows, &[false, true]));
-        let other = agrees(on, some_match(rows, &[true, false]));
-        let both = agrees(on, some_match(rows, &[true, true]));
-        return two_columns(rt, d, column, second, neither, (one, other, both));
+        return by_two_columns(rt, d, column, second, rows, on);
     }
     let Ok(when_true) = cofactor(alloc, rows, true) else {
         return Err(Stop::Memory);
@@ -130,17 +182,23 @@ fn by_columns<R, D: Diagrams<R>>(
         return Err(Stop::Memory);
     };
     let high = by_columns(alloc, rt, d, others, &when_true, on)?;
-    let low = match by_columns(alloc, rt, d, others, &when_false, on) {
-        Ok(low) => low,
-        Err(stop) => {
-            d.give_back(high);
-            return Err(stop);
+    let low = by_columns(alloc, rt, d, others, &when_false, on);
+    chosen(rt, d, column, high, low)
+}
+
+/// The diagram that is true where the column has a value that a row's byte allows.
+fn by_byte<R, D: Diagrams<R>>(rt: &R, d: &mut D, column: &D::Ref, byte: u8) -> Result<D::Ref, Stop>
+    requires { IsHeld (D.holding d.old) (D.entry column.now) }
+    ensures { Makes D.entry (D.holding d.old) (D.holding d.new) result (λ a. allows byte (says (D.entry column.now) a)) }
+{
+    match byte {
+        b'0' => {
+            let f = d.copy(column);
+            inverted(rt, d, f)
         }
-    };
-    let made = d.ite(rt, column, &high, &low);
-    d.give_back(high);
-    d.give_back(low);
-    made
+        b'1' => d.copy(column),
+        _ => d.constant(true),
+    }
 }
 
 /// The diagram that is true where the row matches the columns: the conjunction of its two halves, so that the
@@ -152,25 +210,15 @@ fn by_row<R, D: Diagrams<R>>(
     row: &[u8],
 ) -> Result<D::Ref, Stop>
     requires { AreHeld D.entry (D.holding d.old) columns.now }
-    ensures ok { IfOk result (λ r. Gains (D.holding d.old) (D.holding d.new) (D.entry r) (λ a. row_matches row.now (said D.entry columns.now a))) }
-    ensures stop { OnErr result (Keeps (D.holding d.old) (D.holding d.new)) }
-    ensures only { IfErr result (λ s. s ≢ Stop.Threads) }
+    ensures { Makes D.entry (D.holding d.old) (D.holding d.new) result (λ a. row_matches row.now (said D.entry columns.now a)) }
 {
     if row.is_empty() {
         return d.constant(true);
     }
-    if columns.is_empty() {
-        return d.constant(true);
-    }
-    if let [column] = columns {
-        return match row[0] {
-            b'0' => {
-                let f = d.copy(column)?;
-                inverted(rt, d, f)
-            }
-            b'1' => d.copy(column),
-            _ => d.constant(true),
-        };
+    match columns {
+        [] => return d.constant(true),
+        [column] => return by_byte(rt, d, column, row[0]),
+        _ => {}
     }
     let middle = columns.len() / 2;
     let (left, right) = columns.split_at(middle);
@@ -179,17 +227,8 @@ fn by_row<R, D: Diagrams<R>>(
     }
     let (left_row, right_row) = row.split_at(middle);
     let front = by_row(rt, d, left, left_row)?;
-    let back = match by_row(rt, d, right, right_row) {
-        Ok(back) => back,
-        Err(stop) => {
-            d.give_back(front);
-            return Err(stop);
-        }
-    };
-    let made = d.apply(rt, Op::And, &front, &back);
-    d.give_back(front);
-    d.give_back(back);
-    made
+    let back = by_row(rt, d, right, right_row);
+    joined(rt, d, Op::And, front, back)
 }
 
 /// The diagram that is true where one of the rows matches the columns: the disjunction of their two halves.
@@ -200,9 +239,7 @@ fn by_rows<R, D: Diagrams<R>>(
     rows: &[&[u8]],
 ) -> Result<D::Ref, Stop>
     requires { AreHeld D.entry (D.holding d.old) columns.now }
-    ensures ok { IfOk result (λ r. Gains (D.holding d.old) (D.holding d.new) (D.entry r) (λ a. some_match (map (λ r. r.now) rows.now) (said D.entry columns.now a))) }
-    ensures stop { OnErr result (Keeps (D.holding d.old) (D.holding d.new)) }
-    ensures only { IfErr result (λ s. s ≢ Stop.Threads) }
+    ensures { Makes D.entry (D.holding d.old) (D.holding d.new) result (λ a. some_match (map (λ r. r.now) rows.now) (said D.entry columns.now a)) }
 {
     match rows {
         [] => return d.constant(false),
@@ -211,17 +248,8 @@ fn by_rows<R, D: Diagrams<R>>(
     }
     let (some, others) = rows.split_at(rows.len() / 2);
     let front = by_rows(rt, d, columns, some)?;
-    let back = match by_rows(rt, d, columns, others) {
-        Ok(back) => back,
-        Err(stop) => {
-            d.give_back(front);
-            return Err(stop);
-        }
-    };
-    let made = d.apply(rt, Op::Or, &front, &back);
-    d.give_back(front);
-    d.give_back(back);
-    made
+    let back = by_rows(rt, d, columns, others);
+    joined(rt, d, Op::Or, front, back)
 }
 
 /// The diagram of a cover: the value of its rows where the columns have these functions.
@@ -233,9 +261,7 @@ pub(crate) fn cover_diagram<R, D: Diagrams<R>>(
     rows: &[Name],
 ) -> Result<D::Ref, Stop>
     requires { AreHeld D.entry (D.holding d.old) columns.now }
-    ensures ok { IfOk result (λ r. Gains (D.holding d.old) (D.holding d.new) (D.entry r) (λ a. cover_value rows.now (said D.entry columns.now a))) }
-    ensures stop { OnErr result (Keeps (D.holding d.old) (D.holding d.new)) }
-    ensures only { IfErr result (λ s. s ≢ Stop.Threads) }
+    ensures { Makes D.entry (D.holding d.old) (D.holding d.new) result (λ a. cover_value rows.now (said D.entry columns.now a)) }
 {
     if rows.is_empty() {
         return d.constant(false);
@@ -247,9 +273,9 @@ pub(crate) fn cover_diagram<R, D: Diagrams<R>>(
     if plan.expands {
         return by_columns(alloc, rt, d, columns, &plan.rows, on);
     }
-    let matched = by_rows(rt, d, columns, &plan.rows)?;
+    let matched = by_rows(rt, d, columns, &plan.rows);
     if on {
-        return Ok(matched);
+        return matched;
     }
     inverted(rt, d, matched)
 }

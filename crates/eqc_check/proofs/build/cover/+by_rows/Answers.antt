@@ -1,9 +1,16 @@
-use Rattle.std.proofs.Common.{rules}
-use Rattle.eqc_check.specs.Matching.{AreHeld}
-use Rattle.eqc_check.proofs.HeldLaws.{held_gains}
+use Rattle.std.proofs.Common.{rules, ◌||◌}
+use Rattle.eqc_check.specs.Matching.{said, AreHeld}
+use Rattle.eqc_check.proofs.MatchingLaws.{some_match-halves}
+use Rattle.eqc_check.proofs.MakingLaws.{makes_held, turns_owned, joined_makes}
 use Rattle.eqc_check.proofs.build.cover.+by_rows.Goals as goal
 
-pub by_rows-requires-2 : goal.by_rows-requires-2
-by_rows-requires-2 g t c =
-    let h : AreHeld g.D.References.entry (g.D.References.holding c.by_rows.new.d) c.args.columns.now = held_gains g.D.References.entry _ _ _ _ _ c.in_ok-front.ensures.ok c.requires in
+pub by_rows-back-requires : goal.by_rows-back-requires
+by_rows-back-requires g t c =
+    let h : AreHeld g.D.References.entry (g.D.References.holding c.by_rows.new.d) c.args.columns.now = makes_held g.D.References.entry _ _ _ _ _ c.in_ok-front.ensures c.requires in
     search rules
+
+pub joined-requires : goal.joined-requires
+joined-requires g t c = turns_owned g.D.References.entry _ _ _ _ c.by_rows-back.result _ _ c.in_ok-front.ensures c.by_rows-back.ensures
+
+pub returns : goal.returns
+returns g t c = joined_makes g.D.References.entry _ _ _ _ _ c.by_rows-back.result c.joined.result _ _ _ (λ _ x y. x || y) (λ a. some_match-halves _ c.args.rows.now _ _ (said g.D.References.entry c.args.columns.now a) c.split_at.ensures.front c.split_at.ensures.back) c.in_ok-front.ensures c.by_rows-back.ensures c.joined.ensures
