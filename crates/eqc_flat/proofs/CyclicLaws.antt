@@ -14,7 +14,8 @@ use Rattle.eqc_flat.proofs.Distinct.{Member, member_get}
 use Rattle.eqc_flat.proofs.NumberLaws.{signals_same, same_self}
 use Rattle.eqc_flat.proofs.SignalLaws.{member_place}
 use Rattle.eqc_flat.proofs.DepthLaws.{HasNoOtherCode, no_other_code, accepted_have_values}
-use Rattle.eqc_flat.proofs.NeedLaws.{none_member, needed_there}
+use Rattle.eqc_flat.proofs.NamingLaws.{none_member}
+use Rattle.eqc_flat.proofs.NeedLaws.{needed_there}
 use Rattle.eqc_flat.proofs.CircleLaws.{IsFinite, circle_found, never_ends}
 
 -- whether a signal has a value at a depth

@@ -1,9 +1,9 @@
 -- Names that occur in a model, and formals that the models of the instances have.
-use Rattle.std.proofs.Common.{◌≡◌, ℕ, zero, suc, ◌+◌, ◌<◌, ◌≤◌, inl, inr, Bool, true, false, not, ◌||◌, List, [], ◌∷◌, ◌++◌, length, map, take, get_or, refl, sym, ◌∙◌, ap, subst, arith, position, Some}
+use Rattle.std.proofs.Common.{◌≡◌, ℕ, ◌+◌, ◌<◌, ◌≤◌, inl, inr, Bool, true, false, not, ◌||◌, List, [], ◌∷◌, ◌++◌, length, map, take, get_or, refl, sym, ◌∙◌, ap, subst, arith, position, Some}
 use Rattle.std.specs.Prelude.{slice_index_or, filter}
 use Rattle.std.specs.List.{flat_map, list_any, position_or_len}
 use Rattle.std.specs.Str.{bytes_eq}
-use Rattle.std.proofs.lemmas.Bool.{true≢false, or_cases, or_left, cases_lt, lt-ltb}
+use Rattle.std.proofs.lemmas.Bool.{true≢false, or_cases, or_left, or_parts, cases_lt, lt-ltb}
 use Rattle.std.proofs.lemmas.List.{get_or-map, get_or_past, length-map, map-append, take_more}
 use Rattle.std.proofs.lemmas.List.Concat.{get_or-flat_map}
 use Rattle.std.proofs.lemmas.List.Folds.{length-flat_map-take}
@@ -100,18 +100,11 @@ actual_named m i j h here =
 pub formal_named : (m : ModelOf) (formal : List ℕ) → is_named (m.inputs ++ m.outputs) formal ≡ true → is_named (names_of m) formal ≡ true
 formal_named m formal e = occurs m formal (member_left formal (m.inputs ++ m.outputs ++ flat_map cover_names m.covers) (flat_map actuals m.instances) (member_left formal (m.inputs ++ m.outputs) (flat_map cover_names m.covers) (named_member formal (m.inputs ++ m.outputs) e)))
 
-none_at : {X : Type 0} (p : X → Bool) (xs : List X) (k : ℕ) (d : X) → list_any p xs ≡ false → k < length xs → p (get_or xs k d) ≡ false
-none_at p [] k d e h = absurd (omega arith)
-none_at {X} p (x ∷ xs) zero d e h = first (p x) (list_any p xs) e
-  where
-    first : (a b : Bool) → (a || b) ≡ false → a ≡ false
-    first false b k = refl
-    first true b k = absurd (true≢false k)
-none_at {X} p (x ∷ xs) (suc k) d e h = none_at p xs k d (rest (p x) (list_any p xs) e) (omega arith)
-  where
-    rest : (a b : Bool) → (a || b) ≡ false → b ≡ false
-    rest false b k = k
-    rest true b k = absurd (true≢false k)
+-- what no element passes a member does not pass
+pub none_member : {X : Type 0} (p : X → Bool) (xs : List X) (x : X) → list_any p xs ≡ false → Member x xs → p x ≡ false
+none_member p [] x e h = absurd h
+none_member {X} p (y ∷ xs) x e (inl same) = let P : X → Type 0 = λ w. p w ≡ false in subst P same ((or_parts (p y) (list_any p xs) e).0)
+none_member p (y ∷ xs) x e (inr there) = none_member p xs x ((or_parts (p y) (list_any p xs) e).1) there
 
 -- the model of an instance is that of the name at its position
 pub callee_at : (library : List ModelOf) (m p : ℕ) → p < length (model library m).instances → slice_index_or (callees library m) p (length library) ≡ model_number library (slice_index_or (model library m).instances p no_instance).model
@@ -122,28 +115,31 @@ pub callee_count : (library : List ModelOf) (m : ℕ) → length (callees librar
 unfolding callees
 callee_count library m = length-map (model library m).instances (λ (i : InstanceOf). model_number library i.model)
 
--- without code 23 every formal is a port of its model
-pub formal_known : (library : List ModelOf) (top i p j : ℕ) → has_unknown_formal library top ≡ false → i < length (paths library top) → p < length (model library (model_at library top (path_at library top i))).instances → j < length (slice_index_or (model library (model_at library top (path_at library top i))).instances p no_instance).pairs → (callee : ℕ) → callee ≡ slice_index_or (callees library (model_at library top (path_at library top i))) p (length library) → is_named ((model library callee).inputs ++ (model library callee).outputs) (slice_index_or (slice_index_or (model library (model_at library top (path_at library top i))).instances p no_instance).pairs j ([], [])).0 ≡ true
+-- without code 23 each formal is a port of its model
+pub formal_there : (library : List ModelOf) (top : ℕ) (path : List ℕ) (i : InstanceOf) (pair : List ℕ × List ℕ) → has_unknown_formal library top ≡ false → Member path (paths library top) → Member i (model library (model_at library top path)).instances → Member pair i.pairs → is_named ((model library (model_number library i.model)).inputs ++ (model library (model_number library i.model)).outputs) pair.0 ≡ true
 unfolding has_unknown_formal
-formal_known library top i p j none inside here there callee calls =
-    let all : map (model_at library top) (paths library top) ≡ reached library top = models_reached library top (length library) in
-    let room : i < length (reached library top) = omega (arith, ap length (sym all), length-map (paths library top) (model_at library top), inside) in
-    let at : get_or (reached library top) i top ≡ model_at library top (path_at library top i) = ap (λ xs. get_or xs i top) (sym all) ∙ get_or-map (model_at library top) (paths library top) i [] top inside in
-    let P : ℕ → Type 0 = λ m. list_any (λ (i : InstanceOf). list_any (λ formal. not (is_named ((model library (model_number library i.model)).inputs ++ (model library (model_number library i.model)).outputs) formal)) (formals i)) (model library m).instances ≡ false in
-    let of_model = subst P at (none_at (λ m. list_any (λ (i : InstanceOf). list_any (λ formal. not (is_named ((model library (model_number library i.model)).inputs ++ (model library (model_number library i.model)).outputs) formal)) (formals i)) (model library m).instances) (reached library top) i top none room) in
-    let m = model library (model_at library top (path_at library top i)) in
-    let one = get_or m.instances p no_instance in
-    let of_instance = none_at (λ (i : InstanceOf). list_any (λ formal. not (is_named ((model library (model_number library i.model)).inputs ++ (model library (model_number library i.model)).outputs) formal)) (formals i)) m.instances p no_instance of_model here in
-    let of_formal = none_at (λ formal. not (is_named ((model library (model_number library one.model)).inputs ++ (model library (model_number library one.model)).outputs) formal)) (formals one) j [] of_instance (rw length-map there) in
-    let name : get_or (formals one) j [] ≡ (get_or one.pairs j ([], [])).0 = get_or-map (λ (pair : List ℕ × List ℕ). pair.0) one.pairs j ([], []) [] there in
-    let same : callee ≡ model_number library one.model = calls ∙ callee_at library (model_at library top (path_at library top i)) p here in
-    let Q : List ℕ → Type 0 = λ x. not (is_named ((model library (model_number library one.model)).inputs ++ (model library (model_number library one.model)).outputs) x) ≡ false in
-    let R : ℕ → Type 0 = λ c. is_named ((model library c).inputs ++ (model library c).outputs) (get_or one.pairs j ([], [])).0 ≡ true in
-    subst R (sym same) (not_false (is_named ((model library (model_number library one.model)).inputs ++ (model library (model_number library one.model)).outputs) (get_or one.pairs j ([], [])).0) (subst Q name of_formal))
+formal_there library top path i pair none of here there =
+    let unknown : InstanceOf → List ℕ → Bool = λ (i : InstanceOf) (formal : List ℕ). not (is_named ((model library (model_number library i.model)).inputs ++ (model library (model_number library i.model)).outputs) formal) in
+    let P : List ℕ → Type 0 = λ ms. Member (model_at library top path) ms in
+    let reaches : Member (model_at library top path) (reached library top) = subst P (models_reached library top (length library)) (member_map (model_at library top) path (paths library top) of) in
+    let of_model = none_member (λ m. list_any (λ (i : InstanceOf). list_any (unknown i) (formals i)) (model library m).instances) (reached library top) (model_at library top path) none reaches in
+    let of_instance = none_member (λ (i : InstanceOf). list_any (unknown i) (formals i)) (model library (model_at library top path)).instances i of_model here in
+    not_false (is_named ((model library (model_number library i.model)).inputs ++ (model library (model_number library i.model)).outputs) pair.0) (none_member (unknown i) (formals i) pair.0 of_instance (member_map (λ (p : List ℕ × List ℕ). p.0) pair i.pairs there))
   where
     not_false : (b : Bool) → not b ≡ false → b ≡ true
     not_false true e = refl
     not_false false e = absurd (true≢false e)
+
+-- the same by the numbers of the instance, its position and the pair
+pub formal_known : (library : List ModelOf) (top i p j : ℕ) → has_unknown_formal library top ≡ false → i < length (paths library top) → p < length (model library (model_at library top (path_at library top i))).instances → j < length (slice_index_or (model library (model_at library top (path_at library top i))).instances p no_instance).pairs → (callee : ℕ) → callee ≡ slice_index_or (callees library (model_at library top (path_at library top i))) p (length library) → is_named ((model library callee).inputs ++ (model library callee).outputs) (slice_index_or (slice_index_or (model library (model_at library top (path_at library top i))).instances p no_instance).pairs j ([], [])).0 ≡ true
+formal_known library top i p j none inside here there callee calls =
+    let path = path_at library top i in
+    let instances = (model library (model_at library top path)).instances in
+    let one = get_or instances p no_instance in
+    let pair = get_or one.pairs j ([], []) in
+    let same : callee ≡ model_number library one.model = calls ∙ callee_at library (model_at library top path) p here in
+    let R : ℕ → Type 0 = λ c. is_named ((model library c).inputs ++ (model library c).outputs) pair.0 ≡ true in
+    subst R (sym same) (formal_there library top path one pair none (member_get (paths library top) i [] inside) (member_get instances p no_instance here) (member_get one.pairs j ([], []) there))
 
 -- the rows of a model's cover, among those of all covers
 pub rows_at : (library : List ModelOf) (m k : ℕ) → m < length library → k < length (model library m).covers → slice_index_or (all_rows library) (length (flat_map rows_of (take m library)) + k) [] ≡ (slice_index_or (model library m).covers k no_cover).rows

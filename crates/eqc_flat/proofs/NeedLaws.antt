@@ -1,17 +1,15 @@
 -- What drives a flat signal needs flat signals alone, where instances don't recur and each formal is a port.
-use Rattle.std.proofs.Common.{◌≡◌, ℕ, suc, ◌+◌, ◌<◌, inl, inr, Bool, true, false, not, List, [], ◌∷◌, ◌++◌, length, map, get_or, refl, sym, ◌∙◌, ap, subst, arith, if◌then◌else◌}
+use Rattle.std.proofs.Common.{◌≡◌, ℕ, suc, ◌+◌, ◌<◌, inl, inr, Bool, true, false, List, [], ◌∷◌, ◌++◌, length, map, get_or, refl, sym, ◌∙◌, ap, subst, arith, if◌then◌else◌}
 use Rattle.std.specs.Prelude.{filter}
-use Rattle.std.specs.List.{flat_map, list_any, enumerate_from}
-use Rattle.std.proofs.lemmas.Bool.{true≢false, or_parts}
+use Rattle.std.specs.List.{flat_map, enumerate_from}
 use Rattle.eqc_blif.specs.Netlist.{ModelOf, InstanceOf, CoverOf}
 use Rattle.eqc_blif.specs.Names.{is_named}
-use Rattle.eqc_flat.specs.Hierarchy.{model, model_number, reached, model_at, paths}
+use Rattle.eqc_flat.specs.Hierarchy.{model, model_number, model_at, paths}
 use Rattle.eqc_flat.specs.Signals.{SignalOf, same_signal, SourceOf, from_input, Driving, input_drivings, cover_driving, pair_driving, instance_drivings, drivings_at, drivings, sources_in, sources, needs, cover_names, actuals, signals}
-use Rattle.eqc_flat.specs.Codes.{formals, is_recursive, has_unknown_formal}
+use Rattle.eqc_flat.specs.Codes.{is_recursive, has_unknown_formal}
 use Rattle.eqc_flat.specs.HierarchyLaws.{IsInstance, inner, needed, occurring}
 use Rattle.eqc_flat.proofs.Distinct.{Member, member_append, member_left, member_right, member_map, member_of_map, member_piece, all_pieces}
-use Rattle.eqc_flat.proofs.PathLaws.{models_reached}
-use Rattle.eqc_flat.proofs.NamingLaws.{no_instance, member_named, named_member, callee_at, callee_count}
+use Rattle.eqc_flat.proofs.NamingLaws.{no_instance, member_named, named_member, callee_at, callee_count, formal_there}
 use Rattle.eqc_flat.proofs.ExpandedLaws.{growing}
 use Rattle.eqc_flat.proofs.DrivingLaws.{pair_input, pair_output}
 use Rattle.eqc_flat.proofs.SignalLaws.{there_instance, signal_member}
@@ -19,12 +17,6 @@ use Rattle.eqc_flat.proofs.SignalLaws.{there_instance, signal_member}
 -- a driving of which all that its source needs are flat signals
 abbrev NeedsSignals : List ModelOf → ℕ → Driving → Type 0
 NeedsSignals library top d = (t : SignalOf) → Member t (needs d.1) → Member t (signals library top)
-
--- what no element passes a member does not pass
-pub none_member : {X : Type 0} (p : X → Bool) (xs : List X) (x : X) → list_any p xs ≡ false → Member x xs → p x ≡ false
-none_member p [] x e h = absurd h
-none_member {X} p (y ∷ xs) x e (inl same) = let P : X → Type 0 = λ w. p w ≡ false in subst P same ((or_parts (p y) (list_any p xs) e).0)
-none_member p (y ∷ xs) x e (inr there) = none_member p xs x ((or_parts (p y) (list_any p xs) e).1) there
 
 kept : (p : Driving → Bool) (d : Driving) (ds : List Driving) → Member d (filter p ds) → Member d ds
 kept p d [] h = absurd h
@@ -61,21 +53,6 @@ as_actual m i pair there here = member_named pair.1 (occurring m) (member_right 
 
 as_port : (m : ModelOf) (name : List ℕ) → is_named (m.inputs ++ m.outputs) name ≡ true → is_named (occurring m) name ≡ true
 as_port m name e = member_named name (occurring m) (member_left name (m.inputs ++ m.outputs ++ flat_map cover_names m.covers) (flat_map actuals m.instances) (member_left name (m.inputs ++ m.outputs) (flat_map cover_names m.covers) (named_member name (m.inputs ++ m.outputs) e)))
-
--- without code 23 each formal is a port of its model
-formal_known : (library : List ModelOf) (top : ℕ) (path : List ℕ) (i : InstanceOf) (pair : List ℕ × List ℕ) → has_unknown_formal library top ≡ false → Member path (paths library top) → Member i (model library (model_at library top path)).instances → Member pair i.pairs → is_named ((model library (model_number library i.model)).inputs ++ (model library (model_number library i.model)).outputs) pair.0 ≡ true
-unfolding has_unknown_formal
-formal_known library top path i pair none of here there =
-    let unknown : InstanceOf → List ℕ → Bool = λ (i : InstanceOf) (formal : List ℕ). not (is_named ((model library (model_number library i.model)).inputs ++ (model library (model_number library i.model)).outputs) formal) in
-    let P : List ℕ → Type 0 = λ ms. Member (model_at library top path) ms in
-    let reaches : Member (model_at library top path) (reached library top) = subst P (models_reached library top (length library)) (member_map (model_at library top) path (paths library top) of) in
-    let of_model = none_member (λ m. list_any (λ (i : InstanceOf). list_any (unknown i) (formals i)) (model library m).instances) (reached library top) (model_at library top path) none reaches in
-    let of_instance = none_member (λ (i : InstanceOf). list_any (unknown i) (formals i)) (model library (model_at library top path)).instances i of_model here in
-    not_false (is_named ((model library (model_number library i.model)).inputs ++ (model library (model_number library i.model)).outputs) pair.0) (none_member (unknown i) (formals i) pair.0 of_instance (member_map (λ (p : List ℕ × List ℕ). p.0) pair i.pairs there))
-  where
-    not_false : (b : Bool) → not b ≡ false → b ≡ true
-    not_false true e = refl
-    not_false false e = absurd (true≢false e)
 
 -- the model of an instance, by its position
 model_below : (library : List ModelOf) (top p : ℕ) (path : List ℕ) (i : InstanceOf) → p < length (model library (model_at library top path)).instances → get_or (model library (model_at library top path)).instances p no_instance ≡ i → model_at library top (p ∷ path) ≡ model_number library i.model
@@ -140,7 +117,7 @@ here_needs library top path d ends known of h =
         let place : one.0 ≡ k = omega (arith, number) in
         let P : ℕ → Type 0 = λ n. get_or m.instances n no_instance ≡ one.1 in
         let less : one.0 < length m.instances = omega (arith, place, inside) in
-        subst (NeedsSignals library top) same (pair_needs library top one.0 path one.1 pair ends at less (model_below library top one.0 path one.1 less (subst P (sym place) is)) member in_pairs (formal_known library top path one.1 pair known of member in_pairs))
+        subst (NeedsSignals library top) same (pair_needs library top one.0 path one.1 pair ends at less (model_below library top one.0 path one.1 less (subst P (sym place) is)) member in_pairs (formal_there library top path one.1 pair known of member in_pairs))
 
 all_needs : (library : List ModelOf) (top : ℕ) (d : Driving) → is_recursive library top ≡ false → has_unknown_formal library top ≡ false → Member d (drivings library top) → NeedsSignals library top d
 unfolding drivings
