@@ -50,7 +50,7 @@ found_least (suc n) p a e =
     (sym (find_first p n) ∙ e)
 
 -- of two assignments one is not below the other
-not_both_below : (a b : List Bool) → IsBelow a b → IsBelow b a → ⊥
+pub not_both_below : (a b : List Bool) → IsBelow a b → IsBelow b a → ⊥
 not_both_below [] b h k = h
 not_both_below (x ∷ a) [] h k = h
 not_both_below (false ∷ a) (false ∷ b) h k = not_both_below a b h k

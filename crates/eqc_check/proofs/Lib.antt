@@ -26,3 +26,8 @@ pub mod DifferenceLaws
 pub mod InputLemmas
 pub mod ReportsLaws
 pub mod RunLaws
+pub mod CheckLemmas
+pub mod AcceptedLemmas
+pub mod NamedValueLemmas
+pub mod DifferingLemmas
+pub mod AnswerProofs

@@ -17,3 +17,4 @@ pub mod Refusing
 pub mod Sources
 pub mod Answer
 pub mod Running
+pub mod AnswerLaws

@@ -1,0 +1,94 @@
+-- Values of outputs where each input has the value that is assigned to its name, and where a list has the values.
+use Rattle.std.proofs.Common.{◌≡◌, ℕ, ◌<◌, Bool, true, false, List, [], ◌∷◌, length, map, zip, get_or, sym, ap, refl, ◌∙◌, arith, Ok, Err}
+use Rattle.std.specs.Prelude.{unwrap_or}
+use Rattle.std.proofs.lemmas.Bool.{not-true, and_parts, true≢false}
+use Rattle.std.proofs.lemmas.List.{length-map, get_or-map, get_or_default, same_lists}
+use Rattle.eqc_blif.specs.Netlist.{ModelOf}
+use Rattle.eqc_blif.specs.Names.{is_named, has_twice}
+use Rattle.eqc_blif.specs.Reading.{Outcome, outcome}
+use Rattle.eqc_blif.specs.Laws.{lists_are_distinct}
+use Rattle.eqc_blif.proofs.TwiceLaws.{libraries_have_no_name_twice}
+use Rattle.eqc_flat.specs.Hierarchy.{model}
+use Rattle.eqc_flat.specs.Signals.{signals, output_value}
+use Rattle.eqc_flat.proofs.InputLaws.{values_depend_on_inputs_alone}
+use Rattle.eqc_check.specs.Verdict.{is_different, position_of, values_for, first_value, second_value}
+use Rattle.eqc_check.specs.VerdictLaws.{NeverDiffers}
+use Rattle.eqc_check.specs.Answer.{TextsOf, one_text, two_texts, MainOf, inputs_of, netlist_of_model}
+use Rattle.eqc_check.specs.AnswerLaws.{models_read, first_main, HaveSameNames, value_under}
+use Rattle.eqc_check.proofs.MatchedLemmas.{place_of_name}
+use Rattle.eqc_check.proofs.PlaceLemmas.{place_below, name_at, named_index}
+
+-- no input of a main model stands twice
+once_first : (models : List ModelOf) → lists_are_distinct models ≡ true → has_twice (model models 0).inputs ≡ false
+once_first [] e = refl
+once_first (m ∷ models) e = not-true (has_twice m.inputs) (and_parts _ _ (and_parts _ _ e).0).0
+
+once_read : (text : List ℕ) (o : Outcome) → outcome text ≡ o → has_twice (model (models_read o) 0).inputs ≡ false
+once_read text (Ok models) e = once_first models (libraries_have_no_name_twice text models e).1
+once_read text (Err fault) e = refl
+
+pub inputs_once : (texts : TextsOf) → has_twice (inputs_of (first_main texts)) ≡ false
+inputs_once (one_text text) = once_read text (outcome text) refl
+inputs_once (two_texts first second) = once_read first (outcome first) refl
+
+-- the values that an assignment gives declared names, as those of inputs with names among them
+named_value : (declared names : List (List ℕ)) (assigned : List ℕ → Bool) (k : ℕ) → is_named declared (get_or names k []) ≡ true → values_for declared (map assigned declared) names k ≡ assigned (get_or names k [])
+named_value declared names assigned k e =
+    get_or-map assigned declared (position_of declared (get_or names k [])) [] false (place_below declared (get_or names k []) e)
+    ∙ ap assigned (name_at declared (get_or names k []) e)
+
+value_same : (m : MainOf) (a b : ℕ → Bool) (output : List ℕ) → ((k : ℕ) → k < length (inputs_of m) → a k ≡ b k) → output_value m.0 m.1 a output ≡ output_value m.0 m.1 b output
+unfolding output_value
+value_same m a b output same = ap (λ o. unwrap_or o false) (values_depend_on_inputs_alone m.0 m.1 a b same (length (signals m.0 m.1)) (record { path = []; name = output }))
+
+pub first_under : (m : MainOf) (assigned : List ℕ → Bool) (output : List ℕ) → first_value (netlist_of_model m) output (map assigned (inputs_of m)) ≡ value_under m assigned output
+first_under m assigned output =
+    value_same m (values_for (inputs_of m) (map assigned (inputs_of m)) (inputs_of m)) (λ i. assigned (get_or (inputs_of m) i [])) output
+    (λ k inside. named_value (inputs_of m) (inputs_of m) assigned k (named_index (inputs_of m) k inside))
+
+pub second_under : (m n : MainOf) (assigned : List ℕ → Bool) (output : List ℕ) → HaveSameNames (inputs_of m) (inputs_of n) → second_value (netlist_of_model m) (netlist_of_model n) output (map assigned (inputs_of m)) ≡ value_under n assigned output
+second_under m n assigned output same =
+    value_same n (values_for (inputs_of m) (map assigned (inputs_of m)) (inputs_of n)) (λ i. assigned (get_or (inputs_of n) i [])) output
+    (λ k inside. named_value (inputs_of m) (inputs_of n) assigned k (same (get_or (inputs_of n) k []) ∙ named_index (inputs_of n) k inside))
+
+-- the assignment of names that a list of the inputs' values gives
+abbrev pub by_position : List (List ℕ) → List Bool → List ℕ → Bool
+by_position inputs a name = get_or a (position_of inputs name) false
+
+pub positions_back : (inputs : List (List ℕ)) (a : List Bool) → has_twice inputs ≡ false → length a ≡ length inputs → map (by_position inputs a) inputs ≡ a
+positions_back inputs a once long =
+    same_lists (map (by_position inputs a) inputs) a (length-map inputs (by_position inputs a) ∙ sym long)
+    (λ k d inside.
+    let within : k < length inputs = omega (arith, length-map inputs (by_position inputs a)) in
+    get_or-map (by_position inputs a) inputs k [] d within
+    ∙ ap (λ p. get_or a p false) (place_of_name inputs k once within)
+    ∙ get_or_default a k false d (omega (arith, within, long)))
+
+pub zip_assigned : (inputs : List (List ℕ)) (assigned : List ℕ → Bool) → map (λ name. (name, assigned name)) inputs ≡ zip inputs (map assigned inputs)
+zip_assigned [] assigned = refl
+zip_assigned (x ∷ inputs) assigned = ap (λ l. (x, assigned x) ∷ l) (zip_assigned inputs assigned)
+
+-- ---- outputs that never differ
+
+pub not_different : (x y : Bool) → is_different x y ≡ false → x ≡ y
+not_different true true e = refl
+not_different true false e = absurd (true≢false e)
+not_different false true e = absurd (true≢false e)
+not_different false false e = refl
+
+pub same_value : (x y : Bool) → x ≡ y → is_different x y ≡ false
+same_value true true e = refl
+same_value true false e = absurd (true≢false e)
+same_value false true e = absurd (true≢false (sym e))
+same_value false false e = refl
+
+-- an output that never differs is equal under every assignment
+pub never_always : (m n : MainOf) (output : List ℕ) → HaveSameNames (inputs_of m) (inputs_of n) → NeverDiffers (netlist_of_model m) (netlist_of_model n) output → (assigned : List ℕ → Bool) → value_under m assigned output ≡ value_under n assigned output
+never_always m n output same never assigned =
+    sym (first_under m assigned output)
+    ∙ not_different _ _ (never (map assigned (inputs_of m)) (length-map (inputs_of m) assigned))
+    ∙ second_under m n assigned output same
+
+-- and the other way round
+pub always_never : (m n : MainOf) (output : List ℕ) → ((assigned : List ℕ → Bool) → value_under m assigned output ≡ value_under n assigned output) → NeverDiffers (netlist_of_model m) (netlist_of_model n) output
+always_never m n output always a long = same_value _ _ (always (by_position (inputs_of m) a))
