@@ -1,5 +1,5 @@
 -- Diagrams that are made in turn, and operations on them.
-use Rattle.std.proofs.Common.{◌≡◌, ◌≢◌, ℕ, ◌+◌, ◌<◌, ◌≤◌, Bool, true, false, not, List, ◌∷◌, Result, Ok, Err, IfOk, IfErr, OnErr, refl, sym, ◌∙◌, ap, arith, subst}
+use Rattle.std.proofs.Common.{◌≡◌, ◌≢◌, ℕ, ◌≤◌, Bool, true, false, not, List, ◌∷◌, Result, Ok, Err, IfOk, IfErr, OnErr, refl, sym, ◌∙◌, ap, arith, subst}
 use Rattle.std.specs.Borrow.{Bor}
 use Rattle.eqc_tree.specs.declared.stopping.Stop.{Stop}
 use Rattle.eqc_tree.specs.declared.stopping.Stop.TheVariants.{Memory, References, Threads}
@@ -8,8 +8,8 @@ use Rattle.eqc_tree.specs.Operation.{operate}
 use Rattle.eqc_tree.specs.declared.operation.Op.TheVariants.{Xor}
 use Rattle.eqc_tree.proofs.HoldingLemmas.{counts_itself}
 use Rattle.eqc_check.specs.Matching.{AreHeld}
-use Rattle.eqc_check.specs.Making.{made, Makes, OwnsMade, OwnsInTurn, Inverts, Joins}
-use Rattle.eqc_check.proofs.HeldLaws.{held_more, held_drop}
+use Rattle.eqc_check.specs.Making.{Makes, OwnsMade, OwnsInTurn, Inverts, Joins}
+use Rattle.eqc_check.proofs.HeldLaws.{held_more}
 
 -- a call of diagrams by its clauses
 pub call_makes : {X : Type 0} (entry : X → Entry) (d0 d1 : Holding) (result : Result X Stop) (f g : (ℕ → Bool) → Bool) → ((a : ℕ → Bool) → f a ≡ g a) → IfOk result (λ r. Gains d0 d1 (entry r) f) → OnErr result (Keeps d0 d1) → IfErr result (λ stop. stop ≢ Threads) → Makes entry d0 d1 result g
