@@ -1,4 +1,4 @@
-ghost use Rattle.std.specs.Prelude.{◌≡◌, ◌≢◌, ◌≤◌, ◌×◌, IfOk, IfErr, OnErr, Err, None};
+ghost use Rattle.std.specs.Prelude.{◌≡◌, ◌≢◌, ◌≤◌, IfOk, IfErr, OnErr, Err, None};
 ghost use Rattle.std.specs.Option.{option_map, option_copied};
 ghost use Rattle.eqc_check.specs.Sources.{MayBeRead, AreRead};
 ghost use Rattle.eqc_check.specs.ReportView.{report_of};
