@@ -3,6 +3,7 @@ pub mod SearchLemmas
 pub mod NameLemmas
 pub mod WordLemmas
 pub mod RowLemmas
+pub mod CutLemmas
 pub mod ReaderLemmas
 pub mod FollowLaws
 pub mod CleanLaws

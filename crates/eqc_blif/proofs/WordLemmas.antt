@@ -3,6 +3,7 @@ use Rattle.std.proofs.Common.{◌≡◌, ℕ, suc, ◌+◌, ◌-◌, ◌<◌, �
 use Rattle.std.specs.List.{position_or_len, before_first, after_first}
 use Rattle.std.proofs.lemmas.List.{take_rest, take_all, drop_all, length-take-le}
 use Rattle.std.proofs.lemmas.List.Sums.{fails_before_first}
+use Rattle.std.proofs.lemmas.List.Filters.{length-filter_both}
 use Rattle.std.proofs.lemmas.List.Splits.{slice_split_none, slice_split_first}
 use Rattle.std.proofs.lemmas.Bool.{cases_Bool, ne_eqb}
 use Rattle.eqc_blif.specs.Lines.{is_blank}
@@ -49,3 +50,7 @@ only_blanks line end is past =
     let beyond : length line ≤ position_or_len is_blank line = omega arith in
     let beyond_one : length line ≤ position_or_len is_blank line + 1 = omega arith in
     cut_filter is_blank line ∙ rw (take_all (position_or_len is_blank line) line beyond, drop_all (position_or_len is_blank line + 1) line beyond_one) refl
+
+-- a line is no shorter than what is left without its blanks
+pub left_short : (line : List ℕ) → length (without_blanks line) ≤ length line
+left_short line = omega (arith, length-filter_both is_blank (λ byte. not (is_blank byte)) (λ byte. refl) line)

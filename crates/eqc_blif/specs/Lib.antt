@@ -1,5 +1,6 @@
 pub mod Netlist
 pub mod Cover
+pub mod Rows
 pub mod Lines
 pub mod Words
 pub mod Names

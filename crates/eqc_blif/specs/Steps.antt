@@ -71,9 +71,13 @@ with_open_cover (Some cover) m = record m { covers = m.covers ++ cover ∷ [] }
 abbrev pub cover_with_row : List ℕ → CoverOf → CoverOf
 cover_with_row row cover = record cover { rows = cover.rows ++ row ∷ [] }
 
+-- the code of a row behind the rows of a cover of so many columns
+abbrev pub code_behind : ℕ → List (List ℕ) → List ℕ → Option ℕ
+code_behind columns rows row = first_code ((7, not (has_row_shape columns row)) ∷ (8, differs_from_first rows row) ∷ [])
+
 -- the code of a row of a cover
 abbrev pub row_code : CoverOf → List ℕ → Option ℕ
-row_code cover row = first_code ((7, not (has_row_shape (length cover.columns) row)) ∷ (8, differs_from_first cover.rows row) ∷ [])
+row_code cover row = code_behind (length cover.columns) cover.rows row
 
 -- the row was added to the cover, or its code says why it wasn't
 abbrev pub TakesRow : CoverOf → List ℕ → Option ℕ → CoverOf → Type 0

@@ -3,13 +3,12 @@ ghost use Rattle.std.specs.List.{list_all};
 ghost use Rattle.eqc_blif.specs.Cover.{cover_value};
 ghost use Rattle.eqc_blif.specs.Words.{words, without_blanks, cover_of};
 ghost use Rattle.eqc_blif.specs.Reading.{is_column_value, is_output_value, row_output, has_row_shape, differs_from_first};
-ghost use Rattle.eqc_blif.specs.Steps.{TakesRow};
+ghost use Rattle.eqc_blif.specs.Steps.{TakesRow, code_behind};
 
 use crate::name::Name;
-use crate::rows::cover_value;
+use crate::rows::{Rows, cover_value};
 use crate::rule::Rule;
-use crate::sparing::push_sparing;
-use crate::words::names_in;
+use crate::words::{append_without_blanks, names_in};
 use std::alloc::{AllocError, Global};
 use std::marker::Model;
 
@@ -18,15 +17,20 @@ use std::marker::Model;
 pub struct Cover {
     pub columns: Vec<Name>,
     pub output: Name,
-    pub rows: Vec<Name>,
+    /// The rows, one behind another. Each has a byte for each column, and one for the output.
+    bytes: Vec<u8>,
 }
 
 impl Model for Cover {
+    ghost use Rattle.std.specs.Prelude.{◌+◌, length};
     ghost use Rattle.eqc_blif.specs.Netlist.{CoverOf};
+    ghost use Rattle.eqc_blif.specs.Rows.{rows_in, AreWhole};
 
     ghost Value = { CoverOf };
 
-    ghost view = { λ a. record { columns = a.columns.items; output = a.output; rows = a.rows.items } };
+    ghost view = { λ a. record { columns = a.columns.items; output = a.output; rows = rows_in (length a.columns.items + 1) a.bytes.items } };
+
+    ghost invariant = { λ a. AreWhole (length a.columns.items + 1) a.bytes.items };
 }
 
 fn is_column_value(byte: u8) -> bool
@@ -77,21 +81,41 @@ fn row_output(row: &[u8]) -> u8
 }
 
 /// Whether a row ends otherwise than the first of the rows before it.
-fn differs_from_first(rows: &[Name], row: &[u8]) -> bool
+fn differs_from_first(rows: &Rows<'_>, row: &[u8]) -> bool
     ensures { result ≡ differs_from_first rows.now row.now }
 {
     match rows.first() {
-        Some(first) => row_output(row) != row_output(first.as_bytes()),
+        Some(first) => row_output(row) != row_output(first),
         None => false,
     }
 }
 
+/// The code of a row behind these rows of `columns` columns, where it has one: 7 for another shape, 8 for another output.
+fn row_code(columns: usize, rows: &Rows<'_>, row: &[u8]) -> Option<u8>
+    ensures { result ≡ code_behind columns rows.now row.now }
+{
+    if !has_row_shape(columns, row) {
+        return Some(Rule::RowShape.code());
+    }
+    if differs_from_first(rows, row) {
+        return Some(Rule::RowOutput.code());
+    }
+    None
+}
+
 impl Cover {
+    /// The rows, in the order of the text and without blanks.
+    pub fn rows(&self) -> Rows<'_>
+        ensures { result ≡ self.now.rows }
+    {
+        Rows::of(self.bytes.as_slice(), self.columns.len() + 1)
+    }
+
     /// The value of the output under these values of the columns, in their order and one for each.
     pub fn value(&self, values: &[bool]) -> bool
         ensures { result ≡ cover_value self.now.rows values.now }
     {
-        cover_value(&self.rows, values)
+        cover_value(&self.rows(), values)
     }
 
     /// The cover that `.names` opens with the words of `line`, or `None` where there is no word.
@@ -105,23 +129,24 @@ impl Cover {
         Ok(Some(Cover {
             columns,
             output,
-            rows: Vec::new(alloc),
+            bytes: Vec::new(alloc),
         }))
     }
 
     /// Takes a row, with its blanks, and answers its code where it has one: 7 for another shape, 8 for another output
     /// than that of the first row.
-    pub(crate) fn take_row(&mut self, alloc: Global, line: &[u8]) -> Result<Option<u8>, AllocError>
+    pub(crate) fn take_row(&mut self, line: &[u8]) -> Result<Option<u8>, AllocError>
         ensures { IfOk result (λ code. TakesRow self.old (without_blanks line.now) code self.new) }
     {
-        let row = Name::without_blanks(alloc, line)?;
-        if !has_row_shape(self.columns.len(), row.as_bytes()) {
-            return Ok(Some(Rule::RowShape.code()));
+        let end = self.bytes.len();
+        append_without_blanks(&mut self.bytes, line)?;
+        let (before, row) = self.bytes.split_at(end);
+        let columns = self.columns.len();
+        let code = row_code(columns, &Rows::of(before, columns + 1), row);
+        if let Some(code) = code {
+            self.bytes.truncate(end);
+            return Ok(Some(code));
         }
-        if differs_from_first(self.rows.as_slice(), row.as_bytes()) {
-            return Ok(Some(Rule::RowOutput.code()));
-        }
-        push_sparing(&mut self.rows, row)?;
         Ok(None)
     }
 }

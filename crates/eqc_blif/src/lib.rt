@@ -40,5 +40,5 @@ pub use library::Library;
 pub use name::Name;
 pub use reading::read;
 pub use refusal::Refusal;
-pub use rows::{allows, cover_value, is_on, is_on_set, row_matches};
+pub use rows::{Rows, allows, cover_value, is_on, is_on_set, row_matches};
 pub use rule::{RULES, Rule};

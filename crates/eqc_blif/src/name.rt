@@ -2,10 +2,7 @@ ghost use Rattle.std.specs.Prelude.{◌≡◌, IfOk, bytes_eq, [], ◌∷◌};
 ghost use Rattle.std.specs.Cmp.{partial_equiv_from_equiv};
 ghost use Rattle.std.specs.Cmp.Lexicographic.{nat_list_eq_equiv, bytes_decides};
 ghost use Rattle.std.specs.Hash.{same_Alike};
-ghost use Rattle.eqc_blif.specs.Lines.{is_blank};
-ghost use Rattle.eqc_blif.specs.Words.{without_blanks};
 
-use crate::words::{NEAR, is_blank, split_word};
 use smallvec::SmallVec;
 use std::alloc::{AllocError, Global};
 use std::hash::{Hash, Hasher};
@@ -14,7 +11,7 @@ use std::marker::Model;
 /// Up to so many bytes are copied one by one, which takes less time than a copy of many at a time.
 const SHORT: usize = 8;
 
-/// A name of a netlist, or a row of a cover: its bytes. Up to sixteen bytes need no allocation.
+/// A name of a netlist: its bytes. Up to sixteen bytes need no allocation.
 #[derive(Drop)]
 pub struct Name {
     bytes: SmallVec<u8, 16>,
@@ -43,28 +40,6 @@ impl Name {
             short.push(*byte)?;
         }
         Ok(Name { bytes: short })
-    }
-
-    /// The bytes of a line that are no spaces and tabs. Fails where memory is refused.
-    pub(crate) fn without_blanks(alloc: Global, line: &[u8]) -> Result<Name, AllocError>
-        ensures { IfOk result (λ name. name ≡ without_blanks line.now) }
-    {
-        if line.len() <= NEAR {
-            let mut short = SmallVec::new(alloc);
-            'bytes: for byte in line {
-                if !is_blank(*byte) {
-                    short.push(*byte)?;
-                }
-            }
-            return Ok(Name { bytes: short });
-        }
-        let mut bytes = SmallVec::with_capacity(alloc, line.len())?;
-        let mut rest = line;
-        'words: while let Some((word, others)) = split_word(rest) {
-            bytes.extend_from_slice(word)?;
-            rest = others;
-        }
-        Ok(Name { bytes })
     }
 
     /// The bytes of the name.

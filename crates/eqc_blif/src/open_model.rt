@@ -125,14 +125,14 @@ impl OpenModel {
     }
 
     /// A row: code 6 outside of a cover, else those of `Cover::take_row`.
-    pub(crate) fn take_row(&mut self, alloc: Global, line: &[u8]) -> Result<Option<u8>, AllocError>
+    pub(crate) fn take_row(&mut self, line: &[u8]) -> Result<Option<u8>, AllocError>
         ensures taken { IfOk result (λ code. MayChange (row_code_in (without_blanks line.now) self.old) (with_new_row (without_blanks line.now) self.old) code self.new) }
         ensures name { self.new.model.name ≡ self.old.model.name }
     {
         let Some(cover) = &mut self.cover else {
             return Ok(Some(Rule::RowOutsideCover.code()));
         };
-        let code = cover.take_row(alloc, line)?;
+        let code = cover.take_row(line)?;
         Ok(code)
     }
 
@@ -153,7 +153,7 @@ impl OpenModel {
             Kind::Outputs => self.take_outputs(alloc, rest),
             Kind::Names => self.take_names(alloc, rest),
             Kind::Subckt => self.take_subckt(alloc, rest),
-            _ => self.take_row(alloc, line),
+            _ => self.take_row(line),
         }
     }
 

@@ -1,4 +1,4 @@
-ghost use Rattle.std.specs.Prelude.{◌≡◌, [], ◌∷◌, ◌++◌, is_ok, if◌then◌else◌};
+ghost use Rattle.std.specs.Prelude.{◌≡◌, ◌+◌, ◌≤◌, [], ◌∷◌, ◌++◌, is_ok, if◌then◌else◌, OnOk, vec_len, vec_capacity};
 
 use std::alloc::AllocError;
 
@@ -12,4 +12,20 @@ pub(crate) fn push_sparing<T: Drop>(items: &mut Vec<T>, value: T) -> Result<(), 
     }
     items.push(value)?;
     Ok(())
+}
+
+/// Makes room for so many more values, and for no others where they are the first.
+#[inline]
+pub(crate) fn reserve_sparing<T: Drop>(
+    items: &mut Vec<T>,
+    additional: usize,
+) -> Result<(), AllocError>
+    ensures items { items.new.items ≡ items.old.items }
+    ensures room { OnOk result (vec_len items.new + additional ≤ vec_capacity items.new) }
+{
+    if items.is_empty() {
+        items.reserve_exact(additional)
+    } else {
+        items.reserve(additional)
+    }
 }

@@ -1,4 +1,4 @@
-ghost use Rattle.std.specs.Prelude.{◌≡◌, ◌<◌, ◌≤◌, ◌++◌, [], ◌∷◌, length, IfOk, IfSome, MatchOption, map};
+ghost use Rattle.std.specs.Prelude.{◌≡◌, ◌<◌, ◌≤◌, ◌++◌, [], ◌∷◌, length, IfOk, IfSome, MatchOption, map, ◌+◌, is_ok, if◌then◌else◌, vec_len, vec_capacity};
 ghost use Rattle.std.specs.List.{position_or_len};
 ghost use Rattle.std.specs.Option.{option_map};
 ghost use Rattle.eqc_blif.specs.Lines.{is_blank};
@@ -6,6 +6,7 @@ ghost use Rattle.eqc_blif.specs.Words.{words, first_of, arguments, without_blank
 ghost use Rattle.eqc_blif.specs.Steps.{ArePairs, IsPair};
 
 use crate::name::Name;
+use crate::sparing::reserve_sparing;
 use memchr::memchr2;
 use std::alloc::{AllocError, Global};
 
@@ -114,6 +115,35 @@ pub(crate) fn names_in(alloc: Global, line: &[u8]) -> Result<Vec<Name>, AllocErr
         rest = others;
     }
     Ok(names)
+}
+
+/// Puts the words of a line behind the bytes, which have room for them.
+fn append_words(bytes: &mut Vec<u8>, line: &[u8])
+    requires { vec_len bytes.old + length (without_blanks line.now) ≤ vec_capacity bytes.old }
+    ensures { bytes.new.items ≡ bytes.old.items ++ without_blanks line.now }
+{
+    let mut rest = line;
+    'words: while let Some((word, others)) = split_word(rest) {
+        bytes.extend_from_slice(word).unwrap();
+        rest = others;
+    }
+}
+
+/// Puts the bytes of a line that are no spaces and tabs behind others. Where memory is refused, none are put there.
+pub(crate) fn append_without_blanks(bytes: &mut Vec<u8>, line: &[u8]) -> Result<(), AllocError>
+    ensures { bytes.new.items ≡ (if is_ok result then bytes.old.items ++ without_blanks line.now else bytes.old.items) }
+{
+    reserve_sparing(bytes, line.len())?;
+    if line.len() > NEAR {
+        append_words(bytes, line);
+        return Ok(());
+    }
+    'bytes: for byte in line {
+        if !is_blank(*byte) {
+            bytes.push_reserved(*byte);
+        }
+    }
+    Ok(())
 }
 
 /// Where the first `=` stands, or the length.

@@ -4,7 +4,7 @@ ghost use Rattle.eqc_flat.specs.Drivers.{driver_of};
 
 use crate::driver::Driver;
 use crate::drivers::Drivers;
-use eqc_blif::Name;
+use eqc_blif::{Name, Rows};
 use std::marker::Model;
 
 /// A flat netlist over the names and rows of a library: numbered signals, each with its driver.
@@ -16,7 +16,7 @@ pub struct Flat<'a> {
     signals: Vec<(u32, &'a [u8])>,
     places: Vec<(u32, u32)>,
     drivers: Drivers,
-    rows: Vec<&'a [Name]>,
+    rows: Vec<Rows<'a>>,
     steps: Vec<u32>,
 }
 
@@ -33,7 +33,7 @@ impl<'a> Model for Flat<'a> {
       signals = map (λ p. (p.0, p.1.now)) a.signals.items;
       places = a.places.items;
       drivers = a.drivers;
-      rows = map (λ r. r.now) a.rows.items;
+      rows = a.rows.items;
       steps = a.steps.items;
     } };
 
@@ -44,7 +44,7 @@ impl<'a> Model for Flat<'a> {
       signals = map (λ p. (p.0, p.1.now)) a.signals.items;
       places = a.places.items;
       drivers = a.drivers;
-      rows = map (λ r. r.now) a.rows.items;
+      rows = a.rows.items;
       steps = a.steps.items;
     }) };
 }
@@ -59,7 +59,7 @@ impl<'a> Flat<'a> {
         signals: Vec<(u32, &'a [u8])>,
         places: Vec<(u32, u32)>,
         drivers: Drivers,
-        rows: Vec<&'a [Name]>,
+        rows: Vec<Rows<'a>>,
         steps: Vec<u32>,
     ) -> Flat<'a>
         requires { IsFlat (record {
@@ -69,7 +69,7 @@ impl<'a> Flat<'a> {
           signals = map (λ p. (p.0, p.1.now)) signals.items;
           places = places.items;
           drivers = drivers;
-          rows = map (λ r. r.now) rows.items;
+          rows = rows.items;
           steps = steps.items;
         }) }
         ensures { result ≡ record {
@@ -79,7 +79,7 @@ impl<'a> Flat<'a> {
           signals = map (λ p. (p.0, p.1.now)) signals.entry.items;
           places = places.items;
           drivers = drivers;
-          rows = map (λ r. r.now) rows.entry.items;
+          rows = rows.entry.items;
           steps = steps.items;
         } }
     {
@@ -145,11 +145,11 @@ impl<'a> Flat<'a> {
     }
 
     /// The rows of number `r`, which the driver of a signal of this netlist names.
-    pub fn rows(&self, r: u32) -> &[Name]
+    pub fn rows(&self, r: u32) -> &Rows<'_>
         requires { r < length self.now.rows }
         ensures { result.now ≡ slice_index_or self.now.rows r [] }
     {
-        self.rows[r as usize]
+        &self.rows[r as usize]
     }
 
     /// The instance and the name of signal `s`, which is one of this netlist. Instance 0 is the main model.

@@ -5,7 +5,7 @@ ghost use Rattle.eqc_flat.specs.RowTable.{all_rows};
 ghost use Rattle.eqc_flat.specs.Signals.{names_of};
 ghost use Rattle.eqc_flat.specs.StoredDrivers.{places_in, all_columns};
 
-use eqc_blif::{Cover, Library, Name};
+use eqc_blif::{Cover, Library, Rows};
 use std::alloc::{AllocError, Global};
 use std::marker::Model;
 
@@ -14,11 +14,11 @@ use std::marker::Model;
 pub(crate) struct RowTable<'a> {
     library: &'a Library,
     firsts: Vec<usize>,
-    rows: Vec<&'a [Name]>,
+    rows: Vec<Rows<'a>>,
 }
 
 impl<'a> Model for RowTable<'a> {
-    ghost use Rattle.std.specs.Prelude.{List, map};
+    ghost use Rattle.std.specs.Prelude.{List};
     ghost use Rattle.eqc_blif.specs.Netlist.{ModelOf};
     ghost use Rattle.eqc_flat.specs.RowTable.{IsRowTable};
 
@@ -26,15 +26,15 @@ impl<'a> Model for RowTable<'a> {
 
     ghost view = { λ a. a.library.now };
 
-    ghost invariant = { λ a. IsRowTable a.library.now a.firsts.items (map (λ r. r.now) a.rows.items) };
+    ghost invariant = { λ a. IsRowTable a.library.now a.firsts.items a.rows.items };
 }
 
 /// Puts the rows of these covers behind others. Fails where memory is refused.
-fn push_rows<'a>(all: &mut Vec<&'a [Name]>, covers: &'a [Cover]) -> Result<(), AllocError>
-    ensures { OnOk result (map (λ r. r.now) all.new.items ≡ map (λ r. r.now) all.old.items ++ map (λ c. c.rows) covers.now) }
+fn push_rows<'a>(all: &mut Vec<Rows<'a>>, covers: &'a [Cover]) -> Result<(), AllocError>
+    ensures { OnOk result (all.new.items ≡ all.old.items ++ map (λ c. c.rows) covers.now) }
 {
     'covers: for cover in covers {
-        all.push(cover.rows.as_slice())?;
+        all.push(cover.rows())?;
     }
     Ok(())
 }
@@ -73,8 +73,8 @@ impl<'a> RowTable<'a> {
     }
 
     /// The rows, by their numbers.
-    pub(crate) fn into_rows(self) -> Vec<&'a [Name]>
-        ensures { map (λ r. r.now) result.items ≡ all_rows self.entry }
+    pub(crate) fn into_rows(self) -> Vec<Rows<'a>>
+        ensures { result.items ≡ all_rows self.entry }
     {
         self.rows
     }

@@ -6,7 +6,7 @@ ghost use Rattle.eqc_check.specs.Matching.{some_match, cofactor, agrees, AreHeld
 ghost use Rattle.eqc_check.specs.Making.{Makes, OwnsMade, OwnsInTurn, Inverts, Joins};
 
 use crate::build::rows::{cofactor, constrains_first, has_free_row, plan_cover, some_match};
-use eqc_blif::{Name, is_on_set};
+use eqc_blif::{Rows, is_on_set};
 use eqc_tree::{Diagrams, Op, References, Stop};
 use std::alloc::Global;
 
@@ -258,7 +258,7 @@ pub(crate) fn cover_diagram<R, D: Diagrams<R>>(
     rt: &R,
     d: &mut D,
     columns: &[&D::Ref],
-    rows: &[Name],
+    rows: &Rows<'_>,
 ) -> Result<D::Ref, Stop>
     requires { AreHeld D.entry (D.holding d.old) columns.now }
     ensures { Makes D.entry (D.holding d.old) (D.holding d.new) result (λ a. cover_value rows.now (said D.entry columns.now a)) }

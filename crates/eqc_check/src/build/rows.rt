@@ -4,7 +4,7 @@ ghost use Rattle.std.specs.List.{list_any};
 ghost use Rattle.std.specs.Option.{option_copied};
 ghost use Rattle.eqc_check.specs.Matching.{some_match, cofactor, is_literal, has_free_row, constrains_first, MatchAlike};
 
-use eqc_blif::{Name, allows, row_matches};
+use eqc_blif::{Rows, allows, row_matches};
 use indexmap::IndexSet;
 use std::alloc::{AllocError, Global};
 
@@ -106,24 +106,24 @@ pub(crate) fn constrains_first(rows: &[&[u8]]) -> bool
     false
 }
 
-fn slices(alloc: Global, rows: &[Name]) -> Result<Vec<&[u8]>, AllocError>
+fn slices<'a>(alloc: Global, rows: &'a Rows<'_>) -> Result<Vec<&'a [u8]>, AllocError>
     ensures { IfOk result (λ v. map (λ r. r.now) v.items ≡ rows.now) }
 {
     let mut slices = Vec::with_capacity(alloc, rows.len())?;
-    for row in rows {
-        slices.push(row.as_bytes())?;
+    for k in 0..rows.len() {
+        slices.push(rows.get(k))?;
     }
     Ok(slices)
 }
 
 /// The rows, those that stand several times once. Fails where memory is refused.
-fn distinct(alloc: Global, rows: &[Name]) -> Result<Vec<&[u8]>, AllocError>
+fn distinct<'a>(alloc: Global, rows: &'a Rows<'_>) -> Result<Vec<&'a [u8]>, AllocError>
     ensures { IfOk result (λ kept. MatchAlike (map (λ r. r.now) kept.items) rows.now) }
 {
     let mut seen = IndexSet::new(alloc);
     let mut kept = Vec::new(alloc);
-    'rows: for row in rows {
-        let row = row.as_bytes();
+    'rows: for k in 0..rows.len() {
+        let row = rows.get(k);
         if seen.insert(row)? {
             kept.push(row)?;
         }
@@ -188,11 +188,11 @@ pub(crate) struct Plan<'a> {
 }
 
 /// How a cover of these rows over so many columns is built. Fails where memory is refused.
-pub(crate) fn plan_cover(
+pub(crate) fn plan_cover<'a>(
     alloc: Global,
-    rows: &[Name],
+    rows: &'a Rows<'_>,
     columns: usize,
-) -> Result<Plan<'_>, AllocError>
+) -> Result<Plan<'a>, AllocError>
     ensures { IfOk result (λ plan. MatchAlike (map (λ r. r.now) plan.rows.items) rows.now) }
 {
     let all = slices(alloc, rows)?;

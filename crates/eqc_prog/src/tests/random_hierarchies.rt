@@ -255,9 +255,11 @@ fn matches(row: &[u8], values: &[bool]) -> bool {
 fn cover_value(cover: &Cover, values: &[bool]) -> bool {
     let mut on = true;
     let mut some = false;
-    for row in &cover.rows {
-        on = row.as_bytes().last().copied() == Some(b'1');
-        some = some || matches(row.as_bytes(), values);
+    let rows = cover.rows();
+    for k in 0..rows.len() {
+        let row = rows.get(k);
+        on = row.last().copied() == Some(b'1');
+        some = some || matches(row, values);
     }
     some == on
 }

@@ -11,7 +11,7 @@
 ghost use Rattle.std.specs.Prelude.{◌<◌, length};
 
 use eqc_blif::{
-    Cover, Instance, Library, Name, allows, cover_value, is_on, is_on_set, read, row_matches,
+    Cover, Instance, Library, Name, Rows, allows, cover_value, is_on, is_on_set, read, row_matches,
 };
 use std::alloc::{AllocError, Global};
 use std::process::Abort;
@@ -263,6 +263,16 @@ fn append_names(out: &mut Vec<u8>, names: &[Name]) -> Result<(), AllocError> {
     Ok(())
 }
 
+fn append_rows(out: &mut Vec<u8>, rows: &Rows<'_>) -> Result<(), AllocError> {
+    for k in 0..rows.len() {
+        if k > 0 {
+            out.push(b' ')?;
+        }
+        out.extend_from_slice(rows.get(k))?;
+    }
+    Ok(())
+}
+
 fn append_model(out: &mut Vec<u8>, library: &Library, m: usize) -> Result<(), AllocError>
     requires { m < length library.now }
 {
@@ -289,7 +299,7 @@ fn append_cover(out: &mut Vec<u8>, cover: &Cover) -> Result<(), AllocError> {
     }
     out.extend_from_slice(cover.output.as_bytes())?;
     out.push(b':')?;
-    append_names(out, &cover.rows)?;
+    append_rows(out, &cover.rows())?;
     out.push(b']')?;
     Ok(())
 }
@@ -428,8 +438,8 @@ fn cover_of(alloc: Global, text: &[u8], values: &[bool]) -> Option<(bool, bool, 
     let cover = library.covers(0).first()?;
     Some((
         cover.value(values),
-        cover_value(&cover.rows, values),
-        is_on_set(&cover.rows),
+        cover_value(&cover.rows(), values),
+        is_on_set(&cover.rows()),
     ))
 }
 

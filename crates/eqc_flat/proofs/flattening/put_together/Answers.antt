@@ -46,7 +46,7 @@ new-requires c =
       driven = c.requires.driven;
       ordered = c.requires.ordered;
     } in
-    let same = flat_same library top c.inputs-inputs.result.now c.outputs-outputs.result.now os named places drivers (map (λ (r : Bor (List (List ℕ))). r.now) c.into_rows-rows.result.items) steps inputs outputs rows in
+    let same = flat_same library top c.inputs-inputs.result.now c.outputs-outputs.result.now os named places drivers c.into_rows-rows.result.items steps inputs outputs rows in
     let P : FlatOf → Type 0 = λ f. IsFlat f in
     subst P same (parts_flat library top os named places drivers steps parts)
 
@@ -78,6 +78,6 @@ returns c =
       driven = c.requires.driven;
       ordered = c.requires.ordered;
     } in
-    let same = flat_same library top c.inputs-inputs.result.now c.outputs-outputs.result.now os named places drivers (map (λ (r : Bor (List (List ℕ))). r.now) c.into_rows-rows.result.items) steps inputs outputs rows in
+    let same = flat_same library top c.inputs-inputs.result.now c.outputs-outputs.result.now os named places drivers c.into_rows-rows.result.items steps inputs outputs rows in
     let P : FlatOf → Type 0 = λ f. IsFlatOf library top f in
     subst P (same ∙ sym c.new.ensures) (parts_flat_of library top os named places drivers steps parts)
