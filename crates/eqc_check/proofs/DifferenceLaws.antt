@@ -6,8 +6,8 @@ use Rattle.eqc_tree.specs.declared.operation.Op.TheVariants.{Xor}
 use Rattle.eqc_tree.proofs.HoldingLemmas.{counts_itself}
 use Rattle.eqc_flat.specs.Graph.{value_of}
 use Rattle.eqc_check.specs.Building.{AreBuilt, HoldsBoth, OwnsBoth, OwnsTable, LosesBoth, inputs_under, reference_of}
-use Rattle.eqc_check.specs.Assigned.{assigned, DependsOnlyOn}
-use Rattle.eqc_check.specs.Verdict.{assignments, position_of, values_for, first_value, second_value, least_difference}
+use Rattle.eqc_tree.specs.Assigned.{assigned, DependsOnlyOn, assignments}
+use Rattle.eqc_check.specs.Verdict.{position_of, values_for, first_value, second_value, least_difference}
 use Rattle.eqc_check.specs.PairOf.{PairOf, IsPair, first_variables, second_variables, second_signals}
 use Rattle.eqc_check.specs.Comparing.{netlist_of, differs_at, SaysDifference}
 use Rattle.eqc_check.proofs.MatchedLemmas.{place_of_name, assigned_value, IsDifference, least_of_difference, none_of_difference}

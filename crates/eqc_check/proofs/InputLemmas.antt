@@ -2,13 +2,13 @@
 use Rattle.std.proofs.Common.{◌≡◌, ℕ, ◌<◌, ◌≤◌, Bool, List, length, find, get_or, sym, ap, ◌∙◌, arith, subst, Some, Vec, Global, Result, Ok, Err, IfOk}
 use Rattle.std.specs.List.{All}
 use Rattle.std.proofs.lemmas.List.FromFn.{length-map-range_with_len}
-use Rattle.eqc_check.specs.Assigned.{assigned, DependsOnlyOn, DependsBelow}
+use Rattle.eqc_tree.specs.Assigned.{assigned, DependsOnlyOn, assignments}
+use Rattle.eqc_check.specs.Assigned.{DependsBelow}
 use Rattle.eqc_check.specs.PairOf.{PairOf, IsPair, variable_in, first_variables, input_values}
-use Rattle.eqc_check.specs.Verdict.{assignments}
 use Rattle.eqc_check.specs.VerdictLaws.{IsLeast}
-use Rattle.eqc_check.proofs.AssignedLemmas.{assigned_at}
+use Rattle.eqc_tree.proofs.AssignedLemmas.{assigned_at}
 use Rattle.eqc_check.proofs.CompareLaws.{below_all}
-use Rattle.eqc_check.proofs.FindLemmas.{find_same}
+use Rattle.eqc_tree.proofs.FindLemmas.{find_same}
 use Rattle.eqc_check.proofs.LeastLemmas.{found_least}
 use Rattle.eqc_check.proofs.PairLaws.{variables_at, variables_distinct}
 

@@ -3,9 +3,9 @@ use Rattle.std.proofs.Common.{◌≡◌, ◌⊎◌, inl, inr, ℕ, zero, suc, Bo
 use Rattle.std.specs.Option.{option_or}
 use Rattle.std.proofs.lemmas.Option.{cond_some, same_Some}
 use Rattle.std.proofs.lemmas.List.{nil_from_length}
-use Rattle.eqc_check.specs.Verdict.{assignments}
+use Rattle.eqc_tree.specs.Assigned.{assignments}
 use Rattle.eqc_check.specs.VerdictLaws.{IsBelow, IsLeast}
-use Rattle.eqc_check.proofs.FindLemmas.{find_first, find_empty, none_found}
+use Rattle.eqc_tree.proofs.FindLemmas.{find_first, find_empty, none_found}
 
 -- the least assignment that begins with false is below all others
 below_false : (n : ℕ) (p : List Bool → Bool) (t : List Bool) → IsLeast n (λ u. p (false ∷ u)) t → (b : List Bool) → length b ≡ suc n → p b ≡ true → (b ≡ false ∷ t) ⊎ IsBelow (false ∷ t) b

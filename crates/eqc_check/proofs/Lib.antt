@@ -5,10 +5,7 @@ pub mod HeldLaws
 pub mod TableLaws
 pub mod PlanLaws
 pub mod BuildLaws
-pub mod AssignedLemmas
-pub mod FollowsLemmas
-pub mod FindLemmas
-pub mod Choosing
+pub mod Blocks
 pub mod LeastLemmas
 pub mod VerdictLemmas
 pub mod MatchedLemmas

@@ -4,10 +4,10 @@ use Rattle.std.proofs.lemmas.Bool.{or_parts, false_from_ne_true}
 use Rattle.std.proofs.lemmas.List.Folds.{list_any_at}
 use Rattle.std.proofs.lemmas.Slice.Eq.{bytes_eq-Decides}
 use Rattle.eqc_blif.specs.Names.{is_named, has_twice}
-use Rattle.eqc_check.specs.Assigned.{assigned, AreDistinct}
-use Rattle.eqc_check.specs.Verdict.{NetlistOf, assignments, position_of, values_for, differs_under, least_difference}
-use Rattle.eqc_check.proofs.AssignedLemmas.{assigned_at}
-use Rattle.eqc_check.proofs.FindLemmas.{find_agrees, find_none}
+use Rattle.eqc_tree.specs.Assigned.{assigned, AreDistinct, assignments}
+use Rattle.eqc_check.specs.Verdict.{NetlistOf, position_of, values_for, differs_under, least_difference}
+use Rattle.eqc_tree.proofs.AssignedLemmas.{assigned_at}
+use Rattle.eqc_tree.proofs.FindLemmas.{find_agrees, find_none}
 
 -- a name is not that of a later place
 name_apart : (name : List ℕ) (names : List (List ℕ)) (i : ℕ) → is_named names name ≡ false → i < length names → bytes_eq (get_or names i []) name ≡ false

@@ -6,7 +6,7 @@ use Rattle.std.proofs.lemmas.List.FromFn.{length-map-range_with_len, get_or-map-
 use Rattle.eqc_flat.specs.Graph.{FlatOf, IsFlat, value_of}
 use Rattle.eqc_check.specs.Verdict.{position_of, values_for, is_different, first_value, second_value, first_difference}
 use Rattle.eqc_check.specs.Report.{ReportOf, differs, difference_report, comparison}
-use Rattle.eqc_check.specs.Assigned.{AreDistinct}
+use Rattle.eqc_tree.specs.Assigned.{AreDistinct}
 use Rattle.eqc_flat.specs.Evaluating.{values_of}
 use Rattle.eqc_check.proofs.MatchedLemmas.{place_of_name}
 use Rattle.eqc_check.proofs.CompareLaws.{value_agrees}

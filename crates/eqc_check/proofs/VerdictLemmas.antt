@@ -3,9 +3,10 @@ use Rattle.std.proofs.Common.{◌≡◌, ℕ, zero, suc, ◌<◌, Bool, List, []
 use Rattle.std.specs.Option.{option_or}
 use Rattle.std.proofs.lemmas.Option.{some_pair_parts}
 use Rattle.std.proofs.lemmas.List.Elements.{All-nil, All-cons, All-head, All-tail}
-use Rattle.eqc_check.specs.Verdict.{NetlistOf, assignments, differs_under, least_difference, first_difference}
+use Rattle.eqc_tree.specs.Assigned.{assignments}
+use Rattle.eqc_check.specs.Verdict.{NetlistOf, differs_under, least_difference, first_difference}
 use Rattle.eqc_check.specs.VerdictLaws.{IsLeastDifference, NeverDiffers, IsFirstDifference}
-use Rattle.eqc_check.proofs.FindLemmas.{find_none, none_found, find_agrees, option_or_none, option_map_none}
+use Rattle.eqc_tree.proofs.FindLemmas.{find_none, none_found, find_agrees, option_or_none, option_map_none}
 use Rattle.eqc_check.proofs.LeastLemmas.{found_least, least_found}
 
 -- where an output never differs nothing is found

@@ -2,7 +2,7 @@
 use Rattle.std.specs.Prelude.{◌≡◌, ℕ, ◌+◌, ◌*◌, ◌<◌, ◌≤◌, Bool, true, false, not, ◌&&◌, List, [], ◌∷◌, replicate, ◌==◌, if◌then◌else◌}
 use Rattle.std.specs.List.{list_any}
 use Rattle.eqc_tree.specs.Holding.{Entry, Holding, copies, weight}
-use Rattle.eqc_check.specs.Assigned.{IsSatisfiable}
+use Rattle.eqc_tree.specs.Assigned.{IsSatisfiable}
 
 -- one reference in place of another
 pub record Replaces (old new : Holding) (gone come : Entry) : Type 0 where

@@ -2,10 +2,11 @@
 -- netlists differ, inputs and outputs being matched by name. The verdict is the first output of the first
 -- netlist that differs under some assignment, with the least such assignment in lexicographic order over the
 -- inputs as the first netlist declares them, 0 before 1. The order of variables plays no part.
-use Rattle.std.specs.Prelude.{ℕ, zero, suc, Bool, true, false, not, List, [], ◌∷◌, ◌++◌, length, map, find, Option, None, slice_index_or}
+use Rattle.std.specs.Prelude.{ℕ, Bool, true, false, not, List, [], ◌∷◌, length, find, Option, None, slice_index_or}
 use Rattle.std.specs.List.{position_or_len}
 use Rattle.std.specs.Option.{option_map, option_or}
 use Rattle.std.specs.Str.{bytes_eq}
+use Rattle.eqc_tree.specs.Assigned.{assignments}
 
 -- a netlist as its user sees it: its inputs, its outputs, and the value of the output of a name under values
 -- of the inputs by position
@@ -13,11 +14,6 @@ pub record NetlistOf : Type 0 where
   pub inputs : List (List ℕ)
   pub outputs : List (List ℕ)
   pub value : List ℕ → (ℕ → Bool) → Bool
-
--- all lists of n values in lexicographic order, false before true
-unfoldable pub assignments : ℕ → List (List Bool)
-assignments zero = [] ∷ []
-assignments (suc n) = map (λ a. false ∷ a) (assignments n) ++ map (λ a. true ∷ a) (assignments n)
 
 -- where a name first stands in a list, or its length
 abbrev pub position_of : List (List ℕ) → List ℕ → ℕ

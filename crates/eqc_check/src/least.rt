@@ -1,10 +1,10 @@
 ghost use Rattle.std.specs.Prelude.{◌≡◌, ◌≢◌, ◌↔◌, ℕ, ◌<◌, ◌≤◌, ◌++◌, ◌&&◌, Bool, false, not, length, replicate, IsTrue, IfOk, IfErr, OnOk, OnErr};
 ghost use Rattle.std.specs.List.{All, find, list_any};
 ghost use Rattle.eqc_tree.specs.Holding.{IsHeld, says, Keeps, Gains, Loses};
-ghost use Rattle.eqc_check.specs.Assigned.{assigned, AreDistinct, DependsOnlyOn, DependsBelow, IsSatisfiable};
+ghost use Rattle.eqc_tree.specs.Assigned.{assigned, AreDistinct, DependsOnlyOn, IsSatisfiable, assignments};
+ghost use Rattle.eqc_check.specs.Assigned.{DependsBelow};
 ghost use Rattle.eqc_check.specs.Narrowing.{Replaces, IsNarrowed, decided, IsNextLength};
 ghost use Rattle.eqc_check.specs.PairOf.{input_values};
-ghost use Rattle.eqc_check.specs.Verdict.{assignments};
 ghost use Rattle.eqc_check.specs.VerdictLaws.{IsLeast};
 
 use crate::pairing::matched_pair::Pair;
@@ -133,17 +133,12 @@ fn decide(values: &mut Vec<bool>, narrows: bool, length: usize) -> Result<usize,
     Ok(length / 2)
 }
 
-/// The least assignment under which a function is true, in lexicographic order over the positions, false before
-/// true. `variables` gives the variable of each position; the order of the variables plays no part.
+/// The least assignment as `least_over` finds it, by applies alone.
 ///
 /// Blocks of positions are tried at false at once: the next is twice as long where that leaves the function satisfiable,
 /// and half as long where it doesn't, down to one position, which then is true. So what is decided is not put into
 /// the function position by position.
-///
-/// `f` has to be true under some assignment, and to depend on no variable but these, of which none may stand twice.
-/// The errors are those of the diagrams, 71, 72 and 73, and 72 where there is no memory for the assignment. All
-/// references are given back, whatever the answer.
-pub(crate) fn least_over<R, D: Diagrams<R>>(
+fn by_blocks<R, D: Diagrams<R>>(
     alloc: Global,
     rt: &R,
     d: &mut D,
@@ -179,6 +174,35 @@ pub(crate) fn least_over<R, D: Diagrams<R>>(
     }
     d.give_back(rest);
     Ok(values)
+}
+
+/// The least assignment under which a function is true, in lexicographic order over the positions, false before
+/// true. `variables` gives the variable of each position; the order of the variables plays no part. Where the diagrams
+/// can't tell it from their nodes, it is found by applies.
+///
+/// `f` has to be true under some assignment, and to depend on no variable but these, of which none may stand twice.
+/// The errors are those of the diagrams, 71, 72 and 73, and 72 where there is no memory for the assignment. All
+/// references are given back, whatever the answer.
+pub(crate) fn least_over<R, D: Diagrams<R>>(
+    alloc: Global,
+    rt: &R,
+    d: &mut D,
+    variables: &[u16],
+    f: &D::Ref,
+) -> Result<Vec<bool>, Stop>
+    requires held { IsHeld (D.holding d.old) (D.entry f.now) }
+    requires within { All (λ v. v < (D.holding d.old).variables) variables.now }
+    requires distinct { AreDistinct variables.now }
+    requires satisfiable { IsSatisfiable (says (D.entry f.now)) }
+    requires depends { DependsOnlyOn variables.now (says (D.entry f.now)) }
+    ensures least { IfOk result (λ least. Some least.items ≡ find (λ values. says (D.entry f.now) (assigned variables.now values)) (assignments (length variables.now))) }
+    ensures kept { Keeps (D.holding d.old) (D.holding d.new) }
+    ensures only { IfErr result (λ s. s ≢ Stop.Threads) }
+{
+    match d.least(rt, alloc, variables, f)? {
+        Some(values) => Ok(values),
+        None => by_blocks(alloc, rt, d, variables, f),
+    }
 }
 
 /// The least assignment of the first netlist's inputs under which a function is true, in lexicographic order, 0

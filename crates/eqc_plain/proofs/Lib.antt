@@ -7,3 +7,5 @@ pub mod Caching
 pub mod Tasks
 pub mod Extending
 pub mod Deciding
+pub mod Searching
+pub mod Choosing

@@ -6,3 +6,4 @@ pub mod Combining
 pub mod Cache
 pub mod Tasks
 pub mod Standing
+pub mod Searching

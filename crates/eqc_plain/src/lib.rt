@@ -7,12 +7,15 @@
 //! - `plain`, the public type and its calls; `reference`, what is handed out
 //! - `store`, the nodes and counts; `unique_table`, the list of node words that finds a word
 //! - `apply`, the loop; `task`, its stack; `terminal`, what needs no nodes; `cache`
+//! - `least`, the least assignment; `search`, what it keeps
 #![tactic(auto)]
 
 mod apply;
 mod cache;
+mod least;
 mod plain;
 mod reference;
+mod search;
 mod store;
 mod task;
 mod terminal;

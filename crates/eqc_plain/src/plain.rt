@@ -100,7 +100,9 @@ impl References for Plain {
 }
 
 impl<R> Diagrams<R> for Plain {
-    ghost use Rattle.std.specs.Prelude.{ℕ, ◌<◌, ◌≤◌, ◌≢◌, ◌-◌, ◌^◌, Bool, if◌then◌else◌, OnErr, IfOk, IfErr, length, slice_index};
+    ghost use Rattle.std.specs.Prelude.{ℕ, ◌<◌, ◌≤◌, ◌≢◌, ◌-◌, ◌^◌, Bool, if◌then◌else◌, OnErr, IfOk, IfErr, IfSome, IsSome, length, slice_index};
+    ghost use Rattle.std.specs.List.{All, find};
+    ghost use Rattle.eqc_tree.specs.Assigned.{assigned, assignments, AreDistinct, DependsOnlyOn, IsSatisfiable};
     ghost use Rattle.eqc_tree.specs.Word.{node_word};
     ghost use Rattle.eqc_tree.specs.Operation.{operate};
     ghost use Rattle.eqc_tree.specs.Holding.{Entry, IsHeld, Gains, Keeps, copies, says};
@@ -171,5 +173,30 @@ impl<R> Diagrams<R> for Plain {
         self.give_back(both);
         self.give_back(other);
         either
+    }
+
+    /// Found by a search that makes no node, and stops for want of memory alone.
+    fn least(
+        &mut self,
+        _rt: &R,
+        alloc: Global,
+        variables: &[u16],
+        f: &Ref,
+    ) -> Result<Option<Vec<bool>>, Stop>
+        requires held { IsHeld (holding_in self.old.store) (entry_of f.now) }
+        requires within { All (λ v. v < (holding_in self.old.store).variables) variables.now }
+        requires distinct { AreDistinct variables.now }
+        requires satisfiable { IsSatisfiable (says (entry_of f.now)) }
+        requires depends { DependsOnlyOn variables.now (says (entry_of f.now)) }
+        ensures least { IfOk result (λ found. IfSome found (λ least. Some least.items ≡ find (λ values. says (entry_of f.now) (assigned variables.now values)) (assignments (length variables.now)))) }
+        ensures found { IfOk result (λ found. IsSome found) }
+        ensures still { self.new ≡ self.old }
+        ensures kept { Keeps (holding_in self.old.store) (holding_in self.new.store) }
+        ensures only { IfErr result (λ s. s ≡ Stop.Memory) }
+    {
+        match self.store.least(alloc, variables, f.node as usize) {
+            Ok(values) => Ok(Some(values)),
+            Err(_) => Err(Stop::Memory),
+        }
     }
 }

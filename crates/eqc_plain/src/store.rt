@@ -24,6 +24,7 @@ impl Store {
     ghost use Rattle.eqc_plain.specs.Store.{entry_at, root, tree_at, IsNode, AreCofactors};
     ghost use Rattle.eqc_plain.specs.Extending.{holding_in, Extends};
     ghost use Rattle.eqc_plain.specs.Referring.{entry_of};
+    ghost use Rattle.eqc_plain.specs.Searching.{IsBranch};
 
     /// No nodes, and room for `limit` of them.
     pub fn new(alloc: Global, variables: u16, limit: u32) -> Result<Store, Stop>
@@ -87,6 +88,16 @@ impl Store {
         }
         let (variable, _, _) = unpack_node(self.nodes.word(x as usize - 2));
         variable
+    }
+
+    /// A node's variable, its low and its high child.
+    pub fn branch(&self, x: usize) -> (usize, usize, usize)
+        requires node { 2 ≤ x }
+        requires within { x < length self.now.nodes + 2 }
+        ensures { IsBranch self.now.variables self.now.nodes x result.0 result.1 result.2 }
+    {
+        let (variable, low, high) = unpack_node(self.nodes.word(x - 2));
+        (variable as usize, low as usize, high as usize)
     }
 
     /// The cofactors of a number: what it is where the variable is 0, and where it is 1.

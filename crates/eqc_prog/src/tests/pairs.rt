@@ -311,6 +311,53 @@ fn positions_decide_and_not_variables(rt: HostRuntime) -> Result<(), AllocError>
     Ok(())
 }
 
+/// The constant 0, and the conjunction of every second of 512 inputs.
+fn every_second(alloc: Global) -> Result<String, AllocError> {
+    let mut names = String::new(alloc);
+    let mut row = String::new(alloc);
+    for k in 0..512 {
+        names.push_str(&format!(in alloc; " i{k}")?)?;
+        row.push_str(if k % 2 == 0 { "1" } else { "-" })?;
+    }
+    let mut text = String::from_str(alloc, ".model f;.inputs")?;
+    text.push_str(&names)?;
+    text.push_str(";.outputs z;.names z;.end;.model g;.inputs")?;
+    text.push_str(&names)?;
+    text.push_str(";.outputs z;.names")?;
+    text.push_str(&names)?;
+    text.push_str(" z;")?;
+    text.push_str(&row)?;
+    text.push_str(" 1;")?;
+    Ok(text)
+}
+
+/// The names of 512 inputs, the last one first.
+fn backwards(alloc: Global) -> Result<String, AllocError> {
+    let mut order = String::new(alloc);
+    for k in 0..512 {
+        order.push_str(&format!(in alloc; " i{}", 511 - k)?)?;
+    }
+    Ok(order)
+}
+
+/// Where many inputs have to be 1 between others that are free, the least assignment is found in a store that has room for the
+/// diagram of the difference and for those on the way to it.
+#[test]
+fn least_assignments_of_many_ones_take_no_nodes(rt: HostRuntime) -> Result<(), AllocError> {
+    let alloc = rt.alloc();
+    let text = every_second(alloc)?;
+    let order = backwards(alloc)?;
+    let mut answer = String::new(alloc);
+    for _k in 0..256 {
+        answer.push_str("10")?;
+    }
+    for (order, nodes) in [("", 2_048), (order.as_str(), 65_536)] {
+        let found = text_answer(&rt, alloc, &text, order, Ask::Output(0, nodes))?;
+        assert_eq!(rt; found.as_str(), answer.as_str(), "{nodes}");
+    }
+    Ok(())
+}
+
 /// An order text of three words, which are those of the inputs, behind blanks and between comments.
 #[test]
 fn an_order_text_has_words(rt: HostRuntime) -> Result<(), AllocError> {

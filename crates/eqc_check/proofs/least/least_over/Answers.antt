@@ -1,56 +1,8 @@
-use Rattle.std.proofs.Common.{◌≡◌, ℕ, ◌+◌, ◌-◌, ◌*◌, length, [], List, take, drop, ◌<◌, ◌≤◌, ◌++◌, arith, ap, ◌∙◌, sym}
-use Rattle.std.proofs.lemmas.List.{length-append, nil_from_length}
-use Rattle.eqc_check.specs.Narrowing.{decided}
-use Rattle.eqc_check.proofs.Choosing.{starts_chosen, chooses_decided, ends_chosen, block_is, open_long, block_long, decided_most, tries_fall}
+use Rattle.eqc_check.proofs.DifferenceLaws.{kept_held}
 use Rattle.eqc_check.proofs.least.least_over.Goals as goal
 
-pub tries-init : goal.tries-init
-tries-init g c = record {
-  held = c.in_ok-rest.ensures.ok.held;
-  variables = c.in_ok-rest.ensures.ok.variables;
-  some = omega arith;
-  size = omega (arith, ap length c.in-Ok.ensures.items);
-  chosen = starts_chosen _ _ _ _ c.in_ok-rest.ensures.ok.function c.requires.satisfiable c.in-Ok.ensures.items;
-}
+pub by_blocks-requires-clause-held : goal.by_blocks-requires-clause-held
+by_blocks-requires-clause-held g c = kept_held _ _ _ c.least.ensures.kept c.requires.held
 
-pub tries-smaller : goal.tries-smaller
-tries-smaller g c =
-    let vs = c.args.variables.now in
-    let m : ℕ = length c.tries.values.items in
-    let k : ℕ = c.block_length.result in
-    let at : c.len-in-tries.result ≡ m = omega arith in
-    let open_is : length (take (length vs - c.len-in-tries.result) (drop c.len-in-tries.result vs)) ≡ length vs - c.len-in-tries.result = open_long vs c.len-in-tries.result in
-    let within : k ≤ length vs - m = omega arith in
-    let long : length (take k (take (length vs - c.len-in-tries.result) (drop c.len-in-tries.result vs))) ≡ k = block_long vs c.len-in-tries.result k (omega arith) in
-    let values = c.in-Ok-decide.ensures.values ∙ ap (λ n. c.tries.values.items ++ decided c.in_ok-narrows.narrows n) long in
-    let more = ap length values ∙ length-append c.tries.values.items (decided c.in_ok-narrows.narrows k) in
-    let most = decided_most c.in_ok-narrows.narrows k (omega arith) in
-    let next = c.in-Ok-decide.ensures.next in
-    let nothing : (length vs - length c.decide.new.values.items ≡ length vs - m) → c.in-Ok-decide.next < c.tries.longest =
-    λ same.
-    let none : length (decided c.in_ok-narrows.narrows k) ≡ 0 = omega arith in
-    let shorter = next.less (ap (decided c.in_ok-narrows.narrows) long ∙ nil_from_length (decided c.in_ok-narrows.narrows k) none) in
-    omega arith in
-    tries_fall (length vs) (length vs - m) (length vs - length c.decide.new.values.items) c.tries.longest c.in-Ok-decide.next (omega arith) nothing (omega (arith, next.most)) c.tries.invariant.some
-
-pub tries-preserved : goal.tries-preserved
-tries-preserved g c =
-    let vs = c.args.variables.now in
-    let m : ℕ = length c.tries.values.items in
-    let k : ℕ = c.block_length.result in
-    let at : c.len-in-tries.result ≡ m = omega arith in
-    let open_is : length (take (length vs - c.len-in-tries.result) (drop c.len-in-tries.result vs)) ≡ length vs - c.len-in-tries.result = open_long vs c.len-in-tries.result in
-    let within : k ≤ length vs - m = omega arith in
-    let long : length (take k (take (length vs - c.len-in-tries.result) (drop c.len-in-tries.result vs))) ≡ k = block_long vs c.len-in-tries.result k (omega arith) in
-    let values = c.in-Ok-decide.ensures.values ∙ ap (λ n. c.tries.values.items ++ decided c.in_ok-narrows.narrows n) long in
-    let more = ap length values ∙ length-append c.tries.values.items (decided c.in_ok-narrows.narrows k) in
-    record {
-      held = λ e. omega (arith, c.tries.invariant.held e, c.in_ok-narrows.ensures.replaced.held e);
-      variables = c.in_ok-narrows.ensures.replaced.variables ∙ c.tries.invariant.variables;
-      some = c.in-Ok-decide.ensures.next.some;
-      size = omega (arith, more, decided_most c.in_ok-narrows.narrows k (omega arith));
-      chosen = chooses_decided c.in_ok-narrows.narrows k _ _ _ _ _ c.tries.values.items _ (record { distinct = c.requires.distinct; depends = c.requires.depends }) c.tries.invariant.chosen (omega arith) (omega arith) (rw at (block_is vs m k)) c.in_ok-narrows.ensures.narrowed values;
-    }
-
-pub returns-clause-least : goal.returns-clause-least
-returns-clause-least g c = ends_chosen _ _ _ _ (record { distinct = c.requires.distinct; depends = c.requires.depends }) c.tries.invariant.chosen (omega arith)
+pub by_blocks-requires-clause-within : goal.by_blocks-requires-clause-within
+by_blocks-requires-clause-within g c = rw c.least.ensures.kept.variables c.requires.within

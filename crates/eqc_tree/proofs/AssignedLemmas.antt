@@ -3,7 +3,7 @@ use Rattle.std.proofs.Common.{◌≡◌, ℕ, zero, suc, ◌+◌, ◌<◌, Bool,
 use Rattle.std.specs.List.{position_or_len}
 use Rattle.std.proofs.lemmas.List.{get_or-map}
 use Rattle.std.proofs.lemmas.Bool.{eq-eqb, ne_eqb}
-use Rattle.eqc_check.specs.Assigned.{assigned, AreDistinct}
+use Rattle.eqc_tree.specs.Assigned.{assigned, AreDistinct}
 
 -- what is left of variables is distinct too
 pub distinct_rest : (v : ℕ) (vs : List ℕ) → AreDistinct (v ∷ vs) → AreDistinct vs

@@ -2,8 +2,8 @@
 use Rattle.std.proofs.Common.{◌≡◌, ℕ, zero, suc, ◌<◌, ◌≤◌, Bool, true, false, not, ◌&&◌, List, [], ◌∷◌, ◌++◌, length, map, drop, get_or, sym, ap, refl, ◌∙◌, arith, suc-le-suc}
 use Rattle.std.proofs.lemmas.List.{get_or_append_left}
 use Rattle.std.proofs.lemmas.Bool.{and_parts, and_from}
-use Rattle.eqc_check.specs.Assigned.{assigned, AreDistinct}
-use Rattle.eqc_check.proofs.AssignedLemmas.{assigned_at}
+use Rattle.eqc_tree.specs.Assigned.{assigned, AreDistinct}
+use Rattle.eqc_tree.proofs.AssignedLemmas.{assigned_at}
 
 -- whether a value is the one that is wanted
 abbrev pub is_value : Bool → Bool → Bool

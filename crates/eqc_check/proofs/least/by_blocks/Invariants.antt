@@ -1,7 +1,7 @@
 use Rattle.std.proofs.Common.{◌≡◌, ◌+◌, ◌*◌, ◌-◌, ◌<◌, ◌≤◌, length}
 use Rattle.eqc_tree.specs.Holding.{Entry, copies, weight, says}
-use Rattle.eqc_check.proofs.Choosing.{IsChosen}
-use Rattle.eqc_check.proofs.least.least_over.Given as goal
+use Rattle.eqc_tree.proofs.Choosing.{IsChosen}
+use Rattle.eqc_check.proofs.least.by_blocks.Given as goal
 
 abbrev pub invariant-tries : goal.invariant-tries
 invariant-tries g l = record {
