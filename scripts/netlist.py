@@ -5,6 +5,7 @@ What a text means and which faults it can have is said in docs/blif.md and docs/
 eqc's report gives it, and here also the name that it is about. Names are bytes, as in eqc. Nothing recurses, so chains
 and hierarchies may be as deep as eqc allows.
 """
+import signal
 import sys
 from dataclasses import dataclass, field
 
@@ -393,7 +394,14 @@ def flat_of(path, which=0):
         raise
 
 
-def end_with(name, fault, status=2):
-    """Ends a script of this name with a fault."""
-    sys.stderr.write(f"{name}: {fault}\n")
+def run(name, work):
+    """Runs a script's work and ends with the status that it returns, or with a fault's message and status 2."""
+    # A reader of the output that stops early, as `head`, ends the script without a word.
+    signal.signal(signal.SIGPIPE, signal.SIG_DFL)
+    try:
+        status = work()
+    except Fault as fault:
+        sys.stderr.write(f"{name}: {fault}\n")
+        status = 2
+    sys.stdout.flush()
     sys.exit(status)
