@@ -5,6 +5,7 @@ What a text means and which faults it can have is said in docs/blif.md and docs/
 eqc's report gives it, and here also the name that it is about. Names are bytes, as in eqc. Nothing recurses, so chains
 and hierarchies may be as deep as eqc allows.
 """
+import gc
 import signal
 import sys
 from dataclasses import dataclass, field
@@ -39,7 +40,7 @@ def shown(name):
     return name.decode("utf-8", "backslashreplace")
 
 
-@dataclass
+@dataclass(slots=True)
 class Cover:
     """`.names`: columns and output are names, rows are bytes with a character for each column and one for the output."""
 
@@ -55,7 +56,7 @@ class Cover:
         return matched == on
 
 
-@dataclass
+@dataclass(slots=True)
 class Instance:
     """`.subckt`: the model's name, and pairs of a formal and an actual."""
 
@@ -64,7 +65,7 @@ class Instance:
     line: int
 
 
-@dataclass
+@dataclass(slots=True)
 class Model:
     name: bytes
     line: int
@@ -293,7 +294,7 @@ class Flat:
         for s, driver in enumerate(self.driver):
             if driver is None:
                 raise Fault(f"nothing drives {shown(self.name(s))}", 27)
-        self.source = [self.end_of_ties(s) for s in range(len(self.driver))]
+        self.source = [s if type(it) is not int else self.end_of_ties(s) for s, it in enumerate(self.driver)]
         self.inputs = list(range(len(main.inputs)))
         self.outputs = [self.main.numbers[name] for name in main.outputs]
 
@@ -354,20 +355,22 @@ class Flat:
         """The longest way of covers from each signal to an input or a constant; fault 28 where a signal depends on
         itself."""
         depth, is_open = [None] * len(self.driver), [False] * len(self.driver)
-        for start in range(len(self.driver)):
-            todo = [self.source[start]] if depth[self.source[start]] is None else []
+        for start in self.source:
+            todo = [start]
             while todo:
-                s = todo.pop()
-                if s < 0:
-                    depth[~s] = 1 + max((depth[it] for it in self.columns(~s)), default=-1)
-                elif depth[s] is None:
+                s = todo[-1]
+                columns = self.columns(s) if depth[s] is None else ()
+                waiting = [it for it in columns if depth[it] is None]
+                if waiting:
+                    # A signal that is met again before its columns are done stands above itself.
+                    if is_open[s]:
+                        raise Fault(f"{shown(self.name(s))} depends on itself", 28)
                     is_open[s] = True
-                    todo.append(~s)
-                    for it in self.columns(s):
-                        if depth[it] is None:
-                            if is_open[it]:
-                                raise Fault(f"{shown(self.name(it))} depends on itself", 28)
-                            todo.append(it)
+                    todo += waiting
+                    continue
+                todo.pop()
+                if depth[s] is None:
+                    depth[s] = 1 + max((depth[it] for it in columns), default=-1)
         return [depth[it] for it in self.source]
 
     def name(self, s):
@@ -398,6 +401,8 @@ def run(name, work):
     """Runs a script's work and ends with the status that it returns, or with a fault's message and status 2."""
     # A reader of the output that stops early, as `head`, ends the script without a word.
     signal.signal(signal.SIGPIPE, signal.SIG_DFL)
+    # Looking for cycles among millions of objects would take half of the time.
+    gc.disable()
     try:
         status = work()
     except Fault as fault:
