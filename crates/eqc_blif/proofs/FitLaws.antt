@@ -33,7 +33,7 @@ last_of_all p xs y all =
     let parts = and_parts (list_all p xs) (p y && true) (sym (list_all-append p xs (y ∷ [])) ∙ all) in
     (parts.0, (and_parts (p y) true parts.1).0)
 
-one_holds : (a b : Bool) → (a || b) ≡ true → (a ≡ true) ⊎ (b ≡ true)
+pub one_holds : (a b : Bool) → (a || b) ≡ true → (a ≡ true) ⊎ (b ≡ true)
 one_holds true b some = inl refl
 one_holds false b some = inr some
 

@@ -15,13 +15,13 @@ nat_eq-sym a b = elim (cases_eq a b) [
   | inr other ↦ rw (ne_eqb a b other, ne_eqb b a (λ e. other (sym e))) refl
 ]
 
-bytes_eq-sym : (xs ys : List ℕ) → bytes_eq xs ys ≡ bytes_eq ys xs
+pub bytes_eq-sym : (xs ys : List ℕ) → bytes_eq xs ys ≡ bytes_eq ys xs
 bytes_eq-sym [] [] = refl
 bytes_eq-sym [] (y ∷ ys) = refl
 bytes_eq-sym (x ∷ xs) [] = refl
 bytes_eq-sym (x ∷ xs) (y ∷ ys) = rw (nat_eq-sym x y, bytes_eq-sym xs ys) refl
 
-named_append : (names more : List (List ℕ)) (name : List ℕ) → is_named (names ++ more) name ≡ (is_named names name || is_named more name)
+pub named_append : (names more : List (List ℕ)) (name : List ℕ) → is_named (names ++ more) name ≡ (is_named names name || is_named more name)
 named_append names more name = list_any-append (λ other. bytes_eq name other) names more
 
 -- a new name at the end of names none of which stands twice

@@ -1,5 +1,5 @@
 -- A plain library is read back from its plain text.
-use Rattle.std.proofs.Common.{◌≡◌, ℕ, zero, suc, ◌+◌, ◌-◌, Bool, true, false, ◌&&◌, ◌||◌, not, List, [], ◌∷◌, ◌++◌, length, take, map, get_or, eqb, ltb, Some, None, Ok, refl, sym, ◌∙◌, ap, subst, arith, append_assoc, inl, inr, ◌⊎◌}
+use Rattle.std.proofs.Common.{◌≡◌, ℕ, zero, suc, ◌+◌, ◌-◌, Bool, true, false, ◌&&◌, not, List, [], ◌∷◌, ◌++◌, length, take, map, get_or, eqb, ltb, Some, None, Ok, refl, sym, ◌∙◌, ap, subst, arith, append_assoc, inl, inr}
 use Rattle.std.specs.Prelude.{codes}
 use Rattle.std.specs.List.{list_all, list_any, flat_map, position_or_len, before_first, after_first, enumerate_from}
 use Rattle.std.proofs.lemmas.List.{length_push, get_or_push, take_at, append-nil, map-append}
@@ -19,6 +19,7 @@ use Rattle.eqc_blif.proofs.CleanLaws.{before_cut}
 use Rattle.eqc_blif.proofs.NameLemmas.{twice_there}
 use Rattle.eqc_blif.proofs.RowLemmas.{last_pushed, row_pushed}
 use Rattle.eqc_blif.proofs.PlainLaws.{before_none, no_bad_byte, word_without_blanks, plain_words, words_back, logical_back}
+use Rattle.eqc_blif.proofs.FitLaws.{one_holds}
 
 -- lines that have no code, one behind the other, and what stands after them
 abbrev Reads : After → List (List (List ℕ)) → After → Type 0
@@ -58,10 +59,6 @@ with_instances m instances = record m { instances = instances }
 
 abbrev with_rows : CoverOf → List (List ℕ) → CoverOf
 with_rows cover rows = record cover { rows = rows }
-
-one_holds : (a b : Bool) → (a || b) ≡ true → (a ≡ true) ⊎ (b ≡ true)
-one_holds true b some = inl refl
-one_holds false b some = inr some
 
 no_condition : (code : ℕ) (b : Bool) → b ≡ false → first_code ((code, b) ∷ []) ≡ None
 no_condition code b none = rw none refl

@@ -32,7 +32,7 @@ row_pushed covers cover row =
     rw (last_pushed covers cover, last) (set_at covers cover [] (cover_with_row row cover) (length covers) refl)
 
 -- a row that is over matches whatever is left
-row_over : (vs : List Bool) → row_matches [] vs ≡ true
+pub row_over : (vs : List Bool) → row_matches [] vs ≡ true
 row_over [] = refl
 row_over (v ∷ vs) = refl
 

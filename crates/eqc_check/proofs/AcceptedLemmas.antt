@@ -21,6 +21,7 @@ use Rattle.eqc_check.specs.AnswerLaws.{models_read, first_main, AreInRange, IsRe
 use Rattle.eqc_check.proofs.PlaceLemmas.{place_below, name_at, named_index, all_named}
 use Rattle.eqc_check.proofs.OrderedLemmas.{both_ways}
 use Rattle.eqc_check.proofs.CheckLemmas.{PassAll, pass_none, pass_more, pass_each, pass_both}
+use Rattle.eqc_flat.proofs.Members.{same_test}
 
 -- ---- single checks
 
@@ -90,17 +91,12 @@ passed_range options pass =
 
 -- ---- names
 
-same_tests : (a b : Bool) → (a ≡ true → b ≡ true) → (b ≡ true → a ≡ true) → a ≡ b
-same_tests true b h k = sym (h refl)
-same_tests false true h k = k refl
-same_tests false false h k = refl
-
 named_by_all : (names others : List (List ℕ)) (name : List ℕ) → has_all names others ≡ true → is_named others name ≡ true → is_named names name ≡ true
 named_by_all names others name all e =
     subst (λ (x : List ℕ). is_named names x ≡ true) (name_at others name e) (all_named names others all (position_of others name) (place_below others name e))
 
 pub have_same : (xs ys : List (List ℕ)) → has_all xs ys ≡ true → has_all ys xs ≡ true → HaveSameNames xs ys
-have_same xs ys all back name = same_tests (is_named xs name) (is_named ys name) (named_by_all ys xs name back) (named_by_all xs ys name all)
+have_same xs ys all back name = same_test (is_named xs name) (is_named ys name) (named_by_all ys xs name back) (named_by_all xs ys name all)
 
 has_all_from : (names others : List (List ℕ)) → HaveSameNames names others → has_all names others ≡ true
 has_all_from names others same =

@@ -11,7 +11,7 @@ use Rattle.eqc_check.specs.Matching.{AreHeld, said}
 use Rattle.eqc_check.specs.Building.{held_by, tally, Holds, HoldsBoth, OwnsTable, Moves, Fills, Adds, Releases, IsBuilt, IsBuilding, IsPlan, AreReady, AreSignals, reference_of, inputs_under}
 use Rattle.eqc_check.proofs.TableLaws.{owned_held}
 use Rattle.std.proofs.lemmas.List.Sums.{sum_by-cons}
-use Rattle.eqc_check.proofs.PlanLaws.{dep_before, step_of}
+use Rattle.eqc_flat.proofs.EvaluationLaws.{dep_before, step_of}
 
 -- one more reference of a table
 pub found_more : {X : Type 0} (table : List (Option X)) (signals : List ℕ) (i : ℕ) (old new : List (Bor X)) (r : Bor X) → i < length signals → map (λ r. Some r.now) old ≡ map (reference_of table) (take i signals) → reference_of table (get_or signals i 0) ≡ Some r.now → new ≡ old ++ r ∷ [] → map (λ r. Some r.now) new ≡ map (reference_of table) (take (i + 1) signals)

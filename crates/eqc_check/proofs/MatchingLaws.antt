@@ -6,16 +6,13 @@ use Rattle.std.specs.Borrow.{Bor}
 use Rattle.eqc_blif.specs.Cover.{allows, row_matches, is_on, is_on_set, cover_value}
 use Rattle.eqc_tree.specs.Holding.{Entry, says}
 use Rattle.eqc_check.specs.Matching.{some_match, cofactor, agrees, said, of_two, MatchAlike}
-
-pub row_matches-nil : (vs : List Bool) → row_matches [] vs ≡ true
-row_matches-nil [] = refl
-row_matches-nil (v ∷ vs) = refl
+use Rattle.eqc_blif.proofs.RowLemmas.{row_over}
 
 -- a row matches where both its parts do
 pub row_matches-split : (n : ℕ) (row : List ℕ) (vs : List Bool) → row_matches row vs ≡ (row_matches (take n row) (take n vs) && row_matches (drop n row) (drop n vs))
 row_matches-split zero row vs = refl
 row_matches-split (suc n) row [] = refl
-row_matches-split (suc n) [] (v ∷ vs) = sym (row_matches-nil (drop n vs))
+row_matches-split (suc n) [] (v ∷ vs) = sym (row_over (drop n vs))
 row_matches-split (suc n) (byte ∷ row) (v ∷ vs) =
     ap (λ b. allows byte v && b) (row_matches-split n row vs) ∙ sym (and_assoc (allows byte v) (row_matches (take n row) (take n vs)) (row_matches (drop n row) (drop n vs)))
   where
@@ -25,7 +22,7 @@ row_matches-split (suc n) (byte ∷ row) (v ∷ vs) =
 
 -- columns past the row's end don't matter
 pub row_matches-short : (n : ℕ) (row : List ℕ) (vs : List Bool) → length row ≤ n → row_matches row (take n vs) ≡ row_matches row vs
-row_matches-short zero [] vs h = sym (row_matches-nil vs)
+row_matches-short zero [] vs h = sym (row_over vs)
 row_matches-short zero (byte ∷ row) vs h = absurd (omega arith)
 row_matches-short (suc n) row [] h = refl
 row_matches-short (suc n) [] (v ∷ vs) h = refl
@@ -50,7 +47,7 @@ cofactor-append v ((byte ∷ row) ∷ xs) ys = go (allows byte v) (cofactor v (x
 -- a row matches under the value of the first column exactly when its cofactor does
 pub some_match-cofactor : (rows : List (List ℕ)) (v : Bool) (vs : List Bool) → some_match rows (v ∷ vs) ≡ some_match (cofactor v rows) vs
 some_match-cofactor [] v vs = refl
-some_match-cofactor ([] ∷ rows) v vs = ap (λ b. b || some_match (cofactor v rows) vs) (sym (row_matches-nil vs))
+some_match-cofactor ([] ∷ rows) v vs = ap (λ b. b || some_match (cofactor v rows) vs) (sym (row_over vs))
 some_match-cofactor ((byte ∷ row) ∷ rows) v vs = go (allows byte v) (some_match rows (v ∷ vs)) (cofactor v rows) (some_match-cofactor rows v vs)
   where
     go : (b some : Bool) (others : List (List ℕ)) → some ≡ some_match others vs → ((b && row_matches row vs) || some) ≡ some_match (cond b (row ∷ others) others) vs
@@ -94,7 +91,7 @@ map_drop f (suc n) [] = refl
 map_drop f (suc n) (x ∷ xs) = map_drop f n xs
 
 pub row_matches-empty : (row : List ℕ) (vs : List Bool) → (length row == 0) ≡ true → true ≡ row_matches row vs
-row_matches-empty [] vs h = sym (row_matches-nil vs)
+row_matches-empty [] vs h = sym (row_over vs)
 row_matches-empty (byte ∷ row) vs h = let e : length (byte ∷ row) ≡ 0 = eqb-true _ _ h in absurd (omega arith)
 
 -- the halves of a row and of its columns

@@ -1,58 +1,16 @@
 -- Lists of names: whether one is among them, where it stands, and whether one stands twice.
-use Rattle.std.proofs.Common.{◌≡◌, ℕ, suc, Bool, true, false, not, ◌||◌, cond, List, [], ◌∷◌, ◌++◌, map, refl, sym, ◌∙◌, ap, nat_eq, nat_lt, inl, inr, arith, ◌+◌, ◌<◌, ◌≤◌, length, take, drop, get_or, ltb, Some, None, position, Bor, if◌then◌else◌}
-use Rattle.std.specs.List.{list_any, position_or_len}
+use Rattle.std.proofs.Common.{◌≡◌, ℕ, suc, Bool, true, false, not, List, [], ◌∷◌, ◌++◌, map, refl, sym, ◌∙◌, ap, nat_lt, arith, ◌+◌, ◌<◌, ◌≤◌, length, take, drop, get_or, ltb, Some, None, position, Bor, if◌then◌else◌}
 use Rattle.std.specs.Str.{bytes_eq}
 use Rattle.std.proofs.Math.Seq.{split_at}
 use Rattle.std.proofs.lemmas.List.{map-append, take_more, take_all, get_or-map, length-map}
-use Rattle.std.proofs.lemmas.List.Folds.{list_any-append, list_all-append, list_all_at}
-use Rattle.std.proofs.lemmas.Bool.{cases_eq, cases_lt, or_parts, or_cases, ne_eqb, eq-eqb, true≢false, false≢true, lt-ltb, le-ltb}
+use Rattle.std.proofs.lemmas.List.Folds.{list_all-append, list_all_at}
+use Rattle.std.proofs.lemmas.Bool.{true≢false, false≢true, lt-ltb}
 use Rattle.eqc_blif.specs.Names.{is_named, has_twice}
 use Rattle.eqc_check.specs.Verdict.{position_of}
 use Rattle.eqc_check.specs.Matched.{has_all}
 use Rattle.eqc_flat.specs.NameSets.{with_name}
-
--- the bytes of slices
-abbrev pub bytes_in : List (Bor (List ℕ)) → List (List ℕ)
-bytes_in names = map (λ (name : Bor (List ℕ)). name.now) names
-
-nat_eq-sym : (a b : ℕ) → nat_eq a b ≡ nat_eq b a
-nat_eq-sym a b = elim (cases_eq a b) [
-  | inl same ↦ rw (eq-eqb a b same, eq-eqb b a (sym same)) refl
-  | inr other ↦ rw (ne_eqb a b other, ne_eqb b a (λ e. other (sym e))) refl
-]
-
-pub bytes_eq-sym : (xs ys : List ℕ) → bytes_eq xs ys ≡ bytes_eq ys xs
-bytes_eq-sym [] [] = refl
-bytes_eq-sym [] (y ∷ ys) = refl
-bytes_eq-sym (x ∷ xs) [] = refl
-bytes_eq-sym (x ∷ xs) (y ∷ ys) = rw (nat_eq-sym x y, bytes_eq-sym xs ys) refl
-
-named_append : (names more : List (List ℕ)) (name : List ℕ) → is_named (names ++ more) name ≡ (is_named names name || is_named more name)
-named_append names more name = list_any-append (λ other. bytes_eq name other) names more
-
--- a new name at the end of names none of which stands twice
-pub once_more : (names : List (List ℕ)) (name : List ℕ) → has_twice names ≡ false → is_named names name ≡ false → has_twice (names ++ name ∷ []) ≡ false
-once_more [] name once fresh = refl
-once_more (x ∷ xs) name once fresh =
-    let parts = or_parts (is_named xs x) (has_twice xs) once in
-    let others = or_parts (bytes_eq name x) (is_named xs name) fresh in
-    rw (named_append xs (name ∷ []) x, parts.0, bytes_eq-sym x name, others.0, once_more xs name parts.1 others.1) refl
-
--- a name that is among those before it stands twice
-pub twice_there : (names more : List (List ℕ)) (name : List ℕ) → is_named names name ≡ true → has_twice (names ++ name ∷ more) ≡ true
-twice_there [] more name e = absurd (true≢false (sym e))
-twice_there (x ∷ xs) more name e = elim (or_cases (bytes_eq name x) (is_named xs name) e) [
-  | inl here ↦ rw (named_append xs (name ∷ more) x, bytes_eq-sym x name, here) (first_of_or (is_named xs x) (is_named more x) (has_twice (xs ++ name ∷ more)))
-  | inr there ↦ rw (twice_there xs more name there) (last_of_or (is_named (xs ++ name ∷ more) x))
-]
-  where
-    first_of_or : (a b c : Bool) → ((a || (true || b)) || c) ≡ true
-    first_of_or true b c = refl
-    first_of_or false b c = refl
-
-    last_of_or : (a : Bool) → (a || true) ≡ true
-    last_of_or true = refl
-    last_of_or false = refl
+use Rattle.eqc_blif.proofs.NameLemmas.{once_more, twice_there}
+use Rattle.eqc_flat.proofs.NameSetLaws.{first_mapped, ltb-suc, bytes_in}
 
 -- ---- where a name stands
 
@@ -60,23 +18,9 @@ twice_there (x ∷ xs) more name e = elim (or_cases (bytes_eq name x) (is_named 
 pub bytes_more : (names : List (Bor (List ℕ))) (i : ℕ) (d : Bor (List ℕ)) → i < length names → bytes_in (take (i + 1) names) ≡ bytes_in (take i names) ++ (get_or names i d).now ∷ []
 bytes_more names i d inside = ap bytes_in (take_more names i d inside) ∙ map-append (λ (name : Bor (List ℕ)). name.now) (take i names) (get_or names i d ∷ [])
 
-any_mapped : {A B : Type 0} (p : B → Bool) (f : A → B) (xs : List A) → list_any p (map f xs) ≡ list_any (λ x. p (f x)) xs
-any_mapped p f [] = refl
-any_mapped p f (x ∷ xs) = ap (λ b. p (f x) || b) (any_mapped p f xs)
-
-first_mapped : {A B : Type 0} (p : B → Bool) (f : A → B) (xs : List A) → position_or_len p (map f xs) ≡ position_or_len (λ x. p (f x)) xs
-first_mapped p f [] = refl
-first_mapped p f (x ∷ xs) = ap (λ n. cond (not (p (f x))) (1 + n) 0) (first_mapped p f xs)
-
 -- a place among slices is the place among their bytes
 pub position_mapped : (test : List ℕ → Bool) (names : List (Bor (List ℕ))) → position (λ (name : Bor (List ℕ)). test name.now) names ≡ position test (bytes_in names)
 position_mapped test names = sym (rw (first_mapped test (λ (name : Bor (List ℕ)). name.now) names, length-map names (λ (name : Bor (List ℕ)). name.now)) refl)
-
-ltb-suc : (a b : ℕ) → ltb (1 + a) (1 + b) ≡ ltb a b
-ltb-suc a b = elim (cases_lt a b) [
-  | inl less ↦ rw (lt-ltb a b less, lt-ltb (1 + a) (1 + b) (omega arith)) refl
-  | inr more ↦ rw (le-ltb a b more, le-ltb (1 + a) (1 + b) (omega arith)) refl
-]
 
 -- a name is among others exactly where its place is
 pub named_at : (names : List (List ℕ)) (name : List ℕ) → is_named names name ≡ nat_lt (position_of names name) (length names)

@@ -16,7 +16,8 @@ use Rattle.std.specs.Option.{is_some}
 use Rattle.std.specs.declared.alloc.Global.{Global}
 use Rattle.std.specs.declared.alloc.AllocError.{AllocError}
 use Rattle.eqc_check.specs.Matched.{has_all, same_names, ArePlaces}
-use Rattle.eqc_check.proofs.NameLemmas.{named_at, bytes_eq-sym}
+use Rattle.eqc_check.proofs.NameLemmas.{named_at}
+use Rattle.eqc_blif.proofs.NameLemmas.{bytes_eq-sym}
 
 same_bytes : (a b : List ℕ) → bytes_eq a b ≡ true → a ≡ b
 same_bytes a b e = search (rules, bytes_eq-Decides a b)

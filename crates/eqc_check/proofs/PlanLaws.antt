@@ -1,13 +1,11 @@
 -- The last uses of signals.
-use Rattle.std.proofs.Common.{◌≡◌, ℕ, zero, suc, ◌+◌, ◌<◌, ◌≤◌, ◌⊎◌, List, [], ◌∷◌, length, get_or, set, refl, sym, ◌∙◌, ap, arith, inl, inr, subst, ◌==◌, true}
-use Rattle.std.specs.List.{list_all}
+use Rattle.std.proofs.Common.{◌≡◌, ℕ, ◌+◌, ◌<◌, ◌≤◌, List, length, get_or, set, refl, sym, ◌∙◌, ap, arith, inl, inr, subst}
 use Rattle.std.proofs.lemmas.List.{get_or-set_same, get_or-set_other, get_or_default}
-use Rattle.std.proofs.lemmas.Bool.{cases_eq, cases_lt, and_parts, true≢false, eq-eqb}
+use Rattle.std.proofs.lemmas.Bool.{cases_eq, cases_lt}
 use Rattle.std.proofs.Math.ListN.{length-set}
-use Rattle.eqc_flat.specs.Graph.{FlatOf, IsFlat, driver_at, dependencies, among, in_order}
-use Rattle.eqc_flat.proofs.Orders.{all_among}
-use Rattle.eqc_flat.proofs.Depth.{among_cases, or_right}
+use Rattle.eqc_flat.specs.Graph.{FlatOf, IsFlat, driver_at, dependencies}
 use Rattle.eqc_check.specs.Building.{IsMarked, IsPlan}
+use Rattle.eqc_flat.proofs.EvaluationLaws.{dep_before}
 
 pub marked_none : (old signals : List ℕ) (at : ℕ) → IsMarked old old signals 0 at
 marked_none old signals at = record {
@@ -58,28 +56,6 @@ marked_more old mid signals n at inside none m = record {
   where
     earlier : (k : ℕ) → k < n + 1 → (get_or signals k 0 ≡ get_or signals n 0 → ⊥) → k < n
     earlier k h apart = elim (cases_eq k n) [ inl same ↦ absurd (apart (ap (λ j. get_or signals j 0) same)) | inr other ↦ omega arith ]
-
-among_at : (xs : List ℕ) (k : ℕ) → k < length xs → among xs (get_or xs k 0) ≡ true
-among_at [] k h = absurd (omega arith)
-among_at (x ∷ xs) zero h = rw (eq-eqb x x refl) refl
-among_at (x ∷ xs) (suc k) h = or_right (x == get_or xs k 0) (among xs (get_or xs k 0)) (among_at xs k (omega arith))
-
--- what a signal of an order depends on stands before it
-before_at : (deps : ℕ → List ℕ) (done order : List ℕ) (k t : ℕ) → in_order deps done order ≡ true → k < length order → among (deps (get_or order k 0)) t ≡ true → (among done t ≡ true) ⊎ ((i : ℕ) × (i < k) × (get_or order i 0 ≡ t))
-before_at deps done [] k t o h e = absurd (omega arith)
-before_at deps done (s ∷ ss) zero t o h e = inl (all_among (among done) (deps s) t ((and_parts (list_all (among done) (deps s)) (in_order deps (s ∷ done) ss) o).0) e)
-before_at deps done (s ∷ ss) (suc k) t o h e =
-    elim (before_at deps (s ∷ done) ss k t ((and_parts (list_all (among done) (deps s)) (in_order deps (s ∷ done) ss) o).1) (omega arith) e) [
-      | inl there ↦ elim (among_cases s done t there) [ inl same ↦ inr (0, omega arith, same) | inr old ↦ inl old ]
-      | inr w ↦ inr (suc w.0, omega (arith, w.1), w.2)
-    ]
-
-pub dep_before : (f : FlatOf) (k c : ℕ) → IsFlat f → k < length f.steps → c < length (dependencies (driver_at f (get_or f.steps k 0))) → (i : ℕ) × (i < k) × (get_or f.steps i 0 ≡ get_or (dependencies (driver_at f (get_or f.steps k 0))) c 0)
-dep_before f k c h inside within =
-    elim (before_at (λ s. dependencies (driver_at f s)) [] f.steps k (get_or (dependencies (driver_at f (get_or f.steps k 0))) c 0) h.ordered inside (among_at (dependencies (driver_at f (get_or f.steps k 0))) c within)) [
-      | inl none ↦ absurd (true≢false (sym none))
-      | inr w ↦ w
-    ]
 
 -- the steps from k on are planned
 pub record IsPlanFrom (f : FlatOf) (roots last : List ℕ) (k : ℕ) : Type 0 where
@@ -158,17 +134,6 @@ plan_done f roots last p = record {
 -- a number that was read, and isn't 0
 pub read_some : (xs : List ℕ) (i r : ℕ) → i < length xs → r ≡ get_or xs i r → (r ≡ 0 → ⊥) → 0 < get_or xs i 0
 read_some xs i r h is other = elim (cases_lt 0 r) [ inl some ↦ omega (arith, is, get_or_default xs i r 0 h) | inr none ↦ absurd (other (omega arith)) ]
-
-at_among : (xs : List ℕ) (x : ℕ) → among xs x ≡ true → (i : ℕ) × (i < length xs) × (get_or xs i 0 ≡ x)
-at_among [] x e = absurd (true≢false (sym e))
-at_among (y ∷ xs) x e = elim (among_cases y xs x e) [
-  | inl same ↦ (0, omega arith, same)
-  | inr there ↦ let w = at_among xs x there in (suc w.0, omega (arith, w.1), w.2)
-]
-
--- the step of a signal
-pub step_of : (f : FlatOf) (s : ℕ) → IsFlat f → s < length f.drivers → (i : ℕ) × (i < length f.steps) × (get_or f.steps i 0 ≡ s)
-step_of f s h inside = at_among f.steps s (h.each_step s inside)
 
 pub read_positive : (xs : List ℕ) (i r : ℕ) → i < length xs → r ≡ get_or xs i r → 0 < r → 0 < get_or xs i 0
 read_positive xs i r h is some = omega (arith, is, get_or_default xs i r 0 h)

@@ -8,7 +8,7 @@ use Rattle.eqc_check.specs.Report.{text, stopped, refused, side_word}
 use Rattle.eqc_check.specs.declared.report.Side.{Side}
 
 -- a number from 10 to 99 is its two digits
-two_digits : (n : ℕ) → 10 ≤ n → n < 100 → decimal n ≡ (48 + n / 10) ∷ (48 + n % 10) ∷ []
+pub two_digits : (n : ℕ) → 10 ≤ n → n < 100 → decimal n ≡ (48 + n / 10) ∷ (48 + n % 10) ∷ []
 two_digits n low high = decimal_step n low (omega arith) ∙ ap (λ ds. ds ++ (48 + n % 10) ∷ []) (decimal_digit (n / 10) (omega arith))
 
 code_low : (stop : Stop) → 10 ≤ code_of stop

@@ -22,7 +22,7 @@ before_at deps done (s ∷ ss) (suc k) t o h e =
       | inr w ↦ inr (suc w.0, omega (arith, w.1), w.2)
     ]
 
-dep_before : (f : FlatOf) (k c : ℕ) → IsFlat f → k < length f.steps → c < length (dependencies (driver_at f (get_or f.steps k 0))) → (i : ℕ) × (i < k) × (get_or f.steps i 0 ≡ get_or (dependencies (driver_at f (get_or f.steps k 0))) c 0)
+pub dep_before : (f : FlatOf) (k c : ℕ) → IsFlat f → k < length f.steps → c < length (dependencies (driver_at f (get_or f.steps k 0))) → (i : ℕ) × (i < k) × (get_or f.steps i 0 ≡ get_or (dependencies (driver_at f (get_or f.steps k 0))) c 0)
 dep_before f k c h inside within =
     elim (before_at (λ s. dependencies (driver_at f s)) [] f.steps k (get_or (dependencies (driver_at f (get_or f.steps k 0))) c 0) h.ordered inside (among_at (dependencies (driver_at f (get_or f.steps k 0))) c within)) [
       | inl none ↦ absurd (true≢false (sym none))
@@ -30,7 +30,7 @@ dep_before f k c h inside within =
     ]
 
 -- the step of a signal
-step_of : (f : FlatOf) (s : ℕ) → IsFlat f → s < length f.drivers → (i : ℕ) × (i < length f.steps) × (get_or f.steps i 0 ≡ s)
+pub step_of : (f : FlatOf) (s : ℕ) → IsFlat f → s < length f.drivers → (i : ℕ) × (i < length f.steps) × (get_or f.steps i 0 ≡ s)
 step_of f s h inside = at_among f.steps s (h.each_step s inside)
 
 map_same : (v w : ℕ → Bool) (columns : List ℕ) → ((c : ℕ) → c < length columns → v (get_or columns c 0) ≡ w (get_or columns c 0)) → map v columns ≡ map w columns

@@ -4,15 +4,16 @@ use Rattle.std.specs.List.{list_any, position_or_len, fold, flat_map}
 use Rattle.std.specs.Str.{bytes_eq}
 use Rattle.std.proofs.Math.Seq.{split_at}
 use Rattle.std.proofs.lemmas.List.{map-append, append-nil, append_assoc, length-map, take_more}
-use Rattle.std.proofs.lemmas.List.Folds.{list_any-append, list_any_at}
+use Rattle.std.proofs.lemmas.List.Folds.{list_any_at}
 use Rattle.std.proofs.lemmas.List.Sums.{fold-append}
 use Rattle.std.proofs.lemmas.List.Elements.{filter-append}
-use Rattle.std.proofs.lemmas.Bool.{cases_eq, cases_lt, and_parts, or_parts, or_cases, ne_eqb, eq-eqb, eqb-true, true≢false, false≢true, lt-ltb, le-ltb}
+use Rattle.std.proofs.lemmas.Bool.{cases_lt, and_parts, or_parts, eq-eqb, eqb-true, true≢false, false≢true, lt-ltb, le-ltb}
 use Rattle.eqc_blif.specs.Names.{is_named, has_twice}
 use Rattle.eqc_blif.specs.Netlist.{ModelOf, CoverOf}
 use Rattle.eqc_flat.specs.NameSets.{with_name, place_in}
 use Rattle.eqc_flat.specs.StoredDrivers.{places_in, columns_in}
 use Rattle.eqc_flat.specs.Signals.{once_each, cover_names, actuals, names_of}
+use Rattle.eqc_blif.proofs.NameLemmas.{bytes_eq-sym, named_append, once_more, twice_there}
 
 -- the bytes of slices
 abbrev pub bytes_in : List (Bor (List ℕ)) → List (List ℕ)
@@ -29,18 +30,6 @@ bytes_same (x ∷ xs) (y ∷ ys) e =
     let here : x ≡ y = eqb-true x y both.0 in
     let there : xs ≡ ys = bytes_same xs ys both.1 in
     cc
-
-nat_eq-sym : (a b : ℕ) → nat_eq a b ≡ nat_eq b a
-nat_eq-sym a b = elim (cases_eq a b) [
-  | inl same ↦ rw (eq-eqb a b same, eq-eqb b a (sym same)) refl
-  | inr other ↦ rw (ne_eqb a b other, ne_eqb b a (λ e. other (sym e))) refl
-]
-
-pub bytes_swap : (xs ys : List ℕ) → bytes_eq xs ys ≡ bytes_eq ys xs
-bytes_swap [] [] = refl
-bytes_swap [] (y ∷ ys) = refl
-bytes_swap (x ∷ xs) [] = refl
-bytes_swap (x ∷ xs) (y ∷ ys) = rw (nat_eq-sym x y, bytes_swap xs ys) refl
 
 -- ---- each name once
 
@@ -93,7 +82,7 @@ once_push (n ∷ ns) x = by (bytes_eq x n) refl (is_named ns x) refl (once_push 
         let old : is_named (once_each ns) x ≡ false = once_named ns x ∙ there in
         let here : is_named (once_each (n ∷ ns)) x ≡ true = once_named (n ∷ ns) x ∙ ap (λ b. b || is_named ns x) e in
         let more : once_each (ns ++ x ∷ []) ≡ once_each ns ++ x ∷ [] = rest ∙ ap (λ b. cond b (once_each ns) (once_each ns ++ x ∷ [])) old in
-        let none : filter (λ other. not (bytes_eq n other)) (x ∷ []) ≡ [] = ap (λ b. cond (not b) (x ∷ []) []) (bytes_swap n x ∙ e) in
+        let none : filter (λ other. not (bytes_eq n other)) (x ∷ []) ≡ [] = ap (λ b. cond (not b) (x ∷ []) []) (bytes_eq-sym n x ∙ e) in
         ap (λ l. n ∷ filter (λ other. not (bytes_eq n other)) l) more
         ∙ (ap (λ l. n ∷ l) (filter-append (λ other. not (bytes_eq n other)) (once_each ns) (x ∷ []) ∙ (ap (λ l. filter (λ other. not (bytes_eq n other)) (once_each ns) ++ l) none ∙ append-nil (filter (λ other. not (bytes_eq n other)) (once_each ns))))
         ∙ sym (ap (λ b. cond b (once_each (n ∷ ns)) (once_each (n ∷ ns) ++ x ∷ [])) here))
@@ -101,7 +90,7 @@ once_push (n ∷ ns) x = by (bytes_eq x n) refl (is_named ns x) refl (once_push 
         let old : is_named (once_each ns) x ≡ false = once_named ns x ∙ there in
         let here : is_named (once_each (n ∷ ns)) x ≡ false = once_named (n ∷ ns) x ∙ (ap (λ b. b || is_named ns x) e ∙ there) in
         let more : once_each (ns ++ x ∷ []) ≡ once_each ns ++ x ∷ [] = rest ∙ ap (λ b. cond b (once_each ns) (once_each ns ++ x ∷ [])) old in
-        let one : filter (λ other. not (bytes_eq n other)) (x ∷ []) ≡ x ∷ [] = ap (λ b. cond (not b) (x ∷ []) []) (bytes_swap n x ∙ e) in
+        let one : filter (λ other. not (bytes_eq n other)) (x ∷ []) ≡ x ∷ [] = ap (λ b. cond (not b) (x ∷ []) []) (bytes_eq-sym n x ∙ e) in
         ap (λ l. n ∷ filter (λ other. not (bytes_eq n other)) l) more
         ∙ (ap (λ l. n ∷ l) (filter-append (λ other. not (bytes_eq n other)) (once_each ns) (x ∷ []) ∙ ap (λ l. filter (λ other. not (bytes_eq n other)) (once_each ns) ++ l) one)
         ∙ sym (ap (λ b. cond b (once_each (n ∷ ns)) (once_each (n ∷ ns) ++ x ∷ [])) here))
@@ -121,7 +110,7 @@ filter_once n (y ∷ ys) e = by (bytes_eq n y) refl (filter_once n ys (or_parts 
   where
     by : (b : Bool) → bytes_eq n y ≡ b → has_twice (filter (λ other. not (bytes_eq n other)) ys) ≡ false → has_twice (filter (λ other. not (bytes_eq n other)) (y ∷ ys)) ≡ false
     by true h rest = rw h rest
-    by false h rest = rw (h, others_named n y ys (bytes_swap y n ∙ h), (or_parts (is_named ys y) (has_twice ys) e).0) rest
+    by false h rest = rw (h, others_named n y ys (bytes_eq-sym y n ∙ h), (or_parts (is_named ys y) (has_twice ys) e).0) rest
 
 -- no name stands twice among names each once
 pub once_differ : (xs : List (List ℕ)) → has_twice (once_each xs) ≡ false
@@ -147,7 +136,7 @@ names_made m a b c d ea eb ec ed =
 
 -- ---- slices and their bytes
 
-any_mapped : {A B : Type 0} (p : B → Bool) (f : A → B) (xs : List A) → list_any p (map f xs) ≡ list_any (λ x. p (f x)) xs
+pub any_mapped : {A B : Type 0} (p : B → Bool) (f : A → B) (xs : List A) → list_any p (map f xs) ≡ list_any (λ x. p (f x)) xs
 any_mapped p f [] = refl
 any_mapped p f (x ∷ xs) = ap (λ b. p (f x) || b) (any_mapped p f xs)
 
@@ -173,7 +162,7 @@ slice_put keys new name e = by (list_any (λ (key : Bor (List ℕ)). bytes_eq na
         let more : new ≡ keys ++ name ∷ [] = e ∙ ap (λ b. cond b keys (keys ++ name ∷ [])) h in
         rw (more, absent) (map-append (λ (name : Bor (List ℕ)). name.now) keys (name ∷ []))
 
-first_mapped : {A B : Type 0} (p : B → Bool) (f : A → B) (xs : List A) → position_or_len p (map f xs) ≡ position_or_len (λ x. p (f x)) xs
+pub first_mapped : {A B : Type 0} (p : B → Bool) (f : A → B) (xs : List A) → position_or_len p (map f xs) ≡ position_or_len (λ x. p (f x)) xs
 first_mapped p f [] = refl
 first_mapped p f (x ∷ xs) = ap (λ n. cond (not (p (f x))) (1 + n) 0) (first_mapped p f xs)
 
@@ -181,7 +170,7 @@ first_mapped p f (x ∷ xs) = ap (λ n. cond (not (p (f x))) (1 + n) 0) (first_m
 pub slice_position : (name : List ℕ) (keys : List (Bor (List ℕ))) → position (λ (key : Bor (List ℕ)). bytes_eq name key.now) keys ≡ position (λ other. bytes_eq name other) (bytes_in keys)
 slice_position name keys = sym (rw (first_mapped (λ other. bytes_eq name other) (λ (key : Bor (List ℕ)). key.now) keys, length-map keys (λ (key : Bor (List ℕ)). key.now)) refl)
 
-ltb-suc : (a b : ℕ) → ltb (1 + a) (1 + b) ≡ ltb a b
+pub ltb-suc : (a b : ℕ) → ltb (1 + a) (1 + b) ≡ ltb a b
 ltb-suc a b = elim (cases_lt a b) [
   | inl less ↦ rw (lt-ltb a b less, lt-ltb (1 + a) (1 + b) (omega arith)) refl
   | inr more ↦ rw (le-ltb a b more, le-ltb (1 + a) (1 + b) (omega arith)) refl
@@ -205,33 +194,6 @@ named_if_found names name = by (nat_lt (position_or_len (λ other. bytes_eq name
     by false h = rw h (sym (named_at names name ∙ h))
 
 -- ---- a name twice
-
-named_append : (names more : List (List ℕ)) (name : List ℕ) → is_named (names ++ more) name ≡ (is_named names name || is_named more name)
-named_append names more name = list_any-append (λ other. bytes_eq name other) names more
-
--- a new name at the end of names none of which stands twice
-pub once_more : (names : List (List ℕ)) (name : List ℕ) → has_twice names ≡ false → is_named names name ≡ false → has_twice (names ++ name ∷ []) ≡ false
-once_more [] name once fresh = refl
-once_more (x ∷ xs) name once fresh =
-    let parts = or_parts (is_named xs x) (has_twice xs) once in
-    let others = or_parts (bytes_eq name x) (is_named xs name) fresh in
-    rw (named_append xs (name ∷ []) x, parts.0, bytes_swap x name, others.0, once_more xs name parts.1 others.1) refl
-
--- a name that is among those before it stands twice
-twice_there : (names more : List (List ℕ)) (name : List ℕ) → is_named names name ≡ true → has_twice (names ++ name ∷ more) ≡ true
-twice_there [] more name e = absurd (true≢false (sym e))
-twice_there (x ∷ xs) more name e = elim (or_cases (bytes_eq name x) (is_named xs name) e) [
-  | inl here ↦ rw (named_append xs (name ∷ more) x, bytes_swap x name, here) (first_of_or (is_named xs x) (is_named more x) (has_twice (xs ++ name ∷ more)))
-  | inr there ↦ rw (twice_there xs more name there) (last_of_or (is_named (xs ++ name ∷ more) x))
-]
-  where
-    first_of_or : (a b c : Bool) → ((a || (true || b)) || c) ≡ true
-    first_of_or true b c = refl
-    first_of_or false b c = refl
-
-    last_of_or : (a : Bool) → (a || true) ≡ true
-    last_of_or true = refl
-    last_of_or false = refl
 
 -- the names of the elements of a list, and one more
 pub named_more : {X : Type 0} (f : X → List ℕ) (xs : List X) (i : ℕ) (d : X) → i < length xs → map f (take (i + 1) xs) ≡ map f (take i xs) ++ f (get_or xs i d) ∷ []

@@ -16,16 +16,14 @@ use Rattle.eqc_flat.specs.Codes.{formals, has_unknown_formal}
 use Rattle.eqc_flat.specs.Flattened.{path_at}
 use Rattle.eqc_flat.specs.RowTable.{rows_of, all_rows}
 use Rattle.eqc_flat.proofs.Distinct.{Member, member_left, member_right, member_get, member_piece, member_map}
-use Rattle.eqc_flat.proofs.NumberLaws.{same_bytes, bytes_same}
+use Rattle.eqc_flat.proofs.NumberLaws.{same_bytes}
 use Rattle.eqc_flat.proofs.PathLaws.{models_reached}
+use Rattle.eqc_flat.proofs.Depth.{or_right}
+use Rattle.eqc_flat.proofs.NameSetLaws.{bytes_same}
 
 -- what stands for an instance where there is none
 abbrev pub no_instance : InstanceOf
 no_instance = record { model = []; pairs = [] }
-
-or_right : (x y : Bool) → y ≡ true → (x || y) ≡ true
-or_right true y e = refl
-or_right false y e = e
 
 pub member_named : (name : List ℕ) (names : List (List ℕ)) → Member name names → is_named names name ≡ true
 member_named name [] h = absurd h

@@ -15,13 +15,11 @@ use Rattle.eqc_flat.specs.Signals.{SignalOf, same_signal, cover_names, actuals, 
 use Rattle.eqc_flat.specs.Flattened.{no_signal, signal_at, path_at, first_signal}
 use Rattle.eqc_flat.proofs.Distinct.{Member, Distinct, member_of_map, distinct_flat_map, distinct_map, distinct_places}
 use Rattle.eqc_flat.proofs.PathLaws.{paths_distinct}
+use Rattle.eqc_flat.proofs.NameSetLaws.{bytes_same}
 
 -- equal names, and names that are told apart
 pub same_bytes : (xs : List ℕ) → bytes_eq xs xs ≡ true
 same_bytes xs = (bytes_eq-Decides xs xs).1 refl
-
-pub bytes_same : (xs ys : List ℕ) → bytes_eq xs ys ≡ true → xs ≡ ys
-bytes_same xs ys e = (bytes_eq-Decides xs ys).0 e
 
 -- signals are the same where the test says so
 pub signals_same : (s t : SignalOf) → same_signal s t ≡ true → s ≡ t

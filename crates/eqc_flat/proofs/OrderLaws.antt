@@ -10,6 +10,7 @@ use Rattle.eqc_flat.specs.Ordering.{signal_deps, IsOrder}
 use Rattle.eqc_flat.specs.declared.search.Stage.{Stage}
 use Rattle.eqc_flat.proofs.Depth.{all_more}
 use Rattle.eqc_flat.proofs.Distinct.{Member, Distinct, member_append, member_left, member_right, distinct_range}
+use Rattle.eqc_flat.proofs.PathLaws.{range_below}
 
 pub among_member : (xs : List ℕ) (x : ℕ) → among xs x ≡ true → Member x xs
 among_member [] x e = absurd (true≢false (sym e))
@@ -37,14 +38,9 @@ at_most {X} (y ∷ ys) xs d h =
       | inr right ↦ elim right [ inl same ↦ absurd (other (sym same)) | inr more ↦ member_right z front back more ]
     ]
 
-in_range : (a n y : ℕ) → Member y (range_with_len a n) → y < a + n
-in_range a zero y h = absurd h
-in_range a (suc n) y (inl h) = omega (arith, h)
-in_range a (suc n) y (inr h) = let k : y < a + 1 + n = in_range (a + 1) n y h in omega (arith, k)
-
 -- n numbers below n are in a list of at least n places
 pub covered : (n : ℕ) (xs : List ℕ) → ((s : ℕ) → s < n → Member s xs) → n ≤ length xs
-covered n xs h = let most = at_most (range_with_len 0 n) xs (distinct_range 0 n) (λ y k. h y (let b : y < 0 + n = in_range 0 n y k in omega (arith, b))) in omega (arith, most, length-range_with_len 0 n)
+covered n xs h = let most = at_most (range_with_len 0 n) xs (distinct_range 0 n) (λ y k. h y (let b : y < 0 + n = range_below 0 n y k in omega (arith, b))) in omega (arith, most, length-range_with_len 0 n)
 
 -- a list without the element at a place still has what it has elsewhere
 dropped : (xs : List ℕ) (i j y : ℕ) → i < j → j < length xs → get_or xs i 0 ≡ get_or xs j 0 → Member y xs → Member y (take j xs ++ drop (suc j) xs)

@@ -45,7 +45,7 @@ callee_ends [] p k d e h = absurd (omega arith)
 callee_ends (x ∷ deps) p zero d e h = (and_parts (p x) (list_all p deps) e).0
 callee_ends (x ∷ deps) p (suc k) d e h = callee_ends deps p k d ((and_parts (p x) (list_all p deps) e).1) (omega arith)
 
-range_below : (a n y : ℕ) → Member y (range_with_len a n) → y < a + n
+pub range_below : (a n y : ℕ) → Member y (range_with_len a n) → y < a + n
 range_below a zero y h = absurd h
 range_below a (suc n) y (inl h) = omega (arith, h)
 range_below a (suc n) y (inr h) = let k : y < a + 1 + n = range_below (a + 1) n y h in omega (arith, k)

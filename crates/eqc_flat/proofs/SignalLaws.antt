@@ -14,6 +14,7 @@ use Rattle.eqc_flat.proofs.NumberLaws.{signals_distinct}
 use Rattle.eqc_flat.proofs.NameSetLaws.{once_named}
 use Rattle.eqc_flat.proofs.NamingLaws.{named_member, member_named}
 use Rattle.eqc_flat.proofs.ExpandedLaws.{growing}
+use Rattle.eqc_flat.proofs.PathLaws.{range_below}
 
 pub signals_stand_once : SignalsStandOnce
 signals_stand_once = λ library top i j a b e. distinct_places (signals library top) no_signal i j (signals_distinct library top) a b e
@@ -22,11 +23,6 @@ signals_stand_once = λ library top i j a b e. distinct_places (signals library 
 pub range_has : (a n y : ℕ) → a ≤ y → y < a + n → Member y (range_with_len a n)
 range_has a zero y h k = absurd (omega (arith, h, k))
 range_has a (suc n) y h k = elim (cases_eq a y) [ inl same ↦ inl same | inr other ↦ inr (range_has (a + 1) n y (omega arith) (omega (arith, k))) ]
-
-range_most : (a n y : ℕ) → Member y (range_with_len a n) → y < a + n
-range_most a zero y h = absurd h
-range_most a (suc n) y (inl h) = omega (arith, h)
-range_most a (suc n) y (inr h) = let k : y < a + 1 + n = range_most (a + 1) n y h in omega (arith, k)
 
 -- where a member stands
 pub member_place : {X : Type 0} (xs : List X) (x d : X) → Member x xs → (k : ℕ) × (k < length xs) × (get_or xs k d ≡ x)
@@ -53,7 +49,7 @@ there_instance library top (suc n) path (inr h) =
     all_pieces (λ p. IsInstance library top p) (below library top) (paths_within library top n) (λ q y of here.
     let m = length (callees library (model_at library top q)) in
     let (position, inside, same) = member_of_map (λ (p : ℕ). p ∷ q) y (range_with_len 0 m) here in
-    let less : position < 0 + m = range_most 0 m position inside in
+    let less : position < 0 + m = range_below 0 m position inside in
     let P : List ℕ → Type 0 = λ p. IsInstance library top p in
     subst P same (inner position q (there_instance library top n q of) (omega (arith, less)))) path h
 

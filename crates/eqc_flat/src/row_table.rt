@@ -33,6 +33,7 @@ impl<'a> Model for RowTable<'a> {
 fn push_rows<'a>(all: &mut Vec<Rows<'a>>, covers: &'a [Cover]) -> Result<(), AllocError>
     ensures { OnOk result (all.new.items ≡ all.old.items ++ map (λ c. c.rows) covers.now) }
 {
+    all.reserve(covers.len())?;
     'covers: for cover in covers {
         all.push(cover.rows())?;
     }

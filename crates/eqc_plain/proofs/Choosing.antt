@@ -1,9 +1,9 @@
 -- The values chosen by a search are those of the least assignment so far.
-use Rattle.std.proofs.Common.{◌≡◌, ℕ, ◌+◌, ◌<◌, ◌≤◌, Bool, true, false, not, ◌&&◌, List, [], ◌∷◌, ◌++◌, length, get_or, Option, None, refl, sym, ◌∙◌, ap, subst, arith, true≢false}
+use Rattle.std.proofs.Common.{◌≡◌, ℕ, ◌<◌, ◌≤◌, Bool, true, false, not, ◌&&◌, List, [], ◌∷◌, ◌++◌, length, get_or, Option, None, refl, sym, ◌∙◌, ap, subst, arith, true≢false}
 use Rattle.std.proofs.lemmas.Bool.{and_parts, and_from}
 use Rattle.std.proofs.lemmas.List.{length-append}
 use Rattle.eqc_tree.specs.Assigned.{IsSatisfiable}
-use Rattle.eqc_tree.proofs.FollowsLemmas.{follows, follows_push, is_value, and_assoc, and_true}
+use Rattle.eqc_tree.proofs.FollowsLemmas.{follows, follows_push, is_value, and_assoc, and_true, is_value-same}
 use Rattle.eqc_tree.proofs.Choosing.{IsOver, IsChosen, starts_chosen, chooses_false, chooses_true, chosen_as}
 use Rattle.eqc_plain.specs.Searching.{Agrees, IsChoice}
 use Rattle.eqc_plain.proofs.Searching.{agrees_more, agrees_less}
@@ -25,11 +25,6 @@ starts_decided vs f choices values free satisfiable empty =
       free = λ j from less. free (get_or vs j 0);
     } in
     rw empty start
-
-value_is : (b x : Bool) → is_value b x ≡ true → x ≡ b
-value_is true x e = e
-value_is false true e = sym e
-value_is false false e = refl
 
 is_value_of : (b x : Bool) → x ≡ b → is_value b x ≡ true
 is_value_of true x e = e
@@ -74,7 +69,7 @@ module _ (vs : List ℕ) (f : (ℕ → Bool) → Bool) (over : IsOver vs f) wher
         chosen = chosen_more values b w less decided.chosen passes (to w agrees) (λ e a follow at. least e a (decided.agree a follow) at);
         agree = λ a follow.
             let both = and_parts (follows vs values a) (is_value b (a v)) (sym (follows_push vs values b a less) ∙ follow) in
-            agrees_more v b old new a choice (decided.agree a both.0) (value_is b (a v) both.1);
+            agrees_more v b old new a choice (decided.agree a both.0) (is_value-same b (a v) both.1);
         follow = to;
         free = λ j from within.
             let long = length-append values (b ∷ []) in

@@ -1,13 +1,11 @@
 -- Ends of the program.
-use Rattle.std.proofs.Common.{◌≡◌, ◌≢◌, ◌∙◌, ◌≤◌, ◌<◌, ◌+◌, ◌/◌, ◌%◌, decimal, ◌++◌, ◌∷◌, codes, ap, refl, ℕ, List, [], Option, Some, None, length, take, sym, subst, append-nil, inl, inr, arith}
+use Rattle.std.proofs.Common.{◌≡◌, ◌≢◌, ◌∙◌, ◌++◌, ◌∷◌, codes, ap, refl, ℕ, List, [], Option, Some, None, length, take, sym, subst, append-nil, inl, inr, arith}
 use Rattle.std.specs.Prelude.{Result, Ok, Err, OnOk, OnErr}
 use Rattle.std.specs.Io.KnownBytes.{Appends}
 use Rattle.std.proofs.lemmas.List.{take_all}
-use Rattle.std.proofs.lemmas.Fmt.{decimal_digit, decimal_step}
 use Rattle.clap.specs.Kinds.{Kinds, HasKind, IsAmong}
 use Rattle.clap.specs.Values.{kind_of}
 use Rattle.clap.specs.declared.error.Error.{Error}
-use Rattle.clap.specs.declared.error.kind.ErrorKind.{ErrorKind}
 use Rattle.clap.specs.declared.error.kind.ErrorKind.TheVariants.{DisplayHelp, OutOfMemory}
 use Rattle.eqc_check.specs.Ends.{AppendsPrefix}
 use Rattle.eqc_check.specs.Running.{IsCutOff}
@@ -18,6 +16,7 @@ use Rattle.eqc_prog.specs.declared.command_line.Request.{Request}
 use Rattle.eqc_prog.specs.declared.ending.End.TheVariants.{Failed}
 use Rattle.eqc_prog.specs.declared.source.Sources.{Sources}
 use Rattle.eqc_prog.specs.Ends.{Grows, IsRunEnd, fault_text}
+use Rattle.eqc_check.proofs.ReportLemmas.{two_digits}
 
 nothing_grows : (known : Option (List ℕ)) → Grows known known
 nothing_grows None = ([], tt)
@@ -43,10 +42,6 @@ part_told (Err e) old new text whole part = part
 -- a part of a text is some bytes
 pub part_grows : (old new : Option (List ℕ)) (text : List ℕ) → AppendsPrefix old new text → Grows old new
 part_grows old new text part = (take part.0 text, part.2)
-
--- a number of two digits in decimal
-two_digits : (n : ℕ) → 10 ≤ n → n < 100 → decimal n ≡ (48 + n / 10) ∷ (48 + n % 10) ∷ []
-two_digits n low high = decimal_step n low (omega arith) ∙ ap (λ ds. ds ++ (48 + n % 10) ∷ []) (decimal_digit (n / 10) (omega arith))
 
 -- the three lines of a fault
 pub memory_line : codes "fault 72" ++ 10 ∷ [] ≡ fault_text Memory

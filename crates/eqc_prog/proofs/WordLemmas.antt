@@ -1,12 +1,12 @@
 -- From a parse of the command line to what its words ask for.
 use Rattle.std.proofs.Common.{◌≡◌, ◌∙◌, ap, ap₂, sym, subst, refl, true, false, ℕ, List, [], Option, Some, None, option_map}
-use Rattle.std.specs.Prelude.{Result, Ok, Err, IfSome}
+use Rattle.std.specs.Prelude.{Result, Ok, IfSome}
 use Rattle.std.specs.Str.Parse.{ParsesUnsigned, digits_value, without_leading_plus}
 use Rattle.clap.specs.Faults.{fault_of, is_simple_and_free}
 use Rattle.clap.specs.Built.{AddsArg}
 use Rattle.clap.specs.Matches.{found_of, one_text, ReadsOne}
 use Rattle.clap.specs.Simple.{App, HasMatchesOf, app_of, is_simple, matches_of, with_rule}
-use Rattle.clap.specs.Walk.{Rule, Text, one_of, rows_of, rule_of}
+use Rattle.clap.specs.Walk.{Rule, Text, rows_of, rule_of}
 use Rattle.clap.specs.declared.builder.arg.Arg.{Arg}
 use Rattle.clap.specs.declared.builder.command.Command.{Command}
 use Rattle.clap.specs.declared.parser.matches.ArgMatches.{ArgMatches}

@@ -1,5 +1,5 @@
 -- The command line as `clap` takes it, and what its words ask for.
-use Rattle.std.specs.Prelude.{◌≡◌, ℕ, pos, List, [], ◌∷◌, codes, Option, Some, None, option_map}
+use Rattle.std.specs.Prelude.{◌≡◌, ℕ, pos, List, [], ◌∷◌, codes, Option, Some, option_map}
 use Rattle.std.specs.Str.Parse.{digits_value, without_leading_plus}
 use Rattle.clap.specs.Walk.{Rule, Row, Text, first_of, one_of}
 use Rattle.clap.specs.Simple.{App, matches_of, new_app, new_rule, with_rule}

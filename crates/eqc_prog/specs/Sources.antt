@@ -1,5 +1,5 @@
 -- Which texts are opened for what a command line asks for.
-use Rattle.std.specs.Prelude.{◌≡◌, ℕ, List, Option, Some, None, option_map}
+use Rattle.std.specs.Prelude.{◌≡◌, ℕ, List, Option, Some, None}
 use Rattle.std.specs.Borrow.{Bor}
 use Rattle.eqc_check.specs.declared.running.Texts.{Texts}
 use Rattle.eqc_check.specs.declared.running.Texts.TheVariants.{One, Two}

@@ -1,5 +1,5 @@
 -- The values chosen so far: each is the least that leaves the function satisfiable.
-use Rattle.std.proofs.Common.{◌≡◌, ℕ, suc, ◌+◌, ◌-◌, ◌<◌, ◌≤◌, Bool, true, false, not, cond, ◌&&◌, List, [], ◌∷◌, ◌++◌, length, map, drop, get_or, find, Option, Some, None, option_map, sym, ap, refl, ◌∙◌, arith, append_assoc, append-nil, true≢false}
+use Rattle.std.proofs.Common.{◌≡◌, ℕ, suc, ◌+◌, ◌<◌, ◌≤◌, Bool, true, false, not, cond, ◌&&◌, List, [], ◌∷◌, ◌++◌, length, map, drop, get_or, find, Option, Some, None, option_map, sym, ap, refl, ◌∙◌, arith, append_assoc, append-nil, true≢false}
 use Rattle.std.specs.Option.{option_or}
 use Rattle.std.proofs.lemmas.List.{length-append, length-map, length-drop, get_or_at}
 use Rattle.std.proofs.lemmas.Iterator.Adapters.{option_map_id}

@@ -16,7 +16,7 @@ follows vs [] a = true
 follows [] (b ∷ bs) a = true
 follows (v ∷ vs) (b ∷ bs) a = is_value b (a v) && follows vs bs a
 
-is_value-same : (b x : Bool) → is_value b x ≡ true → x ≡ b
+pub is_value-same : (b x : Bool) → is_value b x ≡ true → x ≡ b
 is_value-same true x h = h
 is_value-same false true h = sym h
 is_value-same false false h = refl

@@ -1,4 +1,4 @@
-use Rattle.std.proofs.Common.{◌≡◌, ℕ, ◌+◌, ◌-◌, ◌*◌, length, [], List, take, drop, ◌<◌, ◌≤◌, ◌++◌, arith, ap, ◌∙◌, sym}
+use Rattle.std.proofs.Common.{◌≡◌, ℕ, ◌-◌, length, take, drop, ◌<◌, ◌≤◌, ◌++◌, arith, ap, ◌∙◌}
 use Rattle.std.proofs.lemmas.List.{length-append, nil_from_length}
 use Rattle.eqc_check.specs.Narrowing.{decided}
 use Rattle.eqc_tree.proofs.Choosing.{starts_chosen, ends_chosen}

@@ -1,4 +1,4 @@
-use Rattle.std.proofs.Common.{◌≡◌, ◌∙◌, sym, arith, ap, subst, refl, inl, inr, map, length, List, ℕ, Bool, Option, Some, false}
+use Rattle.std.proofs.Common.{◌≡◌, ◌∙◌, sym, arith, ap, subst, inl, inr, map, length, List, ℕ, Bool, Option, Some, false}
 use Rattle.std.proofs.lemmas.List.{length-map}
 use Rattle.std.specs.Option.{option_map}
 use Rattle.eqc_flat.specs.Graph.{DriverOf}

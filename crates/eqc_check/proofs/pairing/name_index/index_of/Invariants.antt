@@ -1,7 +1,7 @@
 use Rattle.std.proofs.Common.{◌≡◌, false, take}
 use Rattle.eqc_blif.specs.Names.{has_twice}
-use Rattle.eqc_check.proofs.NameLemmas.{bytes_in}
 use Rattle.eqc_check.proofs.pairing.name_index.index_of.Given as goal
+use Rattle.eqc_flat.proofs.NameSetLaws.{bytes_in}
 
 abbrev pub invariant-names : goal.invariant-names
 invariant-names l = record {

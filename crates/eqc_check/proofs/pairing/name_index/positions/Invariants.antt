@@ -1,8 +1,8 @@
 use Rattle.std.proofs.Common.{◌≡◌, true, map, take}
 use Rattle.eqc_check.specs.Verdict.{position_of}
 use Rattle.eqc_check.specs.Matched.{has_all}
-use Rattle.eqc_check.proofs.NameLemmas.{bytes_in}
 use Rattle.eqc_check.proofs.pairing.name_index.positions.Given as goal
+use Rattle.eqc_flat.proofs.NameSetLaws.{bytes_in}
 
 abbrev pub invariant-names : goal.invariant-names
 invariant-names l = record {

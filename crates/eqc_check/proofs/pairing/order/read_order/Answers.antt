@@ -4,9 +4,9 @@ use Rattle.std.specs.Option.{option_map}
 use Rattle.eqc_check.specs.PairOf.{no_memory, order_refused}
 use Rattle.eqc_check.specs.Matched.{order_code, order_words}
 use Rattle.eqc_check.specs.Verdict.{position_of}
-use Rattle.eqc_check.proofs.NameLemmas.{bytes_in}
 use Rattle.eqc_check.proofs.OrderedLemmas.{positions_small, variables_small, taken_order, taken_variables}
 use Rattle.eqc_check.proofs.pairing.order.read_order.Goals as goal
+use Rattle.eqc_flat.proofs.NameSetLaws.{bytes_in}
 
 pub returns-in_err-positions-clause-refused : goal.returns-in_err-positions-clause-refused
 returns-in_err-positions-clause-refused c =
