@@ -37,12 +37,7 @@ pub const PAIR_RULES: [Rule; 5] = [
 ];
 
 /// The rules of options, in the order of their codes.
-pub const OPTION_RULES: [Rule; 4] = [
-    Rule::Workers,
-    Rule::Nodes,
-    Rule::Cells,
-    Rule::Forks,
-];
+pub const OPTION_RULES: [Rule; 4] = [Rule::Workers, Rule::Nodes, Rule::Cells, Rule::Forks];
 
 impl Rule {
     /// The number that a report shows: 41 and 42 for the pair, 51 to 53 for the order text, 81 to 84 for the options, in

@@ -28,7 +28,10 @@ fn errors_say_what_happened(rt: HostRuntime) -> Result<(), Fail> {
          second: a signal without a driver (line 0, code 27); the store of diagrams is full"
     );
     let text = format!(in rt.alloc(); "{}; {}", RunFault::Read, RunFault::Write.code())?;
-    assert_eq!(rt; text.as_str(), "a file could not be opened, or a read failed; 92");
+    assert_eq!(rt;
+        text.as_str(),
+        "a file could not be opened, or a read failed; 92"
+    );
     Ok(())
 }
 
