@@ -334,8 +334,8 @@ fn every_second(alloc: Global) -> Result<String, AllocError> {
 /// The names of 512 inputs, the last one first.
 fn backwards(alloc: Global) -> Result<String, AllocError> {
     let mut order = String::new(alloc);
-    for k in 0..512 {
-        order.push_str(&format!(in alloc; " i{}", 511 - k)?)?;
+    for k in 0..512_u32 {
+        order.push_str(&format!(in alloc; " i{}", 511_u32.saturating_sub(k))?)?;
     }
     Ok(order)
 }
