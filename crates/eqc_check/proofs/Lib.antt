@@ -5,6 +5,8 @@ pub mod HeldLaws
 pub mod TableLaws
 pub mod PlanLaws
 pub mod BuildLaws
+pub mod ScheduleLaws
+pub mod WantedLaws
 pub mod Blocks
 pub mod LeastLemmas
 pub mod VerdictLemmas

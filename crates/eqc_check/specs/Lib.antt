@@ -10,6 +10,7 @@ pub mod ReportView
 pub mod Matching
 pub mod Making
 pub mod Building
+pub mod Schedule
 pub mod Assigned
 pub mod Narrowing
 pub mod Comparing

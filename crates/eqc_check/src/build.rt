@@ -7,7 +7,9 @@ ghost use Rattle.eqc_check.specs.Building.{Holds, HoldsBoth, OwnsTable, IsBuilt,
 mod cover;
 mod plan;
 mod rows;
+pub(crate) mod schedule;
 pub(crate) mod table;
+mod wanted;
 
 use crate::build::cover::cover_diagram;
 use crate::build::plan::last_uses;
