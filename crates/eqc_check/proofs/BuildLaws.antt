@@ -1,17 +1,19 @@
 -- Building the diagrams of signals, step by step.
-use Rattle.std.proofs.Common.{◌≡◌, ℕ, zero, suc, ◌+◌, ◌<◌, ◌≤◌, Bool, List, [], ◌∷◌, ◌++◌, length, map, get_or, take, refl, sym, ◌∙◌, ap, arith, Option, Some, None, inl, inr, subst, IsSome}
+use Rattle.std.proofs.Common.{◌≡◌, ℕ, zero, suc, ◌+◌, ◌<◌, ◌≤◌, Bool, List, [], ◌∷◌, ◌++◌, length, map, get_or, take, refl, sym, ◌∙◌, ap, arith, Option, Some, None, inl, inr, ◌⊎◌, subst, IsSome}
 use Rattle.std.specs.Borrow.{Bor}
 use Rattle.std.proofs.lemmas.List.{get_or-set_same, get_or-set_other, take_more, map-append}
 use Rattle.std.proofs.lemmas.Bool.{cases_eq}
 use Rattle.std.proofs.Math.ListN.{length-set}
 use Rattle.eqc_tree.specs.Holding.{Entry, Holding, says, Keeps, Gains}
-use Rattle.eqc_flat.specs.Graph.{FlatOf, IsFlat, driver_at, dependencies, value_of, FollowsDrivers, driven, input, tie, cover}
+use Rattle.eqc_flat.specs.Graph.{FlatOf, driver_at, value_of, FollowsDrivers, driven, input, tie, cover}
 use Rattle.eqc_blif.specs.Cover.{cover_value}
 use Rattle.eqc_check.specs.Matching.{AreHeld, said}
-use Rattle.eqc_check.specs.Building.{held_by, tally, Holds, HoldsBoth, OwnsTable, Moves, Fills, Adds, Releases, IsBuilt, IsBuilding, IsPlan, AreReady, AreSignals, reference_of, inputs_under}
-use Rattle.eqc_check.proofs.TableLaws.{owned_held}
+use Rattle.eqc_check.specs.Building.{held_by, tally, OwnsTable, Moves, Fills, Adds, Advances, Releases, IsBuilt, AreReady, AreSignals, reference_of, inputs_under}
+use Rattle.eqc_check.specs.Schedule.{moment, uses_at, AreLastMoments, AreWanted, IsBehind}
+use Rattle.eqc_check.proofs.TableLaws.{owned_held, moves_twice}
+use Rattle.std.proofs.lemmas.List.{length-append, get_or_append_left}
+use Rattle.std.proofs.Math.Seq.{get_or-append_seam}
 use Rattle.std.proofs.lemmas.List.Sums.{sum_by-cons}
-use Rattle.eqc_flat.proofs.EvaluationLaws.{dep_before, step_of}
 
 -- one more reference of a table
 pub found_more : {X : Type 0} (table : List (Option X)) (signals : List ℕ) (i : ℕ) (old new : List (Bor X)) (r : Bor X) → i < length signals → map (λ r. Some r.now) old ≡ map (reference_of table) (take i signals) → reference_of table (get_or signals i 0) ≡ Some r.now → new ≡ old ++ r ∷ [] → map (λ r. Some r.now) new ≡ map (reference_of table) (take (i + 1) signals)
@@ -75,16 +77,6 @@ adds {X = X} entry f variables d0 d1 d2 old new s r inside h g p = record {
         let same_reference : r ≡ q = cc in
         ap (λ x. says (entry x) a) (sym same_reference) ∙ (g.function a ∙ ap (value_of f (inputs_under variables a)) (sym same))
 
-pub holds_owned : {X : Type 0} (entry : X → Entry) (before now : Holding) (table : List (Option X)) → Holds entry before now table → OwnsTable entry now table
-holds_owned entry before now table h = record { held = λ e. omega (arith, h.held e) }
-
-pub holds_moves : {X : Type 0} (entry : X → Entry) (before d0 d1 : Holding) (t0 t1 : List (Option X)) → Holds entry before d0 t0 → Moves entry d0 t0 d1 t1 → Holds entry before d1 t1
-holds_moves entry before d0 d1 t0 t1 h m = record { variables = m.variables ∙ h.variables; held = λ e. omega (arith, h.held e, m.held e) }
-
--- what holds a table, and then another, holds both
-pub holds_both : {X : Type 0} (entry : X → Entry) (d0 d1 d2 : Holding) (first second : List (Option X)) → Holds entry d0 d1 first → Holds entry d1 d2 second → HoldsBoth entry d0 d2 first second
-holds_both entry d0 d1 d2 first second h k = record { variables = k.variables ∙ h.variables; held = λ e. omega (arith, h.held e, k.held e) }
-
 -- one signal that is there
 pub one_signal : (f : FlatOf) (s : ℕ) → s < length f.drivers → AreSignals f (s ∷ [])
 one_signal f s h = record { each = one }
@@ -93,72 +85,10 @@ one_signal f s h = record { each = one }
     one zero lt = h
     one (suc k) lt = absurd (omega arith)
 
--- one signal that has a reference
-pub one_ready : {X : Type 0} (table : List (Option X)) (signals : List ℕ) (s t : ℕ) → AreReady table signals → signals ≡ s ∷ [] → s ≡ t → IsSome (reference_of table t)
-one_ready table signals s t h is same =
-    let ready : AreReady table (s ∷ []) = subst (AreReady table) is h in
-    let there : IsSome (reference_of table s) = ready.each 0 (omega arith) in
-    rw (← same) there
-
--- a table that was given back
-pub holds_none : {X : Type 0} (entry : X → Entry) (before d0 d1 : Holding) (t0 : List (Option X)) → Holds entry before d0 t0 → Moves entry d0 t0 d1 [] → Keeps before d1
-holds_none entry before d0 d1 t0 h m = record { variables = m.variables ∙ h.variables; held = λ e. omega (arith, h.held e, m.held e) }
-
-tally_none : {X : Type 0} (entry : X → Entry) (table : List (Option X)) (e : Entry) → ((s : ℕ) → reference_of table s ≡ None) → tally entry table e ≡ 0
+-- a table without references
+pub tally_none : {X : Type 0} (entry : X → Entry) (table : List (Option X)) (e : Entry) → ((s : ℕ) → reference_of table s ≡ None) → tally entry table e ≡ 0
 tally_none entry [] e none = refl
 tally_none entry (o ∷ table) e none = omega (arith, sum_by-cons (held_by entry e) o table, ap (held_by entry e) (none 0), tally_none entry table e (λ s. none (suc s)))
-
-pub building_start : {X : Type 0} (entry : X → Entry) (f : FlatOf) (variables last : List ℕ) (d : Holding) (table : List (Option X)) → length table ≡ length f.drivers → ((s : ℕ) → reference_of table s ≡ None) → IsBuilding entry f variables last d d table 0
-building_start entry f variables last d table size none = record {
-  holds = record { variables = refl; held = λ e. omega (arith, tally_none entry table e none) };
-  built = record { size = size; values = λ s r is a. absurd (let q : None ≡ Some r = sym (none s) ∙ is in cc) };
-  ready = λ i lt le. absurd (omega arith);
-}
-
--- a signal that isn't used
-pub building_skip : {X : Type 0} (entry : X → Entry) (f : FlatOf) (variables last : List ℕ) (before now : Holding) (table : List (Option X)) (k : ℕ) → get_or last (get_or f.steps k 0) 0 ≡ 0 → IsBuilding entry f variables last before now table k → IsBuilding entry f variables last before now table (k + 1)
-building_skip entry f variables last before now table k none b = record {
-  holds = b.holds;
-  built = b.built;
-  ready = λ i lt le. elim (cases_eq i k) [
-    | inl same ↦ absurd (let z : get_or last (get_or f.steps i 0) 0 ≡ 0 = rw same none in omega arith)
-    | inr apart ↦ b.ready i (omega arith) (omega arith)
-  ];
-}
-
--- a signal that is built, after which what it used last is given back
-pub building_more : {X : Type 0} (entry : X → Entry) (f : FlatOf) (variables last : List ℕ) (before d0 d1 d2 : Holding) (t0 t1 t2 : List (Option X)) (k : ℕ) → IsBuilding entry f variables last before d0 t0 k → Adds entry f variables d0 t0 d1 t1 (get_or f.steps k 0) → Releases entry d1 t1 d2 t2 last (k + 1) → IsBuilding entry f variables last before d2 t2 (k + 1)
-building_more entry f variables last before d0 d1 d2 t0 t1 t2 k b a r = record {
-  holds = holds_moves entry before d1 d2 t1 t2 (holds_moves entry before d0 d1 t0 t1 b.holds a.moves) r.moves;
-  built = record {
-    size = r.size ∙ a.built.size;
-    values = λ s q is v. a.built.values s q (r.none_new s q is) v;
-  };
-  ready = λ i lt le. rw (r.kept (get_or f.steps i 0) (λ e. absurd (omega arith))) (elim (cases_eq i k) [
-    | inl same ↦ rw same a.here
-    | inr apart ↦ a.kept (get_or f.steps i 0) (b.ready i (omega arith) (omega arith))
-  ]);
-}
-
--- what the next signal depends on has a reference
-pub building_ready : {X : Type 0} (entry : X → Entry) (f : FlatOf) (variables roots last : List ℕ) (before now : Holding) (table : List (Option X)) (k : ℕ) → IsFlat f → IsPlan f roots last → k < length f.steps → 0 < get_or last (get_or f.steps k 0) 0 → IsBuilding entry f variables last before now table k → AreReady table (dependencies (driver_at f (get_or f.steps k 0)))
-building_ready entry f variables roots last before now table k h p inside used b = record {
-  each = λ c within.
-      let w = dep_before f k c h inside within in
-      let P : ℕ → Type 0 = λ t. IsSome (reference_of table t) in
-      let late : k + 1 ≤ get_or last (get_or f.steps w.0 0) 0 = rw w.2 (p.closed k c inside used within) in
-      subst P w.2 (b.ready w.0 w.1 late);
-}
-
--- at the end the roots have a reference
-pub building_done : {X : Type 0} (entry : X → Entry) (f : FlatOf) (variables roots last : List ℕ) (before now : Holding) (table : List (Option X)) → IsFlat f → AreSignals f roots → IsPlan f roots last → IsBuilding entry f variables last before now table (length f.steps) → AreReady table roots
-building_done entry f variables roots last before now table h inside p b = record {
-  each = λ k within.
-      let w = step_of f (get_or roots k 0) h (inside.each k within) in
-      let P : ℕ → Type 0 = λ t. IsSome (reference_of table t) in
-      let late : length f.steps + 1 ≤ get_or last (get_or f.steps w.0 0) 0 = rw w.2 (omega (arith, p.of_roots k within, h.step_count)) in
-      subst P w.2 (b.ready w.0 w.1 late);
-}
 
 -- the value of a cover's diagram
 pub cover_follows : {X : Type 0} (entry : X → Entry) (f : FlatOf) (variables : List ℕ) (table : List (Option X)) (columns : List ℕ) (found : List (Bor X)) (rows : List (List ℕ)) (r s : ℕ) (a : ℕ → Bool) → FollowsDrivers f → s < length f.drivers → cover columns r ≡ driver_at f s → rows ≡ get_or f.rows r [] → IsBuilt entry f variables table → map (λ r. Some r.now) found ≡ map (reference_of table) columns → cover_value rows (said entry found a) ≡ value_of f (inputs_under variables a) s
@@ -175,15 +105,115 @@ tie_follows entry f variables table other s r a follows inside is built here =
     built.values other r here a
     ∙ (ap (driven f.rows (inputs_under variables a) (value_of f (inputs_under variables a))) is ∙ sym (follows (inputs_under variables a) s inside))
 
--- a signal that was not built leaves the table as it was
-pub stopped_owned : {X : Type 0} (entry : X → Entry) (d0 d1 d2 : Holding) (table other : List (Option X)) → Holds entry d0 d1 table → Keeps d1 d2 → other ≡ table → OwnsTable entry d2 other
-stopped_owned entry d0 d1 d2 table other h k same = rw same (record { held = λ e. omega (arith, h.held e, k.held e) })
+-- a table without references is built, and owned by whatever holds nothing for it
+pub none_built : {X : Type 0} (entry : X → Entry) (f : FlatOf) (variables : List ℕ) (table : List (Option X)) → length table ≡ length f.drivers → ((s : ℕ) → reference_of table s ≡ None) → IsBuilt entry f variables table
+none_built entry f variables table size none = record { size = size; values = λ s r is a. absurd (let q : None ≡ Some r = sym (none s) ∙ is in cc) }
 
-pub stopped_keeps : {X : Type 0} (entry : X → Entry) (d0 d1 d2 d3 : Holding) (table other : List (Option X)) → Holds entry d0 d1 table → Keeps d1 d2 → other ≡ table → Moves entry d2 other d3 [] → Keeps d0 d3
-stopped_keeps entry d0 d1 d2 d3 table other h k same m =
-    let m' : Moves entry d2 table d3 [] = rw same at m in
-    record { variables = m'.variables ∙ (k.variables ∙ h.variables); held = λ e. omega (arith, h.held e, k.held e, m'.held e) }
+-- a table with fewer references is built too
+pub fewer_built : {X : Type 0} (entry : X → Entry) (f : FlatOf) (variables : List ℕ) (old new : List (Option X)) → length new ≡ length old → ((s : ℕ) (r : X) → reference_of new s ≡ Some r → reference_of old s ≡ Some r) → IsBuilt entry f variables old → IsBuilt entry f variables new
+fewer_built entry f variables old new size fewer b = record { size = size ∙ b.size; values = λ s r is a. b.values s r (fewer s r is) a }
 
--- what holds of the table when a signal was added
-pub added_owned : {X : Type 0} (entry : X → Entry) (f : FlatOf) (variables : List ℕ) (d0 d1 d2 : Holding) (t1 t2 : List (Option X)) (s : ℕ) → Holds entry d0 d1 t1 → Adds entry f variables d1 t1 d2 t2 s → OwnsTable entry d2 t2
-added_owned entry f variables d0 d1 d2 t1 t2 s h a = record { held = λ e. omega (arith, h.held e, a.moves.held e) }
+-- a signal that was built, and what it used for the last time given back
+pub advances : {X : Type 0} (entry : X → Entry) (f : FlatOf) (variables last : List ℕ) (d0 d1 d2 : Holding) (t0 t1 t2 : List (Option X)) (s at : ℕ) → Adds entry f variables d0 t0 d1 t1 s → Releases entry d1 t1 d2 t2 last at → Advances entry f variables last d0 t0 d2 t2 s at
+advances entry f variables last d0 d1 d2 t0 t1 t2 s at a r = record {
+  moves = moves_twice entry d0 d1 d2 t0 t1 t2 a.moves r.moves;
+  built = fewer_built entry f variables t1 t2 r.size r.none_new a.built;
+  here = λ other. rw (r.kept s other) a.here;
+  kept = λ i other some. rw (r.kept i other) (a.kept i some);
+}
+
+-- the steps that are left of those that an output wants
+pub record IsCompleting {X : Type 0} (entry : X → Entry) (f : FlatOf) (variables last : List ℕ) (output root : ℕ) (d0 : Holding) (t0 : List (Option X)) (d : Holding) (t : List (Option X)) (left : List ℕ) : Type 0 where
+  pub moves : Moves entry d0 t0 d t
+  pub built : IsBuilt entry f variables t
+  pub wanted : AreWanted f last t output left
+  pub rooted : IsSome (reference_of t root) ⊎ IsBehind f left 0 root
+  pub kept : (s : ℕ) → moment output (length f.drivers + 1) < get_or last s 0 → IsSome (reference_of t0 s) → IsSome (reference_of t s)
+
+pub completing_start : {X : Type 0} (entry : X → Entry) (f : FlatOf) (variables last : List ℕ) (output root : ℕ) (d : Holding) (t : List (Option X)) (left : List ℕ) → IsBuilt entry f variables t → AreWanted f last t output left → (IsSome (reference_of t root) ⊎ IsBehind f left 0 root) → IsCompleting entry f variables last output root d t d t left
+completing_start entry f variables last output root d t left b w r = record {
+  moves = record { variables = refl; held = λ e. refl };
+  built = b;
+  wanted = w;
+  rooted = r;
+  kept = λ s later some. some;
+}
+
+-- what the last of the steps uses has a reference
+pub completing_ready : {X : Type 0} (entry : X → Entry) (f : FlatOf) (variables last : List ℕ) (output root : ℕ) (d0 d : Holding) (t0 t : List (Option X)) (all left : List ℕ) (p : ℕ) → all ≡ left ++ p ∷ [] → IsCompleting entry f variables last output root d0 t0 d t all → AreReady t (uses_at f p)
+completing_ready {X = X} entry f variables last output root d0 d t0 t all left p is c = record { each = each }
+  where
+    size : length all ≡ length left + 1
+    size = ap length is ∙ length-append left (p ∷ [])
+
+    at_end : get_or all (length left) 0 ≡ p
+    at_end = ap (λ xs. get_or xs (length left) 0) is ∙ get_or-append_seam left p [] 0
+
+    each : (k : ℕ) → k < length (uses_at f p) → IsSome (reference_of t (get_or (uses_at f p) k 0))
+    each k lt =
+        let P : ℕ → Type 0 = λ q. k < length (uses_at f q) → IsSome (reference_of t (get_or (uses_at f q) k 0)) ⊎ IsBehind f all (length left + 1) (get_or (uses_at f q) k 0) in
+        elim (subst P at_end (c.wanted.closed (length left) k (omega (arith, size))) lt) [
+          | inl some ↦ some
+          | inr b ↦ absurd (omega (arith, b.1, b.2, size))
+        ]
+
+-- the last of the steps was made
+pub completing_more : {X : Type 0} (entry : X → Entry) (f : FlatOf) (variables last : List ℕ) (output root : ℕ) (d0 d1 d2 : Holding) (t0 t1 t2 : List (Option X)) (all left : List ℕ) (p : ℕ) → 1 ≤ output → AreLastMoments f last → length f.steps ≡ length f.drivers → moment output (length f.drivers + 1) ≤ get_or last root 0 → all ≡ left ++ p ∷ [] → IsCompleting entry f variables last output root d0 t0 d1 t1 all → Advances entry f variables last d1 t1 d2 t2 (get_or f.steps p 0) (moment output (p + 1)) → IsCompleting entry f variables last output root d0 t0 d2 t2 left
+completing_more {X = X} entry f variables last output root d0 d1 d2 t0 t1 t2 all left p some moments steps late is c a = record {
+  moves = moves_twice entry d0 d1 d2 t0 t1 t2 c.moves a.moves;
+  built = a.built;
+  wanted = record {
+    within = λ i h. omega (arith, c.wanted.within i (omega (arith, size)), old i h);
+    falling = λ i j lt h. omega (arith, c.wanted.falling i j lt (omega (arith, size)), old i (omega arith), old j h);
+    needed = λ i h. rw (← old i h) (c.wanted.needed i (omega (arith, size)));
+    closed = λ i k h lt. (let P : ℕ → Type 0 = λ q. k < length (uses_at f q) → IsSome (reference_of t2 (get_or (uses_at f q) k 0)) ⊎ IsBehind f left (i + 1) (get_or (uses_at f q) k 0) in subst P (old i h) (closed_before i k h) lt);
+  };
+  rooted = elim c.rooted [
+    | inl there ↦ inl (a.kept root root_later there)
+    | inr b ↦ elim (moved 0 root b) [ inl same ↦ inl (subst (λ s. IsSome (reference_of t2 s)) same (a.here (λ e. root_later (ap (λ s. get_or last s 0) (sym same) ∙ e)))) | inr left ↦ inr left ]
+  ];
+  kept = λ s later there. a.kept s (λ e. absurd (omega (arith, e, inside))) (c.kept s later there);
+}
+  where
+    size : length all ≡ length left + 1
+    size = ap length is ∙ length-append left (p ∷ [])
+
+    old : (i : ℕ) → i < length left → get_or all i 0 ≡ get_or left i 0
+    old i lt = ap (λ xs. get_or xs i 0) is ∙ get_or_append_left left (p ∷ []) 0 i lt
+
+    at_end : get_or all (length left) 0 ≡ p
+    at_end = ap (λ xs. get_or xs (length left) 0) is ∙ get_or-append_seam left p [] 0
+
+    inside : p < length f.drivers
+    inside = omega (arith, at_end, c.wanted.within (length left) (omega (arith, size)), steps)
+
+    root_later : get_or last root 0 ≡ moment output (p + 1) → ⊥
+    root_later e = omega (arith, late, e, inside)
+
+    moved : (n s : ℕ) → IsBehind f all n s → (get_or f.steps p 0 ≡ s) ⊎ IsBehind f left n s
+    moved n s b = elim (cases_eq b.0 (length left)) [
+      | inl same ↦ inl (ap (λ q. get_or f.steps q 0) (sym at_end ∙ ap (λ j. get_or all j 0) (sym same)) ∙ b.3)
+      | inr apart ↦ (let lt : b.0 < length left = omega (arith, b.2, size) in inr (b.0, b.1, lt, ap (λ q. get_or f.steps q 0) (sym (old b.0 lt)) ∙ b.3))
+    ]
+
+    -- what a remaining step uses is used later than now
+    later : (i k : ℕ) → i < length left → k < length (uses_at f (get_or all i 0)) → get_or last (get_or (uses_at f (get_or all i 0)) k 0) 0 ≡ moment output (p + 1) → ⊥
+    later i k h lt e =
+        let used = moments.closed (get_or all i 0) k output (c.wanted.within i (omega (arith, size))) lt some (c.wanted.needed i (omega (arith, size))) in
+        omega (arith, used, e, at_end, c.wanted.falling i (length left) h (omega (arith, size)))
+
+    closed_before : (i k : ℕ) → i < length left → k < length (uses_at f (get_or all i 0)) → IsSome (reference_of t2 (get_or (uses_at f (get_or all i 0)) k 0)) ⊎ IsBehind f left (i + 1) (get_or (uses_at f (get_or all i 0)) k 0)
+    closed_before i k h lt = elim (c.wanted.closed i k (omega (arith, size)) lt) [
+      | inl there ↦ inl (a.kept (get_or (uses_at f (get_or all i 0)) k 0) (later i k h lt) there)
+      | inr b ↦ elim (moved (i + 1) (get_or (uses_at f (get_or all i 0)) k 0) b) [
+        | inl same ↦ inl (subst (λ s. IsSome (reference_of t2 s)) same (a.here (λ e. later i k h lt (ap (λ s. get_or last s 0) (sym same) ∙ e))))
+        | inr left ↦ inr left
+      ]
+    ]
+
+pub completing_done : {X : Type 0} (entry : X → Entry) (f : FlatOf) (variables last : List ℕ) (output root : ℕ) (d0 d : Holding) (t0 t : List (Option X)) (left : List ℕ) → length left ≡ 0 → IsCompleting entry f variables last output root d0 t0 d t left → IsSome (reference_of t root)
+completing_done entry f variables last output root d0 d t0 t left empty c = elim c.rooted [ inl some ↦ some | inr b ↦ absurd (omega (arith, b.2, empty)) ]
+
+-- a step that was not made
+pub completing_stopped : {X : Type 0} (entry : X → Entry) (d0 d1 d2 : Holding) (t0 t1 t2 : List (Option X)) → Moves entry d0 t0 d1 t1 → Keeps d1 d2 → t2 ≡ t1 → Moves entry d0 t0 d2 t2
+completing_stopped entry d0 d1 d2 t0 t1 t2 m k same = rw same (record { variables = k.variables ∙ m.variables; held = λ e. omega (arith, m.held e, k.held e) })

@@ -1,15 +1,14 @@
 -- Values depend on the inputs alone; and the first of the outputs that differ, one output after another.
-use Rattle.std.proofs.Common.{◌≡◌, ℕ, zero, suc, ◌+◌, ◌<◌, Bool, true, false, List, [], ◌∷◌, ◌++◌, length, map, get_or, take, refl, sym, ◌∙◌, ap, arith, Option, Some, None, subst, Vec, Global, IfSome}
+use Rattle.std.proofs.Common.{◌≡◌, ℕ, zero, suc, ◌+◌, ◌<◌, Bool, true, false, List, [], ◌∷◌, ◌++◌, length, map, get_or, take, drop, refl, sym, ◌∙◌, ap, arith, Option, Some, None, Vec, Global}
 use Rattle.std.specs.Option.{option_map, option_or}
 use Rattle.std.specs.List.{All}
-use Rattle.std.proofs.lemmas.List.{take_more, get_or_default}
-use Rattle.std.proofs.lemmas.Option.{same_Some}
+use Rattle.std.proofs.lemmas.List.{take_more, get_or_default, take-append-drop}
 use Rattle.eqc_tree.specs.Operation.{operate}
 use Rattle.eqc_tree.specs.declared.operation.Op.TheVariants.{Xor}
 use Rattle.eqc_blif.specs.Cover.{cover_value}
 use Rattle.eqc_flat.specs.Graph.{FlatOf, IsFlat, IsWithin, DriverOf, input, tie, cover, driver_at, driven, settled, value_of}
 use Rattle.eqc_check.specs.Verdict.{NetlistOf, is_different, least_difference, first_difference}
-use Rattle.eqc_check.specs.Comparing.{netlist_of, found_at, listed, at_output, IsNext}
+use Rattle.eqc_check.specs.Comparing.{netlist_of, found_at}
 
 pub xor_differs : (x y : Bool) → is_different x y ≡ operate Xor x y
 xor_differs true y = refl
@@ -51,47 +50,37 @@ first_push f g (p ∷ outputs) output = ap (option_or (option_map (λ a. (p, a))
     or_assoc None y z = refl
     or_assoc (Some x) y z = refl
 
--- an output by its position, as an output by its name
-abbrev named_at : FlatOf → ℕ × List Bool → List ℕ × List Bool
-named_at f q = (get_or f.outputs q.0 [], q.1)
+or_none_first : {A : Type 0} (x y : Option A) → x ≡ None → option_or x y ≡ y
+or_none_first None y none = refl
+or_none_first (Some x) y none = absurd (let q = none in cc)
 
-found_items : (f : FlatOf) (found : Option (ℕ × Vec Bool Global)) → found_at f found ≡ option_map (named_at f) (listed found)
-found_items f None = refl
-found_items f (Some p) = refl
+-- no output up to this one differs
+pub none_more : (f g : NetlistOf) (outputs : List (List ℕ)) (o : ℕ) (found : Option (Vec Bool Global)) → o < length outputs → found ≡ None → option_map (λ v. v.items) found ≡ least_difference f g (get_or outputs o []) → first_difference f g (take o outputs) ≡ None → first_difference f g (take (o + 1) outputs) ≡ None
+none_more f g outputs o found h none here before =
+    let least : least_difference f g (get_or outputs o []) ≡ None = sym here ∙ ap (option_map (λ (v : Vec Bool Global). v.items)) none in
+    ap (first_difference f g) (take_more outputs o [] h)
+    ∙ (first_push f g (take o outputs) (get_or outputs o [])
+    ∙ (or_none_first (first_difference f g (take o outputs)) (option_map (λ a. (get_or outputs o [], a)) (least_difference f g (get_or outputs o []))) before
+    ∙ ap (option_map (λ (a : List Bool). (get_or outputs o [], a))) least))
 
-named_here : (f : FlatOf) (o : ℕ) (here : Option (List Bool)) → option_map (named_at f) (at_output o here) ≡ option_map (λ a. (get_or f.outputs o [], a)) here
-named_here f o None = refl
-named_here f o (Some a) = refl
-
--- what was found before, or else here, is the first of one output more
-pub found_next : (f g : FlatOf) (o : ℕ) (found next : Option (ℕ × Vec Bool Global)) → o < length f.outputs → IsNext found o (least_difference (netlist_of f) (netlist_of g) (get_or f.outputs o [])) next → found_at f found ≡ first_difference (netlist_of f) (netlist_of g) (take o f.outputs) → found_at f next ≡ first_difference (netlist_of f) (netlist_of g) (take (o + 1) f.outputs)
-found_next f g o found next h n e = by found n e ∙ sym (ap (first_difference (netlist_of f) (netlist_of g)) (take_more f.outputs o [] h) ∙ first_push (netlist_of f) (netlist_of g) (take o f.outputs) (get_or f.outputs o []))
+-- where something is found, outputs that come later change nothing
+first_stays : (f g : NetlistOf) (xs ys : List (List ℕ)) (q : List ℕ × List Bool) → first_difference f g xs ≡ Some q → first_difference f g (xs ++ ys) ≡ Some q
+first_stays f g [] ys q is = absurd (let p : None ≡ Some q = is in cc)
+first_stays f g (x ∷ xs) ys q is = by (option_map (λ a. (x, a)) (least_difference f g x)) (λ e. first_stays f g xs ys q e) is
   where
-    here : Option (List ℕ × List Bool)
-    here = option_map (λ a. (get_or f.outputs o [], a)) (least_difference (netlist_of f) (netlist_of g) (get_or f.outputs o []))
+    by : (o : Option (List ℕ × List Bool)) → (first_difference f g xs ≡ Some q → first_difference f g (xs ++ ys) ≡ Some q) → option_or o (first_difference f g xs) ≡ Some q → option_or o (first_difference f g (xs ++ ys)) ≡ Some q
+    by None more h = more h
+    by (Some p) more h = h
 
-    by : (found : Option (ℕ × Vec Bool Global)) → IsNext found o (least_difference (netlist_of f) (netlist_of g) (get_or f.outputs o [])) next → found_at f found ≡ first_difference (netlist_of f) (netlist_of g) (take o f.outputs) → found_at f next ≡ option_or (first_difference (netlist_of f) (netlist_of g) (take o f.outputs)) here
-    by (Some p) n e = ap (found_at f) n ∙ ap (λ x. option_or x here) e
-    by None n e =
-        found_items f next ∙ (ap (option_map (named_at f)) n
-        ∙ (named_here f o (least_difference (netlist_of f) (netlist_of g) (get_or f.outputs o [])) ∙ ap (λ x. option_or x here) e))
-
-pub within_next : (o : ℕ) (found next : Option (ℕ × Vec Bool Global)) (here : Option (List Bool)) → IsNext found o here next → IfSome found (λ p. p.0 < o) → IfSome next (λ p. p.0 < o + 1)
-within_next o (Some p) next here n h = rw n (omega arith)
-within_next o None None here n h = tt
-within_next o None (Some q) None n h = absurd (let e : Some (q.0, q.1.items) ≡ None = n in cc)
-within_next o None (Some q) (Some a) n h =
-    let same : q.0 ≡ o = ap (λ (p : ℕ × List Bool). p.0) (same_Some (q.0, q.1.items) (o, a) n) in omega arith
-
--- where nothing was found before, what is found here is next
-pub next_here : (before : Option (ℕ × Vec Bool Global)) (o : ℕ) (here : Option (List Bool)) (found : Option (Vec Bool Global)) → before ≡ None → option_map (λ v. v.items) found ≡ here → IsNext before o here (option_map (λ v. (o, v)) found)
-next_here before o here found none e =
-    let P : Option (ℕ × Vec Bool Global) → Type 0 = λ b. IsNext b o here (option_map (λ v. (o, v)) found) in
-    subst P (sym none) (items o found ∙ ap (at_output o) e)
-  where
-    items : (o : ℕ) (found : Option (Vec Bool Global)) → listed (option_map (λ v. (o, v)) found) ≡ at_output o (option_map (λ v. v.items) found)
-    items o None = refl
-    items o (Some v) = refl
+-- the first output that differs
+pub found_first : (f g : FlatOf) (o : ℕ) (values : Vec Bool Global) → o < length f.outputs → Some values.items ≡ least_difference (netlist_of f) (netlist_of g) (get_or f.outputs o []) → first_difference (netlist_of f) (netlist_of g) (take o f.outputs) ≡ None → found_at f (Some (o, values)) ≡ first_difference (netlist_of f) (netlist_of g) f.outputs
+found_first f g o values h here before =
+    let here_first : first_difference (netlist_of f) (netlist_of g) (take (o + 1) f.outputs) ≡ Some (get_or f.outputs o [], values.items) =
+    ap (first_difference (netlist_of f) (netlist_of g)) (take_more f.outputs o [] h)
+    ∙ (first_push (netlist_of f) (netlist_of g) (take o f.outputs) (get_or f.outputs o [])
+    ∙ (or_none_first (first_difference (netlist_of f) (netlist_of g) (take o f.outputs)) (option_map (λ a. (get_or f.outputs o [], a)) (least_difference (netlist_of f) (netlist_of g) (get_or f.outputs o []))) before
+    ∙ ap (option_map (λ (a : List Bool). (get_or f.outputs o [], a))) (sym here))) in
+    sym (ap (first_difference (netlist_of f) (netlist_of g)) (sym (take-append-drop (o + 1) f.outputs)) ∙ first_stays (netlist_of f) (netlist_of g) (take (o + 1) f.outputs) (drop (o + 1) f.outputs) (get_or f.outputs o [], values.items) here_first)
 
 -- variables that are below a number
 pub below_all : (variables : List ℕ) (n : ℕ) → ((p : ℕ) → p < length variables → get_or variables p 0 < n) → All (λ v. v < n) variables

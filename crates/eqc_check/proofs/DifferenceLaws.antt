@@ -1,16 +1,17 @@
 -- The diagram of where an output of a pair differs: what it says, and its least assignment.
-use Rattle.std.proofs.Common.{◌≡◌, ℕ, ◌<◌, Bool, false, List, [], length, find, get_or, refl, sym, ◌∙◌, ap, arith, Option, Some, None, Result, Ok, Err, IfOk, OnErr, subst}
+use Rattle.std.proofs.Common.{◌≡◌, ℕ, ◌<◌, Bool, false, List, [], length, find, get_or, refl, sym, ◌∙◌, ap, arith, Option, Some, None, subst}
 use Rattle.eqc_tree.specs.Holding.{Entry, Holding, IsHeld, says, Keeps, Gains, Loses}
 use Rattle.eqc_tree.specs.Operation.{operate}
 use Rattle.eqc_tree.specs.declared.operation.Op.TheVariants.{Xor}
 use Rattle.eqc_tree.proofs.HoldingLemmas.{counts_itself}
 use Rattle.eqc_flat.specs.Graph.{value_of}
-use Rattle.eqc_check.specs.Building.{AreBuilt, HoldsBoth, OwnsBoth, OwnsTable, LosesBoth, inputs_under, reference_of}
+use Rattle.eqc_check.specs.Building.{AreBuilt, OwnsBoth, OwnsTable, Moves, MovesBoth, inputs_under, reference_of}
 use Rattle.eqc_tree.specs.Assigned.{assigned, DependsOnlyOn, assignments}
 use Rattle.eqc_check.specs.Verdict.{position_of, values_for, first_value, second_value, least_difference}
 use Rattle.eqc_check.specs.PairOf.{PairOf, IsPair, first_variables, second_variables, second_signals}
 use Rattle.eqc_check.specs.Comparing.{netlist_of, differs_at, SaysDifference}
 use Rattle.eqc_check.proofs.MatchedLemmas.{place_of_name, assigned_value, IsDifference, least_of_difference, none_of_difference}
+use Rattle.eqc_check.proofs.BuildLaws.{tally_none}
 use Rattle.eqc_check.proofs.CompareLaws.{value_agrees, xor_differs}
 use Rattle.eqc_check.proofs.PairLaws.{AreMatched, pair_matched}
 
@@ -79,20 +80,42 @@ second_owned entry d first second h = record { held = λ e. omega (arith, h.held
 pub both_kept : {X : Type 0} (entry : X → Entry) (old new : Holding) (first second : List (Option X)) → Keeps old new → OwnsBoth entry old first second → OwnsBoth entry new first second
 both_kept entry old new first second k h = record { held = λ e. omega (arith, k.held e, h.held e) }
 
-pub both_owned : {X : Type 0} (entry : X → Entry) (before now : Holding) (first second : List (Option X)) → HoldsBoth entry before now first second → OwnsBoth entry now first second
-both_owned entry before now first second h = record { held = λ e. omega (arith, h.held e) }
+-- what one of two tables gains the object gains
+pub first_moves : {X : Type 0} (entry : X → Entry) (d0 d1 : Holding) (t0 t1 second : List (Option X)) → Moves entry d0 t0 d1 t1 → MovesBoth entry d0 t0 second d1 t1 second
+first_moves entry d0 d1 t0 t1 second m = record { variables = m.variables; held = λ e. omega (arith, m.held e) }
 
-pub difference_owned : {X E : Type 0} (entry : X → Entry) (d0 d1 d2 : Holding) (first second : List (Option X)) (result : Result X E) (f : (ℕ → Bool) → Bool) → HoldsBoth entry d0 d1 first second → IfOk result (λ r. Gains d1 d2 (entry r) f) → OnErr result (Keeps d1 d2) → OwnsBoth entry d2 first second
-difference_owned entry d0 d1 d2 first second (Ok r) f h ok stop = record { held = λ e. omega (arith, h.held e, ok.held e) }
-difference_owned entry d0 d1 d2 first second (Err e) f h ok stop = record { held = λ e. omega (arith, h.held e, stop.held e) }
+pub second_moves : {X : Type 0} (entry : X → Entry) (d0 d1 : Holding) (first t0 t1 : List (Option X)) → Moves entry d0 t0 d1 t1 → MovesBoth entry d0 first t0 d1 first t1
+second_moves entry d0 d1 first t0 t1 m = record { variables = m.variables; held = λ e. omega (arith, m.held e) }
 
--- both tables were given back behind a call that keeps what is held
-pub both_given : {X : Type 0} (entry : X → Entry) (d0 d1 d2 d3 : Holding) (first second : List (Option X)) → HoldsBoth entry d0 d1 first second → Keeps d1 d2 → LosesBoth entry d2 d3 first second → Keeps d0 d3
-both_given entry d0 d1 d2 d3 first second h k l = record { variables = l.variables ∙ (k.variables ∙ h.variables); held = λ e. omega (arith, h.held e, k.held e, l.held e) }
+pub both_moves : {X : Type 0} (entry : X → Entry) (d0 d1 d2 : Holding) (f0 f1 s0 s1 : List (Option X)) → Moves entry d0 f0 d1 f1 → Moves entry d1 s0 d2 s1 → MovesBoth entry d0 f0 s0 d2 f1 s1
+both_moves entry d0 d1 d2 f0 f1 s0 s1 m n = record { variables = n.variables ∙ m.variables; held = λ e. omega (arith, m.held e, n.held e) }
 
--- or behind one that makes a reference
-pub both_given_but : {X : Type 0} (entry : X → Entry) (d0 d1 d2 d3 : Holding) (first second : List (Option X)) (r : Entry) (f : (ℕ → Bool) → Bool) → HoldsBoth entry d0 d1 first second → Gains d1 d2 r f → LosesBoth entry d2 d3 first second → Gains d0 d3 r f
-both_given_but entry d0 d1 d2 d3 first second r f h g l = record { variables = l.variables ∙ (g.variables ∙ h.variables); held = λ e. omega (arith, h.held e, g.held e, l.held e); function = g.function }
+pub both_twice : {X : Type 0} (entry : X → Entry) (d0 d1 d2 : Holding) (f0 f1 f2 s0 s1 s2 : List (Option X)) → MovesBoth entry d0 f0 s0 d1 f1 s1 → MovesBoth entry d1 f1 s1 d2 f2 s2 → MovesBoth entry d0 f0 s0 d2 f2 s2
+both_twice entry d0 d1 d2 f0 f1 f2 s0 s1 s2 m n = record { variables = n.variables ∙ m.variables; held = λ e. omega (arith, m.held e, n.held e) }
+
+-- a call that keeps what is held moves nothing
+pub both_still : {X : Type 0} (entry : X → Entry) (d0 d1 d2 : Holding) (f0 f1 s0 s1 : List (Option X)) → MovesBoth entry d0 f0 s0 d1 f1 s1 → Keeps d1 d2 → MovesBoth entry d0 f0 s0 d2 f1 s1
+both_still entry d0 d1 d2 f0 f1 s0 s1 m k = record { variables = k.variables ∙ m.variables; held = λ e. omega (arith, m.held e, k.held e) }
+
+pub moved_owned : {X : Type 0} (entry : X → Entry) (d0 d1 : Holding) (f0 f1 s0 s1 : List (Option X)) → OwnsBoth entry d0 f0 s0 → MovesBoth entry d0 f0 s0 d1 f1 s1 → OwnsBoth entry d1 f1 s1
+moved_owned entry d0 d1 f0 f1 s0 s1 o m = record { held = λ e. omega (arith, o.held e, m.held e) }
+
+-- two tables that came from nothing are owned, and where nothing is left of them all is as before
+pub new_owned : {X : Type 0} (entry : X → Entry) (d0 d1 : Holding) (first second : List (Option X)) → MovesBoth entry d0 [] [] d1 first second → OwnsBoth entry d1 first second
+new_owned entry d0 d1 first second m = record { held = λ e. omega (arith, m.held e) }
+
+pub nothing_moved : {X : Type 0} (entry : X → Entry) (d0 d1 d2 d3 : Holding) (f1 s1 f2 s2 : List (Option X)) → MovesBoth entry d0 [] [] d1 f1 s1 → MovesBoth entry d1 f1 s1 d2 f2 s2 → MovesBoth entry d2 f2 s2 d3 [] [] → Keeps d0 d3
+nothing_moved entry d0 d1 d2 d3 f1 s1 f2 s2 a b c = record { variables = c.variables ∙ (b.variables ∙ a.variables); held = λ e. omega (arith, a.held e, b.held e, c.held e) }
+
+-- tables without references
+pub none_owned : {X : Type 0} (entry : X → Entry) (d : Holding) (table : List (Option X)) → ((s : ℕ) → reference_of table s ≡ None) → OwnsTable entry d table
+none_owned entry d table none = record { held = λ e. omega (arith, tally_none entry table e none) }
+
+pub none_moved : {X : Type 0} (entry : X → Entry) (d : Holding) (first second : List (Option X)) → ((s : ℕ) → reference_of first s ≡ None) → ((s : ℕ) → reference_of second s ≡ None) → MovesBoth entry d [] [] d first second
+none_moved entry d first second nf ns = record { variables = refl; held = λ e. omega (arith, tally_none entry first e nf, tally_none entry second e ns) }
+
+pub none_given : {X : Type 0} (entry : X → Entry) (d0 d1 : Holding) (table : List (Option X)) → ((s : ℕ) → reference_of table s ≡ None) → Moves entry d0 table d1 [] → Keeps d0 d1
+none_given entry d0 d1 table none m = record { variables = m.variables; held = λ e. omega (arith, tally_none entry table e none, m.held e) }
 
 -- a reference that was made is held, and given back it leaves what was held before
 pub gained_held : (d0 d1 : Holding) (r : Entry) (f : (ℕ → Bool) → Bool) → Gains d0 d1 r f → IsHeld d1 r

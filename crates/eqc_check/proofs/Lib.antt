@@ -3,7 +3,6 @@ pub mod MakingLaws
 pub mod RowLaws
 pub mod HeldLaws
 pub mod TableLaws
-pub mod PlanLaws
 pub mod BuildLaws
 pub mod ScheduleLaws
 pub mod WantedLaws

@@ -1,7 +1,7 @@
 -- The diagrams of the signals of a flat netlist, while they are built.
-use Rattle.std.specs.Prelude.{◌≡◌, ℕ, ◌+◌, ◌<◌, ◌≤◌, Bool, List, length, Option, Some, None, slice_index, slice_index_or, sum_by, IsSome, slice_set, ◌⊎◌}
+use Rattle.std.specs.Prelude.{◌≡◌, ℕ, ◌+◌, ◌<◌, ◌≤◌, Bool, List, length, Option, Some, None, slice_index, slice_index_or, sum_by, IsSome, slice_set}
 use Rattle.eqc_tree.specs.Holding.{Entry, Holding, copies, weight, says}
-use Rattle.eqc_flat.specs.Graph.{FlatOf, driver_at, dependencies, value_of}
+use Rattle.eqc_flat.specs.Graph.{FlatOf, value_of}
 use Rattle.eqc_check.specs.PairOf.{PairOf, first_variables, second_variables}
 
 -- the values of the inputs, where an input at a position has the value of its variable
@@ -17,16 +17,6 @@ held_by entry e (Some r) = weight (entry r) e
 abbrev pub tally : {X : Type 0} → (X → Entry) → List (Option X) → Entry → ℕ
 tally entry table e = sum_by (held_by entry e) table
 
--- what an object holds is what it held before and the references of a table
-pub record Holds {X : Type 0} (entry : X → Entry) (before now : Holding) (table : List (Option X)) : Type 0 where
-  pub variables : now.variables ≡ before.variables
-  pub held : (e : Entry) → copies now e ≡ copies before e + tally entry table e
-
--- what an object holds is what it held before and the references of two tables
-pub record HoldsBoth {X : Type 0} (entry : X → Entry) (before now : Holding) (first second : List (Option X)) : Type 0 where
-  pub variables : now.variables ≡ before.variables
-  pub held : (e : Entry) → copies now e ≡ copies before e + tally entry first e + tally entry second e
-
 -- the references of a table are held
 pub record OwnsTable {X : Type 0} (entry : X → Entry) (d : Holding) (table : List (Option X)) : Type 0 where
   pub held : (e : Entry) → tally entry table e ≤ copies d e
@@ -34,11 +24,6 @@ pub record OwnsTable {X : Type 0} (entry : X → Entry) (d : Holding) (table : L
 -- the references of two tables are held
 pub record OwnsBoth {X : Type 0} (entry : X → Entry) (d : Holding) (first second : List (Option X)) : Type 0 where
   pub held : (e : Entry) → tally entry first e + tally entry second e ≤ copies d e
-
--- the references of two tables were given back
-pub record LosesBoth {X : Type 0} (entry : X → Entry) (old new : Holding) (first second : List (Option X)) : Type 0 where
-  pub variables : new.variables ≡ old.variables
-  pub held : (e : Entry) → copies new e + tally entry first e + tally entry second e ≡ copies old e
 
 -- an object and a table: what one gains the other gains
 pub record Moves {X : Type 0} (entry : X → Entry) (old : Holding) (old_table : List (Option X)) (new : Holding) (new_table : List (Option X)) : Type 0 where
@@ -71,13 +56,6 @@ pub record AreVariables (f : FlatOf) (variables : List ℕ) (n : ℕ) : Type 0 w
   pub size : length variables ≡ length f.inputs
   pub below : (p : ℕ) → p < length variables → slice_index variables p < n
 
--- for each signal the step, counted from 1, after which it isn't used any more: 0 where it isn't used at all,
--- one past the steps for a root
-pub record IsPlan (f : FlatOf) (roots last : List ℕ) : Type 0 where
-  pub size : length last ≡ length f.drivers
-  pub of_roots : (k : ℕ) → k < length roots → slice_index last (slice_index roots k) ≡ length f.drivers + 1
-  pub closed : (k c : ℕ) → k < length f.steps → 0 < slice_index last (slice_index f.steps k) → c < length (dependencies (driver_at f (slice_index f.steps k))) → k + 1 ≤ slice_index last (slice_index (dependencies (driver_at f (slice_index f.steps k))) c)
-
 -- a reference came into the table for a signal
 pub record Fills {X : Type 0} (entry : X → Entry) (old : Holding) (old_table : List (Option X)) (new : Holding) (new_table : List (Option X)) (s : ℕ) (r : X) : Type 0 where
   pub table : new_table ≡ slice_set old_table s (Some r)
@@ -96,13 +74,6 @@ pub record Releases {X : Type 0} (entry : X → Entry) (old : Holding) (old_tabl
   pub kept : (s : ℕ) → (slice_index last s ≡ at → ⊥) → reference_of new_table s ≡ reference_of old_table s
   pub none_new : (s : ℕ) (r : X) → reference_of new_table s ≡ Some r → reference_of old_table s ≡ Some r
 
--- a step was noted for those of the first n signals that had none
-pub record IsMarked (old new signals : List ℕ) (n at : ℕ) : Type 0 where
-  pub size : length new ≡ length old
-  pub kept : (s : ℕ) → 0 < slice_index old s → slice_index new s ≡ slice_index old s
-  pub others : (s : ℕ) → slice_index old s ≡ 0 → (slice_index new s ≡ 0) ⊎ ((slice_index new s ≡ at) × ((k : ℕ) × (k < n) × (slice_index signals k ≡ s)))
-  pub noted : (k : ℕ) → k < n → slice_index old (slice_index signals k) ≡ 0 → slice_index new (slice_index signals k) ≡ at
-
 -- a signal has a reference now, and those that had one still have it
 pub record Adds {X : Type 0} (entry : X → Entry) (f : FlatOf) (variables : List ℕ) (old : Holding) (old_table : List (Option X)) (new : Holding) (new_table : List (Option X)) (s : ℕ) : Type 0 where
   pub moves : Moves entry old old_table new new_table
@@ -110,8 +81,21 @@ pub record Adds {X : Type 0} (entry : X → Entry) (f : FlatOf) (variables : Lis
   pub here : IsSome (reference_of new_table s)
   pub kept : (i : ℕ) → IsSome (reference_of old_table i) → IsSome (reference_of new_table i)
 
--- the first k steps are done: signals that are still used have a reference
-pub record IsBuilding {X : Type 0} (entry : X → Entry) (f : FlatOf) (variables last : List ℕ) (before now : Holding) (table : List (Option X)) (k : ℕ) : Type 0 where
-  pub holds : Holds entry before now table
-  pub built : IsBuilt entry f variables table
-  pub ready : (i : ℕ) → i < k → k + 1 ≤ slice_index last (slice_index f.steps i) → IsSome (reference_of table (slice_index f.steps i))
+-- a signal's step was made at a moment: it has a reference, those that had one still have it, and those that are used
+-- for the last time at this moment may have none
+pub record Advances {X : Type 0} (entry : X → Entry) (f : FlatOf) (variables last : List ℕ) (old : Holding) (old_table : List (Option X)) (new : Holding) (new_table : List (Option X)) (s at : ℕ) : Type 0 where
+  pub moves : Moves entry old old_table new new_table
+  pub built : IsBuilt entry f variables new_table
+  pub here : (slice_index last s ≡ at → ⊥) → IsSome (reference_of new_table s)
+  pub kept : (i : ℕ) → (slice_index last i ≡ at → ⊥) → IsSome (reference_of old_table i) → IsSome (reference_of new_table i)
+
+-- an object and two tables: what one gains the others gain
+pub record MovesBoth {X : Type 0} (entry : X → Entry) (old : Holding) (old_first old_second : List (Option X)) (new : Holding) (new_first new_second : List (Option X)) : Type 0 where
+  pub variables : new.variables ≡ old.variables
+  pub held : (e : Entry) → copies new e + tally entry old_first e + tally entry old_second e ≡ copies old e + tally entry new_first e + tally entry new_second e
+
+-- a table has no reference more, and those that are used later than a moment are still there
+pub record KeepsLater {X : Type 0} (last : List ℕ) (old_table new_table : List (Option X)) (at : ℕ) : Type 0 where
+  pub size : length new_table ≡ length old_table
+  pub none_new : (s : ℕ) (r : X) → reference_of new_table s ≡ Some r → reference_of old_table s ≡ Some r
+  pub kept : (s : ℕ) → at < slice_index last s → reference_of new_table s ≡ reference_of old_table s

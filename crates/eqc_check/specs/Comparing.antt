@@ -1,5 +1,5 @@
 -- What a comparison of two flat netlists finds.
-use Rattle.std.specs.Prelude.{◌≡◌, ℕ, Bool, List, slice_index, slice_index_or, [], Option, Some, None, Vec}
+use Rattle.std.specs.Prelude.{◌≡◌, ℕ, Bool, List, slice_index, slice_index_or, [], Option, Vec}
 use Rattle.std.specs.declared.alloc.Global.{Global}
 use Rattle.std.specs.Option.{option_map}
 use Rattle.eqc_flat.specs.Graph.{FlatOf, value_of}
@@ -29,16 +29,3 @@ pub record SaysDifference (p : PairOf) (output : ℕ) (f : (ℕ → Bool) → Bo
 -- an output by its position with an assignment, as an output by its name
 abbrev pub found_at : FlatOf → Option (ℕ × Vec Bool Global) → Option (List ℕ × List Bool)
 found_at f found = option_map (λ p. (slice_index_or f.outputs p.0 [], p.1.items)) found
-
--- what was found, with its values as a list
-abbrev pub listed : Option (ℕ × Vec Bool Global) → Option (ℕ × List Bool)
-listed found = option_map (λ p. (p.0, p.1.items)) found
-
--- values that are found at an output
-abbrev pub at_output : ℕ → Option (List Bool) → Option (ℕ × List Bool)
-at_output output here = option_map (λ a. (output, a)) here
-
--- what was found before an output stays; else what is found is that output with the values that are found here
-abbrev pub IsNext : Option (ℕ × Vec Bool Global) → ℕ → Option (List Bool) → Option (ℕ × Vec Bool Global) → Type 0
-IsNext (Some before) output here found = found ≡ Some before
-IsNext None output here found = listed found ≡ at_output output here

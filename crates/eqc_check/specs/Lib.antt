@@ -14,6 +14,7 @@ pub mod Schedule
 pub mod Assigned
 pub mod Narrowing
 pub mod Comparing
+pub mod Turns
 pub mod Refusing
 pub mod Sources
 pub mod Answer

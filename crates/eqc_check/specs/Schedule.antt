@@ -1,6 +1,6 @@
 -- When signals are used, in comparisons that go over the outputs in rising order. A moment is an output, counted from
 -- 1, and a step of the netlist, counted from 1, as one number: moments of later outputs are later, whatever the step.
-use Rattle.std.specs.Prelude.{◌≡◌, ℕ, ◌+◌, ◌*◌, ◌<◌, ◌≤◌, Bool, true, nat_eq, List, length, Option, slice_index, IsSome, ◌⊎◌}
+use Rattle.std.specs.Prelude.{◌≡◌, ℕ, ◌+◌, ◌*◌, ◌<◌, ◌≤◌, true, nat_eq, List, length, Option, slice_index, IsSome, ◌⊎◌}
 use Rattle.std.specs.List.{list_any}
 use Rattle.eqc_flat.specs.Graph.{FlatOf, driver_at, dependencies}
 use Rattle.eqc_check.specs.Building.{reference_of}

@@ -1,23 +1,28 @@
-ghost use Rattle.std.specs.Prelude.{◌≡◌, ◌≢◌, ℕ, ◌<◌, ◌≤◌, List, length, IfOk, IfErr, OnOk, OnErr, Some, map, slice_index};
+ghost use Rattle.std.specs.Prelude.{◌≡◌, ◌≢◌, ℕ, ◌+◌, ◌<◌, ◌≤◌, length, IfOk, IfErr, OnOk, OnErr, IsSome, Some, map, slice_index};
 ghost use Rattle.eqc_tree.specs.Holding.{Keeps};
 ghost use Rattle.eqc_flat.specs.Graph.{driver_at, dependencies, value_of};
 ghost use Rattle.eqc_check.specs.Making.{Makes};
-ghost use Rattle.eqc_check.specs.Building.{Holds, HoldsBoth, OwnsTable, IsBuilt, AreBuilt, AreReady, AreSignals, AreVariables, Adds, inputs_under, reference_of};
+ghost use Rattle.eqc_check.specs.Building.{OwnsTable, IsBuilt, AreReady, AreVariables, Adds, Advances, Moves, inputs_under, reference_of};
+ghost use Rattle.eqc_check.specs.Schedule.{moment, uses_at, AreLastMoments, ArePlaces};
 
 mod cover;
-mod plan;
+pub(crate) mod kept;
 mod rows;
 pub(crate) mod schedule;
 pub(crate) mod table;
 mod wanted;
 
 use crate::build::cover::cover_diagram;
-use crate::build::plan::last_uses;
-use crate::build::table::{Tables, empty_table, give_back_all, put, reference_at, release};
-use crate::pairing::matched_pair::{Pair, recall_laws};
+use crate::build::kept::Kept;
+use crate::build::schedule::{Schedule, moment};
+use crate::build::table::{put, reference_at, release};
+use crate::build::wanted::wanted;
+use crate::pairing::matched_pair::recall_laws;
 use eqc_flat::{Driver, Flat, Signals};
 use eqc_tree::{Diagrams, References, Stop};
 use std::alloc::{AllocError, Global};
+use std::cmp::Reverse;
+use std::collections::BinaryHeap;
 
 /// The references of signals that have one.
 fn references<'a, X>(
@@ -91,80 +96,100 @@ fn build_signal<R, D: Diagrams<R>>(
     Ok(())
 }
 
-/// The diagrams of the roots, over the given variable of each input. Each signal that a root depends on is
-/// built, no other, and is given back after its last use.
-pub(crate) fn build<R, D: Diagrams<R>>(
+/// Puts the diagram of a step's signal into the table, at a moment, and gives back what is used there for the last time.
+fn build_step<R, D: Diagrams<R>>(
     alloc: Global,
     rt: &R,
     d: &mut D,
     flat: &Flat<'_>,
     variables: &[u16],
-    roots: &[u32],
-) -> Result<Vec<Option<D::Ref>>, Stop>
-    requires roots { AreSignals flat.now roots.now }
+    last: &[u64],
+    table: &mut Vec<Option<D::Ref>>,
+    step: u32,
+    at: u64,
+) -> Result<(), Stop>
+    requires step { step < length flat.now.steps }
+    requires last { length last.now ≡ length flat.now.drivers }
     requires variables { AreVariables flat.now variables.now (D.holding d.old).variables }
-    ensures holds { IfOk result (λ table. Holds D.entry (D.holding d.old) (D.holding d.new) table.items) }
-    ensures built { IfOk result (λ table. IsBuilt D.entry flat.now variables.now table.items) }
-    ensures ready { IfOk result (λ table. AreReady table.items roots.now) }
+    requires owned { OwnsTable D.entry (D.holding d.old) table.old.items }
+    requires built { IsBuilt D.entry flat.now variables.now table.old.items }
+    requires ready { AreReady table.old.items (uses_at flat.now step) }
+    ensures ok { OnOk result (Advances D.entry flat.now variables.now last.now (D.holding d.old) table.old.items (D.holding d.new) table.new.items (slice_index flat.now.steps step) at) }
     ensures stop { OnErr result (Keeps (D.holding d.old) (D.holding d.new)) }
+    ensures table { OnErr result (table.new.items ≡ table.old.items) }
     ensures only { IfErr result (λ s. s ≢ Stop.Threads) }
 {
-    let Ok(last) = last_uses(alloc, flat, roots) else {
-        return Err(Stop::Memory);
-    };
-    let steps = flat.steps();
-    let Ok(mut table) = empty_table(alloc, steps.len()) else {
-        return Err(Stop::Memory);
-    };
-    for k in 0..steps.len() {
-        let s = steps[k];
-        if last[s as usize] > 0 {
-            match build_signal(alloc, rt, d, flat, variables, &mut table, s) {
-                Ok(()) => {}
-                Err(stop) => {
-                    give_back_all(d, table);
-                    return Err(stop);
-                }
-            }
-            let uses = flat.driver(s).dependencies();
-            release(d, &mut table, &last, &uses, k as u32 + 1);
-        }
-    }
-    Ok(table)
+    let s = flat.steps()[step as usize];
+    build_signal(alloc, rt, d, flat, variables, table, s)?;
+    release(d, table, last, &flat.driver(s).dependencies(), at);
+    Ok(())
 }
 
-/// The diagrams of signals of both netlists of a pair, over the pair's variables.
-pub(crate) fn build_both<R, D: Diagrams<R>>(
+/// Notes a signal that is used later than all steps of an output, so that it is given back then.
+fn note_due(
+    due: &mut BinaryHeap<Reverse<(u64, u32)>>,
+    last: u64,
+    s: u32,
+    steps: u64,
+) -> Result<(), Stop>
+    ensures only { IfErr result (λ s. s ≡ Stop.Memory) }
+{
+    if last <= steps {
+        return Ok(());
+    }
+    match due.push(Reverse((last, s))) {
+        Ok(()) => Ok(()),
+        Err(_) => Err(Stop::Memory),
+    }
+}
+
+/// Brings the diagram of the root of an output into the table, where it isn't there yet. Outputs come in rising order;
+/// `output` counts from 1. Each signal that the root depends on is built unless it is kept, and no other; it stays where a
+/// later output needs it, and is else given back after its last use.
+pub(crate) fn complete<R, D: Diagrams<R>>(
     alloc: Global,
     rt: &R,
     d: &mut D,
-    pair: &Pair<'_>,
-    first_roots: &[u32],
-    second_roots: &[u32],
-) -> Result<Tables<D::Ref>, Stop>
-    requires variables { length pair.now.first.inputs ≤ (D.holding d.old).variables }
-    requires first_roots { AreSignals pair.now.first first_roots.now }
-    requires second_roots { AreSignals pair.now.second second_roots.now }
-    ensures holds { IfOk result (λ tables. HoldsBoth D.entry (D.holding d.old) (D.holding d.new) tables.first.items tables.second.items) }
-    ensures built { IfOk result (λ tables. AreBuilt D.entry pair.now tables.first.items tables.second.items) }
-    ensures first_ready { IfOk result (λ tables. AreReady tables.first.items first_roots.now) }
-    ensures second_ready { IfOk result (λ tables. AreReady tables.second.items second_roots.now) }
-    ensures stop { OnErr result (Keeps (D.holding d.old) (D.holding d.new)) }
+    flat: &Flat<'_>,
+    variables: &[u16],
+    schedule: &Schedule,
+    kept: &mut Kept<D::Ref>,
+    root: u32,
+    output: u32,
+) -> Result<(), Stop>
+    requires some { 1 ≤ output }
+    requires root { root < length flat.now.drivers }
+    requires places { ArePlaces flat.now schedule.now.places.items }
+    requires last { AreLastMoments flat.now schedule.now.last.items }
+    requires needed { moment output (length flat.now.drivers + 1) ≤ slice_index schedule.now.last.items root }
+    requires variables { AreVariables flat.now variables.now (D.holding d.old).variables }
+    requires owned { OwnsTable D.entry (D.holding d.old) kept.old.table.items }
+    requires built { IsBuilt D.entry flat.now variables.now kept.old.table.items }
+    ensures moves { Moves D.entry (D.holding d.old) kept.old.table.items (D.holding d.new) kept.new.table.items }
+    ensures built { IsBuilt D.entry flat.now variables.now kept.new.table.items }
+    ensures ready { OnOk result (IsSome (reference_of kept.new.table.items root)) }
+    ensures kept { (s : ℕ) → moment output (length flat.now.drivers + 1) < slice_index schedule.now.last.items s → IsSome (reference_of kept.old.table.items s) → IsSome (reference_of kept.new.table.items s) }
     ensures only { IfErr result (λ s. s ≢ Stop.Threads) }
 {
-    let first = build(alloc, rt, d, pair.first(), pair.variables(), first_roots)?;
-    match build(
-        alloc,
-        rt,
-        d,
-        pair.second(),
-        pair.second_variables(),
-        second_roots,
-    ) {
-        Ok(second) => Ok(Tables { first, second }),
-        Err(stop) => {
-            give_back_all(d, first);
-            Err(stop)
-        }
+    let Ok(mut steps) = wanted(alloc, flat, schedule, &kept.table, root, output) else {
+        return Err(Stop::Memory);
+    };
+    let end = moment(output, flat.steps().len() as u32);
+    while let Some(step) = steps.pop() {
+        let s = flat.steps()[step as usize];
+        note_due(&mut kept.due, schedule.last[s as usize], s, end)?;
+        let at = moment(output, step + 1);
+        build_step(
+            alloc,
+            rt,
+            d,
+            flat,
+            variables,
+            &schedule.last,
+            &mut kept.table,
+            step,
+            at,
+        )?;
     }
+    Ok(())
 }

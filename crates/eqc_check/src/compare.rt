@@ -1,17 +1,21 @@
-ghost use Rattle.std.specs.Prelude.{◌≡◌, ◌≢◌, ℕ, ◌<◌, ◌≤◌, [], length, slice_index, slice_index_or, IfOk, IfErr, IfSome, IsSome, OnErr};
+ghost use Rattle.std.specs.Prelude.{◌≡◌, ◌≢◌, ℕ, ◌+◌, ◌<◌, ◌≤◌, [], None, length, slice_index, slice_index_or, IfOk, IfErr, IfSome, IsSome, OnOk, OnErr};
 ghost use Rattle.std.specs.Option.{option_map};
 ghost use Rattle.eqc_tree.specs.Holding.{IsHeld, says, Keeps, Gains, Loses};
 ghost use Rattle.eqc_check.specs.Verdict.{least_difference, first_difference};
 ghost use Rattle.eqc_check.specs.PairOf.{second_signals};
-ghost use Rattle.eqc_check.specs.Building.{AreBuilt, AreReady, OwnsBoth, reference_of};
-ghost use Rattle.eqc_check.specs.Comparing.{netlist_of, differs_at, SaysDifference, found_at, IsNext};
+ghost use Rattle.eqc_check.specs.Building.{AreBuilt, OwnsBoth, MovesBoth, KeepsLater, reference_of};
+ghost use Rattle.eqc_check.specs.Schedule.{moment};
+ghost use Rattle.eqc_check.specs.Turns.{AreScheduled, IsTurn, AreTurns};
+ghost use Rattle.eqc_check.specs.Comparing.{netlist_of, differs_at, SaysDifference, found_at};
 
-use crate::build::build_both;
-use crate::build::table::{Tables, give_back_both, reference_at};
+use crate::build::complete;
+use crate::build::kept::{Tables, clear, give_back_kept, nothing_kept, release_due};
+use crate::build::schedule::{Schedules, moment, schedule_of};
+use crate::build::table::reference_at;
 use crate::least::{is_false, least_over};
 use crate::pairing::matched_pair::Pair;
 use eqc_tree::{Diagrams, Op, References, Stop};
-use std::alloc::Global;
+use std::alloc::{AllocError, Global};
 use std::slice::from_ref;
 
 /// The diagram that is true where an output differs.
@@ -23,10 +27,10 @@ fn output_difference<R, D: Diagrams<R>>(
     output: usize,
 ) -> Result<D::Ref, Stop>
     requires output { output < length pair.now.first.outputs }
-    requires built { AreBuilt D.entry pair.now tables.now.first.items tables.now.second.items }
-    requires owned { OwnsBoth D.entry (D.holding d.old) tables.now.first.items tables.now.second.items }
-    requires first_ready { IsSome (reference_of tables.now.first.items (slice_index pair.now.first.output_signals output)) }
-    requires second_ready { IsSome (reference_of tables.now.second.items (slice_index (second_signals pair.now) output)) }
+    requires built { AreBuilt D.entry pair.now tables.now.first.table.items tables.now.second.table.items }
+    requires owned { OwnsBoth D.entry (D.holding d.old) tables.now.first.table.items tables.now.second.table.items }
+    requires first_ready { IsSome (reference_of tables.now.first.table.items (slice_index pair.now.first.output_signals output)) }
+    requires second_ready { IsSome (reference_of tables.now.second.table.items (slice_index (second_signals pair.now) output)) }
     ensures ok { IfOk result (λ r. Gains (D.holding d.old) (D.holding d.new) (D.entry r) (differs_at pair.now output)) }
     ensures stop { OnErr result (Keeps (D.holding d.old) (D.holding d.new)) }
     ensures only { IfErr result (λ s. s ≢ Stop.Threads) }
@@ -37,8 +41,8 @@ fn output_difference<R, D: Diagrams<R>>(
     d.apply(
         rt,
         Op::Xor,
-        reference_at(&tables.first, s),
-        reference_at(&tables.second, t),
+        reference_at(&tables.first.table, s),
+        reference_at(&tables.second.table, t),
     )
 }
 
@@ -70,68 +74,275 @@ fn least_of_difference<R, D: Diagrams<R>>(
     Ok(Some(least?))
 }
 
-/// What was found before, or else what is found at this output. Behind what was found the difference is only formed,
-/// since it may stop.
-fn next_difference<R, D: Diagrams<R>>(
+/// The least assignment under which an output differs, or none, where its signals have their references.
+fn difference<R, D: Diagrams<R>>(
     alloc: Global,
     rt: &R,
     d: &mut D,
     pair: &Pair<'_>,
     tables: &Tables<D::Ref>,
     output: usize,
-    before: Option<(usize, Vec<bool>)>,
-) -> Result<Option<(usize, Vec<bool>)>, Stop>
+) -> Result<Option<Vec<bool>>, Stop>
     requires variables { length pair.now.first.inputs ≤ (D.holding d.old).variables }
     requires output { output < length pair.now.first.outputs }
-    requires built { AreBuilt D.entry pair.now tables.now.first.items tables.now.second.items }
-    requires owned { OwnsBoth D.entry (D.holding d.old) tables.now.first.items tables.now.second.items }
-    requires first_ready { IsSome (reference_of tables.now.first.items (slice_index pair.now.first.output_signals output)) }
-    requires second_ready { IsSome (reference_of tables.now.second.items (slice_index (second_signals pair.now) output)) }
-    ensures found { IfOk result (λ found. IsNext before output (least_difference (netlist_of pair.now.first) (netlist_of pair.now.second) (slice_index_or pair.now.first.outputs output [])) found) }
+    requires built { AreBuilt D.entry pair.now tables.now.first.table.items tables.now.second.table.items }
+    requires owned { OwnsBoth D.entry (D.holding d.old) tables.now.first.table.items tables.now.second.table.items }
+    requires first_ready { IsSome (reference_of tables.now.first.table.items (slice_index pair.now.first.output_signals output)) }
+    requires second_ready { IsSome (reference_of tables.now.second.table.items (slice_index (second_signals pair.now) output)) }
+    ensures found { IfOk result (λ found. option_map (λ v. v.items) found ≡ least_difference (netlist_of pair.now.first) (netlist_of pair.now.second) (slice_index_or pair.now.first.outputs output [])) }
     ensures kept { Keeps (D.holding d.old) (D.holding d.new) }
     ensures only { IfErr result (λ s. s ≢ Stop.Threads) }
 {
     let difference = output_difference(rt, d, pair, tables, output)?;
-    if before.is_some() {
-        d.give_back(difference);
-        return Ok(before);
-    }
-    match least_of_difference(alloc, rt, d, pair, output, difference)? {
-        Some(values) => Ok(Some((output, values))),
-        None => Ok(None),
-    }
+    least_of_difference(alloc, rt, d, pair, output, difference)
 }
 
-/// The first output whose functions in the two tables differ, with its least assignment. All are compared, since a
-/// stop at a later output comes before a difference.
-fn compare_tables<R, D: Diagrams<R>>(
+/// Brings the diagrams of an output's two signals into the tables.
+fn complete_both<R, D: Diagrams<R>>(
     alloc: Global,
     rt: &R,
     d: &mut D,
     pair: &Pair<'_>,
-    tables: &Tables<D::Ref>,
-) -> Result<Option<(usize, Vec<bool>)>, Stop>
+    schedules: &Schedules,
+    tables: &mut Tables<D::Ref>,
+    output: usize,
+    turn: u32,
+) -> Result<(), Stop>
     requires variables { length pair.now.first.inputs ≤ (D.holding d.old).variables }
-    requires built { AreBuilt D.entry pair.now tables.now.first.items tables.now.second.items }
-    requires owned { OwnsBoth D.entry (D.holding d.old) tables.now.first.items tables.now.second.items }
-    requires first_ready { AreReady tables.now.first.items pair.now.first.output_signals }
-    requires second_ready { AreReady tables.now.second.items (second_signals pair.now) }
-    ensures found { IfOk result (λ found. found_at pair.now.first found ≡ first_difference (netlist_of pair.now.first) (netlist_of pair.now.second) pair.now.first.outputs) }
-    ensures within { IfOk result (λ found. IfSome found (λ p. p.0 < length pair.now.first.outputs)) }
-    ensures kept { Keeps (D.holding d.old) (D.holding d.new) }
+    requires output { output < length pair.now.first.outputs }
+    requires scheduled { AreScheduled pair.now schedules.now.first schedules.now.second }
+    requires turn { IsTurn pair.now schedules.now.first schedules.now.second output turn }
+    requires built { AreBuilt D.entry pair.now tables.old.first.table.items tables.old.second.table.items }
+    requires owned { OwnsBoth D.entry (D.holding d.old) tables.old.first.table.items tables.old.second.table.items }
+    ensures moves { MovesBoth D.entry (D.holding d.old) tables.old.first.table.items tables.old.second.table.items (D.holding d.new) tables.new.first.table.items tables.new.second.table.items }
+    ensures built { AreBuilt D.entry pair.now tables.new.first.table.items tables.new.second.table.items }
+    ensures first_ready { OnOk result (IsSome (reference_of tables.new.first.table.items (slice_index pair.now.first.output_signals output))) }
+    ensures second_ready { OnOk result (IsSome (reference_of tables.new.second.table.items (slice_index (second_signals pair.now) output))) }
     ensures only { IfErr result (λ s. s ≢ Stop.Threads) }
 {
     pair.recall_laws();
-    let mut found = None;
-    for o in 0..pair.first().outputs().len() {
-        found = next_difference(alloc, rt, d, pair, tables, o, found)?;
-    }
-    Ok(found)
+    let s = pair.first().output_signals()[output];
+    let t = pair.second_signals()[output];
+    complete(
+        alloc,
+        rt,
+        d,
+        pair.first(),
+        pair.variables(),
+        &schedules.first,
+        &mut tables.first,
+        s,
+        turn,
+    )?;
+    complete(
+        alloc,
+        rt,
+        d,
+        pair.second(),
+        pair.second_variables(),
+        &schedules.second,
+        &mut tables.second,
+        t,
+        turn,
+    )
 }
 
-/// The first output that differs, by its position in the first netlist, and the least assignment under which
-/// it does. Each signal that an output depends on is built once for each netlist. All references are given
-/// back.
+/// Gives back what no output behind a turn needs.
+fn release_both<D: References>(
+    d: &mut D,
+    pair: &Pair<'_>,
+    schedules: &Schedules,
+    tables: &mut Tables<D::Ref>,
+    turn: u32,
+)
+    requires scheduled { AreScheduled pair.now schedules.now.first schedules.now.second }
+    requires built { AreBuilt D.entry pair.now tables.old.first.table.items tables.old.second.table.items }
+    requires owned { OwnsBoth D.entry (D.holding d.old) tables.old.first.table.items tables.old.second.table.items }
+    ensures moves { MovesBoth D.entry (D.holding d.old) tables.old.first.table.items tables.old.second.table.items (D.holding d.new) tables.new.first.table.items tables.new.second.table.items }
+    ensures built { AreBuilt D.entry pair.now tables.new.first.table.items tables.new.second.table.items }
+    ensures first_later { KeepsLater schedules.now.first.last.items tables.old.first.table.items tables.new.first.table.items (moment turn (length pair.now.first.drivers + 1)) }
+    ensures second_later { KeepsLater schedules.now.second.last.items tables.old.second.table.items tables.new.second.table.items (moment turn (length pair.now.second.drivers + 1)) }
+{
+    pair.recall_laws();
+    let first_end = moment(turn, pair.first().steps().len() as u32 + 1);
+    release_due(d, &mut tables.first, &schedules.first.last, first_end);
+    let second_end = moment(turn, pair.second().steps().len() as u32 + 1);
+    release_due(d, &mut tables.second, &schedules.second.last, second_end);
+}
+
+/// Compares an output in its turn, counted from 1; outputs come in rising order. The references that later turns need
+/// stay in the tables.
+fn compare_turn<R, D: Diagrams<R>>(
+    alloc: Global,
+    rt: &R,
+    d: &mut D,
+    pair: &Pair<'_>,
+    schedules: &Schedules,
+    tables: &mut Tables<D::Ref>,
+    output: usize,
+    turn: u32,
+) -> Result<Option<Vec<bool>>, Stop>
+    requires variables { length pair.now.first.inputs ≤ (D.holding d.old).variables }
+    requires output { output < length pair.now.first.outputs }
+    requires scheduled { AreScheduled pair.now schedules.now.first schedules.now.second }
+    requires turn { IsTurn pair.now schedules.now.first schedules.now.second output turn }
+    requires built { AreBuilt D.entry pair.now tables.old.first.table.items tables.old.second.table.items }
+    requires owned { OwnsBoth D.entry (D.holding d.old) tables.old.first.table.items tables.old.second.table.items }
+    ensures found { IfOk result (λ found. option_map (λ v. v.items) found ≡ least_difference (netlist_of pair.now.first) (netlist_of pair.now.second) (slice_index_or pair.now.first.outputs output [])) }
+    ensures moves { MovesBoth D.entry (D.holding d.old) tables.old.first.table.items tables.old.second.table.items (D.holding d.new) tables.new.first.table.items tables.new.second.table.items }
+    ensures built { AreBuilt D.entry pair.now tables.new.first.table.items tables.new.second.table.items }
+    ensures only { IfErr result (λ s. s ≢ Stop.Threads) }
+{
+    complete_both(alloc, rt, d, pair, schedules, tables, output, turn)?;
+    let found = difference(alloc, rt, d, pair, tables, output);
+    release_both(d, pair, schedules, tables, turn);
+    found
+}
+
+/// Gives back all that is kept.
+fn clear_both<D: References>(d: &mut D, pair: &Pair<'_>, tables: &mut Tables<D::Ref>)
+    requires built { AreBuilt D.entry pair.now tables.old.first.table.items tables.old.second.table.items }
+    requires owned { OwnsBoth D.entry (D.holding d.old) tables.old.first.table.items tables.old.second.table.items }
+    ensures moves { MovesBoth D.entry (D.holding d.old) tables.old.first.table.items tables.old.second.table.items (D.holding d.new) tables.new.first.table.items tables.new.second.table.items }
+    ensures built { AreBuilt D.entry pair.now tables.new.first.table.items tables.new.second.table.items }
+{
+    pair.recall_laws();
+    clear(d, &mut tables.first);
+    clear(d, &mut tables.second);
+}
+
+/// The same, and where the store is full and references of earlier turns are kept, once more without them.
+pub(crate) fn compare_kept<R, D: Diagrams<R>>(
+    alloc: Global,
+    rt: &R,
+    d: &mut D,
+    pair: &Pair<'_>,
+    schedules: &Schedules,
+    tables: &mut Tables<D::Ref>,
+    output: usize,
+    turn: u32,
+) -> Result<Option<Vec<bool>>, Stop>
+    requires variables { length pair.now.first.inputs ≤ (D.holding d.old).variables }
+    requires output { output < length pair.now.first.outputs }
+    requires scheduled { AreScheduled pair.now schedules.now.first schedules.now.second }
+    requires turn { IsTurn pair.now schedules.now.first schedules.now.second output turn }
+    requires built { AreBuilt D.entry pair.now tables.old.first.table.items tables.old.second.table.items }
+    requires owned { OwnsBoth D.entry (D.holding d.old) tables.old.first.table.items tables.old.second.table.items }
+    ensures found { IfOk result (λ found. option_map (λ v. v.items) found ≡ least_difference (netlist_of pair.now.first) (netlist_of pair.now.second) (slice_index_or pair.now.first.outputs output [])) }
+    ensures moves { MovesBoth D.entry (D.holding d.old) tables.old.first.table.items tables.old.second.table.items (D.holding d.new) tables.new.first.table.items tables.new.second.table.items }
+    ensures built { AreBuilt D.entry pair.now tables.new.first.table.items tables.new.second.table.items }
+    ensures only { IfErr result (λ s. s ≢ Stop.Threads) }
+{
+    let keeps = !tables.first.due.is_empty() || !tables.second.due.is_empty();
+    let found = compare_turn(alloc, rt, d, pair, schedules, tables, output, turn);
+    if !keeps {
+        return found;
+    }
+    let Err(Stop::NodeLimit) = found else {
+        return found;
+    };
+    clear_both(d, pair, tables);
+    compare_turn(alloc, rt, d, pair, schedules, tables, output, turn)
+}
+
+/// No references, for a pair.
+fn no_tables<D: References>(
+    alloc: Global,
+    d: &mut D,
+    pair: &Pair<'_>,
+) -> Result<Tables<D::Ref>, Stop>
+    ensures kept { Keeps (D.holding d.old) (D.holding d.new) }
+    ensures built { IfOk result (λ t. AreBuilt D.entry pair.now t.first.table.items t.second.table.items) }
+    ensures owned { IfOk result (λ t. MovesBoth D.entry (D.holding d.old) [] [] (D.holding d.new) t.first.table.items t.second.table.items) }
+    ensures only { IfErr result (λ s. s ≡ Stop.Memory) }
+{
+    pair.recall_laws();
+    let Ok(first) = nothing_kept(alloc, pair.first().steps().len()) else {
+        return Err(Stop::Memory);
+    };
+    match nothing_kept(alloc, pair.second().steps().len()) {
+        Ok(second) => Ok(Tables { first, second }),
+        Err(_) => {
+            give_back_kept(d, first);
+            Err(Stop::Memory)
+        }
+    }
+}
+
+/// Gives all references of two tables back.
+fn give_back_both<D: References>(d: &mut D, tables: Tables<D::Ref>)
+    requires { OwnsBoth D.entry (D.holding d.old) tables.first.table.items tables.second.table.items }
+    ensures { MovesBoth D.entry (D.holding d.old) tables.first.table.items tables.second.table.items (D.holding d.new) [] [] }
+{
+    let Tables { first, second } = tables;
+    give_back_kept(d, first);
+    give_back_kept(d, second);
+}
+
+/// The schedules of a pair whose outputs are compared in their order. Fails where memory is refused.
+pub(crate) fn schedules_of(alloc: Global, pair: &Pair<'_>) -> Result<Schedules, AllocError>
+    ensures scheduled { IfOk result (λ s. AreScheduled pair.now s.first s.second) }
+    ensures turns { IfOk result (λ s. AreTurns pair.now s.first s.second) }
+    ensures few { OnOk result (length pair.now.first.outputs ≤ 4294967295) }
+{
+    pair.recall_laws();
+    // The names alone of so many outputs would take a hundred gigabytes.
+    if pair.second_signals().len() > 4294967295 {
+        return Err(AllocError);
+    }
+    Ok(Schedules {
+        first: schedule_of(alloc, pair.first(), pair.first().output_signals())?,
+        second: schedule_of(alloc, pair.second(), pair.second_signals())?,
+    })
+}
+
+/// The schedules of a pair of which one output is compared, by its signals.
+fn one_turn(alloc: Global, pair: &Pair<'_>, s: u32, t: u32) -> Result<Schedules, AllocError>
+    requires s { s < length pair.now.first.drivers }
+    requires t { t < length pair.now.second.drivers }
+    ensures scheduled { IfOk result (λ x. AreScheduled pair.now x.first x.second) }
+    ensures first { IfOk result (λ x. moment 1 (length pair.now.first.drivers + 1) ≤ slice_index x.first.last.items s) }
+    ensures second { IfOk result (λ x. moment 1 (length pair.now.second.drivers + 1) ≤ slice_index x.second.last.items t) }
+{
+    pair.recall_laws();
+    Ok(Schedules {
+        first: schedule_of(alloc, pair.first(), from_ref(&s))?,
+        second: schedule_of(alloc, pair.second(), from_ref(&t))?,
+    })
+}
+
+/// The first output that differs, with its least assignment.
+fn compare_in_turn<R, D: Diagrams<R>>(
+    alloc: Global,
+    rt: &R,
+    d: &mut D,
+    pair: &Pair<'_>,
+    schedules: &Schedules,
+    tables: &mut Tables<D::Ref>,
+) -> Result<Option<(usize, Vec<bool>)>, Stop>
+    requires variables { length pair.now.first.inputs ≤ (D.holding d.old).variables }
+    requires few { length pair.now.first.outputs ≤ 4294967295 }
+    requires scheduled { AreScheduled pair.now schedules.now.first schedules.now.second }
+    requires turns { AreTurns pair.now schedules.now.first schedules.now.second }
+    requires built { AreBuilt D.entry pair.now tables.old.first.table.items tables.old.second.table.items }
+    requires owned { OwnsBoth D.entry (D.holding d.old) tables.old.first.table.items tables.old.second.table.items }
+    ensures found { IfOk result (λ found. found_at pair.now.first found ≡ first_difference (netlist_of pair.now.first) (netlist_of pair.now.second) pair.now.first.outputs) }
+    ensures within { IfOk result (λ found. IfSome found (λ p. p.0 < length pair.now.first.outputs)) }
+    ensures moves { MovesBoth D.entry (D.holding d.old) tables.old.first.table.items tables.old.second.table.items (D.holding d.new) tables.new.first.table.items tables.new.second.table.items }
+    ensures only { IfErr result (λ s. s ≢ Stop.Threads) }
+{
+    for o in 0..pair.first().outputs().len() {
+        match compare_kept(alloc, rt, d, pair, schedules, tables, o, o as u32 + 1)? {
+            Some(values) => return Ok(Some((o, values))),
+            None => {}
+        }
+    }
+    Ok(None)
+}
+
+/// The first output that differs, by its position in the first netlist, and the least assignment under which it does:
+/// what lies behind it isn't looked at. Each signal that an output depends on is built once for each netlist, unless the
+/// store is full. All references are given back.
 pub(crate) fn compare_outputs<R, D: Diagrams<R>>(
     alloc: Global,
     rt: &R,
@@ -144,10 +355,11 @@ pub(crate) fn compare_outputs<R, D: Diagrams<R>>(
     ensures kept { Keeps (D.holding d.old) (D.holding d.new) }
     ensures only { IfErr result (λ s. s ≢ Stop.Threads) }
 {
-    pair.recall_laws();
-    let first_roots = pair.first().output_signals();
-    let tables = build_both(alloc, rt, d, pair, first_roots, pair.second_signals())?;
-    let found = compare_tables(alloc, rt, d, pair, &tables);
+    let Ok(schedules) = schedules_of(alloc, pair) else {
+        return Err(Stop::Memory);
+    };
+    let mut tables = no_tables(alloc, d, pair)?;
+    let found = compare_in_turn(alloc, rt, d, pair, &schedules, &mut tables);
     give_back_both(d, tables);
     found
 }
@@ -175,8 +387,11 @@ pub fn compare_output<R, D: Diagrams<R>>(
     pair.recall_laws();
     let s = pair.first().output_signals()[output];
     let t = pair.second_signals()[output];
-    let tables = build_both(alloc, rt, d, pair, from_ref(&s), from_ref(&t))?;
-    let difference = output_difference(rt, d, pair, &tables, output);
+    let Ok(schedules) = one_turn(alloc, pair, s, t) else {
+        return Err(Stop::Memory);
+    };
+    let mut tables = no_tables(alloc, d, pair)?;
+    let found = compare_turn(alloc, rt, d, pair, &schedules, &mut tables, output, 1);
     give_back_both(d, tables);
-    least_of_difference(alloc, rt, d, pair, output, difference?)
+    found
 }

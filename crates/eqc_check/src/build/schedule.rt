@@ -57,11 +57,7 @@ fn raise(last: &mut Vec<u64>, signals: &Signals<'_>, at: u64)
 }
 
 /// The moments at which the outputs themselves are compared.
-fn output_moments(
-    alloc: Global,
-    flat: &Flat<'_>,
-    roots: &[u32],
-) -> Result<Vec<u64>, AllocError>
+fn output_moments(alloc: Global, flat: &Flat<'_>, roots: &[u32]) -> Result<Vec<u64>, AllocError>
     requires roots { AreSignals flat.now roots.now }
     requires few { length roots.now < 4294967296 }
     ensures size { IfOk result (λ last. length last.items ≡ length flat.now.drivers) }
@@ -76,11 +72,7 @@ fn output_moments(
 }
 
 /// The last moment at which each signal is used, where the outputs' signals are the roots.
-fn last_moments(
-    alloc: Global,
-    flat: &Flat<'_>,
-    roots: &[u32],
-) -> Result<Vec<u64>, AllocError>
+fn last_moments(alloc: Global, flat: &Flat<'_>, roots: &[u32]) -> Result<Vec<u64>, AllocError>
     requires roots { AreSignals flat.now roots.now }
     requires few { length roots.now < 4294967296 }
     ensures last { IfOk result (λ last. AreLastMoments flat.now last.items) }
@@ -117,4 +109,11 @@ pub(crate) fn schedule_of(
         places: places_of(alloc, flat)?,
         last: last_moments(alloc, flat, roots)?,
     })
+}
+
+/// The schedules of both netlists of a pair.
+#[derive(Drop)]
+pub(crate) struct Schedules {
+    pub(crate) first: Schedule,
+    pub(crate) second: Schedule,
 }

@@ -1,6 +1,6 @@
 ghost use Rattle.std.specs.Prelude.{◌≡◌, ℕ, ◌<◌, ◌⊎◌, List, [], length, IfOk, IsSome, Some, None, Option, map, vec_len, slice_index, slice_set};
 ghost use Rattle.eqc_tree.specs.Holding.{IsHeld, Loses, weight};
-ghost use Rattle.eqc_check.specs.Building.{Moves, OwnsTable, OwnsBoth, LosesBoth, Empties, Fills, Releases, reference_of};
+ghost use Rattle.eqc_check.specs.Building.{Moves, OwnsTable, Empties, Fills, Releases, reference_of};
 
 use eqc_flat::Signals;
 use eqc_tree::References;
@@ -57,13 +57,13 @@ pub(crate) fn take_back<D: References>(d: &mut D, table: &mut Vec<Option<D::Ref>
     d.give_back(reference);
 }
 
-/// Gives back the references of those of the signals whose last use is the step `at`.
+/// Gives back the references of those of the signals that are used for the last time at the moment `at`.
 pub(crate) fn release<D: References>(
     d: &mut D,
     table: &mut Vec<Option<D::Ref>>,
-    last: &[u32],
+    last: &[u64],
     signals: &Signals<'_>,
-    at: u32,
+    at: u64,
 )
     requires within { (k : ℕ) → k < length signals.now → slice_index signals.now k < length table.old.items }
     requires size { length last.now ≡ length table.old.items }
@@ -89,20 +89,4 @@ pub(crate) fn give_back_all<D: References>(d: &mut D, mut table: Vec<Option<D::R
         }
     }
     table.destroy_empty();
-}
-
-/// The references of signals of both netlists of a pair.
-pub(crate) struct Tables<X> {
-    pub(crate) first: Vec<Option<X>>,
-    pub(crate) second: Vec<Option<X>>,
-}
-
-/// Gives all references of two tables back.
-pub(crate) fn give_back_both<D: References>(d: &mut D, tables: Tables<D::Ref>)
-    requires { OwnsBoth D.entry (D.holding d.old) tables.first.items tables.second.items }
-    ensures { LosesBoth D.entry (D.holding d.old) (D.holding d.new) tables.first.items tables.second.items }
-{
-    let Tables { first, second } = tables;
-    give_back_all(d, first);
-    give_back_all(d, second);
 }

@@ -1,8 +1,8 @@
-use Rattle.std.proofs.Common.{arith, length, ◌+◌, ◌-◌, ◌<◌, ◌≤◌, ◌≡◌, ℕ, List, ap, ◌∙◌, get_or, subst}
+use Rattle.std.proofs.Common.{arith, length, ◌+◌, ◌-◌, ◌<◌, ◌≡◌, ℕ, List, ap, ◌∙◌, get_or, subst}
 use Rattle.std.proofs.lemmas.List.{get_or_default}
 use Rattle.eqc_flat.specs.Graph.{dependencies, driver_at}
-use Rattle.eqc_check.specs.Schedule.{IsRaised, moment}
-use Rattle.eqc_check.proofs.ScheduleLaws.{AreMomentsFrom, moments_start, moments_skip, moments_raised, moments_done, moments_of_roots}
+use Rattle.eqc_check.specs.Schedule.{IsRaised}
+use Rattle.eqc_check.proofs.ScheduleLaws.{AreMomentsFrom, moments_skip, moments_raised, moments_done, moments_of_roots}
 use Rattle.eqc_check.proofs.build.schedule.last_moments.Goals as goal
 
 pub overflow_add-at-then-at-gt0 : goal.overflow_add-at-then-at-gt0

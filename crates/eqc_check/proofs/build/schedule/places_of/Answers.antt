@@ -1,4 +1,4 @@
-use Rattle.std.proofs.Common.{◌≡◌, ◌<◌, ℕ, length, get_or, arith, ap, ◌∙◌, rules}
+use Rattle.std.proofs.Common.{◌≡◌, length, arith, ap}
 use Rattle.eqc_check.proofs.ScheduleLaws.{places_done}
 use Rattle.eqc_check.proofs.build.schedule.places_of.Goals as goal
 

@@ -1,4 +1,4 @@
-use Rattle.std.proofs.Common.{ℕ, ◌≡◌, ◌<◌, ◌≤◌, length, arith, refl, ap, sym, subst, inl, inr}
+use Rattle.std.proofs.Common.{◌<◌, arith, refl, subst, inl, inr}
 use Rattle.std.specs.BinaryHeap.{heap_items, heap_len}
 use Rattle.std.proofs.lemmas.Bool.{cases_lt}
 use Rattle.eqc_check.specs.Schedule.{IsOpen}

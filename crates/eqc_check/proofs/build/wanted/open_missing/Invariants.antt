@@ -1,7 +1,5 @@
-use Rattle.std.proofs.Common.{◌≡◌, ◌<◌, ℕ, get_or, IsSome, ◌⊎◌}
 use Rattle.std.specs.Ordering.{nat_cmp}
 use Rattle.std.specs.BinaryHeap.{heap_items, IsHeap}
-use Rattle.eqc_check.specs.Building.{reference_of}
 use Rattle.eqc_check.specs.Schedule.{AreOpened}
 use Rattle.eqc_check.proofs.build.wanted.open_missing.Given as goal
 

@@ -1,8 +1,8 @@
-use Rattle.std.proofs.Common.{ℕ, ◌≡◌, ◌<◌, ◌≤◌, ◌+◌, List, [], length, get_or, arith, refl, ap, sym, ◌∙◌, subst}
-use Rattle.std.specs.BinaryHeap.{heap_items, heap_len}
+use Rattle.std.proofs.Common.{ℕ, ◌≡◌, ◌<◌, List, length, get_or, arith, ap, sym, ◌∙◌, subst}
+use Rattle.std.specs.BinaryHeap.{heap_items}
 use Rattle.eqc_flat.specs.Graph.{dependencies, driver_at}
 use Rattle.eqc_check.specs.Schedule.{uses_at, AreOpened}
-use Rattle.eqc_check.proofs.WantedLaws.{wanted_first, wanted_more, wanted_done, wanted_root, open_below_top, open_top, nothing_in, use_within, AreWantedFrom}
+use Rattle.eqc_check.proofs.WantedLaws.{wanted_first, wanted_more, wanted_done, wanted_root, open_below_top, open_top, nothing_in, use_within}
 use Rattle.eqc_check.proofs.build.wanted.wanted.Goals as goal
 
 pub loop-step-init : goal.loop-step-init

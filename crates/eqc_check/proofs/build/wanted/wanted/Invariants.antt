@@ -1,4 +1,3 @@
-use Rattle.std.proofs.Common.{length, ℕ, ◌≤◌}
 use Rattle.std.specs.Ordering.{nat_cmp}
 use Rattle.std.specs.BinaryHeap.{heap_items, IsHeap}
 use Rattle.eqc_check.proofs.WantedLaws.{AreWantedFrom}

@@ -1,9 +1,0 @@
-use Rattle.std.proofs.Common.{◌≤◌, length}
-use Rattle.eqc_check.proofs.PlanLaws.{IsPlanFrom}
-use Rattle.eqc_check.proofs.build.plan.last_uses.Given as goal
-
-abbrev pub invariant-loop-k : goal.invariant-loop-k
-invariant-loop-k l = (l.k ≤ length l.flat.steps) × IsPlanFrom l.flat l.roots l.last.items l.k
-
-abbrev pub decreases-loop-k : goal.decreases-loop-k
-decreases-loop-k l = l.k

@@ -1,0 +1,12 @@
+use Rattle.std.proofs.Common.{arith}
+use Rattle.eqc_check.proofs.PairLaws.{pair_matched, first_within, second_within}
+use Rattle.eqc_check.proofs.compare.complete_both.Goals as goal
+
+pub bounds-second_signals-output : goal.bounds-second_signals-output
+bounds-second_signals-output g c = rw c.second_signals.ensures.each (omega (arith, (pair_matched c.args.pair.now c.recall_laws.ensures).size))
+
+pub complete-requires-clause-variables : goal.complete-requires-clause-variables
+complete-requires-clause-variables g c = rw (c.first-2.ensures, c.variables.ensures.each) (first_within c.args.pair.now _ c.recall_laws.ensures c.requires.variables)
+
+pub complete-requires-2-clause-variables : goal.complete-requires-2-clause-variables
+complete-requires-2-clause-variables g c = rw (c.second.ensures, c.second_variables.ensures.each) (second_within c.args.pair.now _ c.recall_laws.ensures (omega (arith, c.complete.ensures.moves.variables)))

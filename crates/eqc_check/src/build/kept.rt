@@ -1,0 +1,74 @@
+ghost use Rattle.std.specs.Prelude.{◌≡◌, ℕ, ◌≤◌, [], length, IfOk, None};
+ghost use Rattle.eqc_check.specs.Building.{Moves, OwnsTable, KeepsLater, reference_of};
+
+use crate::build::table::{empty_table, give_back_all, take_back};
+use eqc_tree::References;
+use std::alloc::{AllocError, Global};
+use std::cmp::Reverse;
+use std::collections::BinaryHeap;
+
+/// The references of signals of one netlist, which are kept from one output to the next.
+pub(crate) struct Kept<X> {
+    /// The reference of each signal that has one.
+    pub(crate) table: Vec<Option<X>>,
+    /// The signals that are to be given back after the last moment that uses them, the earliest first.
+    pub(crate) due: BinaryHeap<Reverse<(u64, u32)>>,
+}
+
+/// No reference, for `count` signals.
+pub(crate) fn nothing_kept<X>(alloc: Global, count: usize) -> Result<Kept<X>, AllocError>
+    ensures size { IfOk result (λ kept. length kept.table.items ≡ count) }
+    ensures none { IfOk result (λ kept. (s : ℕ) → reference_of kept.table.items s ≡ None) }
+{
+    let table = empty_table(alloc, count)?;
+    let due = BinaryHeap::new(alloc);
+    Ok(Kept { table, due })
+}
+
+/// Gives back what is used at no moment later than `at`.
+pub(crate) fn release_due<D: References>(d: &mut D, kept: &mut Kept<D::Ref>, last: &[u64], at: u64)
+    requires size { length last.now ≡ length kept.old.table.items }
+    requires owned { OwnsTable D.entry (D.holding d.old) kept.old.table.items }
+    ensures moves { Moves D.entry (D.holding d.old) kept.old.table.items (D.holding d.new) kept.new.table.items }
+    ensures later { KeepsLater last.now kept.old.table.items kept.new.table.items at }
+{
+    while let Some(next) = kept.due.peek() {
+        let Reverse((moment, s)) = *next;
+        if moment > at {
+            return;
+        }
+        kept.due.pop();
+        if (s as usize) < last.len() && last[s as usize] <= at {
+            take_back(d, &mut kept.table, s);
+        }
+    }
+}
+
+/// Gives back all references that are kept.
+pub(crate) fn clear<D: References>(d: &mut D, kept: &mut Kept<D::Ref>)
+    requires owned { OwnsTable D.entry (D.holding d.old) kept.old.table.items }
+    requires few { length kept.old.table.items ≤ 1048576 }
+    ensures moves { Moves D.entry (D.holding d.old) kept.old.table.items (D.holding d.new) kept.new.table.items }
+    ensures size { length kept.new.table.items ≡ length kept.old.table.items }
+    ensures none { (s : ℕ) → reference_of kept.new.table.items s ≡ None }
+{
+    kept.due.clear();
+    for s in 0..kept.table.len() {
+        take_back(d, &mut kept.table, s as u32);
+    }
+}
+
+/// Gives back all references that are kept, for good.
+pub(crate) fn give_back_kept<D: References>(d: &mut D, kept: Kept<D::Ref>)
+    requires { OwnsTable D.entry (D.holding d.old) kept.table.items }
+    ensures { Moves D.entry (D.holding d.old) kept.table.items (D.holding d.new) [] }
+{
+    let Kept { table, due: _ } = kept;
+    give_back_all(d, table);
+}
+
+/// The references of signals of both netlists of a pair.
+pub(crate) struct Tables<X> {
+    pub(crate) first: Kept<X>,
+    pub(crate) second: Kept<X>,
+}
