@@ -155,6 +155,9 @@ fn report_for<RT: Threads + Wait + Sync, R: Read + Drop>(
 /// the first, the second, the order text. A read that fails is `Read`, 91, and then nothing is written. Want of memory anywhere before the writing is reported as
 /// `stopped 72`. A write that fails or takes nothing, or a flush that fails, is `Write`, 92, and then a part of a
 /// report was written. Nothing is tried again. The answer is the kind of the report.
+///
+/// As many threads compare as the options have workers; the call may wait, for them. The report is the same for every
+/// number of workers, and where they were stopped its code is from 71 to 74.
 pub fn run<RT: Threads + Wait + Sync, R: Read + Drop, W: Write>(
     rt: &RT,
     alloc: Global,

@@ -82,8 +82,8 @@ fn first_found<R: Threads + Wait + Sync, D: Diagrams<R> + Send + Drop, G: Gate<R
 /// gate is told of each comparison before it begins. A member that has found a difference compares no later output. The
 /// call may wait, since it waits for all members, and for the gate.
 ///
-/// The errors are those of the members' diagrams, 71, 72 and 73; 72 where memory is refused; and 74 where a thread
-/// could not be started, or numbers of 32 bits don't suffice for the outputs or for the members. Where several came, it is one of them.
+/// The errors are those of the members' diagrams, 71, 72 and 73; 72 also where memory is refused, or where 32 bits don't
+/// number the members or the outputs; and 74 where a thread could not be started. Where several came it is one of them.
 pub fn check_with<R: Threads + Wait + Sync, D: Diagrams<R> + Send + Drop, G: Gate<R> + Sync>(
     rt: &R,
     alloc: Global,
@@ -97,7 +97,7 @@ pub fn check_with<R: Threads + Wait + Sync, D: Diagrams<R> + Send + Drop, G: Gat
 {
     let most = u32::MAX as usize;
     if members.len() > most || pair.first().outputs().len() > most {
-        return Err(Stop::Threads);
+        return Err(Stop::Memory);
     }
     let found = first_found(rt, alloc, pair, members, gate)?;
     found_report(alloc, pair, found)

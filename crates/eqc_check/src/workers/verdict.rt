@@ -78,10 +78,7 @@ pub(crate) fn in_order(
 }
 
 /// The first output that differs, by its position, with its least assignment.
-pub(crate) fn first_of(
-    pair: &Pair<'_>,
-    row: Vec<Option<Finding>>,
-) -> Option<(usize, Vec<bool>)>
+pub(crate) fn first_of(pair: &Pair<'_>, row: Vec<Option<Finding>>) -> Option<(usize, Vec<bool>)>
     requires size { vec_len row ≡ length pair.now.first.outputs }
     requires each { (o : ℕ) → o < vec_len row → Stands pair.now [] o (slice_index_or row.items o None) }
     ensures found { found_at pair.now.first result ≡ first_difference (netlist_of pair.now.first) (netlist_of pair.now.second) pair.now.first.outputs }

@@ -1,4 +1,4 @@
-use Rattle.std.proofs.Common.{◌≡◌, ◌≤◌, arith, All, ◌++◌, ◌∷◌, []}
+use Rattle.std.proofs.Common.{◌≤◌, arith, All, ◌++◌, ◌∷◌, []}
 use Rattle.std.proofs.lemmas.List.Elements.{All-push}
 use Rattle.eqc_plain.specs.Extending.{holding_in}
 use Rattle.eqc_plain.specs.declared.plain.Plain.{Plain}
