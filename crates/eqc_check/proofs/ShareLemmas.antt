@@ -1,5 +1,5 @@
 -- What a member's draws come to, and two shares put together.
-use Rattle.std.proofs.Common.{◌≡◌, ◌≢◌, ℕ, zero, suc, ◌+◌, ◌-◌, ◌<◌, ◌≤◌, Bool, true, false, true≢false, IsTrue, List, [], ◌∷◌, ◌++◌, length, get_or, Option, Some, None, Vec, Global, All, eqb, ltb, if◌then◌else◌, eq-eqb, ne_eqb, lt-ltb, le-ltb, refl, sym, ap, ap₂, subst, ◌∙◌, arith}
+use Rattle.std.proofs.Common.{◌≡◌, ◌≢◌, ℕ, zero, suc, ◌+◌, ◌-◌, ◌<◌, ◌≤◌, Bool, false, true≢false, IsTrue, List, [], ◌∷◌, ◌++◌, length, Option, Some, None, Vec, Global, All, eqb, ltb, if◌then◌else◌, eq-eqb, ne_eqb, lt-ltb, le-ltb, refl, sym, ap, ap₂, subst, ◌∙◌, arith}
 use native.Mathlib.Decide.{dec_le}
 use Rattle.std.specs.Option.{option_map}
 use Rattle.std.proofs.lemmas.List.{append-nil, map-append}
@@ -13,7 +13,7 @@ use Rattle.eqc_check.specs.declared.workers.verdict.Finding.TheVariants.{Equal, 
 use Rattle.eqc_check.specs.declared.workers.verdict.Verdict.{Verdict}
 use Rattle.eqc_check.specs.PairOf.{PairOf}
 use Rattle.eqc_check.specs.Ticket.{drew, both, IsSeat, IsAbove, strangers, times, once_below}
-use Rattle.eqc_check.specs.Verdicts.{difference_at, DiffersBefore, IsFoundAt, tells_difference, insiders, named, IsRight, IsShare, IsWork}
+use Rattle.eqc_check.specs.Verdicts.{difference_at, DiffersBefore, IsFoundAt, tells_difference, insiders, IsRight, IsShare, IsWork}
 use Rattle.eqc_check.proofs.TicketCounts.{times-append, strangers-append}
 
 pub insiders-append : (m : ℕ) (xs ys : List ℕ) → insiders m (xs ++ ys) ≡ insiders m xs ++ insiders m ys
