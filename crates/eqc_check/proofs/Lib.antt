@@ -29,3 +29,7 @@ pub mod AcceptedLemmas
 pub mod NamedValueLemmas
 pub mod DifferingLemmas
 pub mod AnswerProofs
+pub mod TicketCounts
+pub mod TicketSteps
+pub mod ShareLemmas
+pub mod VerdictPlaces

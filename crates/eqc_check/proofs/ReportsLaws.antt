@@ -1,5 +1,5 @@
 -- The reports on texts are those that they define.
-use Rattle.std.proofs.Common.{◌≡◌, ◌≢◌, ◌⊎◌, inl, inr, ℕ, ◌<◌, ◌≤◌, Bool, true, false, List, [], length, get_or, refl, sym, ◌∙◌, ap, subst, Option, Some, None, Result, Ok, Err, IfOk, IfErr, MatchResult}
+use Rattle.std.proofs.Common.{◌≡◌, ◌⊎◌, inl, inr, ℕ, ◌<◌, ◌≤◌, Bool, true, false, List, [], length, get_or, refl, sym, ◌∙◌, ap, subst, Option, Some, None, Result, Ok, Err, IfOk, IfErr, MatchResult}
 use Rattle.std.proofs.lemmas.List.{get_or_default}
 use Rattle.std.proofs.lemmas.Bool.{cases_Bool, lt-ltb, le-ltb}
 use Rattle.std.specs.Option.{option_map, option_copied}
@@ -192,18 +192,18 @@ compares : (f g : NetlistOf) (d : Option (List ℕ × List Bool)) → IsComparis
 compares f g None = tt
 compares f g (Some d) = tt
 
-may_stop : (wanted : ReportOf) (stop : Stop) → IsComparison wanted → stop ≢ stops.Threads → MayStop wanted stop
-may_stop wanted stops.NodeLimit is other = is
-may_stop wanted stops.Memory is other = tt
-may_stop wanted stops.References is other = is
-may_stop wanted stops.Threads is other = absurd (other refl)
+may_stop : (wanted : ReportOf) (stop : Stop) → IsComparison wanted → MayStop wanted stop
+may_stop wanted stops.NodeLimit is = is
+may_stop wanted stops.Memory is = tt
+may_stop wanted stops.References is = is
+may_stop wanted stops.Threads is = is
 
 -- a pair's comparison may stop at each limit
-pub flat_stopped : (f g : FlatOf) (order : Option (List ℕ)) (result : Result Report Stop) → pair_refusal f g order ≡ None → IfErr result (λ stop. stop ≢ stops.Threads) → IfErr result (MayStop (flat_answer f g order))
-flat_stopped f g order (Ok report) none other = tt
-flat_stopped f g order (Err stop) none other =
+pub flat_stopped : (f g : FlatOf) (order : Option (List ℕ)) (result : Result Report Stop) → pair_refusal f g order ≡ None → IfErr result (MayStop (flat_answer f g order))
+flat_stopped f g order (Ok report) none = tt
+flat_stopped f g order (Err stop) none =
     subst (λ (o : Option Refused). MayStop (refusal_report o (comparison (netlist_of f) (netlist_of g))) stop) (sym none)
-    (may_stop (comparison (netlist_of f) (netlist_of g)) stop (compares (netlist_of f) (netlist_of g) (first_difference (netlist_of f) (netlist_of g) f.outputs)) other)
+    (may_stop (comparison (netlist_of f) (netlist_of g)) stop (compares (netlist_of f) (netlist_of g) (first_difference (netlist_of f) (netlist_of g) f.outputs)))
 
 -- a refusal that is no report is want of memory
 -- a refusal of two netlists as a pair

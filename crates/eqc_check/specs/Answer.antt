@@ -94,12 +94,12 @@ IsComparison (refused side line code) = ⊥
 IsComparison (stopped code) = ⊥
 
 -- what may stop a run that has this to report: want of memory, and, where netlists are compared, a limit of the
--- diagrams; never a thread
+-- diagrams or a thread that could not be started
 abbrev pub MayStop : ReportOf → Stop → Type 0
 MayStop wanted NodeLimit = IsComparison wanted
 MayStop wanted Memory = Unit {0}
 MayStop wanted References = IsComparison wanted
-MayStop wanted Threads = ⊥
+MayStop wanted Threads = IsComparison wanted
 
 -- a report is the wanted one, or says why the run was stopped
 pub data Answers (wanted : ReportOf) : ReportOf → Type 0 where

@@ -20,3 +20,5 @@ pub mod Sources
 pub mod Answer
 pub mod Running
 pub mod AnswerLaws
+pub mod Ticket
+pub mod Verdicts

@@ -6,12 +6,13 @@
 //!
 //! - `running`, texts in and a report out, over `io`, readers and writers; `decide`, which refusal or comparison it is
 //! - `pairing`, two netlists as a pair; `options` and `rule`, what is asked for and what is refused
-//! - `build`, the diagrams of signals; `compare`, one output; `least`, its least assignment; `check`, all outputs
+//! - `build`, the diagrams of signals; `compare`, one output; `least`, its least assignment; `checking`, all outputs on
+//!   one thread; `workers`, all outputs on several
 //! - `report`, reports and their bytes; `laws`, facts about the definitions, as functions without a body
 #![tactic(auto, using(eqc_tree::proofs::HoldingLemmas::counts_itself))]
 
 mod build;
-mod check;
+mod checking;
 mod compare;
 mod decide;
 mod io;
@@ -22,8 +23,9 @@ mod pairing;
 mod report;
 mod rule;
 mod running;
+mod workers;
 
-pub use check::check_plain;
+pub use checking::check_plain;
 pub use compare::compare_output;
 pub use io::fault::RunFault;
 pub use io::writing::write_text;
@@ -42,3 +44,5 @@ pub use report::text::write_report;
 pub use report::{Refused, Report, Side, Status};
 pub use rule::{OPTION_RULES, PAIR_RULES, Rule};
 pub use running::{Texts, run};
+pub use workers::gate::{Gate, NoGate};
+pub use workers::{check, check_with};

@@ -14,9 +14,9 @@ const MAX_FORKS: u32 = 16;
 /// What a comparison may use. None of it changes the answer.
 #[derive(Clone, Copy, Debug, PartialEq, Eq)]
 pub struct Options {
-    /// Workers, 1 to 64.
+    /// Workers, each with a thread of its own, 1 to 64.
     pub workers: u32,
-    /// Nodes of the diagrams, 1 to 1,048,574.
+    /// Nodes of each worker's diagrams, 1 to 1,048,574.
     pub nodes: u32,
     /// Cells of the operation cache, a power of two from 1 to 1,048,576.
     pub cells: u32,

@@ -16,6 +16,8 @@ use crate::report::{Refused, Report, Side, Status};
 use eqc_tree::Stop;
 use std::alloc::Global;
 use std::io::{Read, Write};
+use std::sync::Wait;
+use std::thread::Threads;
 
 /// The texts of a run: one, of which the first two models are compared, or two, of which the main (first) models
 /// are.
@@ -78,15 +80,14 @@ fn bytes_of(text: &Option<Vec<u8>>) -> Option<&[u8]>
 }
 
 /// The report of a run whose options are in their ranges.
-fn read_report<RT, R: Read + Drop>(
+fn read_report<RT: Threads + Wait + Sync, R: Read + Drop>(
     alloc: Global,
     rt: &RT,
     texts: Texts<R>,
     order: Option<R>,
-    nodes: u32,
+    options: &Options,
 ) -> Result<Report, RunFault>
-    requires some { 1 ≤ nodes }
-    requires few { nodes ≤ 1048574 }
+    requires options { options_code options.now ≡ None }
     ensures report { IfOk result (λ report. IsReport R.remaining texts order (report_of report)) }
     ensures fault { IfErr result (λ fault. fault ≡ RunFault.Read) }
 {
@@ -97,7 +98,7 @@ fn read_report<RT, R: Read + Drop>(
     };
     let second = bytes_of(&sources.second);
     let order = bytes_of(&sources.order);
-    Ok(texts_report(alloc, rt, &sources.first, second, order, nodes))
+    Ok(texts_report(alloc, rt, &sources.first, second, order, options))
 }
 
 /// Writes `stopped 72`, which takes no memory.
@@ -127,7 +128,7 @@ fn write_or_stop<W: Write>(alloc: Global, report: &Report, out: &mut W) -> Resul
 }
 
 /// The report of a run: a refusal of its options before any text is read, else that on its texts.
-fn report_for<RT, R: Read + Drop>(
+fn report_for<RT: Threads + Wait + Sync, R: Read + Drop>(
     alloc: Global,
     rt: &RT,
     texts: Texts<R>,
@@ -137,14 +138,13 @@ fn report_for<RT, R: Read + Drop>(
     ensures report { IfOk result (λ report. IsReportFor (options_code options.now) R.remaining texts order (report_of report)) }
     ensures fault { IfErr result (λ fault. (fault ≡ RunFault.Read) × (options_code options.now ≡ None)) }
 {
-    let nodes = options.nodes;
     match options_fault(options) {
         Some(code) => Ok(Report::Refused(Refused {
             side: Side::Options,
             line: 0,
             code,
         })),
-        None => read_report(alloc, rt, texts, order, nodes),
+        None => read_report(alloc, rt, texts, order, options),
     }
 }
 
@@ -155,7 +155,10 @@ fn report_for<RT, R: Read + Drop>(
 /// the first, the second, the order text. A read that fails is `Read`, 91, and then nothing is written. Want of memory anywhere before the writing is reported as
 /// `stopped 72`. A write that fails or takes nothing, or a flush that fails, is `Write`, 92, and then a part of a
 /// report was written. Nothing is tried again. The answer is the kind of the report.
-pub fn run<RT, R: Read + Drop, W: Write>(
+///
+/// As many threads compare as the options have workers; the call may wait, for them. The report is the same for every
+/// number of workers, and where they were stopped its code is from 71 to 74.
+pub fn run<RT: Threads + Wait + Sync, R: Read + Drop, W: Write>(
     rt: &RT,
     alloc: Global,
     texts: Texts<R>,

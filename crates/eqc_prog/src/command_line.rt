@@ -70,13 +70,13 @@ fn command<'a>(alloc: Global, answers: &'a str) -> Result<Command<'a>, AllocErro
             alloc,
             "workers",
             "2",
-            "Compares with this many workers, 1 to 64",
+            "Compares outputs on this many threads, 1 to 64",
         ))?
         .arg(number(
             alloc,
             "nodes",
             "65536",
-            "Keeps at most this many nodes of diagrams, 1 to 1048574",
+            "Keeps at most this many nodes of diagrams for each worker, 1 to 1048574",
         ))?
         .arg(number(
             alloc,

@@ -14,7 +14,7 @@ pub const USAGE: &str =
 const REPORTS: &str = "\
 Without a FILE the first two models of standard input are compared, with one FILE its first two models,
 with two the first model of each. `--` ends the options. Numbers go from 0 to 4294967295.
-So far a comparison runs on one thread: --workers, --cells and --forks are checked, and change nothing else.
+Each worker has a thread and diagrams of its own. So far --cells and --forks are checked, and change nothing else.
 
 Statuses and reports:
   0  equivalent              each output has equal values under every assignment of the inputs

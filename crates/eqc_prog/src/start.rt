@@ -13,6 +13,8 @@ use eqc_check::{RunFault, run, write_text};
 use std::alloc::{AllocError, Global};
 use std::io::{Read, Write};
 use std::rt::Files;
+use std::sync::Wait;
+use std::thread::Threads;
 
 /// Whether an error is a request for help.
 fn is_help(error: &Error) -> bool
@@ -35,7 +37,7 @@ fn write_help<W: Write>(alloc: Global, help: Error, out: &mut W) -> End
 }
 
 /// Opens the files and runs the comparison.
-fn compare<RT: Files + AllocGlobal, R: Read + Drop, W: Write>(
+fn compare<RT: Files + AllocGlobal + Threads + Wait + Sync, R: Read + Drop, W: Write>(
     rt: &RT,
     request: &Request<'_>,
     input: R,
@@ -68,7 +70,7 @@ fn shown(text: &Result<String, AllocError>) -> &str {
 }
 
 /// Reads the words, and does what they ask for.
-fn perform<RT: Files + AllocGlobal, R: Read + Drop, W: Write>(
+fn perform<RT: Files + AllocGlobal + Threads + Wait + Sync, R: Read + Drop, W: Write>(
     rt: &RT,
     words: &[String],
     input: R,
@@ -96,8 +98,9 @@ fn perform<RT: Files + AllocGlobal, R: Read + Drop, W: Write>(
 /// The status is 0 where the netlists are equivalent, 1 where they differ, 2 where the input is refused and 3 where
 /// the comparison was stopped. It is 4 where a read or a write failed, and then `err` gets `fault 91` for a read, or
 /// a file that can't be opened, and `fault 92` for a write. It is 5 for a bad command line and for want of memory in
-/// reading it; `err` gets a text on it. For `--help` the help is written to `out`, and the status is 0.
-pub fn program<RT: Files + AllocGlobal, R: Read + Drop, W: Write, E: Write>(
+/// reading it; `err` gets a text on it. For `--help` the help is written to `out`, and the status is 0. The call may
+/// wait, for the threads that compare.
+pub fn program<RT: Files + AllocGlobal + Threads + Wait + Sync, R: Read + Drop, W: Write, E: Write>(
     rt: &RT,
     words: &[String],
     input: R,

@@ -3,7 +3,7 @@
 //!
 //! - `words`, `operations`, of `eqc_tree`; `diagrams`, of `eqc_plain`; `machine`, of `eqc_core`
 //! - `reading`, of `eqc_blif`; `hierarchies` and `random_hierarchies`, of `eqc_flat`
-//! - `pairs`, `reports`, `runs`, of `eqc_check`
+//! - `pairs`, `workers`, `reports`, `runs`, of `eqc_check`
 //! - `program`, `program_ends`, `compared_hierarchies`, `costs`, of this crate
 //! - `messages`, of the errors of all crates; `streams`, the readers, writers and files that fail
 //!
@@ -25,6 +25,7 @@ mod reports;
 mod runs;
 mod streams;
 mod words;
+mod workers;
 
 use std::alloc::{AllocError, Global};
 

@@ -30,7 +30,7 @@ fn a_signal_driven_by_many_covers_is_refused(rt: HostRuntime) -> Result<(), Allo
     let alloc = rt.alloc();
     let mut text = doubled(alloc)?;
     repeat(&mut text, ".names z;", 3_000)?;
-    assert!(rt; reports(alloc, "eqc", Feed::whole(&text), "refused first 0 26;", 2)?);
+    assert!(rt; reports(&rt, "eqc", Feed::whole(&text), "refused first 0 26;", 2)?);
     Ok(())
 }
 
@@ -41,7 +41,7 @@ fn a_cover_of_many_columns_may_have_many_instances(rt: HostRuntime) -> Result<()
     text.push_str(".names s;.names")?;
     repeat(&mut text, " s", 1_000)?;
     text.push_str(" z;")?;
-    assert!(rt; reports(alloc, "eqc", Feed::whole(&text), "equivalent;", 0)?);
+    assert!(rt; reports(&rt, "eqc", Feed::whole(&text), "equivalent;", 0)?);
     Ok(())
 }
 
@@ -85,7 +85,7 @@ fn rows_of_one(alloc: Global) -> Result<String, AllocError> {
 fn a_cover_of_dashes_is_built(rt: HostRuntime) -> Result<(), AllocError> {
     let alloc = rt.alloc();
     let text = rows_of_one(alloc)?;
-    assert!(rt; reports(alloc, "eqc", Feed::whole(&text), "equivalent;", 0)?);
+    assert!(rt; reports(&rt, "eqc", Feed::whole(&text), "equivalent;", 0)?);
     Ok(())
 }
 
@@ -114,6 +114,6 @@ fn the_least_assignment_of_many_inputs_needs_few_nodes(rt: HostRuntime) -> Resul
     let alloc = rt.alloc();
     let text = last_of_many(alloc)?;
     let report = difference_of_last(alloc)?;
-    assert!(rt; reports(alloc, "eqc --nodes 5000", Feed::whole(&text), &report, 1)?);
+    assert!(rt; reports(&rt, "eqc --nodes 5000", Feed::whole(&text), &report, 1)?);
     Ok(())
 }

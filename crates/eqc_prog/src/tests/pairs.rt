@@ -172,7 +172,7 @@ fn order_word(alloc: Global, pair: &Pair<'_>) -> Result<String, AllocError> {
 }
 
 /// What is written of a report.
-fn report_word(alloc: Global, report: &Report) -> Result<String, AllocError> {
+pub fn report_word(alloc: Global, report: &Report) -> Result<String, AllocError> {
     let mut out = Vec::new(alloc);
     if write_report(alloc, report, &mut out).is_err() {
         return String::from_str(alloc, "nothing written");

@@ -6,6 +6,8 @@ use super::{DIFFERENCE, EQUAL, PERMUTED, UNEQUAL, XOR, is_text};
 use crate::program;
 use std::alloc::{AllocError, Global};
 use std::process::Abort;
+use std::sync::Wait;
+use std::thread::Threads;
 
 /// The files that the command lines of the tests may name. One whose name ends in `!` fails at its first read.
 const FILES: [(&str, &str); 12] = [
@@ -47,9 +49,14 @@ pub struct Written {
 }
 
 /// What the program writes for a command line, over the files above.
-pub fn written_by(alloc: Global, line: &str, input: Feed<'_>) -> Result<Written, AllocError> {
+pub fn written_by<RT: AllocGlobal + Threads + Wait + Sync>(
+    rt: &RT,
+    line: &str,
+    input: Feed<'_>,
+) -> Result<Written, AllocError> {
+    let alloc = rt.alloc();
     let words = words_of(alloc, line)?;
-    let disk = Disk { files: &FILES };
+    let disk = Disk { files: &FILES, rt };
     let mut out = Vec::new(alloc);
     let mut err = Vec::new(alloc);
     let status = program(&(disk, alloc), &words, input, &mut out, &mut err);
@@ -57,25 +64,28 @@ pub fn written_by(alloc: Global, line: &str, input: Feed<'_>) -> Result<Written,
 }
 
 /// Whether nothing but this report was written, with this status.
-pub fn reports(
-    alloc: Global,
+pub fn reports<RT: AllocGlobal + Threads + Wait + Sync>(
+    rt: &RT,
     line: &str,
     input: Feed<'_>,
     report: &str,
     status: u8,
 ) -> Result<bool, AllocError> {
-    let written = written_by(alloc, line, input)?;
+    let written = written_by(rt, line, input)?;
     Ok(written.status == status && is_text(&written.out, report) && written.err.is_empty())
 }
 
-/// Each text on standard input, which is the first in its row, gives its report and status.
+/// Each text on standard input, which is the first in its row, gives its report and status, whatever the number of
+/// workers.
 pub fn check_texts(
-    rt: &(impl Abort + AllocGlobal),
+    rt: &(impl Abort + AllocGlobal + Threads + Wait + Sync),
     rows: &[(&str, &str, u8)],
 ) -> Result<(), AllocError> {
     for (text, report, status) in rows {
-        let found = reports(rt.alloc(), "eqc", Feed::whole(text), report, *status)?;
-        assert!(rt; found, "{text}");
+        for line in ["eqc --workers 1", "eqc", "eqc --workers 8"] {
+            let found = reports(rt, line, Feed::whole(text), report, *status)?;
+            assert!(rt; found, "{line}: {text}");
+        }
     }
     Ok(())
 }
@@ -83,14 +93,14 @@ pub fn check_texts(
 /// Each command line, which is the first in its row, gives its report and status, where standard input has this text, or
 /// fails at one of its reads.
 fn check_lines(
-    rt: &(impl Abort + AllocGlobal),
+    rt: &(impl Abort + AllocGlobal + Threads + Wait + Sync),
     text: &str,
     fails_at: usize,
     rows: &[(&str, &str, u8)],
 ) -> Result<(), AllocError> {
     for (line, report, status) in rows {
         let input = Feed::new(text, NEVER, fails_at);
-        let found = reports(rt.alloc(), line, input, report, *status)?;
+        let found = reports(rt, line, input, report, *status)?;
         assert!(rt; found, "{line}");
     }
     Ok(())
@@ -201,7 +211,7 @@ static ORDERED: [(&str, &str, &str, u8); 5] = [
 fn an_order_changes_no_answer(rt: HostRuntime) -> Result<(), AllocError> {
     for (line, text, report, status) in &ORDERED {
         assert!(rt;
-            reports(rt.alloc(), line, Feed::whole(text), report, *status)?,
+            reports(&rt, line, Feed::whole(text), report, *status)?,
             "{line}"
         );
     }

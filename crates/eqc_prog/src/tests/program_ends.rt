@@ -25,7 +25,7 @@ static FAULTS: [&str; 11] = [
 #[test]
 fn files_that_fail_are_faults(rt: HostRuntime) -> Result<(), AllocError> {
     for line in FAULTS.iter() {
-        let written = written_by(rt.alloc(), line, Feed::whole(EQUAL))?;
+        let written = written_by(&rt, line, Feed::whole(EQUAL))?;
         assert_eq!(rt; written.status, 4, "{line}");
         assert!(rt; written.out.is_empty(), "{line}");
         assert!(rt; is_text(&written.err, "fault 91;"), "{line}");
@@ -55,7 +55,7 @@ static BAD_WORDS: [&str; 15] = [
 #[test]
 fn bad_command_lines_are_told(rt: HostRuntime) -> Result<(), AllocError> {
     for line in BAD_WORDS.iter() {
-        let written = written_by(rt.alloc(), line, Feed::whole(EQUAL))?;
+        let written = written_by(&rt, line, Feed::whole(EQUAL))?;
         assert_eq!(rt; written.status, 5, "{line}");
         assert!(rt; written.out.is_empty(), "{line}");
         assert!(rt; written.err.starts_with(b"error: "), "{line}");
@@ -94,7 +94,7 @@ static OPTIONS: [&str; 6] = [
 
 #[test]
 fn help_has_every_number(rt: HostRuntime) -> Result<(), AllocError> {
-    let written = written_by(rt.alloc(), "eqc --nodes 5 --help", Feed::whole(EQUAL))?;
+    let written = written_by(&rt, "eqc --nodes 5 --help", Feed::whole(EQUAL))?;
     assert_eq!(rt; written.status, 0);
     assert!(rt; written.err.is_empty());
     let help = String::from_utf8(written.out).expect(&rt, "text");
@@ -154,7 +154,7 @@ fn a_failed_read_writes_nothing(rt: HostRuntime) -> Result<(), AllocError> {
     let short = ".model f;.end;.model g;.end;";
     let reads = short.len() + 1;
     for call in 0..=reads {
-        let written = written_by(alloc, "eqc", Feed::new(short, 1, call))?;
+        let written = written_by(&rt, "eqc", Feed::new(short, 1, call))?;
         let (status, out, err) = if call < reads {
             (4, "", "fault 91;")
         } else {
@@ -164,7 +164,7 @@ fn a_failed_read_writes_nothing(rt: HostRuntime) -> Result<(), AllocError> {
         assert!(rt; is_text(&written.out, out), "at {call}");
         assert!(rt; is_text(&written.err, err), "at {call}");
     }
-    let written = written_by(alloc, "eqc", Feed::new(UNEQUAL, 70, 1))?;
+    let written = written_by(&rt, "eqc", Feed::new(UNEQUAL, 70, 1))?;
     assert_eq!(rt; written.status, 4);
     assert!(rt; written.out.is_empty() && is_text(&written.err, "fault 91;"));
     Ok(())
@@ -172,7 +172,7 @@ fn a_failed_read_writes_nothing(rt: HostRuntime) -> Result<(), AllocError> {
 
 #[test]
 fn a_text_may_come_byte_by_byte(rt: HostRuntime) -> Result<(), AllocError> {
-    let written = written_by(rt.alloc(), "eqc", Feed::new(UNEQUAL, 1, NEVER))?;
+    let written = written_by(&rt, "eqc", Feed::new(UNEQUAL, 1, NEVER))?;
     assert_eq!(rt; written.status, 1);
     assert!(rt; is_text(&written.out, DIFFERENCE));
     Ok(())

@@ -7,6 +7,8 @@ use super::{DIFFERENCE, EQUAL, PERMUTED, XOR, is_text, lines};
 use eqc_check::{Options, RunFault, Status, Texts, options_fault, run};
 use std::alloc::AllocError;
 use std::io::{Read, Write};
+use std::sync::Wait;
+use std::thread::Threads;
 
 const DEFAULTS: Options = Options {
     workers: 2,
@@ -18,7 +20,7 @@ const DEFAULTS: Options = Options {
 const EMPTY: &str = ".model f;.end;.model g;.end;";
 
 /// Runs with the default options.
-fn ran<RT: AllocGlobal, R: Read + Drop, W: Write>(
+fn ran<RT: AllocGlobal + Threads + Wait + Sync, R: Read + Drop, W: Write>(
     rt: &RT,
     texts: Texts<R>,
     order: Option<R>,
@@ -29,7 +31,7 @@ fn ran<RT: AllocGlobal, R: Read + Drop, W: Write>(
 
 /// Whether a run with the default options writes this report and tells that it did.
 fn reports<R: Read + Drop>(
-    rt: &impl AllocGlobal,
+    rt: &(impl AllocGlobal + Threads + Wait + Sync),
     texts: Texts<R>,
     order: Option<R>,
     report: &str,
@@ -182,7 +184,11 @@ fn a_text_may_come_byte_by_byte(rt: HostRuntime) {
 }
 
 /// Whether a run over these readers fails to read, and writes nothing.
-fn fails_unwritten(rt: &impl AllocGlobal, texts: Texts<Feed<'_>>, order: Option<Feed<'_>>) -> bool {
+fn fails_unwritten(
+    rt: &(impl AllocGlobal + Threads + Wait + Sync),
+    texts: Texts<Feed<'_>>,
+    order: Option<Feed<'_>>,
+) -> bool {
     let mut out = Drain::new(Vec::new(rt.alloc()), NEVER, NEVER, true);
     let done = ran(rt, texts, order, &mut out);
     done == Err(RunFault::Read) && out.calls == 0

@@ -5,6 +5,8 @@ use std::fs::{Metadata, OpenFile, OpenOptions};
 use std::io;
 use std::io::{ErrorKind, Read, Seek, SeekFrom, Write};
 use std::rt::Files;
+use std::sync::Wait;
+use std::thread::Threads;
 
 pub const NEVER: usize = usize::MAX;
 
@@ -124,11 +126,16 @@ impl Write for Drain {
     }
 }
 
-/// Files by their names. A file whose name ends in `!` fails at its first read.
+/// Files by their names, beside a runtime that has threads. A file whose name ends in `!` fails at its first read.
 #[derive(Clone, Copy)]
-pub struct Disk<'a> {
+pub struct Disk<'a, R> {
     pub files: &'a [(&'a str, &'a str)],
+    pub rt: &'a R,
 }
+
+impl<'a, R: Threads> Threads for Disk<'a, R> {}
+
+impl<'a, R: Wait> Wait for Disk<'a, R> {}
 
 impl<'a> Seek for Feed<'a> {
     fn seek(&mut self, _to: SeekFrom) -> io::Result<u64> {
@@ -164,7 +171,7 @@ impl<'a> OpenFile for Feed<'a> {
     }
 }
 
-impl<'a> Files for Disk<'a> {
+impl<'a, R> Files for Disk<'a, R> {
     type File = Feed<'a>;
 
     type Dir = Endless;

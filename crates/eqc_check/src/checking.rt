@@ -70,6 +70,26 @@ fn differs_report(
     })
 }
 
+/// The report on what was found: the first output that differs, by its position, with its least assignment, or none.
+pub(crate) fn found_report(
+    alloc: Global,
+    pair: &Pair<'_>,
+    found: Option<(usize, Vec<bool>)>,
+) -> Result<Report, Stop>
+    requires found { found_at pair.now.first found ≡ first_difference (netlist_of pair.now.first) (netlist_of pair.now.second) pair.now.first.outputs }
+    requires within { IfSome found (λ p. p.0 < length pair.now.first.outputs) }
+    ensures report { IfOk result (λ report. report_of report ≡ comparison (netlist_of pair.now.first) (netlist_of pair.now.second)) }
+    ensures only { IfErr result (λ s. s ≡ Stop.Memory) }
+{
+    match found {
+        None => Ok(Report::Equivalent),
+        Some((output, values)) => match differs_report(alloc, pair.first(), output, &values) {
+            Ok(report) => Ok(report),
+            Err(_) => Err(Stop::Memory),
+        },
+    }
+}
+
 /// The first output of a pair that differs, by its position, with its least assignment, found over a new store of
 /// `nodes` nodes.
 fn compare_plain<R>(
@@ -98,11 +118,6 @@ pub fn check_plain<R>(rt: &R, alloc: Global, pair: &Pair<'_>, nodes: u32) -> Res
     ensures report { IfOk result (λ report. report_of report ≡ comparison (netlist_of pair.now.first) (netlist_of pair.now.second)) }
     ensures only { IfErr result (λ s. s ≢ Stop.Threads) }
 {
-    match compare_plain(rt, alloc, pair, nodes)? {
-        None => Ok(Report::Equivalent),
-        Some((output, values)) => match differs_report(alloc, pair.first(), output, &values) {
-            Ok(report) => Ok(report),
-            Err(_) => Err(Stop::Memory),
-        },
-    }
+    let found = compare_plain(rt, alloc, pair, nodes)?;
+    found_report(alloc, pair, found)
 }

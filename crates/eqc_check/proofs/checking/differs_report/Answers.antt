@@ -1,7 +1,7 @@
 use Rattle.std.proofs.Common.{◌≡◌, get_or, ◌∙◌, []}
 use Rattle.std.specs.List.{zip}
 use Rattle.std.proofs.lemmas.List.{get_or_default}
-use Rattle.eqc_check.proofs.check.differs_report.Goals as goal
+use Rattle.eqc_check.proofs.checking.differs_report.Goals as goal
 
 pub returns : goal.returns
 returns c =

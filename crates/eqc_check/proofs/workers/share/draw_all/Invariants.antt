@@ -1,0 +1,12 @@
+use Rattle.std.specs.Prelude.{◌≡◌, ◌-◌, ◌≤◌, length}
+use Rattle.eqc_check.specs.Verdicts.{IsWork}
+use Rattle.eqc_check.proofs.workers.share.draw_all.Given as goal
+
+abbrev pub invariant-loop-alloc : goal.invariant-loop-alloc
+invariant-loop-alloc g l =
+    IsWork l.fn.pair l.fn.words.table_id l.least l.behind l.seat l.verdicts.items
+    × (l.outputs ≡ length l.fn.pair.first.outputs)
+    × (length l.fn.pair.first.inputs ≤ (g.D.References.holding l.member.diagrams).variables)
+
+abbrev pub decreases-loop-alloc : goal.decreases-loop-alloc
+decreases-loop-alloc g l = l.outputs - l.least

@@ -1,0 +1,74 @@
+-- What members find at the outputs that they draw, and all of it put in order.
+use Rattle.std.specs.Prelude.{◌≡◌, ◌≢◌, ℕ, ◌+◌, ◌<◌, ◌≤◌, Bool, true, false, IsTrue, List, [], ◌∷◌, length, map, ltb, Option, Some, None, All, slice_index_or, if◌then◌else◌}
+use Rattle.atomic_table.specs.Seated.{TableId}
+use Rattle.atomic_table.specs.declared.shared.Seat.{Seat}
+use Rattle.eqc_check.specs.declared.workers.ticket.View.{View}
+use Rattle.eqc_check.specs.declared.workers.verdict.Finding.{Finding}
+use Rattle.eqc_check.specs.declared.workers.verdict.Finding.TheVariants.{Equal, Differs, Behind}
+use Rattle.eqc_check.specs.declared.workers.verdict.Verdict.{Verdict}
+use Rattle.eqc_check.specs.Verdict.{least_difference}
+use Rattle.eqc_check.specs.PairOf.{PairOf}
+use Rattle.eqc_check.specs.Comparing.{netlist_of}
+use Rattle.eqc_check.specs.Ticket.{IsSeat, strangers, times, once_below}
+
+-- the least assignment under which the output at a position differs
+abbrev pub difference_at : PairOf → ℕ → Option (List Bool)
+difference_at p output = least_difference (netlist_of p.first) (netlist_of p.second) (slice_index_or p.first.outputs output [])
+
+-- an output before this position differs
+abbrev pub DiffersBefore : PairOf → ℕ → Type 0
+DiffersBefore p output = (earlier : ℕ) × (earlier < output) × (difference_at p earlier ≢ None)
+
+-- what is found at an output: it never differs; it differs, first under these values; or one before it differs
+abbrev pub IsFoundAt : PairOf → ℕ → Finding → Type 0
+IsFoundAt p output Equal = difference_at p output ≡ None
+IsFoundAt p output (Differs values) = difference_at p output ≡ Some values.items
+IsFoundAt p output Behind = DiffersBefore p output
+
+-- whether this output or one before it differs
+abbrev pub tells_difference : Finding → Bool
+tells_difference Equal = false
+tells_difference (Differs values) = true
+tells_difference Behind = true
+
+abbrev pub IsRight : PairOf → Verdict → Type 0
+IsRight p v = IsFoundAt p v.output v.finding
+
+-- the outputs that verdicts name
+abbrev pub named : List Verdict → List ℕ
+named verdicts = map (λ v. v.output) verdicts
+
+-- those numbers that are an output, of so many outputs
+abbrev pub insiders : ℕ → List ℕ → List ℕ
+insiders outputs [] = []
+insiders outputs (y ∷ ys) = if ltb y outputs then y ∷ insiders outputs ys else insiders outputs ys
+
+-- a seat that stands for so many members has drawn a number that is no output for each, and each output that it drew has
+-- its verdict
+pub record IsShare (p : PairOf) (id : TableId) (members : ℕ) (seat : Seat ℕ View) (verdicts : List Verdict) : Type 0 where
+  pub own : IsSeat id seat
+  pub seats : seat.me.0.seats ≡ members
+  pub done : strangers (length p.first.outputs) seat.me.0.drawn ≡ members
+  pub each : named verdicts ≡ insiders (length p.first.outputs) seat.me.0.drawn
+  pub right : All (IsRight p) verdicts
+
+-- a member between two draws: all its numbers are outputs, the last is below `least`, and it knows of an earlier difference
+-- where it says so
+pub record IsWork (p : PairOf) (id : TableId) (least : ℕ) (behind : Bool) (seat : Seat ℕ View) (verdicts : List Verdict) : Type 0 where
+  pub own : IsSeat id seat
+  pub seats : seat.me.0.seats ≡ 1
+  pub going : strangers (length p.first.outputs) seat.me.0.drawn ≡ 0
+  pub each : named verdicts ≡ insiders (length p.first.outputs) seat.me.0.drawn
+  pub right : All (IsRight p) verdicts
+  pub below : least ≤ length p.first.outputs
+  pub last : (x : ℕ) → least ≡ x + 1 → 0 < times x seat.me.0.drawn
+  pub knows : IsTrue behind → DiffersBefore p least
+
+-- verdicts name each of so many outputs once, and nothing else
+abbrev pub AreOnce : ℕ → List Verdict → Type 0
+AreOnce outputs verdicts = (x : ℕ) → times x (named verdicts) ≡ once_below x outputs
+
+-- what stands at a place: nothing where the output's verdict is among the rest, else what was found there
+abbrev pub Stands : PairOf → List Verdict → ℕ → Option Finding → Type 0
+Stands p rest output None = 0 < times output (named rest)
+Stands p rest output (Some found) = IsFoundAt p output found × (times output (named rest) ≡ 0)

@@ -1,0 +1,144 @@
+//! All outputs of a pair, compared by members that run in threads of their own: each output is drawn once, and the first
+//! that differs is the same whichever member drew it.
+//!
+//! - `ticket`, the word from which outputs are drawn; `member`, what a member compares with; `gate`, what is told of it
+//! - `share`, members in threads and what they give back; `verdict`, all of it put in order
+ghost use Rattle.std.specs.Prelude.{◌≡◌, ◌<◌, ◌≤◌, ◌^◌, ℕ, None, length, vec_len, IfOk, IfErr, IfSome};
+ghost use Rattle.std.specs.List.{All};
+ghost use Rattle.eqc_tree.specs.Holding.{Holding};
+ghost use Rattle.eqc_check.specs.Verdict.{first_difference};
+ghost use Rattle.eqc_check.specs.Report.{comparison};
+ghost use Rattle.eqc_check.specs.ReportView.{report_of};
+ghost use Rattle.eqc_check.specs.Options.{options_code};
+ghost use Rattle.eqc_check.specs.Comparing.{netlist_of, found_at};
+ghost use Rattle.eqc_check.specs.Verdicts.{AreOnce, IsRight, IsShare};
+
+pub(crate) mod gate;
+mod member;
+mod share;
+mod ticket;
+mod verdict;
+
+use crate::checking::found_report;
+use crate::options::Options;
+use crate::pairing::matched_pair::Pair;
+use crate::report::Report;
+use crate::workers::gate::Gate;
+use crate::workers::share::{Share, work_together};
+use crate::workers::ticket::{Key, TicketTable, open, settle};
+use crate::workers::verdict::{Verdict, first_of, in_order};
+use eqc_plain::Plain;
+use eqc_tree::{Diagrams, References, Stop};
+use std::alloc::Global;
+use std::sync::Wait;
+use std::thread::Threads;
+
+/// The verdicts of a share that stands for all members: they name each output once.
+fn verdicts_of(table: TicketTable, pair: &Pair<'_>, share: Share) -> Vec<Verdict>
+    requires share { IsShare pair.now table.shared.table_id table.shared.key.seats share.seat share.verdicts.items }
+    requires key { table.shared.key.outputs ≡ length pair.now.first.outputs }
+    requires some { 1 ≤ table.shared.key.seats }
+    ensures once { AreOnce (length pair.now.first.outputs) result.items }
+    ensures right { All (IsRight pair.now) result.items }
+{
+    let Share { seat, verdicts } = share;
+    settle(table, seat);
+    verdicts
+}
+
+/// The first output that differs, by its position, with its least assignment.
+fn first_found<R: Threads + Wait + Sync, D: Diagrams<R> + Send + Drop, G: Gate<R> + Sync>(
+    rt: &R,
+    alloc: Global,
+    pair: &Pair<'_>,
+    members: Vec<D>,
+    gate: &G,
+) -> Result<Option<(usize, Vec<bool>)>, Stop>
+    requires outputs { length pair.now.first.outputs < 2 ^ 32 }
+    requires some { 1 ≤ vec_len members }
+    requires numbers { vec_len members < 2 ^ 32 }
+    requires variables { All (λ d. length pair.now.first.inputs ≤ (D.holding d).variables) members.items }
+    ensures found { IfOk result (λ found. found_at pair.now.first found ≡ first_difference (netlist_of pair.now.first) (netlist_of pair.now.second) pair.now.first.outputs) }
+    ensures within { IfOk result (λ found. IfSome found (λ p. p.0 < length pair.now.first.outputs)) }
+{
+    let key = Key {
+        outputs: pair.first().outputs().len() as u32,
+        seats: members.len() as u32,
+    };
+    let Ok((table, seat)) = open(alloc, key) else {
+        return Err(Stop::Memory);
+    };
+    let share = work_together(rt, alloc, pair, &table.shared, gate, seat, members)?;
+    let verdicts = verdicts_of(table, pair, share);
+    let Ok(row) = in_order(alloc, pair, verdicts) else {
+        return Err(Stop::Memory);
+    };
+    Ok(first_of(pair, row))
+}
+
+/// Compares a pair by these members, of which each runs in a thread of its own: the report, or why it stopped.
+///
+/// There is at least one member, and each has at least as many variables as the pair has inputs; they are consumed. The
+/// gate is told of each comparison before it begins. A member that has found a difference compares no later output. The
+/// call may wait, since it waits for all members, and for the gate.
+///
+/// The errors are those of the members' diagrams, 71, 72 and 73; 72 also where memory is refused, or where 32 bits don't
+/// number the members or the outputs; and 74 where a thread could not be started. Where several came it is one of them.
+pub fn check_with<R: Threads + Wait + Sync, D: Diagrams<R> + Send + Drop, G: Gate<R> + Sync>(
+    rt: &R,
+    alloc: Global,
+    pair: &Pair<'_>,
+    members: Vec<D>,
+    gate: &G,
+) -> Result<Report, Stop>
+    requires some { 1 ≤ vec_len members }
+    requires variables { All (λ d. length pair.now.first.inputs ≤ (D.holding d).variables) members.items }
+    ensures report { IfOk result (λ report. report_of report ≡ comparison (netlist_of pair.now.first) (netlist_of pair.now.second)) }
+{
+    let most = u32::MAX as usize;
+    if members.len() > most || pair.first().outputs().len() > most {
+        return Err(Stop::Memory);
+    }
+    let found = first_found(rt, alloc, pair, members, gate)?;
+    found_report(alloc, pair, found)
+}
+
+/// A store of `nodes` nodes for each worker.
+fn stores(alloc: Global, inputs: u16, nodes: u32, workers: u32) -> Result<Vec<Plain>, Stop>
+    requires some { 1 ≤ nodes }
+    requires few { nodes ≤ 1048574 }
+    ensures count { IfOk result (λ all. vec_len all ≡ workers) }
+    ensures variables { IfOk result (λ all. All (λ p. inputs ≤ (⟦<Plain as References>⟧.holding p).variables) all.items) }
+    ensures only { IfErr result (λ s. s ≡ Stop.Memory) }
+{
+    let mut all = Vec::new(alloc);
+    for _ in 0..workers {
+        let Ok(()) = all.push(Plain::new(alloc, inputs, nodes)?) else {
+            return Err(Stop::Memory);
+        };
+    }
+    Ok(all)
+}
+
+/// Compares a pair by as many workers as the options say, each in a thread of its own with a store of `nodes` nodes: the
+/// report, or why it stopped.
+///
+/// The options are in their ranges; their cells and forks play no part. The gate is told of each comparison before it
+/// begins. The call may wait, as `check_with` may. The errors are the node limit 71, want of memory 72, the limit of
+/// references 73, and 74 where a thread could not be started.
+pub fn check<R: Threads + Wait + Sync, G: Gate<R> + Sync>(
+    rt: &R,
+    alloc: Global,
+    pair: &Pair<'_>,
+    options: &Options,
+    gate: &G,
+) -> Result<Report, Stop>
+    requires { options_code options.now ≡ None }
+    ensures report { IfOk result (λ report. report_of report ≡ comparison (netlist_of pair.now.first) (netlist_of pair.now.second)) }
+{
+    pair.recall_laws();
+    let Options { workers, nodes, .. } = *options;
+    let inputs = pair.first().inputs().len() as u16;
+    let members = stores(alloc, inputs, nodes, workers)?;
+    check_with(rt, alloc, pair, members, gate)
+}

@@ -1,0 +1,251 @@
+//! Members that draw outputs and compare them, each in a thread of its own, and what they give back.
+ghost use Rattle.std.specs.Prelude.{◌≡◌, ◌≢◌, ◌+◌, ◌<◌, ◌≤◌, ◌^◌, IsTrue, [], length, vec_len, IfOk, IfErr};
+ghost use Rattle.std.specs.List.{All};
+ghost use Rattle.std.specs.Thread.{IsSync, IsSend};
+ghost use Rattle.eqc_check.specs.Ticket.{IsSeat};
+ghost use Rattle.eqc_check.specs.Verdicts.{DiffersBefore, IsFoundAt, IsShare};
+
+use crate::pairing::matched_pair::Pair;
+use crate::workers::gate::Gate;
+use crate::workers::member::{self, Member};
+use crate::workers::ticket::{Drawer, Words, draw, halve, take_in};
+use crate::workers::verdict::{Finding, Verdict};
+use eqc_tree::{Diagrams, References, Stop};
+use std::alloc::Global;
+use std::snapshot::Snapshot;
+use std::sync::Wait;
+use std::thread::{Promise, Scope, Threads, scope, scope_env};
+
+/// What members give back: their seat, and a verdict for each output that it drew.
+#[derive(Drop)]
+pub(crate) struct Share {
+    pub seat: Drawer,
+    pub verdicts: Vec<Verdict>,
+}
+
+/// What a member finds at an output that it drew. Where it knows of a difference before, it need not compare.
+fn finding<R, D: Diagrams<R>, G: Gate<R>>(
+    rt: &R,
+    alloc: Global,
+    pair: &Pair<'_>,
+    gate: &G,
+    worker: u32,
+    member: &mut Member<D>,
+    output: u32,
+    behind: bool,
+) -> Result<Finding, Stop>
+    requires variables { length pair.now.first.inputs ≤ (D.holding member.old.diagrams).variables }
+    requires output { output < length pair.now.first.outputs }
+    requires knows { IsTrue behind → DiffersBefore pair.now output }
+    ensures found { IfOk result (λ found. IsFoundAt pair.now output found) }
+    ensures variables { (D.holding member.new.diagrams).variables ≡ (D.holding member.old.diagrams).variables }
+    ensures only { IfErr result (λ s. s ≢ Stop.Threads) }
+{
+    if behind {
+        return Ok(Finding::Behind);
+    }
+    gate.enter(rt, worker, output);
+    match member::compare(rt, alloc, member, pair, output)? {
+        None => Ok(Finding::Equal),
+        Some(values) => Ok(Finding::Differs(values)),
+    }
+}
+
+/// A member draws until its draw is no output. What it draws rises, so behind its first difference nothing that it
+/// draws can be the first of all.
+fn draw_all<R, D: Diagrams<R>, G: Gate<R>>(
+    rt: &R,
+    alloc: Global,
+    pair: &Pair<'_>,
+    words: &Words,
+    gate: &G,
+    worker: u32,
+    seat: Drawer,
+    member: &mut Member<D>,
+) -> Result<Share, Stop>
+    requires own { IsSeat words.now.table_id seat }
+    requires one { (seat.me.0.seats ≡ 1) × (seat.me.0.drawn ≡ []) }
+    requires key { words.now.key.outputs ≡ length pair.now.first.outputs }
+    requires few { length pair.now.first.outputs < 2 ^ 32 }
+    requires variables { length pair.now.first.inputs ≤ (D.holding member.old.diagrams).variables }
+    ensures share { IfOk result (λ s. IsShare pair.now words.now.table_id 1 s.seat s.verdicts.items) }
+    ensures only { IfErr result (λ s. s ≢ Stop.Threads) }
+{
+    let mut seat = seat;
+    let mut verdicts = Vec::new(alloc);
+    let outputs = pair.first().outputs().len() as u64;
+    let mut least = 0u64;
+    let mut behind = false;
+    loop {
+        let number = draw(words, &mut seat);
+        if number >= outputs {
+            break;
+        }
+        let output = number as u32;
+        let finding = finding(rt, alloc, pair, gate, worker, member, output, behind)?;
+        behind = finding.tells_difference();
+        let Ok(()) = verdicts.push(Verdict { output, finding }) else {
+            return Err(Stop::Memory);
+        };
+        least = number + 1;
+    }
+    Ok(Share { seat, verdicts })
+}
+
+/// All that one member does: it draws, compares, and gives its diagrams up.
+fn work_alone<R, D: Diagrams<R> + Drop, G: Gate<R>>(
+    rt: &R,
+    alloc: Global,
+    pair: &Pair<'_>,
+    words: &Words,
+    gate: &G,
+    worker: u32,
+    seat: Drawer,
+    diagrams: D,
+) -> Result<Share, Stop>
+    requires own { IsSeat words.now.table_id seat }
+    requires one { (seat.me.0.seats ≡ 1) × (seat.me.0.drawn ≡ []) }
+    requires key { words.now.key.outputs ≡ length pair.now.first.outputs }
+    requires few { length pair.now.first.outputs < 2 ^ 32 }
+    requires variables { length pair.now.first.inputs ≤ (D.holding diagrams).variables }
+    ensures share { IfOk result (λ s. IsShare pair.now words.now.table_id 1 s.seat s.verdicts.items) }
+    ensures only { IfErr result (λ s. s ≢ Stop.Threads) }
+{
+    let mut member = member::begin(diagrams);
+    let share = draw_all(rt, alloc, pair, words, gate, worker, seat, &mut member);
+    member::end(member);
+    share
+}
+
+/// Puts two shares together.
+fn put_together(words: &Words, pair: &Pair<'_>, mine: Share, theirs: Share) -> Result<Share, Stop>
+    requires mine { IsShare pair.now words.now.table_id mine.seat.me.0.seats mine.seat mine.verdicts.items }
+    requires theirs { IsShare pair.now words.now.table_id theirs.seat.me.0.seats theirs.seat theirs.verdicts.items }
+    ensures share { IfOk result (λ s. IsShare pair.now words.now.table_id (mine.seat.me.0.seats + theirs.seat.me.0.seats) s.seat s.verdicts.items) }
+{
+    let Share {
+        mut seat,
+        mut verdicts,
+    } = mine;
+    let Share {
+        seat: other,
+        verdicts: mut others,
+    } = theirs;
+    take_in(words, &mut seat, other);
+    let Ok(()) = verdicts.append(&mut others) else {
+        return Err(Stop::Memory);
+    };
+    Ok(Share { seat, verdicts })
+}
+
+/// What a thread of several members promises.
+#[derive(Drop)]
+struct Kept<'f> {
+    pair: Snapshot<Pair<'f>>,
+    words: Snapshot<Words>,
+    members: u64,
+}
+
+impl<'f> Promise<Result<Share, Stop>> for Kept<'f> {
+    ghost kept_by = { λ p r. IfOk r (λ s. IsShare p.pair.value p.words.value.table_id p.members s.seat s.verdicts.items) };
+}
+
+/// The members are halved, one half on a new thread and one here, down to one. Where a thread can't be started, its half
+/// does not run, nor does this one.
+#[cycle(members)]
+fn work<
+    's,
+    E: 's,
+    R: Threads + Sync + 's,
+    D: Diagrams<R> + Send + Drop + 's,
+    G: Gate<R> + Sync + 's,
+>(
+    rt: &'s R,
+    scope: &'s Scope<'s, E>,
+    alloc: Global,
+    pair: &'s Pair<'s>,
+    words: &'s Words,
+    gate: &'s G,
+    worker: u32,
+    seat: Drawer,
+    members: Vec<D>,
+) -> Result<Share, Stop>
+    requires own { IsSeat words.now.table_id seat }
+    requires seats { (seat.me.0.seats ≡ vec_len members) × (seat.me.0.drawn ≡ []) }
+    requires key { words.now.key.outputs ≡ length pair.now.first.outputs }
+    requires few { length pair.now.first.outputs < 2 ^ 32 }
+    requires some { 1 ≤ vec_len members }
+    requires numbers { worker + vec_len members < 2 ^ 32 }
+    requires variables { All (λ d. length pair.now.first.inputs ≤ (D.holding d).variables) members.items }
+    ensures share { IfOk result (λ s. IsShare pair.now words.now.table_id (vec_len members) s.seat s.verdicts.items) }
+{
+    let mut seat = seat;
+    let mut members = members;
+    if members.len() == 1 {
+        let Some(diagrams) = members.pop() else {
+            unreachable!()
+        };
+        return work_alone(rt, alloc, pair, words, gate, worker, seat, diagrams);
+    }
+    let keep = members.len() - members.len() / 2;
+    let Ok(theirs) = members.split_off(keep) else {
+        return Err(Stop::Memory);
+    };
+    let other = halve(words, &mut seat);
+    let next = worker + keep as u32;
+    let kept = Kept {
+        pair: Snapshot::of(pair),
+        words: Snapshot::of(words),
+        members: theirs.len() as u64,
+    };
+    let there = move || -> Result<Share, Stop>
+        requires { IsSync R.row × IsSync G.row × IsSend D.row
+            × IsSeat words.now.table_id other × (other.me.0.seats ≡ vec_len theirs) × (other.me.0.drawn ≡ [])
+            × (words.now.key.outputs ≡ length pair.now.first.outputs) × (length pair.now.first.outputs < 2 ^ 32)
+            × (1 ≤ vec_len theirs) × (next + vec_len theirs < 2 ^ 32)
+            × All (λ d. length pair.now.first.inputs ≤ (D.holding d).variables) theirs.items }
+        ensures { IfOk result (λ s. IsShare pair.entry.now words.entry.now.table_id (vec_len theirs) s.seat s.verdicts.items) }
+    { work(rt, scope, alloc, pair, words, gate, next, other, theirs) };
+    let Ok(child) = scope.spawn_with(kept, there) else {
+        return Err(Stop::Threads);
+    };
+    let mine = work(rt, scope, alloc, pair, words, gate, worker, seat, members);
+    let theirs = child.join(rt);
+    put_together(words, pair, mine?, theirs?)
+}
+
+/// Runs the members, each in a thread of its own, and waits for all of them.
+pub(crate) fn work_together<
+    R: Threads + Wait + Sync,
+    D: Diagrams<R> + Send + Drop,
+    G: Gate<R> + Sync,
+>(
+    rt: &R,
+    alloc: Global,
+    pair: &Pair<'_>,
+    words: &Words,
+    gate: &G,
+    seat: Drawer,
+    members: Vec<D>,
+) -> Result<Share, Stop>
+    requires own { IsSeat words.now.table_id seat }
+    requires seats { (seat.me.0.seats ≡ vec_len members) × (seat.me.0.drawn ≡ []) }
+    requires key { words.now.key.outputs ≡ length pair.now.first.outputs }
+    requires few { length pair.now.first.outputs < 2 ^ 32 }
+    requires some { 1 ≤ vec_len members }
+    requires numbers { vec_len members < 2 ^ 32 }
+    requires variables { All (λ d. length pair.now.first.inputs ≤ (D.holding d).variables) members.items }
+    ensures share { IfOk result (λ s. IsShare pair.now words.now.table_id (vec_len members) s.seat s.verdicts.items) }
+{
+    scope(
+        scope_env(),
+        rt,
+        move |scope| -> Result<Share, Stop>
+            requires { IsSeat words.now.table_id seat × (seat.me.0.seats ≡ vec_len members) × (seat.me.0.drawn ≡ [])
+                × (words.now.key.outputs ≡ length pair.now.first.outputs) × (length pair.now.first.outputs < 2 ^ 32)
+                × (1 ≤ vec_len members) × (vec_len members < 2 ^ 32)
+                × All (λ d. length pair.now.first.inputs ≤ (D.holding d).variables) members.items }
+            ensures { IfOk result (λ s. IsShare pair.entry.now words.entry.now.table_id (vec_len members) s.seat s.verdicts.items) }
+        { work(rt, scope, alloc, pair, words, gate, 0, seat, members) },
+    )
+}

@@ -1,0 +1,262 @@
+//! Comparisons by several workers. The reports are those of one worker, whatever the schedule.
+
+ghost use Rattle.std.specs.Prelude.{◌≤◌, vec_len, IfOk};
+ghost use Rattle.std.specs.List.{All};
+
+use super::compared_hierarchies::{ADDERS, WRONG_ADDERS, WRONG_SUM};
+use super::hierarchies::flat_of;
+use super::pairs::report_word;
+use super::program::reports;
+use super::streams::Feed;
+use super::{DIFFERENCE, EQUAL, UNEQUAL, is_text, lines};
+use eqc_blif::{Library, read};
+use eqc_check::{
+    Gate, NoGate, Options, Pair, Report, Status, Texts, check, check_with, options_fault, pair, run,
+};
+use eqc_plain::Plain;
+use eqc_tree::{References, Stop};
+use std::alloc::{AllocError, Global};
+use std::sync::Wait;
+use std::sync::atomic::{AtomicU64, Ordering};
+use std::thread::{self, Threads};
+
+#[test]
+fn workers_and_forks_change_no_report(rt: HostRuntime) -> Result<(), AllocError> {
+    for workers in [1, 2, 8, 64] {
+        for forks in [0, 16] {
+            let line = format!(in rt.alloc(); "eqc --workers {workers} --forks {forks}")?;
+            let line = line.as_str();
+            assert!(rt;
+                reports(&rt, line, Feed::whole(ADDERS), "equivalent;", 0)?,
+                "{line}"
+            );
+            assert!(rt;
+                reports(&rt, line, Feed::whole(WRONG_ADDERS), WRONG_SUM, 1)?,
+                "{line}"
+            );
+        }
+    }
+    Ok(())
+}
+
+/// Two outputs that differ, which the second netlist declares in another order.
+const TWO: &str =
+    ".model f;.inputs a;.outputs p q;.names a p;1 1;.names a q;1 1;.end;.model g;.inputs a;.outputs q p;.names a p;0 1;.names q;.end;";
+
+/// How long a gate holds an output.
+const TURNS: u32 = 10_000_000;
+
+/// Holds output 0 until output 1 was entered, and counts what it was told.
+#[derive(Drop)]
+struct Held {
+    first: AtomicU64,
+    second: AtomicU64,
+    ran_out: AtomicU64,
+}
+
+impl Held {
+    fn new() -> Held {
+        Held {
+            first: AtomicU64::new(0),
+            second: AtomicU64::new(0),
+            ran_out: AtomicU64::new(0),
+        }
+    }
+
+    fn hold(&self) {
+        for _ in 0..TURNS {
+            if self.second.load(Ordering::SeqCst) > 0 {
+                return;
+            }
+            thread::yield_now();
+        }
+        self.ran_out.fetch_add(1, Ordering::SeqCst);
+    }
+
+    /// Whether each output was entered once, and output 0 not before output 1.
+    fn is_passed(&self) -> bool {
+        self.first.load(Ordering::SeqCst) == 1
+            && self.second.load(Ordering::SeqCst) == 1
+            && self.ran_out.load(Ordering::SeqCst) == 0
+    }
+}
+
+impl<R> Gate<R> for Held {
+    fn enter(&self, _rt: &R, _worker: u32, output: u32) {
+        if output == 0 {
+            self.first.fetch_add(1, Ordering::SeqCst);
+            self.hold();
+        } else {
+            self.second.fetch_add(1, Ordering::SeqCst);
+        }
+    }
+}
+
+/// Two stores of 16 nodes.
+fn two_stores(alloc: Global, inputs: u16) -> Result<Vec<Plain>, Stop>
+    ensures some { IfOk result (λ all. 1 ≤ vec_len all) }
+    ensures variables { IfOk result (λ all. All (λ p. inputs ≤ (⟦<Plain as References>⟧.holding p).variables) all.items) }
+{
+    let mut all = Vec::new(alloc);
+    for _ in 0..2 {
+        let Ok(()) = all.push(Plain::new(alloc, inputs, 16)?) else {
+            return Err(Stop::Memory);
+        };
+    }
+    Ok(all)
+}
+
+/// How a pair is compared.
+#[derive(Clone, Copy)]
+enum Way {
+    /// By so many workers, with a store of 16 nodes each.
+    Workers(u32),
+    /// By two members over stores of 16 nodes.
+    Members,
+}
+
+/// Compares a pair.
+fn compared<R: Threads + Wait + Sync, G: Gate<R> + Sync>(
+    rt: &R,
+    alloc: Global,
+    pair: &Pair<'_>,
+    way: Way,
+    gate: &G,
+) -> Result<Report, Stop> {
+    let workers = match way {
+        Way::Workers(workers) => workers,
+        Way::Members => {
+            let members = two_stores(alloc, pair.first().inputs().len() as u16)?;
+            return check_with(rt, alloc, pair, members, gate);
+        }
+    };
+    let options = Options {
+        workers,
+        nodes: 16,
+        cells: 1,
+        forks: 0,
+    };
+    match options_fault(&options) {
+        None => check(rt, alloc, pair, &options, gate),
+        Some(_) => Err(Stop::NodeLimit),
+    }
+}
+
+/// What is reported of the first two models of a library.
+fn library_word<R: Threads + Wait + Sync, G: Gate<R> + Sync>(
+    rt: &R,
+    alloc: Global,
+    library: &Library,
+    way: Way,
+    gate: &G,
+) -> Result<String, AllocError> {
+    let (Some(first), Some(second)) = (flat_of(alloc, library, 0), flat_of(alloc, library, 1))
+    else {
+        return String::from_str(alloc, "no two simple models");
+    };
+    let report = match pair(alloc, &first, &second, None) {
+        Ok(pair) => compared(rt, alloc, &pair, way, gate),
+        Err(refused) => Ok(Report::Refused(refused)),
+    };
+    match report {
+        Ok(report) => report_word(alloc, &report),
+        Err(stop) => report_word(alloc, &Report::Stopped(stop)),
+    }
+}
+
+/// What is reported of the first two models of a text.
+fn word_of<R: Threads + Wait + Sync, G: Gate<R> + Sync>(
+    rt: &R,
+    alloc: Global,
+    text: &str,
+    way: Way,
+    gate: &G,
+) -> Result<String, AllocError> {
+    let text = lines(alloc, text)?;
+    match read(alloc, &text) {
+        Ok(library) => library_word(rt, alloc, &library, way, gate),
+        Err(_) => String::from_str(alloc, "refused"),
+    }
+}
+
+#[test]
+fn pairs_are_compared_by_workers(rt: HostRuntime) -> Result<(), AllocError> {
+    let alloc = rt.alloc();
+    for way in [
+        Way::Workers(1),
+        Way::Workers(2),
+        Way::Workers(64),
+        Way::Members,
+    ] {
+        assert_eq!(rt;
+            word_of(&rt, alloc, EQUAL, way, &NoGate)?.as_str(),
+            "equivalent;"
+        );
+        assert_eq!(rt;
+            word_of(&rt, alloc, UNEQUAL, way, &NoGate)?.as_str(),
+            DIFFERENCE
+        );
+    }
+    Ok(())
+}
+
+#[test]
+fn two_outputs_are_compared_at_once(rt: HostRuntime) -> Result<(), AllocError> {
+    for way in [Way::Workers(2), Way::Members] {
+        let gate = Held::new();
+        let word = word_of(&rt, rt.alloc(), TWO, way, &gate)?;
+        assert_eq!(rt; word.as_str(), "differs at p;a=0;first=0;second=1;");
+        assert!(rt; gate.is_passed());
+    }
+    Ok(())
+}
+
+/// Five outputs. The second, the fourth and the last differ.
+const MANY: &str =
+    ".model f;.inputs a b;.outputs p q r s t;.names a p;1 1;.names a b q;11 1;.names b r;1 1;.names a s;1 1;.names b t;1 1;.end;.model g;.inputs a b;.outputs t s r q p;.names a p;1 1;.names a b q;1- 1;-1 1;.names b r;1 1;.names b s;1 1;.names t;.end;";
+
+/// The report on the text `MANY`.
+const SECOND: &str = "differs at q;a=0;b=1;first=0;second=1;";
+
+/// Counts what it was told.
+#[derive(Drop)]
+struct Count {
+    entered: AtomicU64,
+}
+
+impl<R> Gate<R> for Count {
+    fn enter(&self, _rt: &R, _worker: u32, _output: u32) {
+        self.entered.fetch_add(1, Ordering::SeqCst);
+    }
+}
+
+#[test]
+fn nothing_is_compared_behind_a_difference(rt: HostRuntime) -> Result<(), AllocError> {
+    let gate = Count {
+        entered: AtomicU64::new(0),
+    };
+    let word = word_of(&rt, rt.alloc(), MANY, Way::Workers(1), &gate)?;
+    assert_eq!(rt; word.as_str(), SECOND);
+    assert_eq!(rt; gate.entered.load(Ordering::SeqCst), 2);
+    Ok(())
+}
+
+#[test]
+fn runs_of_many_workers_write_the_same(rt: HostRuntime) -> Result<(), AllocError> {
+    let alloc = rt.alloc();
+    let text = lines(alloc, MANY)?;
+    let options = Options {
+        workers: 64,
+        nodes: 65_536,
+        cells: 8_192,
+        forks: 0,
+    };
+    for turn in 0..1_000 {
+        let mut out = Vec::new(alloc);
+        let texts = Texts::One(text.as_slice());
+        let done = run(&rt, alloc, texts, None, &options, &mut out);
+        assert_eq!(rt; done, Ok(Status::Differs), "{turn}");
+        assert!(rt; is_text(&out, SECOND), "{turn}");
+    }
+    Ok(())
+}
