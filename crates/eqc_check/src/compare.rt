@@ -246,7 +246,7 @@ pub(crate) fn compare_kept<R, D: Diagrams<R>>(
 }
 
 /// No references, for a pair.
-fn no_tables<D: References>(
+pub(crate) fn no_tables<D: References>(
     alloc: Global,
     d: &mut D,
     pair: &Pair<'_>,
@@ -270,7 +270,7 @@ fn no_tables<D: References>(
 }
 
 /// Gives all references of two tables back.
-fn give_back_both<D: References>(d: &mut D, tables: Tables<D::Ref>)
+pub(crate) fn give_back_both<D: References>(d: &mut D, tables: Tables<D::Ref>)
     requires { OwnsBoth D.entry (D.holding d.old) tables.first.table.items tables.second.table.items }
     ensures { MovesBoth D.entry (D.holding d.old) tables.first.table.items tables.second.table.items (D.holding d.new) [] [] }
 {

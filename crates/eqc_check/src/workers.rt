@@ -20,6 +20,7 @@ mod ticket;
 mod verdict;
 
 use crate::checking::found_report;
+use crate::compare::schedules_of;
 use crate::options::Options;
 use crate::pairing::matched_pair::Pair;
 use crate::report::Report;
@@ -65,10 +66,22 @@ fn first_found<R: Threads + Wait + Sync, D: Diagrams<R> + Send + Drop, G: Gate<R
         outputs: pair.first().outputs().len() as u32,
         seats: members.len() as u32,
     };
+    let Ok(schedules) = schedules_of(alloc, pair) else {
+        return Err(Stop::Memory);
+    };
     let Ok((table, seat)) = open(alloc, key) else {
         return Err(Stop::Memory);
     };
-    let share = work_together(rt, alloc, pair, &table.shared, gate, seat, members)?;
+    let share = work_together(
+        rt,
+        alloc,
+        pair,
+        &schedules,
+        &table.shared,
+        gate,
+        seat,
+        members,
+    )?;
     let verdicts = verdicts_of(table, pair, share);
     let Ok(row) = in_order(alloc, pair, verdicts) else {
         return Err(Stop::Memory);

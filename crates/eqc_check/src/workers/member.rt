@@ -1,23 +1,35 @@
 //! What a member compares with.
-ghost use Rattle.std.specs.Prelude.{◌≡◌, ◌≢◌, ◌<◌, ◌≤◌, length, IfOk, IfErr};
+ghost use Rattle.std.specs.Prelude.{◌≡◌, ◌≢◌, ◌<◌, ◌≤◌, ◌^◌, length, IfOk, IfErr};
 ghost use Rattle.std.specs.Option.{option_map};
+ghost use Rattle.eqc_check.specs.Turns.{AreKept, AreScheduled, AreTurns};
 ghost use Rattle.eqc_check.specs.Verdicts.{difference_at};
 
-use crate::compare::compare_output;
+use crate::build::kept::Tables;
+use crate::build::schedule::Schedules;
+use crate::compare::{compare_kept, give_back_both, no_tables};
 use crate::pairing::matched_pair::Pair;
 use eqc_tree::{Diagrams, References, Stop};
 use std::alloc::Global;
 
-/// The diagrams of a member, from its first draw to its last.
-pub(crate) struct Member<D> {
+/// The diagrams of a member, from its first draw to its last, and those of signals that later outputs need.
+pub(crate) struct Member<D: References> {
     pub diagrams: D,
+    pub tables: Tables<D::Ref>,
 }
 
 /// A member over diagrams.
-pub(crate) fn begin<D: References>(diagrams: D) -> Member<D>
-    ensures { result.diagrams ≡ diagrams }
+pub(crate) fn begin<D: References + Drop>(
+    alloc: Global,
+    diagrams: D,
+    pair: &Pair<'_>,
+) -> Result<Member<D>, Stop>
+    requires variables { length pair.now.first.inputs ≤ (D.holding diagrams).variables }
+    ensures kept { IfOk result (λ m. AreKept D.entry pair.now (D.holding m.diagrams) m.tables.first.table.items m.tables.second.table.items) }
+    ensures only { IfErr result (λ s. s ≡ Stop.Memory) }
 {
-    Member { diagrams }
+    let mut diagrams = diagrams;
+    let tables = no_tables(alloc, &mut diagrams, pair)?;
+    Ok(Member { diagrams, tables })
 }
 
 /// The least assignment under which an output differs. A member's outputs come in rising order.
@@ -26,19 +38,39 @@ pub(crate) fn compare<R, D: Diagrams<R>>(
     alloc: Global,
     member: &mut Member<D>,
     pair: &Pair<'_>,
+    schedules: &Schedules,
     output: u32,
 ) -> Result<Option<Vec<bool>>, Stop>
-    requires variables { length pair.now.first.inputs ≤ (D.holding member.old.diagrams).variables }
+    requires kept { AreKept D.entry pair.now (D.holding member.old.diagrams) member.old.tables.first.table.items member.old.tables.second.table.items }
+    requires scheduled { AreScheduled pair.now schedules.now.first schedules.now.second }
+    requires turns { AreTurns pair.now schedules.now.first schedules.now.second }
+    requires few { length pair.now.first.outputs < 2 ^ 32 }
     requires output { output < length pair.now.first.outputs }
     ensures least { IfOk result (λ found. option_map (λ v. v.items) found ≡ difference_at pair.now output) }
-    ensures variables { (D.holding member.new.diagrams).variables ≡ (D.holding member.old.diagrams).variables }
+    ensures kept { AreKept D.entry pair.now (D.holding member.new.diagrams) member.new.tables.first.table.items member.new.tables.second.table.items }
     ensures only { IfErr result (λ s. s ≢ Stop.Threads) }
 {
-    compare_output(rt, alloc, &mut member.diagrams, pair, output as usize)
+    let Member { diagrams, tables } = member;
+    compare_kept(
+        alloc,
+        rt,
+        diagrams,
+        pair,
+        schedules,
+        tables,
+        output as usize,
+        output + 1,
+    )
 }
 
 /// The member's diagrams, with what they held at first.
-pub(crate) fn end<D: References>(member: Member<D>) -> D {
-    let Member { diagrams } = member;
+pub(crate) fn end<D: References>(member: Member<D>, pair: &Pair<'_>) -> D
+    requires { AreKept D.entry pair.now (D.holding member.diagrams) member.tables.first.table.items member.tables.second.table.items }
+{
+    let Member {
+        mut diagrams,
+        tables,
+    } = member;
+    give_back_both(&mut diagrams, tables);
     diagrams
 }

@@ -3,8 +3,10 @@ ghost use Rattle.std.specs.Prelude.{◌≡◌, ◌≢◌, ◌+◌, ◌<◌, ◌�
 ghost use Rattle.std.specs.List.{All};
 ghost use Rattle.std.specs.Thread.{IsSync, IsSend};
 ghost use Rattle.eqc_check.specs.Ticket.{IsSeat};
+ghost use Rattle.eqc_check.specs.Turns.{AreKept, AreScheduled, AreTurns};
 ghost use Rattle.eqc_check.specs.Verdicts.{DiffersBefore, IsFoundAt, IsShare};
 
+use crate::build::schedule::Schedules;
 use crate::pairing::matched_pair::Pair;
 use crate::workers::gate::Gate;
 use crate::workers::member::{self, Member};
@@ -28,24 +30,28 @@ fn finding<R, D: Diagrams<R>, G: Gate<R>>(
     rt: &R,
     alloc: Global,
     pair: &Pair<'_>,
+    schedules: &Schedules,
     gate: &G,
     worker: u32,
     member: &mut Member<D>,
     output: u32,
     behind: bool,
 ) -> Result<Finding, Stop>
-    requires variables { length pair.now.first.inputs ≤ (D.holding member.old.diagrams).variables }
+    requires kept { AreKept D.entry pair.now (D.holding member.old.diagrams) member.old.tables.first.table.items member.old.tables.second.table.items }
+    requires scheduled { AreScheduled pair.now schedules.now.first schedules.now.second }
+    requires turns { AreTurns pair.now schedules.now.first schedules.now.second }
+    requires few { length pair.now.first.outputs < 2 ^ 32 }
     requires output { output < length pair.now.first.outputs }
     requires knows { IsTrue behind → DiffersBefore pair.now output }
     ensures found { IfOk result (λ found. IsFoundAt pair.now output found) }
-    ensures variables { (D.holding member.new.diagrams).variables ≡ (D.holding member.old.diagrams).variables }
+    ensures kept { AreKept D.entry pair.now (D.holding member.new.diagrams) member.new.tables.first.table.items member.new.tables.second.table.items }
     ensures only { IfErr result (λ s. s ≢ Stop.Threads) }
 {
     if behind {
         return Ok(Finding::Behind);
     }
     gate.enter(rt, worker, output);
-    match member::compare(rt, alloc, member, pair, output)? {
+    match member::compare(rt, alloc, member, pair, schedules, output)? {
         None => Ok(Finding::Equal),
         Some(values) => Ok(Finding::Differs(values)),
     }
@@ -57,6 +63,7 @@ fn draw_all<R, D: Diagrams<R>, G: Gate<R>>(
     rt: &R,
     alloc: Global,
     pair: &Pair<'_>,
+    schedules: &Schedules,
     words: &Words,
     gate: &G,
     worker: u32,
@@ -67,9 +74,12 @@ fn draw_all<R, D: Diagrams<R>, G: Gate<R>>(
     requires one { (seat.me.0.seats ≡ 1) × (seat.me.0.drawn ≡ []) }
     requires key { words.now.key.outputs ≡ length pair.now.first.outputs }
     requires few { length pair.now.first.outputs < 2 ^ 32 }
-    requires variables { length pair.now.first.inputs ≤ (D.holding member.old.diagrams).variables }
+    requires kept { AreKept D.entry pair.now (D.holding member.old.diagrams) member.old.tables.first.table.items member.old.tables.second.table.items }
+    requires scheduled { AreScheduled pair.now schedules.now.first schedules.now.second }
+    requires turns { AreTurns pair.now schedules.now.first schedules.now.second }
     ensures share { IfOk result (λ s. IsShare pair.now words.now.table_id 1 s.seat s.verdicts.items) }
     ensures only { IfErr result (λ s. s ≢ Stop.Threads) }
+    ensures kept { AreKept D.entry pair.now (D.holding member.new.diagrams) member.new.tables.first.table.items member.new.tables.second.table.items }
 {
     let mut seat = seat;
     let mut verdicts = Vec::new(alloc);
@@ -82,7 +92,9 @@ fn draw_all<R, D: Diagrams<R>, G: Gate<R>>(
             break;
         }
         let output = number as u32;
-        let finding = finding(rt, alloc, pair, gate, worker, member, output, behind)?;
+        let finding = finding(
+            rt, alloc, pair, schedules, gate, worker, member, output, behind,
+        )?;
         behind = finding.tells_difference();
         let Ok(()) = verdicts.push(Verdict { output, finding }) else {
             return Err(Stop::Memory);
@@ -97,6 +109,7 @@ fn work_alone<R, D: Diagrams<R> + Drop, G: Gate<R>>(
     rt: &R,
     alloc: Global,
     pair: &Pair<'_>,
+    schedules: &Schedules,
     words: &Words,
     gate: &G,
     worker: u32,
@@ -108,12 +121,24 @@ fn work_alone<R, D: Diagrams<R> + Drop, G: Gate<R>>(
     requires key { words.now.key.outputs ≡ length pair.now.first.outputs }
     requires few { length pair.now.first.outputs < 2 ^ 32 }
     requires variables { length pair.now.first.inputs ≤ (D.holding diagrams).variables }
+    requires scheduled { AreScheduled pair.now schedules.now.first schedules.now.second }
+    requires turns { AreTurns pair.now schedules.now.first schedules.now.second }
     ensures share { IfOk result (λ s. IsShare pair.now words.now.table_id 1 s.seat s.verdicts.items) }
     ensures only { IfErr result (λ s. s ≢ Stop.Threads) }
 {
-    let mut member = member::begin(diagrams);
-    let share = draw_all(rt, alloc, pair, words, gate, worker, seat, &mut member);
-    member::end(member);
+    let mut member = member::begin(alloc, diagrams, pair)?;
+    let share = draw_all(
+        rt,
+        alloc,
+        pair,
+        schedules,
+        words,
+        gate,
+        worker,
+        seat,
+        &mut member,
+    );
+    member::end(member, pair);
     share
 }
 
@@ -164,6 +189,7 @@ fn work<
     scope: &'s Scope<'s, E>,
     alloc: Global,
     pair: &'s Pair<'s>,
+    schedules: &'s Schedules,
     words: &'s Words,
     gate: &'s G,
     worker: u32,
@@ -177,6 +203,8 @@ fn work<
     requires some { 1 ≤ vec_len members }
     requires numbers { worker + vec_len members < 2 ^ 32 }
     requires variables { All (λ d. length pair.now.first.inputs ≤ (D.holding d).variables) members.items }
+    requires scheduled { AreScheduled pair.now schedules.now.first schedules.now.second }
+    requires turns { AreTurns pair.now schedules.now.first schedules.now.second }
     ensures share { IfOk result (λ s. IsShare pair.now words.now.table_id (vec_len members) s.seat s.verdicts.items) }
 {
     let mut seat = seat;
@@ -185,7 +213,9 @@ fn work<
         let Some(diagrams) = members.pop() else {
             unreachable!()
         };
-        return work_alone(rt, alloc, pair, words, gate, worker, seat, diagrams);
+        return work_alone(
+            rt, alloc, pair, schedules, words, gate, worker, seat, diagrams,
+        );
     }
     let keep = members.len() - members.len() / 2;
     let Ok(theirs) = members.split_off(keep) else {
@@ -203,13 +233,20 @@ fn work<
             × IsSeat words.now.table_id other × (other.me.0.seats ≡ vec_len theirs) × (other.me.0.drawn ≡ [])
             × (words.now.key.outputs ≡ length pair.now.first.outputs) × (length pair.now.first.outputs < 2 ^ 32)
             × (1 ≤ vec_len theirs) × (next + vec_len theirs < 2 ^ 32)
+            × AreScheduled pair.now schedules.now.first schedules.now.second × AreTurns pair.now schedules.now.first schedules.now.second
             × All (λ d. length pair.now.first.inputs ≤ (D.holding d).variables) theirs.items }
         ensures { IfOk result (λ s. IsShare pair.entry.now words.entry.now.table_id (vec_len theirs) s.seat s.verdicts.items) }
-    { work(rt, scope, alloc, pair, words, gate, next, other, theirs) };
+    {
+        work(
+            rt, scope, alloc, pair, schedules, words, gate, next, other, theirs,
+        )
+    };
     let Ok(child) = scope.spawn_with(kept, there) else {
         return Err(Stop::Threads);
     };
-    let mine = work(rt, scope, alloc, pair, words, gate, worker, seat, members);
+    let mine = work(
+        rt, scope, alloc, pair, schedules, words, gate, worker, seat, members,
+    );
     let theirs = child.join(rt);
     put_together(words, pair, mine?, theirs?)
 }
@@ -223,6 +260,7 @@ pub(crate) fn work_together<
     rt: &R,
     alloc: Global,
     pair: &Pair<'_>,
+    schedules: &Schedules,
     words: &Words,
     gate: &G,
     seat: Drawer,
@@ -235,6 +273,8 @@ pub(crate) fn work_together<
     requires some { 1 ≤ vec_len members }
     requires numbers { vec_len members < 2 ^ 32 }
     requires variables { All (λ d. length pair.now.first.inputs ≤ (D.holding d).variables) members.items }
+    requires scheduled { AreScheduled pair.now schedules.now.first schedules.now.second }
+    requires turns { AreTurns pair.now schedules.now.first schedules.now.second }
     ensures share { IfOk result (λ s. IsShare pair.now words.now.table_id (vec_len members) s.seat s.verdicts.items) }
 {
     scope(
@@ -244,8 +284,13 @@ pub(crate) fn work_together<
             requires { IsSeat words.now.table_id seat × (seat.me.0.seats ≡ vec_len members) × (seat.me.0.drawn ≡ [])
                 × (words.now.key.outputs ≡ length pair.now.first.outputs) × (length pair.now.first.outputs < 2 ^ 32)
                 × (1 ≤ vec_len members) × (vec_len members < 2 ^ 32)
+                × AreScheduled pair.now schedules.now.first schedules.now.second × AreTurns pair.now schedules.now.first schedules.now.second
                 × All (λ d. length pair.now.first.inputs ≤ (D.holding d).variables) members.items }
             ensures { IfOk result (λ s. IsShare pair.entry.now words.entry.now.table_id (vec_len members) s.seat s.verdicts.items) }
-        { work(rt, scope, alloc, pair, words, gate, 0, seat, members) },
+        {
+            work(
+                rt, scope, alloc, pair, schedules, words, gate, 0, seat, members,
+            )
+        },
     )
 }

@@ -23,7 +23,7 @@ loop-alloc-preserved g c =
     let all : All (IsRight c.args.pair.now) (c.loop-alloc.verdicts.items ++ v ∷ []) = All-push (IsRight c.args.pair.now) c.loop-alloc.verdicts.items v w.right right in (
       rw (c.in-Ok.ensures.items, c.tells_difference-behind.ensures) (goes c.args.pair.now c.args.words.now.table_id c.loop-alloc.least c.draw-number.result c.loop-alloc.behind c.loop-alloc.seat c.draw-number.new.seat c.loop-alloc.verdicts.items w c.draw-number.ensures.own c.draw-number.ensures.drawn inside v refl right all),
       c.loop-alloc.invariant.1,
-      rw c.finding.ensures.variables c.loop-alloc.invariant.2,
+      c.finding.ensures.kept,
     )
 
 pub returns-clause-share : goal.returns-clause-share

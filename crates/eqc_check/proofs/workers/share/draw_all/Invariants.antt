@@ -1,4 +1,5 @@
-use Rattle.std.specs.Prelude.{◌≡◌, ◌-◌, ◌≤◌, length}
+use Rattle.std.specs.Prelude.{◌≡◌, ◌-◌, length}
+use Rattle.eqc_check.specs.Turns.{AreKept}
 use Rattle.eqc_check.specs.Verdicts.{IsWork}
 use Rattle.eqc_check.proofs.workers.share.draw_all.Given as goal
 
@@ -6,7 +7,7 @@ abbrev pub invariant-loop-alloc : goal.invariant-loop-alloc
 invariant-loop-alloc g l =
     IsWork l.fn.pair l.fn.words.table_id l.least l.behind l.seat l.verdicts.items
     × (l.outputs ≡ length l.fn.pair.first.outputs)
-    × (length l.fn.pair.first.inputs ≤ (g.D.References.holding l.member.diagrams).variables)
+    × AreKept g.D.References.entry l.fn.pair (g.D.References.holding l.member.diagrams) l.member.tables.first.table.items l.member.tables.second.table.items
 
 abbrev pub decreases-loop-alloc : goal.decreases-loop-alloc
 decreases-loop-alloc g l = l.outputs - l.least
