@@ -13,6 +13,7 @@ use eqc_blif::{Library, read};
 use eqc_check::{
     Gate, NoGate, Options, Pair, Report, Status, Texts, check, check_with, options_fault, pair, run,
 };
+use eqc_flat::Flat;
 use eqc_plain::Plain;
 use eqc_tree::{References, Stop};
 use std::alloc::{AllocError, Global};
@@ -98,7 +99,7 @@ fn two_stores(alloc: Global, inputs: u16) -> Result<Vec<Plain>, Stop>
     ensures variables { IfOk result (λ all. All (λ p. inputs ≤ (⟦<Plain as References>⟧.holding p).variables) all.items) }
 {
     let mut all = Vec::new(alloc);
-    for _ in 0..2 {
+    for _ in 0..2u32 {
         let Ok(()) = all.push(Plain::new(alloc, inputs, 16)?) else {
             return Err(Stop::Memory);
         };
@@ -142,6 +143,35 @@ fn compared<R: Threads + Wait + Sync, G: Gate<R> + Sync>(
     }
 }
 
+/// What is reported of a pair.
+fn pair_word<R: Threads + Wait + Sync, G: Gate<R> + Sync>(
+    rt: &R,
+    alloc: Global,
+    pair: &Pair<'_>,
+    way: Way,
+    gate: &G,
+) -> Result<String, AllocError> {
+    match compared(rt, alloc, pair, way, gate) {
+        Ok(report) => report_word(alloc, &report),
+        Err(stop) => report_word(alloc, &Report::Stopped(stop)),
+    }
+}
+
+/// What is reported of two flat netlists.
+fn flat_word<R: Threads + Wait + Sync, G: Gate<R> + Sync>(
+    rt: &R,
+    alloc: Global,
+    first: &Flat<'_>,
+    second: &Flat<'_>,
+    way: Way,
+    gate: &G,
+) -> Result<String, AllocError> {
+    match pair(alloc, first, second, None) {
+        Ok(pair) => pair_word(rt, alloc, &pair, way, gate),
+        Err(refused) => report_word(alloc, &Report::Refused(refused)),
+    }
+}
+
 /// What is reported of the first two models of a library.
 fn library_word<R: Threads + Wait + Sync, G: Gate<R> + Sync>(
     rt: &R,
@@ -154,14 +184,7 @@ fn library_word<R: Threads + Wait + Sync, G: Gate<R> + Sync>(
     else {
         return String::from_str(alloc, "no two simple models");
     };
-    let report = match pair(alloc, &first, &second, None) {
-        Ok(pair) => compared(rt, alloc, &pair, way, gate),
-        Err(refused) => Ok(Report::Refused(refused)),
-    };
-    match report {
-        Ok(report) => report_word(alloc, &report),
-        Err(stop) => report_word(alloc, &Report::Stopped(stop)),
-    }
+    flat_word(rt, alloc, &first, &second, way, gate)
 }
 
 /// What is reported of the first two models of a text.
