@@ -1,5 +1,5 @@
 use Rattle.std.proofs.Common.{◌||◌}
-use Rattle.eqc_check.proofs.MakingLaws.{call_makes, reference_makes, turns_owned, joined_makes}
+use Rattle.eqc_check.proofs.MakingLaws.{turns_owned, joined_makes}
 use Rattle.eqc_check.proofs.Blocks.{some_of_halves}
 use Rattle.eqc_check.proofs.least.+one_of.Goals as goal
 

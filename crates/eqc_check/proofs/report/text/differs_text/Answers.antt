@@ -1,4 +1,4 @@
-use Rattle.std.proofs.Common.{◌++◌, codes, arith}
+use Rattle.std.proofs.Common.{◌++◌, codes}
 use Rattle.eqc_check.specs.Report.{line, value_line}
 use Rattle.eqc_check.proofs.ReportLemmas.{begun, values_more, values_all}
 use Rattle.eqc_check.proofs.report.text.differs_text.Goals as goal
