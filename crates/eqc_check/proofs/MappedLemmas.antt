@@ -2,21 +2,13 @@
 use Rattle.std.proofs.Common.{◌≡◌, ℕ, zero, suc, ◌+◌, ◌<◌, ◌≤◌, List, [], ◌∷◌, ◌++◌, length, map, take, get_or, Option, None, refl, sym, ◌∙◌, ap}
 use Rattle.std.proofs.lemmas.List.{map-append, take_more, take_all}
 
-module _ {A B C : Type 0} (f : A → C) (h : B → C) (xs : List A) (ys : List B) (k : ℕ) where
-  -- one more of the values
-  pub mapped_more : (new : List A) (x : A) (d : B) → k < length ys → map f xs ≡ map h (take k ys) → new ≡ xs ++ x ∷ [] → f x ≡ h (get_or ys k d) → map f new ≡ map h (take (k + 1) ys)
-  mapped_more new x d inside same grown one =
-      ap (map f) grown ∙ (map-append f xs (x ∷ []) ∙ (ap (λ l. l ++ f x ∷ []) same ∙ (ap (λ z. map h (take k ys) ++ z ∷ []) one ∙ sym (ap (map h) (take_more ys k d inside) ∙ map-append h (take k ys) (get_or ys k d ∷ [])))))
-
-  -- all of them
-  pub mapped_all : length ys ≤ k → map f xs ≡ map h (take k ys) → map f xs ≡ map h ys
-  mapped_all whole same = same ∙ ap (map h) (take_all k ys whole)
-
 module _ {A B : Type 0} (f : A → B) (xs : List A) (ys : List B) (k : ℕ) where
+  -- one more of the values
   pub taken_more : (new : List A) (x : A) (d : B) → k < length ys → map f xs ≡ take k ys → new ≡ xs ++ x ∷ [] → f x ≡ get_or ys k d → map f new ≡ take (k + 1) ys
   taken_more new x d inside same grown one =
       ap (map f) grown ∙ (map-append f xs (x ∷ []) ∙ (ap (λ l. l ++ f x ∷ []) same ∙ (ap (λ z. take k ys ++ z ∷ []) one ∙ sym (take_more ys k d inside))))
 
+  -- all of them
   pub taken_all : length ys ≤ k → map f xs ≡ take k ys → map f xs ≡ ys
   taken_all whole same = same ∙ take_all k ys whole
 
