@@ -60,3 +60,25 @@ pub build_signal-requires-clause-within : goal.build_signal-requires-clause-with
 build_signal-requires-clause-within g c =
     let steps = c.steps-steps.ensures.steps in
     rw steps (c.steps-steps.ensures.lawful.steps_within c.loop-k.k (omega (arith, ap length steps)))
+
+pub build_signal-requires-clause-built : goal.build_signal-requires-clause-built
+build_signal-requires-clause-built g c = c.loop-k.invariant.built
+
+pub index-requires : goal.index-requires
+index-requires g c =
+    let steps = c.steps-steps.ensures.steps in
+    rw steps (omega (arith, c.steps-steps.ensures.lawful.steps_within c.loop-k.k (omega (arith, ap length steps)), c.in-Ok.ensures.size))
+
+pub driver-requires : goal.driver-requires
+driver-requires g c =
+    let steps = c.steps-steps.ensures.steps in
+    rw steps (c.steps-steps.ensures.lawful.steps_within c.loop-k.k (omega (arith, ap length steps)))
+
+pub release-requires-clause-size : goal.release-requires-clause-size
+release-requires-clause-size g c = omega (arith, ap length c.deref.ensures.value, c.in-Ok.ensures.size, c.in-Ok-build_signal.ensures.ok.built.size)
+
+pub overflow_add-k : goal.overflow_add-k
+overflow_add-k g c = omega (arith, ap length c.steps-steps.ensures.steps, c.steps-steps.ensures.lawful.step_count, c.steps-steps.ensures.lawful.few_signals)
+
+pub overflow_cast-k : goal.overflow_cast-k
+overflow_cast-k g c = omega (arith, ap length c.steps-steps.ensures.steps, c.steps-steps.ensures.lawful.step_count, c.steps-steps.ensures.lawful.few_signals)
