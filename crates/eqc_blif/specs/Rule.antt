@@ -1,4 +1,4 @@
--- The codes of the rules of reading, and the rule of a code.
+-- The codes of the rules of reading.
 use Rattle.std.specs.Prelude.{ℕ}
 use Rattle.eqc_blif.specs.declared.rule.Rule.{Rule}
 use Rattle.eqc_blif.specs.declared.rule.Rule.TheVariants.{ControlByte, TextTooLong, UnknownCommand, Latch, BehindEnd, RowOutsideCover, RowShape, RowOutput, NoPair, NoWord, ModelTwice, NameTwice, NoModel, Memory}

@@ -14,12 +14,8 @@ pub struct Refusal {
 
 /// The rule of a code of a refusal.
 fn rule_of(code: &u8) -> Rule {
-    for rule in &RULES {
-        if rule.code() == *code {
-            return *rule;
-        }
-    }
-    Rule::Memory
+    let found = RULES.iter().copied().find(|rule| rule.code() == *code);
+    found.unwrap_or(Rule::Memory)
 }
 
 impl Rule {

@@ -1,11 +1,13 @@
 -- Blocks of values chosen at once.
 use Rattle.std.proofs.Common.{◌≡◌, ℕ, zero, suc, ◌+◌, ◌-◌, ◌*◌, ◌<◌, ◌≤◌, inl, inr, Bool, true, false, ◌==◌, eqb-true, not, ◌&&◌, ◌||◌, List, [], ◌∷◌, ◌++◌, length, take, drop, replicate, drop-cons, get_or, if◌then◌else◌, sym, ap, refl, ◌∙◌, arith, append_assoc, append-nil, true≢false}
-use Rattle.std.specs.List.{list_any}
+use Rattle.std.specs.List.{list_any, All}
 use Rattle.std.proofs.Math.Nat.{mul_comm}
 use Rattle.std.proofs.Math.Seq.{take-length}
 use Rattle.std.proofs.lemmas.Nat.{mul-add-lt}
 use Rattle.std.proofs.lemmas.Bool.{cases_lt}
-use Rattle.std.proofs.lemmas.List.{length-append, length-drop, length-take-le, length-replicate}
+use Rattle.std.proofs.lemmas.List.{length-append, length-drop, length-take-le, length-replicate, take-append-drop}
+use Rattle.std.proofs.lemmas.List.Folds.{list_any-append}
+use Rattle.std.proofs.lemmas.List.Elements.{All-take, All-drop}
 use Rattle.eqc_tree.specs.Assigned.{IsSatisfiable}
 use Rattle.eqc_check.specs.Narrowing.{IsNarrowed, decided}
 use Rattle.eqc_tree.proofs.FollowsLemmas.{and_true}
@@ -94,3 +96,11 @@ tries_fall n left less longest next falls same few some = elim (cases_lt less le
       let short = same e in
       rw e (omega arith)
 ]
+
+-- variables of a block are among all
+pub block_within : (n : ℕ) (vs : List ℕ) (m k : ℕ) → All (λ v. v < n) vs → All (λ v. v < n) (take k (take (length vs - m) (drop m vs)))
+block_within n vs m k h = All-take (λ v. v < n) k (take (length vs - m) (drop m vs)) (All-take (λ v. v < n) (length vs - m) (drop m vs) (All-drop (λ v. v < n) m vs h))
+
+-- one of the variables of both halves
+pub some_of_halves : (n : ℕ) (vs some others : List ℕ) (a : ℕ → Bool) → some ≡ take n vs → others ≡ drop n vs → (list_any a some || list_any a others) ≡ list_any a vs
+some_of_halves n vs some others a e f = rw (e, f) (sym (list_any-append a (take n vs) (drop n vs)) ∙ ap (list_any a) (take-append-drop n vs))

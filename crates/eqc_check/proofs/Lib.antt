@@ -1,5 +1,6 @@
 pub mod MatchingLaws
 pub mod MakingLaws
+pub mod MappedLemmas
 pub mod RowLaws
 pub mod HeldLaws
 pub mod TableLaws

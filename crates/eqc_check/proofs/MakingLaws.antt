@@ -8,7 +8,7 @@ use Rattle.eqc_tree.specs.Operation.{operate}
 use Rattle.eqc_tree.specs.declared.operation.Op.TheVariants.{Xor}
 use Rattle.eqc_tree.proofs.HoldingLemmas.{counts_itself}
 use Rattle.eqc_check.specs.Matching.{AreHeld}
-use Rattle.eqc_check.specs.Making.{Makes, OwnsMade, OwnsInTurn, Inverts, Joins}
+use Rattle.eqc_check.specs.Making.{Makes, OwnsMade, OwnsInTurn, HasBoth, Inverts, Joins}
 use Rattle.eqc_check.proofs.HeldLaws.{held_more}
 
 -- a call of diagrams by its clauses
@@ -98,41 +98,49 @@ inverted_makes entry d0 d1 d2 (Err stop) (Ok r) f h same m j = absurd j.function
 pub first_of_turn : {X : Type 0} (entry : X → Entry) (d : Holding) (x : X) (made_later : Result X Stop) → OwnsInTurn entry d x made_later → IsHeld d (entry x)
 first_of_turn entry d x made_later h = counted d (entry x) (omega (arith, h.held (entry x)))
 
-pub second_of_turn : {X : Type 0} (entry : X → Entry) (d : Holding) (x y : X) (made_later : Result X Stop) → made_later ≡ Ok y → OwnsInTurn entry d x made_later → IsHeld d (entry y)
-second_of_turn entry d x y made_later is h =
-    let k : OwnsInTurn entry d x (Ok y) = subst (OwnsInTurn entry d x) is h in
-    counted d (entry y) (omega (arith, k.held (entry y)))
+second_of_turn : {X : Type 0} (entry : X → Entry) (d : Holding) (x y : X) → OwnsInTurn entry d x (Ok y) → IsHeld d (entry y)
+second_of_turn entry d x y h = counted d (entry y) (omega (arith, h.held (entry y)))
 
--- they stay held where a call makes something
-pub turn_stays : {X : Type 0} (entry : X → Entry) (d0 d1 : Holding) (x : X) (made_later result : Result X Stop) (f : (ℕ → Bool) → Bool) → OwnsInTurn entry d0 x made_later → Makes entry d0 d1 result f → OwnsInTurn entry d1 x made_later
-turn_stays entry d0 d1 x made_later result f h m = record { held = λ e. omega (arith, h.held e, m.held e); only = h.only }
+module _ {X : Type 0} (entry : X → Entry) (d0 d1 : Holding) (x : X) (made_later : Result X Stop) (front back : X) (h : OwnsInTurn entry d0 x made_later) (b : HasBoth entry d0 d1 x made_later (Ok (front, back))) where
+  both_owned : OwnsInTurn entry d1 front (Ok back)
+  both_owned = rw (b.0, b.1.1) (subst (OwnsInTurn entry d0 x) b.1.0 h)
 
--- the second is held when the first was given back
-pub last_of_turn : {X : Type 0} (entry : X → Entry) (d0 d1 : Holding) (x y : X) (made_later : Result X Stop) → made_later ≡ Ok y → OwnsInTurn entry d0 x made_later → Loses d0 d1 (entry x) → IsHeld d1 (entry y)
-last_of_turn entry d0 d1 x y made_later is h l =
-    let k : OwnsInTurn entry d0 x (Ok y) = subst (OwnsInTurn entry d0 x) is h in
-    counted d1 (entry y) (omega (arith, k.held (entry y), l.held (entry y)))
+  pub front_held : IsHeld d1 (entry front)
+  front_held = first_of_turn entry d1 front (Ok back) both_owned
 
--- the first is given back where the second was not made
-pub turn_stopped : {X : Type 0} (entry : X → Entry) (d0 d1 : Holding) (x : X) (made_later : Result X Stop) (stop : Stop) (op : (ℕ → Bool) → Bool → Bool → Bool) → made_later ≡ Err stop → OwnsInTurn entry d0 x made_later → Loses d0 d1 (entry x) → Joins entry d0 d1 x made_later (Err stop) op
-turn_stopped entry d0 d1 x made_later stop op is h l =
-    let k : OwnsInTurn entry d0 x (Err stop) = subst (OwnsInTurn entry d0 x) is h in
-    rw is (record { variables = l.variables; held = λ e. omega (arith, l.held e); function = tt; only = k.only })
+  pub back_held : IsHeld d1 (entry back)
+  back_held = second_of_turn entry d1 front back both_owned
 
--- both are given back after the operation
-pub joins : {X : Type 0} (entry : X → Entry) (d0 d1 d2 d3 : Holding) (x y : X) (made_later result : Result X Stop) (op : (ℕ → Bool) → Bool → Bool → Bool) → made_later ≡ Ok y → Makes entry d0 d1 result (λ a. op a (says (entry x) a) (says (entry y) a)) → Loses d1 d2 (entry x) → Loses d2 d3 (entry y) → Joins entry d0 d3 x made_later result op
-joins entry d0 d1 d2 d3 x y made_later (Ok r) op is m l n = rw is (record {
-  variables = n.variables ∙ (l.variables ∙ m.variables);
-  held = λ e. omega (arith, m.held e, l.held e, n.held e);
-  function = m.function;
-  only = tt;
-})
-joins entry d0 d1 d2 d3 x y made_later (Err stop) op is m l n = rw is (record {
-  variables = n.variables ∙ (l.variables ∙ m.variables);
-  held = λ e. omega (arith, m.held e, l.held e, n.held e);
-  function = tt;
-  only = m.only;
-})
+  module _ (d2 : Holding) (result : Result X Stop) (f : (ℕ → Bool) → Bool) (m : Makes entry d1 d2 result f) where
+    -- they stay held where a call makes something
+    stay_owned : OwnsInTurn entry d2 front (Ok back)
+    stay_owned = record { held = λ e. omega (arith, both_owned.held e, m.held e); only = tt }
+
+    pub front_stays : IsHeld d2 (entry front)
+    front_stays = first_of_turn entry d2 front (Ok back) stay_owned
+
+    -- and the second where the first is given back
+    pub back_stays : (d3 : Holding) → Loses d2 d3 (entry front) → IsHeld d3 (entry back)
+    back_stays d3 l = counted d3 (entry back) (omega (arith, stay_owned.held (entry back), l.held (entry back)))
+
+  -- both are given back after the operation
+  pub joins : (d2 d3 d4 : Holding) (result : Result X Stop) (op : (ℕ → Bool) → Bool → Bool → Bool) → Makes entry d1 d2 result (λ a. op a (says (entry front) a) (says (entry back) a)) → Loses d2 d3 (entry front) → Loses d3 d4 (entry back) → Joins entry d0 d4 x made_later result op
+  joins d2 d3 d4 result op m l n =
+      rw b.1.0 (subst (λ s. Joins entry d0 d4 s (Ok back) result op) b.0 (subst (λ d. Joins entry d d4 front (Ok back) result op) b.1.1 (by result m)))
+    where
+      by : (made : Result X Stop) → Makes entry d1 d2 made (λ a. op a (says (entry front) a) (says (entry back) a)) → Joins entry d1 d4 front (Ok back) made op
+      by (Ok r) made = record {
+        variables = n.variables ∙ (l.variables ∙ made.variables);
+        held = λ e. omega (arith, made.held e, l.held e, n.held e);
+        function = made.function;
+        only = tt;
+      }
+      by (Err stop) made = record {
+        variables = n.variables ∙ (l.variables ∙ made.variables);
+        held = λ e. omega (arith, made.held e, l.held e, n.held e);
+        function = tt;
+        only = made.only;
+      }
 
 -- the opposite of a reference by an operation on it and on the constant that is made after it
 pub made_in_turn : {X : Type 0} (entry : X → Entry) (d0 d1 : Holding) (x : X) (f made_later : Result X Stop) (g : (ℕ → Bool) → Bool) → f ≡ Ok x → OwnsMade entry d0 f → Makes entry d0 d1 made_later g → OwnsInTurn entry d1 x made_later

@@ -213,3 +213,17 @@ covered_off kept rows vs some is m = opposite (some_match kept vs) ∙ covered_b
     opposite : (b : Bool) → not b ≡ agrees false b
     opposite true = refl
     opposite false = refl
+
+-- no row, and one row alone
+pub no_rows_match : (rows : List (Bor (List ℕ))) (vs : List Bool) → length rows < 1 → false ≡ some_match (map (λ r. r.now) rows) vs
+no_rows_match [] vs h = refl
+no_rows_match (row ∷ rows) vs h = absurd (omega arith)
+
+pub one_row_said : (rows : List (Bor (List ℕ))) (d : Bor (List ℕ)) (vs : List Bool) → 1 ≤ length rows → length rows < 2 → row_matches (get_or rows 0 d).now vs ≡ some_match (map (λ r. r.now) rows) vs
+one_row_said [] d vs h k = absurd (omega arith)
+one_row_said (row ∷ []) d vs h k = sym (or_false (row_matches row.now vs))
+  where
+    or_false : (b : Bool) → (b || false) ≡ b
+    or_false true = refl
+    or_false false = refl
+one_row_said (row ∷ x ∷ rows) d vs h k = absurd (omega arith)

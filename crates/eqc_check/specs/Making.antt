@@ -2,7 +2,7 @@
 use Rattle.std.specs.Prelude.{◌≡◌, ◌≢◌, ℕ, ◌+◌, ◌≤◌, Bool, not, Result, Ok, Err, IfOk, IfErr, MatchResult}
 use Rattle.eqc_tree.specs.declared.stopping.Stop.{Stop}
 use Rattle.eqc_tree.specs.declared.stopping.Stop.TheVariants.{Threads}
-use Rattle.eqc_tree.specs.Holding.{Entry, Holding, says, copies, weight}
+use Rattle.eqc_tree.specs.Holding.{Entry, Holding, says, copies, weight, Loses}
 
 -- how often an entry is held by the reference that a call may have made
 abbrev pub made : {X : Type 0} → (X → Entry) → Result X Stop → Entry → ℕ
@@ -25,6 +25,11 @@ pub record OwnsMade {X : Type 0} (entry : X → Entry) (d : Holding) (x : Result
 pub record OwnsInTurn {X : Type 0} (entry : X → Entry) (d : Holding) (x : X) (y : Result X Stop) : Type 0 where
   pub held : (e : Entry) → weight (entry x) e + made entry y e ≤ copies d e
   pub only : IfErr y (λ stop. stop ≢ Threads)
+
+-- both references, where the later call made the second; else its stop, and the first is given back
+abbrev pub HasBoth : {X : Type 0} → (X → Entry) → (old new : Holding) → X → Result X Stop → Result (X × X) Stop → Type 0
+HasBoth entry old new x y (Ok both) = (both.0 ≡ x) × ((y ≡ Ok both.1) × (new ≡ old))
+HasBoth entry old new x y (Err stop) = (y ≡ Err stop) × Loses old new (entry x)
 
 -- in place of the reference that a call may have made there is the one with the opposite function, or a stop
 pub record Inverts {X : Type 0} (entry : X → Entry) (old new : Holding) (x result : Result X Stop) : Type 0 where

@@ -1,12 +1,14 @@
 ghost use Rattle.std.specs.Prelude.{◌≡◌, ◌≢◌, ◌↔◌, ℕ, ◌<◌, ◌≤◌, ◌++◌, ◌&&◌, Bool, false, not, length, replicate, IsTrue, IfOk, IfErr, OnOk, OnErr};
 ghost use Rattle.std.specs.List.{All, find, list_any};
-ghost use Rattle.eqc_tree.specs.Holding.{IsHeld, says, Keeps, Gains, Loses};
+ghost use Rattle.eqc_tree.specs.Holding.{IsHeld, says, Keeps, Loses};
 ghost use Rattle.eqc_tree.specs.Assigned.{assigned, AreDistinct, DependsOnlyOn, IsSatisfiable, assignments};
 ghost use Rattle.eqc_check.specs.Assigned.{DependsBelow};
+ghost use Rattle.eqc_check.specs.Making.{Makes};
 ghost use Rattle.eqc_check.specs.Narrowing.{Replaces, IsNarrowed, decided, IsNextLength};
 ghost use Rattle.eqc_check.specs.PairOf.{input_values};
 ghost use Rattle.eqc_check.specs.VerdictLaws.{IsLeast};
 
+use crate::making::joined;
 use crate::pairing::matched_pair::Pair;
 use eqc_tree::{Diagrams, Op, References, Stop};
 use std::alloc::{AllocError, Global};
@@ -23,9 +25,7 @@ pub(crate) fn is_false<D: References>(d: &D, f: &D::Ref) -> bool
 /// the variables doesn't matter.
 fn one_of<R, D: Diagrams<R>>(rt: &R, d: &mut D, variables: &[u16]) -> Result<D::Ref, Stop>
     requires { All (λ v. v < (D.holding d.old).variables) variables.now }
-    ensures ok { IfOk result (λ r. Gains (D.holding d.old) (D.holding d.new) (D.entry r) (λ a. list_any a variables.now)) }
-    ensures stop { OnErr result (Keeps (D.holding d.old) (D.holding d.new)) }
-    ensures only { IfErr result (λ s. s ≢ Stop.Threads) }
+    ensures { Makes D.entry (D.holding d.old) (D.holding d.new) result (λ a. list_any a variables.now) }
 {
     match variables {
         [] => return d.constant(false),
@@ -34,17 +34,8 @@ fn one_of<R, D: Diagrams<R>>(rt: &R, d: &mut D, variables: &[u16]) -> Result<D::
     }
     let (some, others) = variables.split_at(variables.len() / 2);
     let front = one_of(rt, d, some)?;
-    let back = match one_of(rt, d, others) {
-        Ok(back) => back,
-        Err(stop) => {
-            d.give_back(front);
-            return Err(stop);
-        }
-    };
-    let made = d.apply(rt, Op::Or, &front, &back);
-    d.give_back(front);
-    d.give_back(back);
-    made
+    let back = one_of(rt, d, others);
+    joined(rt, d, Op::Or, front, back)
 }
 
 /// A function where none of these variables is true.
@@ -56,9 +47,7 @@ fn without<R, D: Diagrams<R>>(
 ) -> Result<D::Ref, Stop>
     requires held { IsHeld (D.holding d.old) (D.entry f.now) }
     requires within { All (λ v. v < (D.holding d.old).variables) variables.now }
-    ensures ok { IfOk result (λ r. Gains (D.holding d.old) (D.holding d.new) (D.entry r) (λ a. says (D.entry f.now) a && not (list_any a variables.now))) }
-    ensures stop { OnErr result (Keeps (D.holding d.old) (D.holding d.new)) }
-    ensures only { IfErr result (λ s. s ≢ Stop.Threads) }
+    ensures { Makes D.entry (D.holding d.old) (D.holding d.new) result (λ a. says (D.entry f.now) a && not (list_any a variables.now)) }
 {
     let one = one_of(rt, d, variables)?;
     let low = d.apply(rt, Op::AndNot, f, &one);

@@ -6,8 +6,8 @@
 //!
 //! - `running`, texts in and a report out, over `io`, readers and writers; `decide`, which refusal or comparison it is
 //! - `pairing`, two netlists as a pair; `options` and `rule`, what is asked for and what is refused
-//! - `build`, the diagrams of signals; `compare`, one output; `least`, its least assignment; `checking`, all outputs on
-//!   one thread; `workers`, all outputs on several
+//! - `making`, what is made of references; `build`, the diagrams of signals
+//! - `compare`, one output; `least`, its least assignment; `checking`, all outputs on one thread; `workers`, on several
 //! - `report`, reports and their bytes; `laws`, facts about the definitions, as functions without a body
 #![tactic(auto, using(eqc_tree::proofs::HoldingLemmas::counts_itself))]
 
@@ -18,6 +18,7 @@ mod decide;
 mod io;
 mod laws;
 mod least;
+mod making;
 mod options;
 mod pairing;
 mod report;

@@ -73,7 +73,7 @@ IsHelpEnd old new Helped = Grows old new
 IsHelpEnd old new (Failed fault) = (fault ≡ run_fault.Write) × Grows old new
 IsHelpEnd old new (BadWords error) = (kind_of error ≡ OutOfMemory) × (new ≡ old)
 
--- an end of the program: the words ask for a run, or for help, or are no command line
+-- an end of the program: the words ask for a run or for help, or they are a bad command line
 pub data IsEnd {R F : Type 0} (input_remaining : R → Option (List ℕ)) (file_remaining : F → Option (List ℕ)) (words : List Text) (input : R) (old new : Option (List ℕ)) (end : End) : Type 0 where
   of_run : (request : Request) → fault_of eqc_app words ≡ [] → IsAsked (rows_asked words) request
       → IsRunEnd input_remaining file_remaining request input old new end → IsEnd input_remaining file_remaining words input old new end

@@ -1,11 +1,11 @@
 ghost use Rattle.std.specs.Prelude.{◌≡◌, ◌≢◌, ℕ, ◌<◌, ◌-◌, Bool, true, false, List, [], ◌∷◌, length, map, not, if◌then◌else◌};
 ghost use Rattle.eqc_tree.specs.Holding.{IsHeld, says};
-ghost use Rattle.eqc_tree.specs.Operation.{operate};
 ghost use Rattle.eqc_blif.specs.Cover.{allows, row_matches, cover_value};
 ghost use Rattle.eqc_check.specs.Matching.{some_match, cofactor, agrees, AreHeld, said, of_two};
-ghost use Rattle.eqc_check.specs.Making.{Makes, OwnsMade, OwnsInTurn, Inverts, Joins};
+ghost use Rattle.eqc_check.specs.Making.{Makes};
 
 use crate::build::rows::{cofactor, constrains_first, has_free_row, plan_cover, some_match};
+use crate::making::{chosen, inverted, joined};
 use eqc_blif::{Rows, is_on_set};
 use eqc_tree::{Diagrams, Op, References, Stop};
 use std::alloc::Global;
@@ -14,67 +14,6 @@ fn agrees(on: bool, value: bool) -> bool
     ensures { result ≡ agrees on value }
 {
     if on { value } else { !value }
-}
-
-/// An operation on a reference and on one that was made after it. Both are given back; where the second was not made,
-/// the first is.
-fn joined<R, D: Diagrams<R>>(
-    rt: &R,
-    d: &mut D,
-    op: Op,
-    front: D::Ref,
-    back: Result<D::Ref, Stop>,
-) -> Result<D::Ref, Stop>
-    requires { OwnsInTurn D.entry (D.holding d.old) front back }
-    ensures { Joins D.entry (D.holding d.old) (D.holding d.new) front back result (λ _. operate op) }
-{
-    let back = match back {
-        Ok(back) => back,
-        Err(stop) => {
-            d.give_back(front);
-            return Err(stop);
-        }
-    };
-    let made = d.apply(rt, op, &front, &back);
-    d.give_back(front);
-    d.give_back(back);
-    made
-}
-
-/// The one reference where the column is true, and the other, which was made after it, where the column is false. Both
-/// are given back; where the second was not made, the first is.
-fn chosen<R, D: Diagrams<R>>(
-    rt: &R,
-    d: &mut D,
-    column: &D::Ref,
-    high: D::Ref,
-    low: Result<D::Ref, Stop>,
-) -> Result<D::Ref, Stop>
-    requires column { IsHeld (D.holding d.old) (D.entry column.now) }
-    requires owned { OwnsInTurn D.entry (D.holding d.old) high low }
-    ensures { Joins D.entry (D.holding d.old) (D.holding d.new) high low result (λ a x y. if says (D.entry column.now) a then x else y) }
-{
-    let low = match low {
-        Ok(low) => low,
-        Err(stop) => {
-            d.give_back(high);
-            return Err(stop);
-        }
-    };
-    let made = d.ite(rt, column, &high, &low);
-    d.give_back(high);
-    d.give_back(low);
-    made
-}
-
-/// The opposite of a function that was made, whose reference is given back.
-fn inverted<R, D: Diagrams<R>>(rt: &R, d: &mut D, f: Result<D::Ref, Stop>) -> Result<D::Ref, Stop>
-    requires { OwnsMade D.entry (D.holding d.old) f }
-    ensures { Inverts D.entry (D.holding d.old) (D.holding d.new) f result }
-{
-    let f = f?;
-    let all = d.constant(true);
-    joined(rt, d, Op::Xor, f, all)
 }
 
 /// The function of two references that is false where both are false, and else has these values: where only

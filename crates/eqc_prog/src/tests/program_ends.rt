@@ -33,7 +33,7 @@ fn files_that_fail_are_faults(rt: HostRuntime) -> Result<(), AllocError> {
     Ok(())
 }
 
-/// Lines of words that are no command line.
+/// Bad command lines.
 static BAD_WORDS: [&str; 15] = [
     "eqc --workers x",
     "eqc a b c",

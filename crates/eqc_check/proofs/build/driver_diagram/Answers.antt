@@ -1,4 +1,4 @@
-use Rattle.std.proofs.Common.{sym, ◌∙◌, ap}
+use Rattle.std.proofs.Common.{sym, ◌∙◌, ap, arith}
 use Rattle.eqc_flat.specs.Drivers.{driver_of}
 use Rattle.eqc_check.proofs.TableLaws.{owned_held}
 use Rattle.eqc_check.proofs.MakingLaws.{call_makes, reference_makes, makes_as, memory_makes}
@@ -22,3 +22,18 @@ returns-in-Input g c = call_makes g.D.References.entry _ _ c.literal.result _ _ 
 
 pub returns-in-Tie : goal.returns-in-Tie
 returns-in-Tie g c = reference_makes g.D.References.entry _ _ c.copy.result _ _ (λ a. tie_follows g.D.References.entry c.args.flat.now c.args.variables.now c.args.table.now _ c.args.s _ a c.recall_laws.ensures.follows c.requires.within (sym (ap driver_of c.in-Tie.is) ∙ c.driver.ensures) c.requires.built c.reference_at.ensures) c.copy.ensures.ok c.copy.ensures.stop c.copy.ensures.only
+
+pub bounds-variables-position : goal.bounds-variables-position
+bounds-variables-position g c = omega (arith, c.requires.variables.size, rw (← c.in-Input.ensures) at (c.recall_laws.ensures.lawful.drivers_within c.args.s c.requires.within))
+
+pub literal-requires : goal.literal-requires
+literal-requires g c = c.requires.variables.below c.in-Input.position (omega (arith, c.requires.variables.size, rw (← c.in-Input.ensures) at (c.recall_laws.ensures.lawful.drivers_within c.args.s c.requires.within)))
+
+pub reference_at-requires-clause-within : goal.reference_at-requires-clause-within
+reference_at-requires-clause-within g c = omega (arith, c.requires.built.size, rw (← c.in-Tie.ensures) at (c.recall_laws.ensures.lawful.drivers_within c.args.s c.requires.within))
+
+pub reference_at-requires-clause-some : goal.reference_at-requires-clause-some
+reference_at-requires-clause-some g c = let ready = rw (← c.in-Tie.ensures) at c.requires.ready in ready.each 0 (omega arith)
+
+pub references-requires-clause-ready : goal.references-requires-clause-ready
+references-requires-clause-ready g c = rw (← c.in-Cover.ensures) at c.requires.ready

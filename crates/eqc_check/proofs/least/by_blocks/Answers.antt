@@ -1,8 +1,9 @@
-use Rattle.std.proofs.Common.{◌≡◌, ℕ, ◌-◌, length, take, drop, ◌<◌, ◌≤◌, ◌++◌, arith, ap, ◌∙◌}
+use Rattle.std.proofs.Common.{◌≡◌, ℕ, ◌-◌, length, take, drop, ◌<◌, ◌≤◌, ◌++◌, arith, ap, sym, ◌∙◌}
 use Rattle.std.proofs.lemmas.List.{length-append, nil_from_length}
 use Rattle.eqc_check.specs.Narrowing.{decided}
 use Rattle.eqc_tree.proofs.Choosing.{starts_chosen, ends_chosen}
-use Rattle.eqc_check.proofs.Blocks.{chooses_decided, block_is, open_long, block_long, decided_most, tries_fall}
+use Rattle.eqc_tree.proofs.HoldingLemmas.{counts_itself}
+use Rattle.eqc_check.proofs.Blocks.{chooses_decided, block_is, open_long, block_long, block_within, decided_most, tries_fall}
 use Rattle.eqc_check.proofs.least.by_blocks.Goals as goal
 
 pub tries-init : goal.tries-init
@@ -55,3 +56,42 @@ tries-preserved g c =
 
 pub returns-clause-least : goal.returns-clause-least
 returns-clause-least g c = ends_chosen _ _ _ _ (record { distinct = c.requires.distinct; depends = c.requires.depends }) c.tries.invariant.chosen (omega arith)
+
+pub returns-in_err-rest-clause-kept : goal.returns-in_err-rest-clause-kept
+returns-in_err-rest-clause-kept g c = c.in_err-rest.ensures.stop
+
+pub slice_bounds-block-end : goal.slice_bounds-block-end
+slice_bounds-block-end g c = sym (block_long c.args.variables.now c.len-in-tries.result c.block_length.result (omega (arith, open_long c.args.variables.now c.len-in-tries.result)))
+
+pub narrowed-requires-clause-held : goal.narrowed-requires-clause-held
+narrowed-requires-clause-held g c = omega (arith, c.tries.invariant.held (g.D.References.entry c.tries.rest), counts_itself (g.D.References.holding c.args.d.now) (g.D.References.entry c.tries.rest))
+
+pub narrowed-requires-clause-within : goal.narrowed-requires-clause-within
+narrowed-requires-clause-within g c = block_within _ c.args.variables.now c.len-in-tries.result c.block_length.result (rw c.tries.invariant.variables c.requires.within)
+
+pub returns-in_err-narrows-clause-kept : goal.returns-in_err-narrows-clause-kept
+returns-in_err-narrows-clause-kept g c = record {
+  variables = c.in_err-narrows.ensures.stop.variables ∙ c.tries.invariant.variables;
+  held = λ e. omega (arith, c.tries.invariant.held e, c.in_err-narrows.ensures.stop.held e);
+}
+
+pub decide-requires : goal.decide-requires
+decide-requires g c = omega (arith, block_long c.args.variables.now c.len-in-tries.result c.block_length.result (omega (arith, open_long c.args.variables.now c.len-in-tries.result)), open_long c.args.variables.now c.len-in-tries.result)
+
+pub give_back-requires : goal.give_back-requires
+give_back-requires g c = omega (arith, c.tries.invariant.held (g.D.References.entry c.in_ok-narrows.left), c.in_ok-narrows.ensures.replaced.held (g.D.References.entry c.in_ok-narrows.left), counts_itself (g.D.References.holding c.args.d.now) (g.D.References.entry c.in_ok-narrows.left))
+
+pub returns-in-Err-clause-kept : goal.returns-in-Err-clause-kept
+returns-in-Err-clause-kept g c = record {
+  variables = c.give_back.ensures.variables ∙ (c.in_ok-narrows.ensures.replaced.variables ∙ c.tries.invariant.variables);
+  held = λ e. omega (arith, c.tries.invariant.held e, c.in_ok-narrows.ensures.replaced.held e, c.give_back.ensures.held e);
+}
+
+pub give_back-requires-2 : goal.give_back-requires-2
+give_back-requires-2 g c = omega (arith, c.tries.invariant.held (g.D.References.entry c.tries.rest), counts_itself (g.D.References.holding c.args.d.now) (g.D.References.entry c.tries.rest))
+
+pub returns-clause-kept : goal.returns-clause-kept
+returns-clause-kept g c = record {
+  variables = c.give_back-2.ensures.variables ∙ c.tries.invariant.variables;
+  held = λ e. omega (arith, c.tries.invariant.held e, c.give_back-2.ensures.held e);
+}

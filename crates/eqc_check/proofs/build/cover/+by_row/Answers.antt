@@ -1,6 +1,6 @@
 use Rattle.std.proofs.Common.{rules, true, ◌&&◌, sym, ◌∙◌}
 use Rattle.eqc_check.specs.Matching.{said, AreHeld}
-use Rattle.eqc_check.proofs.HeldLaws.{held_drop}
+use Rattle.eqc_check.proofs.HeldLaws.{held_take, held_drop}
 use Rattle.eqc_check.proofs.MatchingLaws.{row_matches-empty, no_columns_match, alone, one_said, by_halves, by_short}
 use Rattle.eqc_check.proofs.MakingLaws.{reference_makes, makes_as, makes_held, first_held, turns_owned, joined_makes}
 use Rattle.eqc_check.proofs.build.cover.+by_row.Goals as goal
@@ -30,3 +30,13 @@ joined-requires g t c = turns_owned g.D.References.entry _ _ _ _ c.by_row-back.r
 
 pub returns : goal.returns
 returns g t c = joined_makes g.D.References.entry _ _ _ _ _ c.by_row-back.result c.joined.result _ _ _ (λ _ x y. x && y) (λ a. by_halves g.D.References.entry _ c.args.row.now _ _ c.args.columns.now _ _ a c.split_at.ensures.front c.split_at.ensures.back c.split_at-2.ensures.front c.split_at-2.ensures.back) c.in_ok-front.ensures c.by_row-back.ensures c.joined.ensures
+
+pub by_row-requires : goal.by_row-requires
+by_row-requires g t c =
+    let h : AreHeld g.D.References.entry (g.D.References.holding c.args.d.now) c.split_at.result.0.now = rw c.split_at.ensures.front (held_take g.D.References.entry _ _ c.args.columns.now c.requires) in
+    search rules
+
+pub by_row-requires-2 : goal.by_row-requires-2
+by_row-requires-2 g t c =
+    let h : AreHeld g.D.References.entry (g.D.References.holding c.args.d.now) c.split_at.result.0.now = rw c.split_at.ensures.front (held_take g.D.References.entry _ _ c.args.columns.now c.requires) in
+    search rules
