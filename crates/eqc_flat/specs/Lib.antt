@@ -19,3 +19,4 @@ pub mod DriverTable
 pub mod Ordering
 pub mod Known
 pub mod Flattening
+pub mod Finding

@@ -1,0 +1,198 @@
+-- What is at fault is found, and told by its place.
+use Rattle.std.proofs.Common.{◌==◌, ◌≡◌, ℕ, zero, suc, ◌+◌, ◌-◌, ◌<◌, ◌≤◌, inl, inr, Bool, true, false, ◌||◌, List, [], ◌∷◌, ◌++◌, length, map, take, get_or, refl, sym, ◌∙◌, ap, subst, arith, Option, Some, None, nat_lt, zero-add, cond}
+use Rattle.std.specs.Prelude.{slice_index_or, is_some, is_none, position, IsSome}
+use Rattle.std.specs.List.{list_any, position_or_len}
+use Rattle.std.specs.Option.{option_map}
+use Rattle.std.proofs.lemmas.Bool.{true≢false, cases_lt, lt-ltb, le-ltb}
+use Rattle.std.proofs.lemmas.List.Quantifiers.{position-Some}
+use Rattle.std.proofs.lemmas.List.{append_assoc, append-nil, get_or-map, length-map}
+use Rattle.eqc_blif.specs.Netlist.{ModelOf}
+use Rattle.eqc_flat.specs.Graph.{DriverOf}
+use Rattle.eqc_flat.specs.Hierarchy.{model, model_at, paths_within, paths}
+use Rattle.eqc_flat.specs.Signals.{names_of, signals, sources, drivings}
+use Rattle.eqc_flat.specs.Codes.{has_no_such_model, is_recursive, has_unknown_formal, has_formal_twice, has_missing_formal, is_too_large, has_many_inputs, is_driven_twice, is_undriven, is_cyclic, code_if, flat_code}
+use Rattle.eqc_flat.specs.Flattened.{path_at, model_of, first_signal, signal_at, source_of}
+use Rattle.eqc_flat.specs.DriverTable.{in_slot, IsFilled}
+use Rattle.eqc_flat.specs.RowTable.{all_rows}
+use Rattle.eqc_flat.specs.StoredDrivers.{driver_from}
+use Rattle.eqc_flat.specs.Finding.{steps_of}
+use Rattle.eqc_flat.specs.declared.hierarchical_name.Step.{Step}
+use Rattle.eqc_flat.specs.declared.stored_driver.StoredDriver.{StoredDriver}
+use Rattle.eqc_flat.proofs.InstanceLaws.{first_more, first_all}
+use Rattle.eqc_flat.proofs.ExpandedLaws.{front_place}
+use Rattle.eqc_flat.proofs.DrivingLaws.{slot_empty}
+use Rattle.eqc_flat.proofs.DepthLaws.{no_code}
+use Rattle.eqc_flat.proofs.DriverTableLaws.{none_place, sourced, driven_twice, not_driven_twice}
+
+-- the first instance is the main model
+pub first_path : (library : List ModelOf) (top : ℕ) → path_at library top 0 ≡ []
+unfolding paths_within
+first_path library top = by (length library)
+  where
+    by : (n : ℕ) → slice_index_or (paths_within library top n) 0 [] ≡ []
+    by zero = refl
+    by (suc n) = refl
+
+pub first_inside : (library : List ModelOf) (top : ℕ) → 0 < length (paths library top)
+unfolding paths_within
+first_inside library top = by (length library)
+  where
+    by : (n : ℕ) → 0 < length (paths_within library top n)
+    by zero = omega arith
+    by (suc n) = omega arith
+
+-- one step further up
+pub step_more : (library : List ModelOf) (top inner parent position m : ℕ) (all done now : List Step) → all ≡ done ++ steps_of library top (path_at library top inner) → path_at library top inner ≡ position ∷ path_at library top parent → m ≡ model_at library top (path_at library top inner) → now ≡ done ++ record { position = position; model = m } ∷ [] → all ≡ now ++ steps_of library top (path_at library top parent)
+step_more library top inner parent position m all done now is place named grown =
+    let up = steps_of library top (path_at library top parent) in
+    let here : steps_of library top (path_at library top inner) ≡ record { position = position; model = m } ∷ up =
+    ap (steps_of library top) place ∙ ap (λ (x : ℕ). record { position = position; model = x } ∷ up) (sym (named ∙ ap (model_at library top) place)) in
+    is ∙ (ap (λ (l : List Step). done ++ l) here ∙ (sym (append_assoc done (record { position = position; model = m } ∷ []) up) ∙ ap (λ (l : List Step). l ++ up) (sym grown)))
+
+pub steps_end : (library : List ModelOf) (top inner : ℕ) (all done : List Step) → all ≡ done ++ steps_of library top (path_at library top inner) → inner ≡ 0 → done ≡ all
+steps_end library top inner all done is none =
+    sym (is ∙ (ap (λ (i : ℕ). done ++ steps_of library top (path_at library top i)) none ∙ (ap (λ (path : List ℕ). done ++ steps_of library top path) (first_path library top) ∙ append-nil done)))
+
+-- the instance of a signal is looked for one instance further on
+pub next_instance : (library : List ModelOf) (top i k s n : ℕ) → i < length (paths library top) → first_signal library top i + k ≡ s → s < length (signals library top) → n ≡ length (names_of (model_of library top i)) → n ≤ k → (i + 1 < length (paths library top)) × (first_signal library top (i + 1) + (k - n) ≡ s)
+next_instance library top i k s n inside here less size most =
+    let more = first_more library top i inside in
+    let same : first_signal library top (i + 1) + (k - n) ≡ s = omega (arith, more, size, most, here) in (
+      elim (cases_lt (i + 1) (length (paths library top))) [
+        | inl further ↦ further
+        | inr past ↦ absurd (let all = first_all library top (i + 1) (omega (arith, past, inside)) in omega (arith, all, same, less))
+      ],
+      same,
+    )
+
+apart : (n m : ℕ) → (n ≡ m → ⊥) → Some n ≡ Some m → ⊥
+apart n m other e = other (inside e)
+  where
+    inside : Some n ≡ Some m → n ≡ m
+    inside e = cc
+
+none_some : (n : ℕ) → None ≡ Some n → ⊥
+none_some n e = cc
+
+-- what holds of a hierarchy whose signals were numbered, and what is left to be told
+pub record IsNumbered (library : List ModelOf) (top code : ℕ) : Type 0 where
+  pub not_recursive : is_recursive library top ≡ false
+  pub formals_known : has_unknown_formal library top ≡ false
+  pub small : is_too_large library top ≡ false
+  pub few : length (model library top).inputs ≤ 2048
+  pub left : code_if (is_driven_twice library top) 26 (code_if (is_undriven library top) 27 (code_if (is_cyclic library top) 28 None)) ≡ Some code
+
+pub numbered : (library : List ModelOf) (top code : ℕ) → 25 < code → code < 29 → flat_code library top ≡ Some code → IsNumbered library top code
+unfolding flat_code has_many_inputs
+numbered library top code low high e =
+    let a = no_code (Some code) (has_no_such_model library top) 21 _ (other 21 (λ k. omega (arith, k, low))) e in
+    let b = no_code (Some code) (is_recursive library top) 22 _ (other 22 (λ k. omega (arith, k, low))) a.1 in
+    let c = no_code (Some code) (has_unknown_formal library top) 23 _ (other 23 (λ k. omega (arith, k, low))) b.1 in
+    let d = no_code (Some code) (has_formal_twice library top) 24 _ (other 24 (λ k. omega (arith, k, low))) c.1 in
+    let f = no_code (Some code) (has_missing_formal library top) 25 _ (other 25 (λ k. omega (arith, k, low))) d.1 in
+    let g = no_code (Some code) (is_too_large library top) 29 _ (other 29 (λ k. omega (arith, k, high))) f.1 in
+    let h = no_code (Some code) (has_many_inputs library top) 30 _ (other 30 (λ k. omega (arith, k, high))) g.1 in
+    record { not_recursive = b.0; formals_known = c.0; small = g.0; few = few h.0; left = h.1 }
+  where
+    other : (n : ℕ) → (n ≡ code → ⊥) → Some n ≡ Some code → ⊥
+    other n = apart n code
+
+    few : nat_lt 2048 (length (model library top).inputs) ≡ false → length (model library top).inputs ≤ 2048
+    few e = elim (cases_lt 2048 (length (model library top).inputs)) [
+      | inl many ↦ absurd (true≢false (sym (lt-ltb 2048 (length (model library top).inputs) many) ∙ e))
+      | inr most ↦ most
+    ]
+
+-- which condition it is
+told_26 : (twice none circle : Bool) → code_if twice 26 (code_if none 27 (code_if circle 28 None)) ≡ Some 26 → twice ≡ true
+told_26 true none circle e = refl
+told_26 false true circle e = absurd (apart 27 26 (λ k. omega (arith, k)) e)
+told_26 false false true e = absurd (apart 28 26 (λ k. omega (arith, k)) e)
+told_26 false false false e = absurd (none_some 26 e)
+
+told_27 : (twice none circle : Bool) → code_if twice 26 (code_if none 27 (code_if circle 28 None)) ≡ Some 27 → (twice ≡ false) × (none ≡ true)
+told_27 true none circle e = absurd (apart 26 27 (λ k. omega (arith, k)) e)
+told_27 false true circle e = (refl, refl)
+told_27 false false true e = absurd (apart 28 27 (λ k. omega (arith, k)) e)
+told_27 false false false e = absurd (none_some 27 e)
+
+pub told_28 : (twice none circle : Bool) → code_if twice 26 (code_if none 27 (code_if circle 28 None)) ≡ Some 28 → (twice ≡ false) × (none ≡ false) × (circle ≡ true)
+told_28 true none circle e = absurd (apart 26 28 (λ k. omega (arith, k)) e)
+told_28 false true circle e = absurd (apart 27 28 (λ k. omega (arith, k)) e)
+told_28 false false true e = (refl, refl, refl)
+told_28 false false false e = absurd (none_some 28 e)
+
+-- a table of a hierarchy that is refused by 26 knows a signal that is driven twice
+pub twice_known : (library : List ModelOf) (top : ℕ) (slots : List (Option DriverOf)) (twice : Option ℕ) → IsNumbered library top 26 → IsFilled library top slots twice (drivings library top) → is_some twice ≡ true
+twice_known library top slots (Some s) h filled = refl
+twice_known library top slots None h filled = absurd (true≢false (sym (told_26 (is_driven_twice library top) (is_undriven library top) (is_cyclic library top) h.left) ∙ not_driven_twice library top slots filled))
+
+-- a table of a hierarchy that is refused by 27 knows none
+pub none_twice : (library : List ModelOf) (top : ℕ) (slots : List (Option DriverOf)) (twice : Option ℕ) → IsNumbered library top 27 → IsFilled library top slots twice (drivings library top) → twice ≡ None
+none_twice library top slots None h filled = refl
+none_twice library top slots (Some s) h filled = absurd (true≢false (sym (driven_twice library top slots s filled) ∙ (told_27 (is_driven_twice library top) (is_undriven library top) (is_cyclic library top) h.left).0))
+
+none_at : {X : Type 0} (p : X → Bool) (xs : List X) (k : ℕ) (d : X) → list_any p xs ≡ false → k < length xs → p (get_or xs k d) ≡ false
+none_at p [] k d e h = absurd (omega arith)
+none_at p (x ∷ xs) zero d e h = first (p x) (list_any p xs) e
+  where
+    first : (a b : Bool) → (a || b) ≡ false → a ≡ false
+    first false b k = refl
+    first true b k = absurd (true≢false k)
+none_at p (x ∷ xs) (suc k) d e h = none_at p xs k d (rest (p x) (list_any p xs) e) (omega (arith, h))
+  where
+    rest : (a b : Bool) → (a || b) ≡ false → b ≡ false
+    rest false b k = k
+    rest true b k = absurd (true≢false k)
+
+-- a hierarchy whose slots are all taken has a driver for each signal
+all_taken : (library : List ModelOf) (top : ℕ) (columns : List (List ℕ)) (slots : List (Option StoredDriver)) → IsFilled library top (map (option_map (driver_from columns)) slots) None (drivings library top) → list_any is_none slots ≡ false → is_undriven library top ≡ false
+unfolding is_undriven
+all_taken library top columns slots h e = none_place (λ s. length (sources library top s) == 0) (signals library top) (λ i k.
+    let room : i < length slots = omega (arith, h.size, k, length-map slots (option_map (driver_from columns))) in
+    by i room (slice_index_or slots i None) refl)
+  where
+    by : (i : ℕ) → i < length slots → (o : Option StoredDriver) → slice_index_or slots i None ≡ o → (length (sources library top (signal_at library top i)) == 0) ≡ false
+    by i room None is = absurd (true≢false (sym (ap is_none is) ∙ none_at is_none slots i None e room))
+    by i room (Some d) is =
+        let taken : slice_index_or (map (option_map (driver_from columns)) slots) i None ≡ Some (driver_from columns d) = get_or-map (option_map (driver_from columns)) slots i None None room ∙ ap (option_map (driver_from columns)) is in
+        rw (sourced library top (map (option_map (driver_from columns)) slots) i (driver_from columns d) h (omega (arith, room, length-map slots (option_map (driver_from columns)))) taken) refl
+
+-- what is nowhere stands at no place
+unplaced : {X : Type 0} (p : X → Bool) (xs : List X) → is_some (position p xs) ≡ false → list_any p xs ≡ false
+unplaced {X} p xs e = sym (sym (ap (λ (ys : List X). nat_lt (position_or_len p ys) (length xs)) (append-nil xs)) ∙ front_place p xs []) ∙ by (nat_lt (position_or_len p xs) (length xs)) (position_or_len p xs) e
+  where
+    by : (b : Bool) (n : ℕ) → is_some (cond b (Some n) None) ≡ false → b ≡ false
+    by true n k = absurd (true≢false k)
+    by false n k = refl
+
+-- a table of a hierarchy that is refused by 27 has an empty slot
+pub empty_known : (library : List ModelOf) (top : ℕ) (columns : List (List ℕ)) (slots : List (Option StoredDriver)) (twice : Option ℕ) → IsNumbered library top 27 → IsFilled library top (map (option_map (driver_from columns)) slots) twice (drivings library top) → is_some (position is_none slots) ≡ true
+empty_known library top columns slots twice h filled = by (is_some (position is_none slots)) refl
+  where
+    once : IsFilled library top (map (option_map (driver_from columns)) slots) None (drivings library top)
+    once = let P : Option ℕ → Type 0 = λ o. IsFilled library top (map (option_map (driver_from columns)) slots) o (drivings library top) in subst P (none_twice library top (map (option_map (driver_from columns)) slots) twice h filled) filled
+
+    by : (b : Bool) → is_some (position is_none slots) ≡ b → is_some (position is_none slots) ≡ true
+    by true e = e
+    by false e = absurd (true≢false (sym (told_27 (is_driven_twice library top) (is_undriven library top) (is_cyclic library top) h.left).1 ∙ all_taken library top columns slots once (unplaced is_none slots e)))
+
+-- an empty slot is that of a signal that nothing drives
+pub empty_undriven : (library : List ModelOf) (top : ℕ) (columns : List (List ℕ)) (slots : List (Option StoredDriver)) (twice : Option ℕ) (s : ℕ) → IsNumbered library top 27 → IsFilled library top (map (option_map (driver_from columns)) slots) twice (drivings library top) → position is_none slots ≡ Some s → (s < length (signals library top)) × (sources library top (signal_at library top s) ≡ [])
+empty_undriven library top columns slots twice s h filled e =
+    let found = position-Some is_none slots s None e in
+    let free : slice_index_or slots s None ≡ None = none_there (slice_index_or slots s None) found.1 in
+    let room : s < length (map (option_map (driver_from columns)) slots) = omega (arith, found.0, length-map slots (option_map (driver_from columns))) in
+    let once : is_some twice ≡ false = ap is_some (none_twice library top (map (option_map (driver_from columns)) slots) twice h filled) in (
+      omega (arith, room, filled.size),
+      filled.once once s room ∙ ap (λ o. map (source_of (signal_at library top) (all_rows library)) (in_slot o)) (slot_empty columns slots s found.0 free),
+    )
+  where
+    none_there : (o : Option StoredDriver) → is_none o ≡ true → o ≡ None
+    none_there None k = refl
+    none_there (Some d) k = absurd (true≢false (sym k))
+
+-- what is known is there
+pub there : (o : Option ℕ) → is_some o ≡ true → IsSome o
+there None e = absurd (true≢false (sym e))
+there (Some s) e = refl

@@ -1,0 +1,97 @@
+//! What is at fault in a hierarchy that is refused, worked out by hand.
+
+ghost use Rattle.std.specs.Prelude.{◌<◌, length};
+
+use eqc_blif::{Library, read};
+use eqc_flat::{Finding, HierarchicalName, explain};
+use std::alloc::Global;
+use std::process::Abort;
+use std::test::Fail;
+
+/// What is at fault below the main model of a library.
+fn found(alloc: Global, library: &Library) -> Result<Option<Finding<'_>>, Fail> {
+    if library.models() == 0 {
+        return Err(Fail::from("no model"));
+    }
+    match explain(alloc, library, 0) {
+        Ok(found) => Ok(found),
+        Err(_) => Err(Fail::from("no memory")),
+    }
+}
+
+/// Whether a signal is told by these positions and models, from its instance up, and by this name.
+fn is_told(name: &HierarchicalName<'_>, steps: &[(usize, usize)], signal: &[u8]) -> bool {
+    name.name() == signal
+        && name.steps().len() == steps.len()
+        && name
+            .steps()
+            .iter()
+            .zip(steps)
+            .all(|(step, (position, model))| step.position == *position && step.model == *model)
+}
+
+/// Texts, each with the position and the model of the instances from the one of an undriven signal up, and its name.
+static UNDRIVEN: [(&[u8], &[(usize, usize)], &[u8]); 3] = [
+    (
+        b".model m\n.inputs a\n.outputs y\n.names a b y\n11 1\n.end\n",
+        &[],
+        b"b",
+    ),
+    (
+        b".model m\n.inputs a\n.outputs y\n.subckt n x=a z=y\n.end\n.model n\n.inputs x\n.outputs z\n.end\n",
+        &[(0, 1)],
+        b"z",
+    ),
+    (
+        b".model m\n.inputs a\n.outputs y z\n.subckt n x=a z=y\n.subckt n x=a z=z\n.end\n.model o\n.outputs z\n.names w z\n1 1\n.end\n.model n\n.inputs x\n.outputs z\n.names u\n1\n.subckt o z=z\n.end\n",
+        &[(0, 1), (0, 2)],
+        b"w",
+    ),
+];
+
+#[test]
+fn names_a_signal_without_a_driver(rt: HostRuntime) -> Result<(), Fail> {
+    for (text, steps, signal) in UNDRIVEN.iter() {
+        let library = read(rt.alloc(), text).ok().ok_or("refused")?;
+        match found(rt.alloc(), &library)? {
+            Some(Finding::Undriven(name)) => assert!(rt; is_told(&name, steps, signal)),
+            _ => return Err(Fail::from("nothing named")),
+        }
+    }
+    Ok(())
+}
+
+/// Texts, each with the position and the model of the instances from the one of a signal with two drivers up, and its name.
+static DRIVEN_TWICE: [(&[u8], &[(usize, usize)], &[u8]); 2] = [
+    (
+        b".model m\n.inputs a\n.outputs y\n.names a y\n1 1\n.names y\n1\n.end\n",
+        &[],
+        b"y",
+    ),
+    (
+        b".model m\n.inputs a\n.outputs y\n.names a y\n1 1\n.subckt n x=a\n.subckt n x=y\n.end\n.model n\n.inputs x\n.names x\n1\n.end\n",
+        &[(0, 1)],
+        b"x",
+    ),
+];
+
+#[test]
+fn names_a_signal_with_two_drivers(rt: HostRuntime) -> Result<(), Fail> {
+    for (text, steps, signal) in DRIVEN_TWICE.iter() {
+        let library = read(rt.alloc(), text).ok().ok_or("refused")?;
+        match found(rt.alloc(), &library)? {
+            Some(Finding::DrivenTwice(name)) => assert!(rt; is_told(&name, steps, signal)),
+            _ => return Err(Fail::from("nothing named")),
+        }
+    }
+    Ok(())
+}
+
+#[test]
+fn names_nothing_in_an_accepted_hierarchy(rt: HostRuntime) -> Result<(), Fail> {
+    let library = read(rt.alloc(), b".model m\n.inputs a\n.outputs y\n.names a y\n1 1\n.end\n")
+        .ok()
+        .ok_or("refused")?;
+    assert!(rt; found(rt.alloc(), &library)?.is_none());
+    Ok(())
+}
