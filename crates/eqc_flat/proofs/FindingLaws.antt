@@ -1,27 +1,37 @@
 -- What is at fault is found, and told by its place.
-use Rattle.std.proofs.Common.{◌==◌, ◌≡◌, ℕ, zero, suc, ◌+◌, ◌-◌, ◌<◌, ◌≤◌, inl, inr, Bool, true, false, ◌||◌, List, [], ◌∷◌, ◌++◌, length, map, take, get_or, refl, sym, ◌∙◌, ap, subst, arith, Option, Some, None, nat_lt, zero-add, cond}
+use Rattle.std.proofs.Common.{◌==◌, ◌≡◌, ℕ, zero, suc, ◌+◌, ◌-◌, ◌<◌, ◌≤◌, inl, inr, Bool, true, false, not, ◌||◌, ◌&&◌, List, [], ◌∷◌, ◌++◌, length, map, take, get_or, refl, sym, ◌∙◌, ap, subst, arith, Option, Some, None, nat_lt, zero-add, cond}
 use Rattle.std.specs.Prelude.{slice_index_or, is_some, is_none, position, IsSome}
-use Rattle.std.specs.List.{list_any, position_or_len}
+use Rattle.std.specs.List.{list_any, fold, position_or_len}
 use Rattle.std.specs.Option.{option_map}
-use Rattle.std.proofs.lemmas.Bool.{true≢false, cases_lt, lt-ltb, le-ltb}
+use Rattle.std.proofs.lemmas.Bool.{true≢false, cases_lt, lt-ltb, eq-eqb, ltb-true}
 use Rattle.std.proofs.lemmas.List.Quantifiers.{position-Some}
-use Rattle.std.proofs.lemmas.List.{append_assoc, append-nil, get_or-map, length-map}
-use Rattle.eqc_blif.specs.Netlist.{ModelOf}
+use Rattle.std.proofs.lemmas.List.{append_assoc, append-nil, get_or-map, get_or-take, length-map, length-take-le}
+use Rattle.eqc_blif.specs.Netlist.{ModelOf, InstanceOf}
+use Rattle.eqc_blif.specs.Names.{is_named}
 use Rattle.eqc_flat.specs.Graph.{DriverOf}
-use Rattle.eqc_flat.specs.Hierarchy.{model, model_at, paths_within, paths}
+use Rattle.eqc_flat.specs.Hierarchy.{model, model_number, model_at, reached, paths_within, paths}
 use Rattle.eqc_flat.specs.Signals.{names_of, signals, sources, drivings}
-use Rattle.eqc_flat.specs.Codes.{has_no_such_model, is_recursive, has_unknown_formal, has_formal_twice, has_missing_formal, is_too_large, has_many_inputs, is_driven_twice, is_undriven, is_cyclic, code_if, flat_code}
+use Rattle.eqc_flat.specs.Codes.{formals, has_no_such_model, is_recursive, has_unknown_formal, has_formal_twice, has_missing_formal, is_too_large, has_many_inputs, is_driven_twice, is_undriven, is_cyclic, code_if, flat_code}
 use Rattle.eqc_flat.specs.Flattened.{path_at, model_of, first_signal, signal_at, source_of}
 use Rattle.eqc_flat.specs.DriverTable.{in_slot, IsFilled}
 use Rattle.eqc_flat.specs.RowTable.{all_rows}
 use Rattle.eqc_flat.specs.StoredDrivers.{driver_from}
-use Rattle.eqc_flat.specs.Finding.{steps_of}
+use Rattle.eqc_flat.specs.Finding.{steps_of, callee}
+use Rattle.eqc_flat.specs.NameSets.{with_name}
+use Rattle.eqc_flat.specs.Reaching.{some_instance_in}
+use Rattle.eqc_flat.specs.ModelFaults.{names_no_model, names_no_formal, names_formal_twice, leaves_input_out, ports}
 use Rattle.eqc_flat.specs.declared.hierarchical_name.Step.{Step}
 use Rattle.eqc_flat.specs.declared.stored_driver.StoredDriver.{StoredDriver}
 use Rattle.eqc_flat.proofs.InstanceLaws.{first_more, first_all}
 use Rattle.eqc_flat.proofs.ExpandedLaws.{front_place}
 use Rattle.eqc_flat.proofs.DrivingLaws.{slot_empty}
 use Rattle.eqc_flat.proofs.DepthLaws.{no_code}
+use Rattle.eqc_flat.proofs.Depth.{or_right}
+use Rattle.eqc_flat.proofs.Distinct.{member_get}
+use Rattle.eqc_flat.proofs.SignalLaws.{member_place}
+use Rattle.eqc_flat.proofs.NamingLaws.{member_named, named_member}
+use Rattle.eqc_flat.proofs.NameSetLaws.{any_mapped, once_named, fold_once}
+use Rattle.eqc_flat.proofs.ModelFaultLaws.{no_formal_is, input_out_is}
 use Rattle.eqc_flat.proofs.DriverTableLaws.{none_place, sourced, driven_twice, not_driven_twice}
 
 -- the first instance is the main model
@@ -196,3 +206,116 @@ empty_undriven library top columns slots twice s h filled e =
 pub there : (o : Option ℕ) → is_some o ≡ true → IsSome o
 there None e = absurd (true≢false (sym e))
 there (Some s) e = refl
+
+-- the conditions of the codes, each with its code, in their order
+abbrev conditions : List ModelOf → ℕ → List (Bool × ℕ)
+conditions library top =
+    (has_no_such_model library top, 21) ∷ (is_recursive library top, 22) ∷ (has_unknown_formal library top, 23) ∷ (has_formal_twice library top, 24) ∷ (has_missing_formal library top, 25)
+    ∷ (is_too_large library top, 29) ∷ (has_many_inputs library top, 30) ∷ (is_driven_twice library top, 26) ∷ (is_undriven library top, 27) ∷ (is_cyclic library top, 28) ∷ []
+
+-- the code of the first condition that holds
+abbrev first_code : List (Bool × ℕ) → Option ℕ
+first_code [] = None
+first_code (c ∷ cs) = code_if c.0 c.1 (first_code cs)
+
+code_first : (library : List ModelOf) (top : ℕ) → flat_code library top ≡ first_code (conditions library top)
+unfolding flat_code
+code_first library top = refl
+
+-- where a code is told, a condition with it holds
+told_by : (cs : List (Bool × ℕ)) (code : ℕ) → first_code cs ≡ Some code → list_any (λ c. (c.1 == code) && c.0) cs ≡ true
+told_by [] code e = absurd (none_some code e)
+told_by ((true, n) ∷ cs) code e = rw (eq-eqb n code (inside e)) refl
+  where
+    inside : Some n ≡ Some code → n ≡ code
+    inside e = cc
+told_by ((false, n) ∷ cs) code e = or_right ((n == code) && false) (list_any (λ c. (c.1 == code) && c.0) cs) (told_by cs code e)
+
+or_false : (b : Bool) → (b || false) ≡ true → b ≡ true
+or_false true e = refl
+or_false false e = e
+
+told_code : (library : List ModelOf) (top code : ℕ) → flat_code library top ≡ Some code → list_any (λ c. (c.1 == code) && c.0) (conditions library top) ≡ true
+told_code library top code e = told_by (conditions library top) code (sym (code_first library top) ∙ e)
+
+-- the conditions of the codes of models, over the models that are reached
+pub model_missing : (library : List ModelOf) (top : ℕ) → flat_code library top ≡ Some 21 → some_instance_in library (reached library top) (names_no_model library) ≡ true
+unfolding has_no_such_model
+model_missing library top e = or_false (has_no_such_model library top) (told_code library top 21 e)
+
+pub recursive : (library : List ModelOf) (top : ℕ) → flat_code library top ≡ Some 22 → is_recursive library top ≡ true
+recursive library top e = or_false (is_recursive library top) (told_code library top 22 e)
+
+pub formal_unknown : (library : List ModelOf) (top : ℕ) → flat_code library top ≡ Some 23 → some_instance_in library (reached library top) (names_no_formal library) ≡ true
+unfolding has_unknown_formal
+formal_unknown library top e = or_false (has_unknown_formal library top) (told_code library top 23 e)
+
+pub formal_repeated : (library : List ModelOf) (top : ℕ) → flat_code library top ≡ Some 24 → some_instance_in library (reached library top) names_formal_twice ≡ true
+unfolding has_formal_twice
+formal_repeated library top e = or_false (has_formal_twice library top) (told_code library top 24 e)
+
+pub input_missing : (library : List ModelOf) (top : ℕ) → flat_code library top ≡ Some 25 → some_instance_in library (reached library top) (leaves_input_out library) ≡ true
+unfolding has_missing_formal
+input_missing library top e = or_false (has_missing_formal library top) (told_code library top 25 e)
+
+pub inputs_many : (library : List ModelOf) (top : ℕ) → flat_code library top ≡ Some 30 → 2048 < length (model library top).inputs
+unfolding has_many_inputs
+inputs_many library top e = ltb-true 2048 (length (model library top).inputs) (or_false (has_many_inputs library top) (told_code library top 30 e))
+
+-- what stands somewhere has a first place
+pub place_known : {X : Type 0} (p : X → Bool) (xs : List X) → list_any p xs ≡ true → is_some (position p xs) ≡ true
+place_known p xs e = by (is_some (position p xs)) refl
+  where
+    by : (b : Bool) → is_some (position p xs) ≡ b → is_some (position p xs) ≡ true
+    by true k = k
+    by false k = absurd (true≢false (sym e ∙ unplaced p xs k))
+
+not_true : (b : Bool) → not b ≡ true → b ≡ false
+not_true false e = refl
+not_true true e = absurd (true≢false (sym e))
+
+-- the first formal that isn't among the ports of an instance's model
+pub unknown_known : (library : List ModelOf) (i : InstanceOf) → names_no_formal library i ≡ true → is_some (position (λ (pair : List ℕ × List ℕ). not (is_named (ports library (model_number library i.model)) pair.0)) i.pairs) ≡ true
+unknown_known library i e =
+    let known = ports library (model_number library i.model) in
+    place_known (λ (pair : List ℕ × List ℕ). not (is_named known pair.0)) i.pairs (sym (any_mapped (λ formal. not (is_named known formal)) (λ (pair : List ℕ × List ℕ). pair.0) i.pairs) ∙ (no_formal_is library i known refl ∙ e))
+
+-- a pair's formal is one of its instance
+pub formal_here : (i : InstanceOf) (k : ℕ) → k < length i.pairs → is_named (formals i) (get_or i.pairs k ([], [])).0 ≡ true
+formal_here i k inside =
+    let same : get_or (formals i) k [] ≡ (get_or i.pairs k ([], [])).0 = get_or-map (λ (pair : List ℕ × List ℕ). pair.0) i.pairs k ([], []) [] inside in
+    ap (is_named (formals i)) (sym same) ∙ member_named (get_or (formals i) k []) (formals i) (member_get (formals i) k [] (omega (arith, length-map i.pairs (λ (pair : List ℕ × List ℕ). pair.0), inside)))
+
+pub unknown_is : (library : List ModelOf) (i : InstanceOf) (k : ℕ) → position (λ (pair : List ℕ × List ℕ). not (is_named (ports library (model_number library i.model)) pair.0)) i.pairs ≡ Some k → (k < length i.pairs) × (is_named (formals i) (get_or i.pairs k ([], [])).0 ≡ true) × (is_named ((callee library i).inputs ++ (callee library i).outputs) (get_or i.pairs k ([], [])).0 ≡ false)
+unknown_is library i k e =
+    let found = position-Some (λ (pair : List ℕ × List ℕ). not (is_named (ports library (model_number library i.model)) pair.0)) i.pairs k ([], []) e in
+    let name = (get_or i.pairs k ([], [])).0 in (
+      found.0,
+      formal_here i k found.0,
+      sym (once_named ((callee library i).inputs ++ (callee library i).outputs) name) ∙ not_true (is_named (ports library (model_number library i.model)) name) found.1,
+    )
+
+-- the two places of a formal that stands in an earlier pair
+pub repeated_is : (i : InstanceOf) (k : ℕ) → k < length i.pairs → is_named (map (λ (pair : List ℕ × List ℕ). pair.0) (take k i.pairs)) (get_or i.pairs k ([], [])).0 ≡ true → (j : ℕ) × (l : ℕ) × (j < l) × (l < length (formals i)) × (get_or (formals i) j [] ≡ (get_or i.pairs k ([], [])).0) × (get_or (formals i) l [] ≡ (get_or i.pairs k ([], [])).0)
+repeated_is i k inside e =
+    let f = λ (pair : List ℕ × List ℕ). pair.0 in
+    let name = (get_or i.pairs k ([], [])).0 in
+    let (j, less, same) = member_place (map f (take k i.pairs)) name [] (named_member name (map f (take k i.pairs)) e) in
+    let before : j < k = omega (arith, less, length-map (take k i.pairs) f, length-take-le k i.pairs (omega (arith, inside))) in
+    let there : get_or (formals i) j [] ≡ get_or (map f (take k i.pairs)) j [] =
+    get_or-map f i.pairs j ([], []) [] (omega (arith, before, inside)) ∙ (ap f (sym (get_or-take k i.pairs j ([], []) before)) ∙ sym (get_or-map f (take k i.pairs) j ([], []) [] (omega (arith, less, length-map (take k i.pairs) f)))) in
+    (j, k, before, omega (arith, inside, length-map i.pairs f), there ∙ same, get_or-map f i.pairs k ([], []) [] inside)
+
+-- the first input that an instance leaves out
+pub input_known : (library : List ModelOf) (i : InstanceOf) (names inputs : List (List ℕ)) → names ≡ fold with_name [] (formals i) → inputs ≡ (callee library i).inputs → leaves_input_out library i ≡ true → is_some (position (λ word. not (is_named names word)) inputs) ≡ true
+input_known library i names inputs made same e =
+    place_known (λ word. not (is_named names word)) inputs (ap (list_any (λ word. not (is_named names word))) same ∙ (input_out_is library i names made ∙ e))
+
+pub input_is : (library : List ModelOf) (i : InstanceOf) (names inputs : List (List ℕ)) (k : ℕ) → names ≡ fold with_name [] (formals i) → inputs ≡ (callee library i).inputs → position (λ word. not (is_named names word)) inputs ≡ Some k → (k < length inputs) × (is_named (callee library i).inputs (get_or inputs k []) ≡ true) × (is_named (formals i) (get_or inputs k []) ≡ false)
+input_is library i names inputs k made same e =
+    let found = position-Some (λ word. not (is_named names word)) inputs k [] e in
+    let name = get_or inputs k [] in (
+      found.0,
+      ap (λ (all : List (List ℕ)). is_named all name) (sym same) ∙ member_named name inputs (member_get inputs k [] found.0),
+      sym (once_named (formals i) name) ∙ (ap (λ (all : List (List ℕ)). is_named all name) (sym (made ∙ fold_once (formals i))) ∙ not_true (is_named names name) found.1),
+    )

@@ -1,14 +1,16 @@
 -- What is at fault in a hierarchy that is refused, named so that it can be found in the text.
-use Rattle.std.specs.Prelude.{◌≡◌, ℕ, ◌<◌, Bool, false, List, [], ◌∷◌, length, Option, Some, None}
-use Rattle.eqc_blif.specs.Netlist.{ModelOf}
+use Rattle.std.specs.Prelude.{◌≡◌, ℕ, ◌<◌, Bool, true, false, List, [], ◌∷◌, ◌++◌, length, slice_index_or, Option, Some, None}
+use Rattle.eqc_blif.specs.Netlist.{ModelOf, InstanceOf}
+use Rattle.eqc_blif.specs.Names.{is_named}
 use Rattle.eqc_flat.specs.Graph.{among}
-use Rattle.eqc_flat.specs.Hierarchy.{model_at}
+use Rattle.eqc_flat.specs.Hierarchy.{model, model_number, model_at, reached}
+use Rattle.eqc_flat.specs.Reaching.{no_instance}
 use Rattle.eqc_flat.specs.Signals.{SignalOf, signals, sources}
-use Rattle.eqc_flat.specs.Codes.{flat_code}
+use Rattle.eqc_flat.specs.Codes.{formals, flat_code}
 use Rattle.eqc_flat.specs.Flattened.{signal_at}
 use Rattle.eqc_flat.specs.declared.hierarchical_name.Step.{Step}
 use Rattle.eqc_flat.specs.declared.finding.Finding.{Finding}
-use Rattle.eqc_flat.specs.declared.finding.Finding.TheVariants.{DrivenTwice, Undriven}
+use Rattle.eqc_flat.specs.declared.finding.Finding.TheVariants.{NoSuchModel, UnknownFormal, FormalTwice, MissingInput, DrivenTwice, Undriven}
 
 -- the instances from one up to the main model, the innermost first, each with its position in the model around it and
 -- with its own model
@@ -19,6 +21,34 @@ steps_of library top (position ∷ up) = record { position = position; model = m
 -- the hierarchical name of a flat signal: its instance, and its name there
 abbrev pub hierarchical_name : List ModelOf → ℕ → SignalOf → List Step × List ℕ
 hierarchical_name library top s = (steps_of library top s.path, s.name)
+
+-- an instance of a model that the main model reaches, by the number of that model and the instance's position there
+abbrev pub StandsAt : List ModelOf → ℕ → ℕ × ℕ → InstanceOf → Type 0
+StandsAt library top place i =
+    (among (reached library top) place.0 ≡ true) × (place.1 < length (model library place.0).instances) × (i ≡ slice_index_or (model library place.0).instances place.1 no_instance)
+
+-- the model of an instance
+abbrev pub callee : List ModelOf → InstanceOf → ModelOf
+callee library i = model library (model_number library i.model)
+
+-- 21: an instance asks for a model that isn't there
+abbrev pub IsMissingModel : List ModelOf → ℕ → (ℕ × ℕ) × InstanceOf → Type 0
+IsMissingModel library top found = StandsAt library top found.0 found.1 × (model_number library found.1.model ≡ length library)
+
+-- 23: a formal of an instance is neither input nor output of its model
+abbrev pub IsUnknownFormal : List ModelOf → ℕ → ((ℕ × ℕ) × InstanceOf) × List ℕ → Type 0
+IsUnknownFormal library top found =
+    StandsAt library top found.0.0 found.0.1 × (is_named (formals found.0.1) found.1 ≡ true) × (is_named ((callee library found.0.1).inputs ++ (callee library found.0.1).outputs) found.1 ≡ false)
+
+-- 24: a formal stands at two places of an instance
+abbrev pub IsRepeatedFormal : List ModelOf → ℕ → ((ℕ × ℕ) × InstanceOf) × List ℕ → Type 0
+IsRepeatedFormal library top found =
+    StandsAt library top found.0.0 found.0.1 × ((j : ℕ) × (k : ℕ) × (j < k) × (k < length (formals found.0.1)) × (slice_index_or (formals found.0.1) j [] ≡ found.1) × (slice_index_or (formals found.0.1) k [] ≡ found.1))
+
+-- 25: an input of an instance's model is no formal of the instance
+abbrev pub IsMissingInput : List ModelOf → ℕ → ((ℕ × ℕ) × InstanceOf) × List ℕ → Type 0
+IsMissingInput library top found =
+    StandsAt library top found.0.0 found.0.1 × (is_named (callee library found.0.1).inputs found.1 ≡ true) × (is_named (formals found.0.1) found.1 ≡ false)
 
 -- 26: a flat signal of this name is driven twice
 abbrev pub NamesDrivenTwice : List ModelOf → ℕ → List Step × List ℕ → Type 0
@@ -32,13 +62,17 @@ NamesUndriven library top name =
 
 -- what is named holds of the hierarchy, which is refused for it
 abbrev pub IsAtFault : List ModelOf → ℕ → Finding → Type 0
+IsAtFault library top (NoSuchModel found) = (flat_code library top ≡ Some 21) × IsMissingModel library top found
+IsAtFault library top (UnknownFormal found) = (flat_code library top ≡ Some 23) × IsUnknownFormal library top found
+IsAtFault library top (FormalTwice found) = (flat_code library top ≡ Some 24) × IsRepeatedFormal library top found
+IsAtFault library top (MissingInput found) = (flat_code library top ≡ Some 25) × IsMissingInput library top found
 IsAtFault library top (DrivenTwice name) = (flat_code library top ≡ Some 26) × NamesDrivenTwice library top name
 IsAtFault library top (Undriven name) = (flat_code library top ≡ Some 27) × NamesUndriven library top name
 
 -- whether a refusal is one of those of which something is named
 abbrev pub has_finding : Option ℕ → Bool
 has_finding None = false
-has_finding (Some code) = among (26 ∷ 27 ∷ []) code
+has_finding (Some code) = among (21 ∷ 23 ∷ 24 ∷ 25 ∷ 26 ∷ 27 ∷ []) code
 
 -- what is at fault, or none where nothing is refused for what is named here
 abbrev pub IsExplained : List ModelOf → ℕ → Option Finding → Type 0

@@ -5,6 +5,7 @@ ghost use Rattle.eqc_flat.specs.Finding.{IsExplained};
 use crate::driver_findings::{driven_twice, undriven};
 use crate::finding::Finding;
 use crate::flattening::flatten;
+use crate::instance_findings::{formal_twice, missing_input, missing_model, unknown_formal};
 use crate::rule::Rule;
 use eqc_blif::Library;
 use std::alloc::{AllocError, Global};
@@ -37,6 +38,22 @@ fn finding(
     requires refused { flat_code library.now top ≡ Some code }
     ensures { IfOk result (λ found. IsExplained library.now top found) }
 {
+    if code == Rule::NoSuchModel.code() {
+        let found = missing_model(alloc, library, top)?;
+        return Ok(Some(Finding::NoSuchModel(found)));
+    }
+    if code == Rule::UnknownFormal.code() {
+        let found = unknown_formal(alloc, library, top)?;
+        return Ok(Some(Finding::UnknownFormal(found)));
+    }
+    if code == Rule::FormalTwice.code() {
+        let found = formal_twice(alloc, library, top)?;
+        return Ok(Some(Finding::FormalTwice(found)));
+    }
+    if code == Rule::MissingInput.code() {
+        let found = missing_input(alloc, library, top)?;
+        return Ok(Some(Finding::MissingInput(found)));
+    }
     if code == Rule::DrivenTwice.code() {
         let name = driven_twice(alloc, library, top)?;
         return Ok(Some(Finding::DrivenTwice(name)));

@@ -8,7 +8,8 @@
 //! - `calls` and `reach`, which models are reached; `model_faults`, what is asked of them, by `condition` and `instance_conditions`
 //! - `naming` and `model_names`, the names of each model, by `name_set`; `hierarchy` and `instances`, the instances in a row
 //! - `driver_table` and `drivers`, what drives each signal, by `stored_driver` and `row_table`
-//! - `explanation`, what is at fault, as a `finding`, by `driver_findings`, told by a `hierarchical_name`
+//! - `explanation`, what is at fault, as a `finding`, by `driver_findings`, told by a `hierarchical_name`,
+//!   and `instance_findings`, told by a `found_instance`
 //! - `signal_order`, an order by dependency, by `search` over a `graph`; `evaluation`, values; `laws`, facts about the definitions
 #![tactic(auto)]
 
@@ -24,10 +25,12 @@ mod fault;
 mod finding;
 mod flat;
 mod flattening;
+mod found_instance;
 mod graph;
 mod hierarchical_name;
 mod hierarchy;
 mod instance_conditions;
+mod instance_findings;
 mod instances;
 mod laws;
 mod model_faults;
@@ -49,6 +52,7 @@ pub use fault::Fault;
 pub use finding::Finding;
 pub use flat::Flat;
 pub use flattening::flatten;
+pub use found_instance::{FoundFormal, FoundInstance};
 pub use hierarchical_name::{HierarchicalName, Step};
 pub use laws::{
     accepted_have_values, covers_depend_on_columns_alone, cyclic_where_reached,

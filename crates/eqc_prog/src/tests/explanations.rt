@@ -3,7 +3,7 @@
 ghost use Rattle.std.specs.Prelude.{◌<◌, length};
 
 use eqc_blif::{Library, read};
-use eqc_flat::{Finding, HierarchicalName, explain};
+use eqc_flat::{Finding, FoundInstance, HierarchicalName, explain};
 use std::alloc::Global;
 use std::process::Abort;
 use std::test::Fail;
@@ -23,11 +23,8 @@ fn found(alloc: Global, library: &Library) -> Result<Option<Finding<'_>>, Fail> 
 fn is_told(name: &HierarchicalName<'_>, steps: &[(usize, usize)], signal: &[u8]) -> bool {
     name.name() == signal
         && name.steps().len() == steps.len()
-        && name
-            .steps()
-            .iter()
-            .zip(steps)
-            .all(|(step, (position, model))| step.position == *position && step.model == *model)
+        && name.steps().iter().zip(steps).all(|(step, (position, model))| step.position == *position
+            && step.model == *model)
 }
 
 /// Texts, each with the position and the model of the instances from the one of an undriven signal up, and its name.
@@ -89,9 +86,90 @@ fn names_a_signal_with_two_drivers(rt: HostRuntime) -> Result<(), Fail> {
 
 #[test]
 fn names_nothing_in_an_accepted_hierarchy(rt: HostRuntime) -> Result<(), Fail> {
-    let library = read(rt.alloc(), b".model m\n.inputs a\n.outputs y\n.names a y\n1 1\n.end\n")
-        .ok()
-        .ok_or("refused")?;
+    let library = read(
+        rt.alloc(),
+        b".model m\n.inputs a\n.outputs y\n.names a y\n1 1\n.end\n",
+    )
+    .ok()
+    .ok_or("refused")?;
     assert!(rt; found(rt.alloc(), &library)?.is_none());
+    Ok(())
+}
+
+/// An instance that is wanted: the model in which it stands, its position there, and the name of its own model.
+struct Wanted {
+    model: usize,
+    position: usize,
+    name: &'static [u8],
+}
+
+/// Whether it is this instance.
+fn is_instance(found: &FoundInstance<'_>, wanted: &Wanted) -> bool {
+    found.model() == wanted.model
+        && found.position() == wanted.position
+        && found.instance().model.as_bytes() == wanted.name
+}
+
+#[test]
+fn names_a_missing_model_and_who_asks_for_it(rt: HostRuntime) -> Result<(), Fail> {
+    let text =
+        b".model m\n.subckt n x=a\n.end\n.model n\n.inputs x\n.subckt n2 x=x\n.subckt o x=x\n.end\n.model n2\n.inputs x\n.end\n";
+    let library = read(rt.alloc(), text).ok().ok_or("refused")?;
+    let wanted = Wanted {
+        model: 1,
+        position: 1,
+        name: b"o",
+    };
+    match found(rt.alloc(), &library)? {
+        Some(Finding::NoSuchModel(instance)) => assert!(rt; is_instance(&instance, &wanted)),
+        _ => return Err(Fail::from("nothing named")),
+    }
+    Ok(())
+}
+
+/// The code and the formal of a finding about a formal of the second instance of the main model, one of model `n`.
+fn formal_of(finding: Option<Finding<'_>>) -> Result<(u8, &[u8]), Fail> {
+    let (code, found) = match finding {
+        Some(Finding::UnknownFormal(found)) => (23, found),
+        Some(Finding::FormalTwice(found)) => (24, found),
+        Some(Finding::MissingInput(found)) => (25, found),
+        _ => return Err(Fail::from("no formal named")),
+    };
+    let wanted = Wanted {
+        model: 0,
+        position: 1,
+        name: b"n",
+    };
+    if !is_instance(found.instance(), &wanted) {
+        return Err(Fail::from("another instance"));
+    }
+    Ok((code, found.formal()))
+}
+
+/// Main models with two instances of a model with the inputs `x` and `v` and the output `z`, each with the code and the
+/// formal that is at fault.
+static FORMALS: [(&[u8], u8, &[u8]); 4] = [
+    (b".subckt n x=a v=b z=c\n.subckt n x=a v=b w=c\n", 23, b"w"),
+    (b".subckt n x=a v=b\n.subckt n v=a x=b z=c v=d\n", 24, b"v"),
+    (
+        b".subckt n x=a v=b\n.subckt n v=a x=b z=c d=d e=e f=f g=g h=h i=i\n",
+        23,
+        b"d",
+    ),
+    (b".subckt n x=a v=b\n.subckt n x=a z=c\n", 25, b"v"),
+];
+
+#[test]
+fn names_the_formal_at_fault(rt: HostRuntime) -> Result<(), Fail> {
+    for (instances, code, formal) in FORMALS.iter() {
+        let mut text = Vec::new(rt.alloc());
+        text.extend_from_slice(b".model m\n")?;
+        text.extend_from_slice(instances)?;
+        text.extend_from_slice(b".end\n.model n\n.inputs x v\n.outputs z\n.end\n")?;
+        let library = read(rt.alloc(), &text).ok().ok_or("refused")?;
+        let (found_code, found_formal) = formal_of(found(rt.alloc(), &library)?)?;
+        assert_eq!(rt; found_code, *code);
+        assert!(rt; found_formal == *formal);
+    }
     Ok(())
 }
