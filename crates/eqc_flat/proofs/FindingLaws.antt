@@ -270,7 +270,7 @@ place_known p xs e = by (is_some (position p xs)) refl
     by true k = k
     by false k = absurd (true≢false (sym e ∙ unplaced p xs k))
 
-not_true : (b : Bool) → not b ≡ true → b ≡ false
+pub not_true : (b : Bool) → not b ≡ true → b ≡ false
 not_true false e = refl
 not_true true e = absurd (true≢false (sym e))
 

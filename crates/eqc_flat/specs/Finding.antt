@@ -3,14 +3,15 @@ use Rattle.std.specs.Prelude.{◌≡◌, ℕ, ◌<◌, Bool, true, false, List, 
 use Rattle.eqc_blif.specs.Netlist.{ModelOf, InstanceOf}
 use Rattle.eqc_blif.specs.Names.{is_named}
 use Rattle.eqc_flat.specs.Graph.{among}
-use Rattle.eqc_flat.specs.Hierarchy.{model, model_number, model_at, reached}
+use Rattle.eqc_flat.specs.Hierarchy.{model, model_number, callees, model_at, reached}
+use Rattle.eqc_flat.specs.Walks.{WalksBack}
 use Rattle.eqc_flat.specs.Reaching.{no_instance}
 use Rattle.eqc_flat.specs.Signals.{SignalOf, signals, sources}
 use Rattle.eqc_flat.specs.Codes.{formals, flat_code}
 use Rattle.eqc_flat.specs.Flattened.{signal_at}
 use Rattle.eqc_flat.specs.declared.hierarchical_name.Step.{Step}
 use Rattle.eqc_flat.specs.declared.finding.Finding.{Finding}
-use Rattle.eqc_flat.specs.declared.finding.Finding.TheVariants.{NoSuchModel, UnknownFormal, FormalTwice, MissingInput, DrivenTwice, Undriven}
+use Rattle.eqc_flat.specs.declared.finding.Finding.TheVariants.{NoSuchModel, Recursion, UnknownFormal, FormalTwice, MissingInput, DrivenTwice, Undriven, ManyInputs}
 
 -- the instances from one up to the main model, the innermost first, each with its position in the model around it and
 -- with its own model
@@ -63,16 +64,18 @@ NamesUndriven library top name =
 -- what is named holds of the hierarchy, which is refused for it
 abbrev pub IsAtFault : List ModelOf → ℕ → Finding → Type 0
 IsAtFault library top (NoSuchModel found) = (flat_code library top ≡ Some 21) × IsMissingModel library top found
+IsAtFault library top (Recursion models) = (flat_code library top ≡ Some 22) × WalksBack (callees library) top models.items
 IsAtFault library top (UnknownFormal found) = (flat_code library top ≡ Some 23) × IsUnknownFormal library top found
 IsAtFault library top (FormalTwice found) = (flat_code library top ≡ Some 24) × IsRepeatedFormal library top found
 IsAtFault library top (MissingInput found) = (flat_code library top ≡ Some 25) × IsMissingInput library top found
 IsAtFault library top (DrivenTwice name) = (flat_code library top ≡ Some 26) × NamesDrivenTwice library top name
 IsAtFault library top (Undriven name) = (flat_code library top ≡ Some 27) × NamesUndriven library top name
+IsAtFault library top (ManyInputs inputs limit) = (flat_code library top ≡ Some 30) × (inputs ≡ length (model library top).inputs) × (limit ≡ 2048) × (limit < inputs)
 
 -- whether a refusal is one of those of which something is named
 abbrev pub has_finding : Option ℕ → Bool
 has_finding None = false
-has_finding (Some code) = among (21 ∷ 23 ∷ 24 ∷ 25 ∷ 26 ∷ 27 ∷ []) code
+has_finding (Some code) = among (21 ∷ 22 ∷ 23 ∷ 24 ∷ 25 ∷ 26 ∷ 27 ∷ 30 ∷ []) code
 
 -- what is at fault, or none where nothing is refused for what is named here
 abbrev pub IsExplained : List ModelOf → ℕ → Option Finding → Type 0

@@ -4,8 +4,9 @@ ghost use Rattle.eqc_flat.specs.Finding.{IsExplained};
 
 use crate::driver_findings::{driven_twice, undriven};
 use crate::finding::Finding;
-use crate::flattening::flatten;
+use crate::flattening::{MAX_INPUTS, flatten};
 use crate::instance_findings::{formal_twice, missing_input, missing_model, unknown_formal};
+use crate::recursion::recursive_chain;
 use crate::rule::Rule;
 use eqc_blif::Library;
 use std::alloc::{AllocError, Global};
@@ -42,6 +43,10 @@ fn finding(
         let found = missing_model(alloc, library, top)?;
         return Ok(Some(Finding::NoSuchModel(found)));
     }
+    if code == Rule::Recursion.code() {
+        let models = recursive_chain(alloc, library, top)?;
+        return Ok(Some(Finding::Recursion(models)));
+    }
     if code == Rule::UnknownFormal.code() {
         let found = unknown_formal(alloc, library, top)?;
         return Ok(Some(Finding::UnknownFormal(found)));
@@ -61,6 +66,11 @@ fn finding(
     if code == Rule::Undriven.code() {
         let name = undriven(alloc, library, top)?;
         return Ok(Some(Finding::Undriven(name)));
+    }
+    if code == Rule::ManyInputs.code() {
+        let inputs = library.inputs(top).len();
+        let limit = MAX_INPUTS;
+        return Ok(Some(Finding::ManyInputs { inputs, limit }));
     }
     Ok(None)
 }

@@ -6,6 +6,9 @@ use crate::hierarchical_name::HierarchicalName;
 pub enum Finding<'a> {
     /// 21: an instance of a model that isn't in the library.
     NoSuchModel(FoundInstance<'a>),
+    /// 22: the main model and further models, each the model of an instance in the one before it, up to one that stands
+    /// before too.
+    Recursion(Vec<usize>),
     /// 23: a pair's formal that is neither input nor output of the instance's model.
     UnknownFormal(FoundFormal<'a>),
     /// 24: a formal that stands in two pairs of the instance.
@@ -16,4 +19,6 @@ pub enum Finding<'a> {
     DrivenTwice(HierarchicalName<'a>),
     /// 27: a signal without a driver, the first in the order of instances and names.
     Undriven(HierarchicalName<'a>),
+    /// 30: the number of the main model's inputs, and how many there may be.
+    ManyInputs { inputs: usize, limit: usize },
 }

@@ -9,7 +9,8 @@
 //! - `naming` and `model_names`, the names of each model, by `name_set`; `hierarchy` and `instances`, the instances in a row
 //! - `driver_table` and `drivers`, what drives each signal, by `stored_driver` and `row_table`
 //! - `explanation`, what is at fault, as a `finding`, by `driver_findings`, told by a `hierarchical_name`,
-//!   and `instance_findings`, told by a `found_instance`
+//!   and `instance_findings`, told by a `found_instance`,
+//!   and `recursion`
 //! - `signal_order`, an order by dependency, by `search` over a `graph`; `evaluation`, values; `laws`, facts about the definitions
 #![tactic(auto)]
 
@@ -38,6 +39,7 @@ mod model_names;
 mod name_set;
 mod naming;
 mod reach;
+mod recursion;
 mod row_table;
 mod rule;
 mod search;

@@ -173,3 +173,34 @@ fn names_the_formal_at_fault(rt: HostRuntime) -> Result<(), Fail> {
     }
     Ok(())
 }
+
+#[test]
+fn names_the_chain_of_a_recursion(rt: HostRuntime) -> Result<(), Fail> {
+    let text =
+        b".model m\n.subckt n x=a\n.end\n.model o\n.subckt p\n.end\n.model n\n.inputs x\n.subckt o\n.end\n.model p\n.subckt o\n.end\n";
+    let library = read(rt.alloc(), text).ok().ok_or("refused")?;
+    match found(rt.alloc(), &library)? {
+        Some(Finding::Recursion(models)) => assert!(rt; models.as_slice() == [0, 2, 1, 3, 1]),
+        _ => return Err(Fail::from("nothing named")),
+    }
+    Ok(())
+}
+
+#[test]
+fn names_the_number_of_inputs(rt: HostRuntime) -> Result<(), Fail> {
+    let mut text = Vec::new(rt.alloc());
+    text.extend_from_slice(b".model m\n.inputs")?;
+    for k in 0..2_049u32 {
+        text.extend_from_slice(format!(in rt.alloc(); " i{k}")?.as_bytes())?;
+    }
+    text.extend_from_slice(b"\n.end\n")?;
+    let library = read(rt.alloc(), &text).ok().ok_or("refused")?;
+    match found(rt.alloc(), &library)? {
+        Some(Finding::ManyInputs { inputs, limit }) => {
+            assert_eq!(rt; inputs, 2_049);
+            assert_eq!(rt; limit, 2_048);
+        }
+        _ => return Err(Fail::from("nothing named")),
+    }
+    Ok(())
+}
