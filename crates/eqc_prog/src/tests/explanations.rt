@@ -97,6 +97,7 @@ fn names_nothing_in_an_accepted_hierarchy(rt: HostRuntime) -> Result<(), Fail> {
 }
 
 /// An instance that is wanted: the model in which it stands, its position there, and the name of its own model.
+#[derive(Clone, Copy)]
 struct Wanted {
     model: usize,
     position: usize,
