@@ -181,7 +181,9 @@ fn names_the_chain_of_a_recursion(rt: HostRuntime) -> Result<(), Fail> {
         b".model m\n.subckt n x=a\n.end\n.model o\n.subckt p\n.end\n.model n\n.inputs x\n.subckt o\n.end\n.model p\n.subckt o\n.end\n";
     let library = read(rt.alloc(), text).ok().ok_or("refused")?;
     match found(rt.alloc(), &library)? {
-        Some(Finding::Recursion(models)) => assert!(rt; models.as_slice() == [0, 2, 1, 3, 1].as_slice()),
+        Some(Finding::Recursion(models)) => assert!(rt;
+            models.as_slice() == [0, 2, 1, 3, 1].as_slice()
+        ),
         _ => return Err(Fail::from("nothing named")),
     }
     Ok(())
