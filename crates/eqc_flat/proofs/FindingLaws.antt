@@ -1,22 +1,25 @@
 -- What is at fault is found, and told by its place.
-use Rattle.std.proofs.Common.{◌==◌, ◌≡◌, ℕ, zero, suc, ◌+◌, ◌-◌, ◌<◌, ◌≤◌, inl, inr, Bool, true, false, not, ◌||◌, ◌&&◌, List, [], ◌∷◌, ◌++◌, length, map, take, get_or, refl, sym, ◌∙◌, ap, subst, arith, Option, Some, None, nat_lt, zero-add, cond}
-use Rattle.std.specs.Prelude.{slice_index_or, is_some, is_none, position, IsSome}
-use Rattle.std.specs.List.{list_any, fold, position_or_len}
+use Rattle.std.proofs.Common.{◌==◌, ◌≡◌, ℕ, zero, suc, ◌+◌, ◌-◌, ◌<◌, ◌≤◌, inl, inr, Bool, true, false, not, ◌||◌, ◌&&◌, List, [], ◌∷◌, ◌++◌, length, map, take, drop, get_or, refl, sym, ◌∙◌, ap, subst, arith, Option, Some, None, nat_lt, zero-add, cond}
+use Rattle.std.specs.Prelude.{slice_index_or, is_some, is_none, position, IsSome, Contains, MatchOption}
+use Rattle.std.specs.List.{list_any, flat_map, fold, position_or_len}
 use Rattle.std.specs.Option.{option_map}
-use Rattle.std.proofs.lemmas.Bool.{true≢false, cases_lt, lt-ltb, eq-eqb, ltb-true}
+use Rattle.std.proofs.lemmas.Bool.{true≢false, cases_lt, lt-ltb, eq-eqb, eqb-true, ltb-true}
 use Rattle.std.proofs.lemmas.List.Quantifiers.{position-Some}
-use Rattle.std.proofs.lemmas.List.{append_assoc, append-nil, get_or-map, get_or-take, length-map, length-take-le}
+use Rattle.std.proofs.lemmas.List.{append_assoc, append-nil, get_or-map, get_or-take, get_or-drop, length-map, length-take-le, length-drop, take_all, take_more}
 use Rattle.eqc_blif.specs.Netlist.{ModelOf, InstanceOf}
 use Rattle.eqc_blif.specs.Names.{is_named}
-use Rattle.eqc_flat.specs.Graph.{DriverOf}
+use Rattle.eqc_flat.specs.Graph.{DriverOf, input, tie, cover, dependencies}
+use Rattle.eqc_flat.specs.HierarchyLaws.{needed}
+use Rattle.eqc_flat.specs.Ordering.{signal_deps, IsOrder, IsTrail}
+use Rattle.eqc_flat.specs.Walks.{IsWalk, from_on}
 use Rattle.eqc_flat.specs.Hierarchy.{model, model_number, model_at, reached, paths_within, paths}
-use Rattle.eqc_flat.specs.Signals.{names_of, signals, sources, drivings}
+use Rattle.eqc_flat.specs.Signals.{SignalOf, needs, names_of, signals, sources, drivings}
 use Rattle.eqc_flat.specs.Codes.{formals, has_no_such_model, is_recursive, has_unknown_formal, has_formal_twice, has_missing_formal, is_too_large, has_many_inputs, is_driven_twice, is_undriven, is_cyclic, code_if, flat_code}
 use Rattle.eqc_flat.specs.Flattened.{path_at, model_of, first_signal, signal_at, source_of}
-use Rattle.eqc_flat.specs.DriverTable.{in_slot, IsFilled}
+use Rattle.eqc_flat.specs.DriverTable.{in_slot, IsFilled, IsDriven}
 use Rattle.eqc_flat.specs.RowTable.{all_rows}
 use Rattle.eqc_flat.specs.StoredDrivers.{driver_from}
-use Rattle.eqc_flat.specs.Finding.{steps_of, callee}
+use Rattle.eqc_flat.specs.Finding.{steps_of, hierarchical_name, callee, IsCircle}
 use Rattle.eqc_flat.specs.NameSets.{with_name}
 use Rattle.eqc_flat.specs.Reaching.{some_instance_in}
 use Rattle.eqc_flat.specs.ModelFaults.{names_no_model, names_no_formal, names_formal_twice, leaves_input_out, ports}
@@ -27,7 +30,8 @@ use Rattle.eqc_flat.proofs.ExpandedLaws.{front_place}
 use Rattle.eqc_flat.proofs.DrivingLaws.{slot_empty}
 use Rattle.eqc_flat.proofs.DepthLaws.{no_code}
 use Rattle.eqc_flat.proofs.Depth.{or_right}
-use Rattle.eqc_flat.proofs.Distinct.{member_get}
+use Rattle.eqc_flat.proofs.Distinct.{Member, member_get}
+use Rattle.eqc_flat.proofs.FlatLaws.{are_sourced, in_order_not_cyclic}
 use Rattle.eqc_flat.proofs.SignalLaws.{member_place}
 use Rattle.eqc_flat.proofs.NamingLaws.{member_named, named_member}
 use Rattle.eqc_flat.proofs.NameSetLaws.{any_mapped, once_named, fold_once}
@@ -319,3 +323,145 @@ input_is library i names inputs k made same e =
       ap (λ (all : List (List ℕ)). is_named all name) (sym same) ∙ member_named name inputs (member_get inputs k [] found.0),
       sym (once_named (formals i) name) ∙ (ap (λ (all : List (List ℕ)). is_named all name) (sym (made ∙ fold_once (formals i))) ∙ not_true (is_named names name) found.1),
     )
+
+-- walks go on from any place
+walk_drop : {X : Type 0} (next : X → List X) (k : ℕ) (xs : List X) → IsWalk next xs → IsWalk next (drop k xs)
+walk_drop next zero xs h = h
+walk_drop next (suc k) [] h = tt
+walk_drop next (suc k) (x ∷ []) h = walk_drop next k [] tt
+walk_drop next (suc k) (x ∷ y ∷ ys) h = walk_drop next k (y ∷ ys) h.1
+
+-- a walk that begins within a closed part stays there
+pub walk_within : (deps : ℕ → List ℕ) (n : ℕ) → ((x y : ℕ) → x < n → Contains (deps x) y → y < n) → (xs : List ℕ) → get_or xs 0 0 < n → IsWalk deps xs → (k : ℕ) → k < length xs → get_or xs k 0 < n
+walk_within deps n closed [] first h k inside = absurd (omega (arith, inside))
+walk_within deps n closed (x ∷ xs) first h zero inside = first
+walk_within deps n closed (x ∷ []) first h (suc k) inside = absurd (omega (arith, inside))
+walk_within deps n closed (x ∷ y ∷ ys) first h (suc k) inside = walk_within deps n closed (y ∷ ys) (closed x y first h.0) h.1 k (omega (arith, inside))
+
+-- a walk as a walk of what its nodes stand for
+walk_mapped : {X : Type 0} (deps : ℕ → List ℕ) (next : X → List X) (f : ℕ → X) (n : ℕ) → ((x y : ℕ) → x < n → Contains (deps x) y → y < n) → ((x y : ℕ) → x < n → Contains (deps x) y → Contains (next (f x)) (f y)) → (xs : List ℕ) → get_or xs 0 0 < n → IsWalk deps xs → IsWalk next (map f xs)
+walk_mapped deps next f n closed step [] first h = tt
+walk_mapped deps next f n closed step (x ∷ []) first h = tt
+walk_mapped deps next f n closed step (x ∷ y ∷ ys) first h = (step x y first h.0, walk_mapped deps next f n closed step (y ∷ ys) (closed x y first h.0) h.1)
+
+-- what a driver depends on is what its source needs
+needs_mapped : (signal : ℕ → SignalOf) (rows : List (List (List ℕ))) (d : DriverOf) → needs (source_of signal rows d) ≡ map signal (dependencies d)
+needs_mapped signal rows (input position) = refl
+needs_mapped signal rows (tie other) = refl
+needs_mapped signal rows (cover columns r) = refl
+
+pub dependency_closed : (library : List ModelOf) (top : ℕ) (drivers : List DriverOf) → IsDriven library top drivers → (x y : ℕ) → x < length drivers → Contains (signal_deps drivers x) y → y < length drivers
+dependency_closed library top drivers driven x y inside h =
+    let P : ℕ → Type 0 = λ z. Member z (signal_deps drivers x) in
+    (are_sourced library top [] [] [] drivers [] driven).closed x y inside (subst P h.2 (member_get (signal_deps drivers x) h.0 y h.1))
+
+dependency_needed : (library : List ModelOf) (top : ℕ) (drivers : List DriverOf) → IsDriven library top drivers → (x y : ℕ) → x < length drivers → Contains (signal_deps drivers x) y → Contains (needed library top (signal_at library top x)) (signal_at library top y)
+dependency_needed library top drivers driven x y inside h =
+    let deps = signal_deps drivers x in
+    let driver = slice_index_or drivers x (input 0) in
+    let source = source_of (signal_at library top) (all_rows library) driver in
+    let same : map (signal_at library top) deps ≡ needed library top (signal_at library top x) =
+    sym (ap (flat_map needs) ((are_sourced library top [] [] [] drivers [] driven).sourced x inside) ∙ (append-nil (needs source) ∙ needs_mapped (signal_at library top) (all_rows library) driver)) in
+    let P : List SignalOf → Type 0 = λ l. Contains l (signal_at library top y) in
+    subst P same (h.0, omega (arith, h.1, length-map deps (signal_at library top)), get_or-map (signal_at library top) deps h.0 y (signal_at library top y) h.1 ∙ ap (signal_at library top) h.2)
+
+-- the circle at the end of a walk along the drivers of a hierarchy
+pub circle_named : (library : List ModelOf) (top : ℕ) (drivers : List DriverOf) (walk : List ℕ) (start : ℕ) (circle : List (List Step × List ℕ) × ℕ) → IsDriven library top drivers → IsTrail drivers walk → start + 1 < length walk → slice_index_or walk start 0 ≡ slice_index_or walk (length walk - 1) 0 → circle ≡ (map (λ s. hierarchical_name library top (signal_at library top s)) (take 20 (from_on start walk)), length (from_on start walk)) → IsCircle library top circle
+circle_named library top drivers walk start circle driven (root, rooted, back) inside same is = (
+  members,
+  omega (arith, count, long),
+  ap (λ (c : List (List Step × List ℕ) × ℕ). c.1) is,
+  ap (λ (c : List (List Step × List ℕ) × ℕ). c.0) is,
+  (λ k less. (let bound = walk_within deps n closed round head steps k (omega (arith, less, count)) in let at = get_or-take (length round - 1) round k 0 (omega (arith, less, count)) in omega (arith, bound, at, driven.size, length-map drivers (λ (d : DriverOf). Some d)))),
+  walk_mapped deps (needed library top) (signal_at library top) n closed (dependency_needed library top drivers driven) (members ++ slice_index_or members 0 0 ∷ []) front closed_round,
+)
+  where
+    deps : ℕ → List ℕ
+    deps = signal_deps drivers
+
+    n : ℕ
+    n = length drivers
+
+    closed : (x y : ℕ) → x < n → Contains (deps x) y → y < n
+    closed = dependency_closed library top drivers driven
+
+    round : List ℕ
+    round = drop start walk
+
+    members : List ℕ
+    members = from_on start walk
+
+    long : length round ≡ length walk - start
+    long = length-drop start walk
+
+    count : length members ≡ length round - 1
+    count = length-take-le (length round - 1) round (omega arith)
+
+    steps : IsWalk deps round
+    steps = walk_drop deps start walk back.follows
+
+    whole : get_or walk 0 0 < n
+    whole = let P : ℕ → Type 0 = λ x. x < n in subst P (sym back.begins) rooted
+
+    head : get_or round 0 0 < n
+    head =
+        let bound = walk_within deps n closed walk whole back.follows (start + 0) (omega (arith, inside)) in
+        let at = get_or-drop start walk 0 0 in
+        omega (arith, bound, at)
+
+    first_member : get_or members 0 0 ≡ get_or round 0 0
+    first_member = get_or-take (length round - 1) round 0 0 (omega (arith, long, inside))
+
+    last : get_or round (length round - 1) 0 ≡ get_or members 0 0
+    last =
+        let place : start + (length round - 1) ≡ length walk - 1 = omega (arith, long, inside) in
+        let none : start + 0 ≡ start = omega arith in
+        get_or-drop start walk (length round - 1) 0 ∙ (ap (λ i. get_or walk i 0) place ∙ (sym same ∙ (ap (λ i. get_or walk i 0) (sym none) ∙ (sym (get_or-drop start walk 0 0) ∙ sym first_member))))
+
+    split : round ≡ members ++ get_or members 0 0 ∷ []
+    split =
+        let one : length round - 1 + 1 ≡ length round = omega (arith, long, inside) in
+        let all : take (length round - 1 + 1) round ≡ round = rw one (take_all (length round) round (omega arith)) in
+        sym all ∙ (take_more round (length round - 1) 0 (omega (arith, long, inside)) ∙ ap (λ x. members ++ x ∷ []) last)
+
+    closed_round : IsWalk deps (members ++ get_or members 0 0 ∷ [])
+    closed_round = let P : List ℕ → Type 0 = λ l. IsWalk deps l in subst P split steps
+
+    front : get_or (members ++ get_or members 0 0 ∷ []) 0 0 < n
+    front = let P : List ℕ → Type 0 = λ l. get_or l 0 0 < n in subst P split head
+
+-- the last of a walk that comes back is found before
+pub start_known : (walk : List ℕ) (j node : ℕ) → j < length walk → get_or walk j 0 ≡ node → is_some (position (λ other. other == node) walk) ≡ true
+start_known walk j node inside same = by (is_some (position (λ other. other == node) walk)) refl
+  where
+    by : (b : Bool) → is_some (position (λ other. other == node) walk) ≡ b → is_some (position (λ other. other == node) walk) ≡ true
+    by true e = e
+    by false e = absurd (true≢false (sym (eq-eqb (get_or walk j 0) node same) ∙ none_at (λ other. other == node) walk j 0 (unplaced (λ other. other == node) walk e) inside))
+
+pub start_is : (walk : List ℕ) (j node i : ℕ) → j < length walk → get_or walk j 0 ≡ node → position (λ other. other == node) walk ≡ Some i → (i ≤ j) × (get_or walk i 0 ≡ node)
+start_is walk j node i inside same e =
+    let found = position-Some (λ other. other == node) walk i 0 e in (
+      elim (cases_lt j i) [
+        | inl later ↦ absurd (true≢false (sym (eq-eqb (get_or walk j 0) node same) ∙ found.2 j later))
+        | inr before ↦ before
+      ],
+      eqb-true (get_or walk i 0) node found.1,
+    )
+
+-- the nodes of a walk along the drivers of a hierarchy are its signals
+pub walk_inside : (library : List ModelOf) (top : ℕ) (drivers : List DriverOf) (walk : List ℕ) → IsDriven library top drivers → IsTrail drivers walk → (k : ℕ) → k < length walk → slice_index_or walk k 0 < length (signals library top)
+walk_inside library top drivers walk driven (root, rooted, back) k inside =
+    let P : ℕ → Type 0 = λ x. x < length drivers in
+    let bound = walk_within (signal_deps drivers) (length drivers) (dependency_closed library top drivers driven) walk (subst P (sym back.begins) rooted) back.follows k inside in
+    omega (arith, bound, driven.size, length-map drivers (λ (d : DriverOf). Some d))
+
+-- the signals of a hierarchy that is refused by 28 have no order
+pub circle_left : (library : List ModelOf) (top : ℕ) (drivers : List DriverOf) (order : List ℕ) (ended : Bool) → IsNumbered library top 28 → IsDriven library top drivers → (ended ≡ true → IsOrder drivers order) → ended ≡ false
+circle_left library top drivers order false h driven sorted = refl
+circle_left library top drivers order true h driven sorted =
+    absurd (true≢false (sym (told_28 (is_driven_twice library top) (is_undriven library top) (is_cyclic library top) h.left).2 ∙ in_order_not_cyclic library top drivers order driven (sorted refl)))
+
+-- a hierarchy that isn't too large is there
+pub hierarchy_there : (library : List ModelOf) (top : ℕ) (o : Option (List ModelOf × ℕ)) → is_too_large library top ≡ false → MatchOption o (is_too_large library top ≡ true) (λ (h : List ModelOf × ℕ). (is_too_large library top ≡ false) × (h ≡ (library, top))) → IsSome o
+hierarchy_there library top None small e = absurd (true≢false (sym e ∙ small))
+hierarchy_there library top (Some h) small e = refl

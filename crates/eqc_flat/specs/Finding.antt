@@ -1,17 +1,18 @@
 -- What is at fault in a hierarchy that is refused, named so that it can be found in the text.
-use Rattle.std.specs.Prelude.{◌≡◌, ℕ, ◌<◌, Bool, true, false, List, [], ◌∷◌, ◌++◌, length, slice_index_or, Option, Some, None}
+use Rattle.std.specs.Prelude.{◌≡◌, ℕ, ◌<◌, Bool, true, false, List, [], ◌∷◌, ◌++◌, length, map, take, slice_index_or, Option, Some, None}
 use Rattle.eqc_blif.specs.Netlist.{ModelOf, InstanceOf}
 use Rattle.eqc_blif.specs.Names.{is_named}
 use Rattle.eqc_flat.specs.Graph.{among}
 use Rattle.eqc_flat.specs.Hierarchy.{model, model_number, callees, model_at, reached}
-use Rattle.eqc_flat.specs.Walks.{WalksBack}
+use Rattle.eqc_flat.specs.Walks.{IsWalk, WalksBack}
+use Rattle.eqc_flat.specs.HierarchyLaws.{needed}
 use Rattle.eqc_flat.specs.Reaching.{no_instance}
 use Rattle.eqc_flat.specs.Signals.{SignalOf, signals, sources}
 use Rattle.eqc_flat.specs.Codes.{formals, flat_code}
 use Rattle.eqc_flat.specs.Flattened.{signal_at}
 use Rattle.eqc_flat.specs.declared.hierarchical_name.Step.{Step}
 use Rattle.eqc_flat.specs.declared.finding.Finding.{Finding}
-use Rattle.eqc_flat.specs.declared.finding.Finding.TheVariants.{NoSuchModel, Recursion, UnknownFormal, FormalTwice, MissingInput, DrivenTwice, Undriven, ManyInputs}
+use Rattle.eqc_flat.specs.declared.finding.Finding.TheVariants.{NoSuchModel, Recursion, UnknownFormal, FormalTwice, MissingInput, DrivenTwice, Undriven, Circular, ManyInputs}
 
 -- the instances from one up to the main model, the innermost first, each with its position in the model around it and
 -- with its own model
@@ -61,6 +62,12 @@ abbrev pub NamesUndriven : List ModelOf → ℕ → List Step × List ℕ → Ty
 NamesUndriven library top name =
     (s : ℕ) × (s < length (signals library top)) × (name ≡ hierarchical_name library top (signal_at library top s)) × (sources library top (signal_at library top s) ≡ [])
 
+-- 28: of some flat signals each depends on the next one, and the last on the first; their first twenty are named, and
+-- their number is told
+abbrev pub IsCircle : List ModelOf → ℕ → List (List Step × List ℕ) × ℕ → Type 0
+IsCircle library top circle =
+    (members : List ℕ) × (0 < length members) × (circle.1 ≡ length members) × (circle.0 ≡ map (λ s. hierarchical_name library top (signal_at library top s)) (take 20 members)) × ((k : ℕ) → k < length members → slice_index_or members k 0 < length (signals library top)) × IsWalk (needed library top) (map (signal_at library top) (members ++ slice_index_or members 0 0 ∷ []))
+
 -- what is named holds of the hierarchy, which is refused for it
 abbrev pub IsAtFault : List ModelOf → ℕ → Finding → Type 0
 IsAtFault library top (NoSuchModel found) = (flat_code library top ≡ Some 21) × IsMissingModel library top found
@@ -70,12 +77,13 @@ IsAtFault library top (FormalTwice found) = (flat_code library top ≡ Some 24) 
 IsAtFault library top (MissingInput found) = (flat_code library top ≡ Some 25) × IsMissingInput library top found
 IsAtFault library top (DrivenTwice name) = (flat_code library top ≡ Some 26) × NamesDrivenTwice library top name
 IsAtFault library top (Undriven name) = (flat_code library top ≡ Some 27) × NamesUndriven library top name
+IsAtFault library top (Circular circle) = (flat_code library top ≡ Some 28) × IsCircle library top circle
 IsAtFault library top (ManyInputs inputs limit) = (flat_code library top ≡ Some 30) × (inputs ≡ length (model library top).inputs) × (limit ≡ 2048) × (limit < inputs)
 
 -- whether a refusal is one of those of which something is named
 abbrev pub has_finding : Option ℕ → Bool
 has_finding None = false
-has_finding (Some code) = among (21 ∷ 22 ∷ 23 ∷ 24 ∷ 25 ∷ 26 ∷ 27 ∷ 30 ∷ []) code
+has_finding (Some code) = among (21 ∷ 22 ∷ 23 ∷ 24 ∷ 25 ∷ 26 ∷ 27 ∷ 28 ∷ 30 ∷ []) code
 
 -- what is at fault, or none where nothing is refused for what is named here
 abbrev pub IsExplained : List ModelOf → ℕ → Option Finding → Type 0

@@ -2,6 +2,7 @@ ghost use Rattle.std.specs.Prelude.{◌≡◌, ◌<◌, length, IfOk, Some};
 ghost use Rattle.eqc_flat.specs.Codes.{flat_code};
 ghost use Rattle.eqc_flat.specs.Finding.{IsExplained};
 
+use crate::circle_finding::circle_below;
 use crate::driver_findings::{driven_twice, undriven};
 use crate::finding::Finding;
 use crate::flattening::{MAX_INPUTS, flatten};
@@ -66,6 +67,10 @@ fn finding(
     if code == Rule::Undriven.code() {
         let name = undriven(alloc, library, top)?;
         return Ok(Some(Finding::Undriven(name)));
+    }
+    if code == Rule::Circle.code() {
+        let circle = circle_below(alloc, library, top)?;
+        return Ok(Some(Finding::Circular(circle)));
     }
     if code == Rule::ManyInputs.code() {
         let inputs = library.inputs(top).len();

@@ -1,3 +1,4 @@
+use crate::circle::Circle;
 use crate::found_instance::{FoundFormal, FoundInstance};
 use crate::hierarchical_name::HierarchicalName;
 
@@ -19,6 +20,8 @@ pub enum Finding<'a> {
     DrivenTwice(HierarchicalName<'a>),
     /// 27: a signal without a driver, the first in the order of instances and names.
     Undriven(HierarchicalName<'a>),
+    /// 28: signals of which each depends on the next one and the last on the first.
+    Circular(Circle<'a>),
     /// 30: the number of the main model's inputs, and how many there may be.
     ManyInputs { inputs: usize, limit: usize },
 }

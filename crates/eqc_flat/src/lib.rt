@@ -10,11 +10,13 @@
 //! - `driver_table` and `drivers`, what drives each signal, by `stored_driver` and `row_table`
 //! - `explanation`, what is at fault, as a `finding`, by `driver_findings`, told by a `hierarchical_name`,
 //!   and `instance_findings`, told by a `found_instance`,
-//!   and `recursion`
+//!   `recursion`, and `circle_finding`, told by a `circle`
 //! - `signal_order`, an order by dependency, by `search` over a `graph`; `evaluation`, values; `laws`, facts about the definitions
 #![tactic(auto)]
 
 mod calls;
+mod circle;
+mod circle_finding;
 mod condition;
 mod driver;
 mod driver_findings;
@@ -47,6 +49,7 @@ mod signal_order;
 mod signals;
 mod stored_driver;
 
+pub use circle::Circle;
 pub use driver::Driver;
 pub use evaluation::eval;
 pub use explanation::explain;

@@ -207,3 +207,36 @@ fn names_the_number_of_inputs(rt: HostRuntime) -> Result<(), Fail> {
     }
     Ok(())
 }
+
+/// Texts, each with the number of signals of the circle that is named, and the names of the first of them, in order and
+/// from any of them on.
+static CIRCLES: [(&[u8], usize, &[&[u8]]); 2] = [
+    (
+        b".model m\n.inputs a\n.outputs y\n.names a y x\n11 1\n.names x y\n0 1\n.end\n",
+        2,
+        &[b"x", b"y"],
+    ),
+    (
+        b".model m\n.inputs a\n.outputs y\n.names z y\n1 1\n.names a z z\n11 1\n.end\n",
+        1,
+        &[b"z"],
+    ),
+];
+
+#[test]
+fn names_the_signals_of_a_circle(rt: HostRuntime) -> Result<(), Fail> {
+    for (text, count, names) in CIRCLES.iter() {
+        let library = read(rt.alloc(), text).ok().ok_or("refused")?;
+        match found(rt.alloc(), &library)? {
+            Some(Finding::Circular(circle)) => {
+                assert_eq!(rt; circle.count(), *count);
+                assert_eq!(rt; circle.signals().len(), *count);
+                for name in circle.signals() {
+                    assert!(rt; names.iter().any(|other| name.name() == *other));
+                }
+            }
+            _ => return Err(Fail::from("nothing named")),
+        }
+    }
+    Ok(())
+}
