@@ -75,7 +75,7 @@ values_are_there_for_all library top a b (suc d) s = by_source (slice_get (sourc
     by_source (Some source) h = mapped (made a source) (all_some (map (value_at library top a d) (needs source))) ∙ (h source ∙ sym (mapped (made b source) (all_some (map (value_at library top b d) (needs source)))))
 
 -- a condition whose code does not apply does not hold
-no_code : (o : Option ℕ) (condition : Bool) (code : ℕ) (later : Option ℕ) → (Some code ≡ o → ⊥) → code_if condition code later ≡ o → (condition ≡ false) × (later ≡ o)
+pub no_code : (o : Option ℕ) (condition : Bool) (code : ℕ) (later : Option ℕ) → (Some code ≡ o → ⊥) → code_if condition code later ≡ o → (condition ≡ false) × (later ≡ o)
 no_code o true code later other e = absurd (other e)
 no_code o false code later other e = (refl, e)
 

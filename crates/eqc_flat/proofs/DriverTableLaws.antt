@@ -1,7 +1,8 @@
 -- Slots are filled driving by driving.
 use Rattle.std.proofs.Common.{◌==◌, ◌≡◌, ℕ, zero, suc, ◌+◌, ◌<◌, ◌≤◌, ◌⊎◌, inl, inr, Bool, true, false, ◌||◌, if◌then◌else◌, List, [], ◌∷◌, ◌++◌, length, map, take, drop, set, get_or, replicate, refl, sym, ◌∙◌, ap, subst, arith, Option, Some, None, nat_lt}
-use Rattle.std.specs.Prelude.{slice_index_or, filter}
+use Rattle.std.specs.Prelude.{is_some, slice_index_or, filter}
 use Rattle.std.specs.List.{list_any, flat_map}
+use Rattle.std.specs.Option.{option_or}
 use Rattle.std.proofs.lemmas.Bool.{cases_eq, lt-ltb, le-ltb, ltb-true, true≢false}
 use Rattle.std.proofs.lemmas.Grind.{flat_map-append}
 use Rattle.std.proofs.lemmas.List.{append_assoc, take-append-drop, get_or-set_same, get_or-set_other, length-set, append-nil, get_or-map, map-append, length-append, length-map, get_or-replicate, length-replicate}
@@ -14,6 +15,15 @@ use Rattle.eqc_flat.specs.Flattened.{no_signal, signal_at, source_of}
 use Rattle.eqc_flat.specs.RowTable.{all_rows}
 use Rattle.eqc_flat.specs.DriverTable.{in_slot, IsFilled}
 use Rattle.eqc_flat.proofs.NumberLaws.{same_self, signal_numbers}
+
+-- whether a signal is known
+pub some_known : (o : Option ℕ) → is_some o ≡ true → (s : ℕ) × (o ≡ Some s)
+some_known None e = absurd (true≢false (sym e))
+some_known (Some s) e = (s, refl)
+
+pub none_known : (o : Option ℕ) → is_some o ≡ false → o ≡ None
+none_known None e = refl
+none_known (Some s) e = absurd (true≢false e)
 
 filter_append : (p : Driving → Bool) (xs ys : List Driving) → filter p (xs ++ ys) ≡ filter p xs ++ filter p ys
 filter_append p [] ys = refl
@@ -34,35 +44,33 @@ sources_other : (d : Driving) (s : SignalOf) → same_signal d.0 s ≡ false →
 sources_other d s e = rw e refl
 
 -- no drivings yet
-pub filled_none : (library : List ModelOf) (top n : ℕ) → n ≡ length (signals library top) → IsFilled library top (replicate n None) false []
+pub filled_none : (library : List ModelOf) (top n : ℕ) → n ≡ length (signals library top) → IsFilled library top (replicate n None) None []
 filled_none library top n size = record {
   size = length-replicate n None ∙ size;
   once = λ e s h. rw (get_or-replicate {A = Option DriverOf} n s None None (omega (arith, length-replicate {A = Option DriverOf} n None, h))) refl;
-  again = λ e. absurd (true≢false (sym e));
+  again = λ s e. absurd (no_signal_known s e);
   within = λ s driver h e. absurd (none s driver (omega (arith, length-replicate {A = Option DriverOf} n None, h)) e);
 }
   where
+    no_signal_known : (s : ℕ) → None ≡ Some s → ⊥
+    no_signal_known s e = cc
+
     none : (s : ℕ) (driver : DriverOf) → s < n → get_or {A = Option DriverOf} (replicate n None) s None ≡ Some driver → ⊥
     none s driver h e = let is : get_or {A = Option DriverOf} (replicate n None) s None ≡ None = get_or-replicate n s None None h in cc
 
 -- a signal that was driven twice stays so
-again_more : (done : List Driving) (d : Driving) (all : List SignalOf) → list_any (λ s. nat_lt 1 (length (sources_in done s))) all ≡ true → list_any (λ s. nat_lt 1 (length (sources_in (done ++ d ∷ []) s))) all ≡ true
-again_more done d [] e = absurd (true≢false (sym e))
-again_more done d (s ∷ all) e = by_test (nat_lt 1 (length (sources_in done s))) refl (again_more done d all) e
-  where
-    by_test : (b : Bool) → nat_lt 1 (length (sources_in done s)) ≡ b → (list_any (λ s. nat_lt 1 (length (sources_in done s))) all ≡ true → list_any (λ s. nat_lt 1 (length (sources_in (done ++ d ∷ []) s))) all ≡ true) → (b || list_any (λ s. nat_lt 1 (length (sources_in done s))) all) ≡ true → list_any (λ s. nat_lt 1 (length (sources_in (done ++ d ∷ []) s))) (s ∷ all) ≡ true
-    by_test true k up h =
-        let more : length (sources_in (done ++ d ∷ []) s) ≡ length (sources_in done s) + length (sources_in (d ∷ []) s) = ap length (sources_more done d s) ∙ length-append (sources_in done s) (sources_in (d ∷ []) s) in
-        let two : 1 < length (sources_in done s) = ltb-true 1 (length (sources_in done s)) k in
-        let now : nat_lt 1 (length (sources_in (done ++ d ∷ []) s)) ≡ true = lt-ltb 1 (length (sources_in (done ++ d ∷ []) s)) (omega (arith, two, more)) in
-        rw now refl
-    by_test false k up h = or_right (nat_lt 1 (length (sources_in (done ++ d ∷ []) s))) (list_any (λ s. nat_lt 1 (length (sources_in (done ++ d ∷ []) s))) all) (up h)
-      where
-        or_right : (x y : Bool) → y ≡ true → (x || y) ≡ true
-        or_right true y e = refl
-        or_right false y e = e
+again_more : (done : List Driving) (d : Driving) (s : SignalOf) → 1 < length (sources_in done s) → 1 < length (sources_in (done ++ d ∷ []) s)
+again_more done d s two =
+    let more : length (sources_in (done ++ d ∷ []) s) ≡ length (sources_in done s) + length (sources_in (d ∷ []) s) = ap length (sources_more done d s) ∙ length-append (sources_in done s) (sources_in (d ∷ []) s) in
+    omega (arith, two, more)
 
-some_place : (p : SignalOf → Bool) (xs : List SignalOf) (i : ℕ) → i < length xs → p (get_or xs i no_signal) ≡ true → list_any p xs ≡ true
+-- a signal that is known to be driven twice is so with one driving more
+still_again : (library : List ModelOf) (top : ℕ) (slots : List (Option DriverOf)) (twice : Option ℕ) (done : List Driving) (d : Driving) → IsFilled library top slots twice done → (s : ℕ) → twice ≡ Some s → (s < length (signals library top)) × (1 < length (sources_in (done ++ d ∷ []) (signal_at library top s)))
+still_again library top slots twice done d h s e =
+    let known = h.again s e in
+    (known.0, again_more done d (signal_at library top s) known.1)
+
+pub some_place : (p : SignalOf → Bool) (xs : List SignalOf) (i : ℕ) → i < length xs → p (get_or xs i no_signal) ≡ true → list_any p xs ≡ true
 some_place p [] i h e = absurd (omega arith)
 some_place p (x ∷ xs) zero h e = rw e refl
 some_place p (x ∷ xs) (suc i) h e = rw (some_place p xs i (omega arith) e) (or_true (p x))
@@ -72,11 +80,11 @@ some_place p (x ∷ xs) (suc i) h e = rw (some_place p xs i (omega arith) e) (or
     or_true false = refl
 
 -- one driving more, of a signal whose slot is free
-pub filled_free : (library : List ModelOf) (top : ℕ) (slots : List (Option DriverOf)) (twice : Bool) (done : List Driving) (t : ℕ) (driver : DriverOf) (d : Driving) → IsFilled library top slots twice done → t < length slots → slice_index_or slots t None ≡ None → d.0 ≡ signal_at library top t → d.1 ≡ source_of (signal_at library top) (all_rows library) driver → IsWithinSizes (length (model library top).inputs) (length (signals library top)) (length (all_rows library)) driver → IsFilled library top (set slots t (Some driver)) twice (done ++ d ∷ [])
+pub filled_free : (library : List ModelOf) (top : ℕ) (slots : List (Option DriverOf)) (twice : Option ℕ) (done : List Driving) (t : ℕ) (driver : DriverOf) (d : Driving) → IsFilled library top slots twice done → t < length slots → slice_index_or slots t None ≡ None → d.0 ≡ signal_at library top t → d.1 ≡ source_of (signal_at library top) (all_rows library) driver → IsWithinSizes (length (model library top).inputs) (length (signals library top)) (length (all_rows library)) driver → IsFilled library top (set slots t (Some driver)) twice (done ++ d ∷ [])
 filled_free library top slots twice done t driver d h inside free target source small = record {
   size = length-set slots t (Some driver) ∙ h.size;
   once = λ e s k. sources_more done d (signal_at library top s) ∙ each e s (rw length-set at k) (cases_eq s t);
-  again = λ e. again_more done d (signals library top) (h.again e);
+  again = still_again library top slots twice done d h;
   within = λ s other k e. elim (cases_eq s t) [
     | inl same ↦ (let is : Some driver ≡ Some other = sym (get_or-set_same slots t (Some driver) None inside) ∙ (ap (λ x. slice_index_or (set slots t (Some driver)) x None) (sym same) ∙ e) in let P : DriverOf → Type 0 = λ x. IsWithinSizes (length (model library top).inputs) (length (signals library top)) (length (all_rows library)) x in subst P (inside_some is) small)
     | inr apart ↦ h.within s other (rw length-set at k) (sym (get_or-set_other slots t s (Some driver) None apart) ∙ e)
@@ -86,7 +94,7 @@ filled_free library top slots twice done t driver d h inside free target source 
     inside_some : {x y : DriverOf} → Some x ≡ Some y → x ≡ y
     inside_some e = cc
 
-    each : twice ≡ false → (s : ℕ) → s < length slots → (s ≡ t) ⊎ (s ≡ t → ⊥) → sources_in done (signal_at library top s) ++ sources_in (d ∷ []) (signal_at library top s) ≡ map (source_of (signal_at library top) (all_rows library)) (in_slot (slice_index_or (set slots t (Some driver)) s None))
+    each : is_some twice ≡ false → (s : ℕ) → s < length slots → (s ≡ t) ⊎ (s ≡ t → ⊥) → sources_in done (signal_at library top s) ++ sources_in (d ∷ []) (signal_at library top s) ≡ map (source_of (signal_at library top) (all_rows library)) (in_slot (slice_index_or (set slots t (Some driver)) s None))
     each e s k (inl same) =
         let here : sources_in done (signal_at library top t) ≡ [] = h.once e t inside ∙ ap (λ o. map (source_of (signal_at library top) (all_rows library)) (in_slot o)) free in
         let new : sources_in (d ∷ []) (signal_at library top t) ≡ d.1 ∷ [] = sources_one d (signal_at library top t) (rw target (same_self (signal_at library top t))) in
@@ -102,53 +110,60 @@ filled_free library top slots twice done t driver d h inside free target source 
             absurd (apart (sym (signal_numbers library top t s (omega (arith, h.size, inside)) (omega (arith, h.size, k)) (subst P target e))))
 
 -- one driving more, of a signal that has a driver: it is driven twice
-pub filled_again : (library : List ModelOf) (top : ℕ) (slots : List (Option DriverOf)) (twice : Bool) (done : List Driving) (t : ℕ) (old : DriverOf) (d : Driving) → IsFilled library top slots twice done → t < length slots → slice_index_or slots t None ≡ Some old → d.0 ≡ signal_at library top t → IsFilled library top slots true (done ++ d ∷ [])
-filled_again library top slots twice done t old d h inside taken target = record {
+pub filled_again : (library : List ModelOf) (top : ℕ) (slots : List (Option DriverOf)) (twice : Option ℕ) (done : List Driving) (t : ℕ) (old : DriverOf) (d : Driving) → IsFilled library top slots twice done → t < length slots → slice_index_or slots t None ≡ Some old → d.0 ≡ signal_at library top t → IsFilled library top slots (option_or twice (Some t)) (done ++ d ∷ [])
+filled_again library top slots None done t old d h inside taken target = record {
   size = h.size;
   once = λ e. absurd (true≢false e);
-  again = λ e. now twice refl;
+  again = λ s e. let P : ℕ → Type 0 = λ x. (x < length (signals library top)) × (1 < length (sources_in (done ++ d ∷ []) (signal_at library top x))) in subst P (inside_some e) (omega (arith, h.size, inside), two);
   within = h.within;
 }
   where
-    now : (b : Bool) → twice ≡ b → list_any (λ s. nat_lt 1 (length (sources_in (done ++ d ∷ []) s))) (signals library top) ≡ true
-    now true e = again_more done d (signals library top) (h.again e)
-    now false e =
-        let here : sources_in done (signal_at library top t) ≡ source_of (signal_at library top) (all_rows library) old ∷ [] = h.once e t inside ∙ ap (λ o. map (source_of (signal_at library top) (all_rows library)) (in_slot o)) taken in
+    inside_some : {x y : ℕ} → Some x ≡ Some y → x ≡ y
+    inside_some e = cc
+
+    two : 1 < length (sources_in (done ++ d ∷ []) (signal_at library top t))
+    two =
+        let here : sources_in done (signal_at library top t) ≡ source_of (signal_at library top) (all_rows library) old ∷ [] = h.once refl t inside ∙ ap (λ o. map (source_of (signal_at library top) (all_rows library)) (in_slot o)) taken in
         let new : sources_in (d ∷ []) (signal_at library top t) ≡ d.1 ∷ [] = sources_one d (signal_at library top t) (rw target (same_self (signal_at library top t))) in
         let both : sources_in (done ++ d ∷ []) (signal_at library top t) ≡ (source_of (signal_at library top) (all_rows library) old ∷ []) ++ d.1 ∷ [] = sources_more done d (signal_at library top t) ∙ rw (here, new) refl in
-        some_place (λ s. nat_lt 1 (length (sources_in (done ++ d ∷ []) s))) (signals library top) t (omega (arith, h.size, inside)) (rw both refl)
+        let size : length (sources_in (done ++ d ∷ []) (signal_at library top t)) ≡ 2 = ap length both in
+        omega (arith, size)
+filled_again library top slots (Some first) done t old d h inside taken target = record {
+  size = h.size;
+  once = λ e. absurd (true≢false e);
+  again = still_again library top slots (Some first) done d h;
+  within = h.within;
+}
 
--- once a signal is driven twice, it stays so with whatever comes behind
-pub filled_behind : (library : List ModelOf) (top : ℕ) (slots : List (Option DriverOf)) (done more : List Driving) → IsFilled library top slots true done → IsFilled library top slots true (done ++ more)
-filled_behind library top slots done [] h = let P : List Driving → Type 0 = λ l. IsFilled library top slots true l in subst P (sym (append-nil done)) h
-filled_behind library top slots done (d ∷ more) h =
-    let P : List Driving → Type 0 = λ l. IsFilled library top slots true l in
-    let one : IsFilled library top slots true (done ++ d ∷ []) = record { size = h.size; once = λ e. absurd (true≢false e); again = λ e. again_more done d (signals library top) (h.again refl); within = h.within } in
-    subst P (append_assoc done (d ∷ []) more) (filled_behind library top slots (done ++ d ∷ []) more one)
+-- once a signal is known to be driven twice, it stays so with whatever comes behind
+pub filled_behind : (library : List ModelOf) (top : ℕ) (slots : List (Option DriverOf)) (twice : Option ℕ) (done more : List Driving) → is_some twice ≡ true → IsFilled library top slots twice done → IsFilled library top slots twice (done ++ more)
+filled_behind library top slots twice done [] e h = let P : List Driving → Type 0 = λ l. IsFilled library top slots twice l in subst P (sym (append-nil done)) h
+filled_behind library top slots twice done (d ∷ more) e h =
+    let P : List Driving → Type 0 = λ l. IsFilled library top slots twice l in
+    let one : IsFilled library top slots twice (done ++ d ∷ []) = record { size = h.size; once = λ k. absurd (true≢false (sym e ∙ k)); again = still_again library top slots twice done d h; within = h.within } in
+    subst P (append_assoc done (d ∷ []) more) (filled_behind library top slots twice (done ++ d ∷ []) more e one)
 
 -- the drivings of a list of which the first k were gone through
-pub filled_list : (library : List ModelOf) (top : ℕ) (slots : List (Option DriverOf)) (twice : Bool) (done all : List Driving) (k : ℕ) → twice ≡ true → IsFilled library top slots twice (done ++ take k all) → IsFilled library top slots twice (done ++ all)
+pub filled_list : (library : List ModelOf) (top : ℕ) (slots : List (Option DriverOf)) (twice : Option ℕ) (done all : List Driving) (k : ℕ) → is_some twice ≡ true → IsFilled library top slots twice (done ++ take k all) → IsFilled library top slots twice (done ++ all)
 filled_list library top slots twice done all k e h =
-    let P : Bool → Type 0 = λ b. IsFilled library top slots b (done ++ take k all) in
-    let Q : List Driving → Type 0 = λ l. IsFilled library top slots true l in
-    let R : Bool → Type 0 = λ b. IsFilled library top slots b (done ++ all) in
-    subst R (sym e) (subst Q (append_assoc done (take k all) (drop k all) ∙ ap (λ l. done ++ l) (take-append-drop k all)) (filled_behind library top slots (done ++ take k all) (drop k all) (subst P e h)))
+    let Q : List Driving → Type 0 = λ l. IsFilled library top slots twice l in
+    subst Q (append_assoc done (take k all) (drop k all) ∙ ap (λ l. done ++ l) (take-append-drop k all)) (filled_behind library top slots twice (done ++ take k all) (drop k all) e h)
 
 -- the drivings of pieces of which the first k were gone through
-pub filled_pieces : {X : Type 0} (library : List ModelOf) (top : ℕ) (slots : List (Option DriverOf)) (twice : Bool) (f : X → List Driving) (done : List Driving) (all : List X) (k : ℕ) → twice ≡ true → IsFilled library top slots twice (done ++ flat_map f (take k all)) → IsFilled library top slots twice (done ++ flat_map f all)
+pub filled_pieces : {X : Type 0} (library : List ModelOf) (top : ℕ) (slots : List (Option DriverOf)) (twice : Option ℕ) (f : X → List Driving) (done : List Driving) (all : List X) (k : ℕ) → is_some twice ≡ true → IsFilled library top slots twice (done ++ flat_map f (take k all)) → IsFilled library top slots twice (done ++ flat_map f all)
 filled_pieces library top slots twice f done all k e h =
-    let P : Bool → Type 0 = λ b. IsFilled library top slots b (done ++ flat_map f (take k all)) in
-    let Q : List Driving → Type 0 = λ l. IsFilled library top slots true l in
-    let R : Bool → Type 0 = λ b. IsFilled library top slots b (done ++ flat_map f all) in
+    let Q : List Driving → Type 0 = λ l. IsFilled library top slots twice l in
     let pieces : flat_map f (take k all) ++ flat_map f (drop k all) ≡ flat_map f all = sym (flat_map-append f (take k all) (drop k all)) ∙ ap (flat_map f) (take-append-drop k all) in
-    subst R (sym e) (subst Q (append_assoc done (flat_map f (take k all)) (flat_map f (drop k all)) ∙ ap (λ l. done ++ l) pieces) (filled_behind library top slots (done ++ flat_map f (take k all)) (flat_map f (drop k all)) (subst P e h)))
+    subst Q (append_assoc done (flat_map f (take k all)) (flat_map f (drop k all)) ∙ ap (λ l. done ++ l) pieces) (filled_behind library top slots twice (done ++ flat_map f (take k all)) (flat_map f (drop k all)) e h)
 
 -- the codes, once all drivings were gone through
-pub driven_twice : (library : List ModelOf) (top : ℕ) (slots : List (Option DriverOf)) → IsFilled library top slots true (drivings library top) → is_driven_twice library top ≡ true
+pub driven_twice : (library : List ModelOf) (top : ℕ) (slots : List (Option DriverOf)) (s : ℕ) → IsFilled library top slots (Some s) (drivings library top) → is_driven_twice library top ≡ true
 unfolding is_driven_twice
-driven_twice library top slots h = h.again refl
+driven_twice library top slots s h =
+    let known = h.again s refl in
+    some_place (λ s. nat_lt 1 (length (sources library top s))) (signals library top) s known.0 (lt-ltb 1 (length (sources library top (signal_at library top s))) known.1)
 
-none_place : (p : SignalOf → Bool) (xs : List SignalOf) → ((i : ℕ) → i < length xs → p (get_or xs i no_signal) ≡ false) → list_any p xs ≡ false
+pub none_place : (p : SignalOf → Bool) (xs : List SignalOf) → ((i : ℕ) → i < length xs → p (get_or xs i no_signal) ≡ false) → list_any p xs ≡ false
 none_place p [] h = refl
 none_place p (x ∷ xs) h = rw (h 0 (omega arith), none_place p xs (λ i k. h (suc i) (omega arith))) refl
 
@@ -156,23 +171,23 @@ count_slot : (f : DriverOf → SourceOf) (o : Option DriverOf) → length (map f
 count_slot f None = omega arith
 count_slot f (Some d) = omega arith
 
-pub not_driven_twice : (library : List ModelOf) (top : ℕ) (slots : List (Option DriverOf)) → IsFilled library top slots false (drivings library top) → is_driven_twice library top ≡ false
+pub not_driven_twice : (library : List ModelOf) (top : ℕ) (slots : List (Option DriverOf)) → IsFilled library top slots None (drivings library top) → is_driven_twice library top ≡ false
 unfolding is_driven_twice
 not_driven_twice library top slots h = none_place (λ s. nat_lt 1 (length (sources library top s))) (signals library top) (λ i k.
     let one : length (sources library top (signal_at library top i)) ≤ 1 = rw (h.once refl i (omega (arith, h.size, k))) (count_slot (source_of (signal_at library top) (all_rows library)) (slice_index_or slots i None)) in
     le-ltb 1 (length (sources library top (signal_at library top i))) one)
 
-pub undriven : (library : List ModelOf) (top : ℕ) (slots : List (Option DriverOf)) (s : ℕ) → IsFilled library top slots false (drivings library top) → s < length slots → slice_index_or slots s None ≡ None → is_undriven library top ≡ true
+pub undriven : (library : List ModelOf) (top : ℕ) (slots : List (Option DriverOf)) (s : ℕ) → IsFilled library top slots None (drivings library top) → s < length slots → slice_index_or slots s None ≡ None → is_undriven library top ≡ true
 unfolding is_undriven
 undriven library top slots s h inside free =
     let none : sources library top (signal_at library top s) ≡ [] = h.once refl s inside ∙ ap (λ o. map (source_of (signal_at library top) (all_rows library)) (in_slot o)) free in
     some_place (λ s. length (sources library top s) == 0) (signals library top) s (omega (arith, h.size, inside)) (rw none refl)
 
 -- where every slot is taken, each signal has the one driver in its slot
-pub sourced : (library : List ModelOf) (top : ℕ) (slots : List (Option DriverOf)) (s : ℕ) (driver : DriverOf) → IsFilled library top slots false (drivings library top) → s < length slots → slice_index_or slots s None ≡ Some driver → sources library top (signal_at library top s) ≡ source_of (signal_at library top) (all_rows library) driver ∷ []
+pub sourced : (library : List ModelOf) (top : ℕ) (slots : List (Option DriverOf)) (s : ℕ) (driver : DriverOf) → IsFilled library top slots None (drivings library top) → s < length slots → slice_index_or slots s None ≡ Some driver → sources library top (signal_at library top s) ≡ source_of (signal_at library top) (all_rows library) driver ∷ []
 sourced library top slots s driver h inside taken = h.once refl s inside ∙ ap (λ o. map (source_of (signal_at library top) (all_rows library)) (in_slot o)) taken
 
-pub not_undriven : (library : List ModelOf) (top : ℕ) (drivers : List DriverOf) → IsFilled library top (map Some drivers) false (drivings library top) → is_undriven library top ≡ false
+pub not_undriven : (library : List ModelOf) (top : ℕ) (drivers : List DriverOf) → IsFilled library top (map Some drivers) None (drivings library top) → is_undriven library top ≡ false
 unfolding is_undriven
 not_undriven library top drivers h = none_place (λ s. length (sources library top s) == 0) (signals library top) (λ i k.
     let inside : i < length drivers = omega (arith, h.size, k, length-map drivers (λ (d : DriverOf). Some d)) in

@@ -2,7 +2,7 @@
 use Rattle.std.proofs.Common.{◌≡◌, ℕ, zero, suc, ◌+◌, ◌<◌, ◌≤◌, inl, inr, Bool, true, false, List, [], ◌∷◌, ◌++◌, length, map, take, set, replicate, get_or, refl, sym, ◌∙◌, ap, arith, Option, Some, None}
 use Rattle.std.specs.Prelude.{slice_index_or, is_some}
 use Rattle.std.specs.List.{flat_map, enumerate_from}
-use Rattle.std.specs.Option.{option_map}
+use Rattle.std.specs.Option.{option_map, option_or}
 use Rattle.std.proofs.lemmas.List.{take_more, take_all, append_assoc, append-nil, get_or-map, get_or_default, length-map, length_push, get_or_push, get_or_append_left, get_or_past, map-append, map-set}
 use Rattle.std.proofs.lemmas.List.FromFn.{get_or-enumerate_from, length-enumerate_from}
 use Rattle.std.proofs.lemmas.Bool.{cases_lt, true≢false}
@@ -107,13 +107,13 @@ slot_some columns slots t None inside read e = absurd (true≢false (sym e))
 slot_some columns slots t (Some x) inside read e = (driver_from columns x, get_or-map (option_map (driver_from columns)) slots t (Some x) None inside ∙ ap (option_map (driver_from columns)) (sym read))
 
 -- a driver for a signal whose slot is taken
-pub drive_taken : (library : List ModelOf) (top : ℕ) (columns : List (List ℕ)) (slots : List (Option StoredDriver)) (twice : Bool) (done : List Driving) (t : ℕ) (o : Option StoredDriver) (d : Driving) → IsFilled library top (map (option_map (driver_from columns)) slots) twice done → t < length slots → o ≡ get_or slots t o → is_some o ≡ true → d.0 ≡ signal_at library top t → IsFilled library top (map (option_map (driver_from columns)) slots) true (done ++ d ∷ [])
+pub drive_taken : (library : List ModelOf) (top : ℕ) (columns : List (List ℕ)) (slots : List (Option StoredDriver)) (twice : Option ℕ) (done : List Driving) (t : ℕ) (o : Option StoredDriver) (d : Driving) → IsFilled library top (map (option_map (driver_from columns)) slots) twice done → t < length slots → o ≡ get_or slots t o → is_some o ≡ true → d.0 ≡ signal_at library top t → IsFilled library top (map (option_map (driver_from columns)) slots) (option_or twice (Some t)) (done ++ d ∷ [])
 drive_taken library top columns slots twice done t o d h inside read e target =
     let (old, taken) = slot_some columns slots t o inside read e in
     filled_again library top (map (option_map (driver_from columns)) slots) twice done t old d h (omega (arith, length-map slots (option_map (driver_from columns)), inside)) taken target
 
 -- a driver for a signal whose slot is free
-pub drive_free : (library : List ModelOf) (top : ℕ) (columns : List (List ℕ)) (slots : List (Option StoredDriver)) (twice : Bool) (done : List Driving) (t : ℕ) (o : Option StoredDriver) (driver : StoredDriver) (d : Driving) → IsFilled library top (map (option_map (driver_from columns)) slots) twice done → t < length slots → o ≡ get_or slots t o → is_some o ≡ false → d.0 ≡ signal_at library top t → d.1 ≡ source_of (signal_at library top) (all_rows library) (driver_from columns driver) → IsWithinSizes (length (model library top).inputs) (length (signals library top)) (length (all_rows library)) (driver_from columns driver) → IsFilled library top (map (option_map (driver_from columns)) (set slots t (Some driver))) twice (done ++ d ∷ [])
+pub drive_free : (library : List ModelOf) (top : ℕ) (columns : List (List ℕ)) (slots : List (Option StoredDriver)) (twice : Option ℕ) (done : List Driving) (t : ℕ) (o : Option StoredDriver) (driver : StoredDriver) (d : Driving) → IsFilled library top (map (option_map (driver_from columns)) slots) twice done → t < length slots → o ≡ get_or slots t o → is_some o ≡ false → d.0 ≡ signal_at library top t → d.1 ≡ source_of (signal_at library top) (all_rows library) (driver_from columns driver) → IsWithinSizes (length (model library top).inputs) (length (signals library top)) (length (all_rows library)) (driver_from columns driver) → IsFilled library top (map (option_map (driver_from columns)) (set slots t (Some driver))) twice (done ++ d ∷ [])
 drive_free library top columns slots twice done t o driver d h inside read e target source small =
     rw (map-set (option_map (driver_from columns)) slots t (Some driver)) (filled_free library top (map (option_map (driver_from columns)) slots) twice done t (driver_from columns driver) d h (omega (arith, length-map slots (option_map (driver_from columns)), inside)) (slot_none columns slots t o inside read e) target source small)
 

@@ -92,7 +92,7 @@ succ_lt a b = elim (cases_lt a b) [
   | inr more ↦ le-ltb (1 + a) (suc b) (omega (arith, more)) ∙ sym (le-ltb a b more)
 ]
 
-front_place : (p : List ℕ → Bool) (xs ys : List (List ℕ)) → nat_lt (position_or_len p (xs ++ ys)) (length xs) ≡ list_any p xs
+pub front_place : {X : Type 0} (p : X → Bool) (xs ys : List X) → nat_lt (position_or_len p (xs ++ ys)) (length xs) ≡ list_any p xs
 front_place p [] ys = le-ltb (position_or_len p ys) 0 (omega arith)
 front_place p (x ∷ xs) ys = by_test (p x) refl (front_place p xs ys)
   where

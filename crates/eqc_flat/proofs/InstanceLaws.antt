@@ -19,7 +19,7 @@ use Rattle.eqc_flat.proofs.NamingLaws.{no_instance, callee_at, callee_count}
 use Rattle.eqc_flat.proofs.PathLaws as tree
 
 -- the signals of one instance more
-first_more : (library : List ModelOf) (top q : ℕ) → q < length (paths library top) → first_signal library top (q + 1) ≡ first_signal library top q + length (names_of (model library (model_at library top (path_at library top q))))
+pub first_more : (library : List ModelOf) (top q : ℕ) → q < length (paths library top) → first_signal library top (q + 1) ≡ first_signal library top q + length (names_of (model library (model_at library top (path_at library top q))))
 first_more library top q inside =
     let all = paths library top in
     let names = names_of (model library (model_at library top (path_at library top q))) in
@@ -36,7 +36,7 @@ first_most library top q inside =
     let row : length (signals_at library top (path_at library top q)) ≡ length names = length-map names (λ name. record { path = path_at library top q; name = name }) in
     omega (arith, most, row)
 
-first_all : (library : List ModelOf) (top q : ℕ) → q ≡ length (paths library top) → first_signal library top q ≡ length (sig.signals library top)
+pub first_all : (library : List ModelOf) (top q : ℕ) → q ≡ length (paths library top) → first_signal library top q ≡ length (sig.signals library top)
 unfolding sig.signals
 first_all library top q e = ap (λ xs. length (flat_map (signals_at library top) xs)) (take_all q (paths library top) (omega (arith, e)))
 

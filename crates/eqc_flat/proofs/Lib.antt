@@ -29,3 +29,4 @@ pub mod DepthLaws
 pub mod NeedLaws
 pub mod CyclicLaws
 pub mod InputLaws
+pub mod FindingLaws

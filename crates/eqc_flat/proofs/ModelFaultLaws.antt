@@ -19,7 +19,7 @@ use Rattle.eqc_flat.proofs.NameSetLaws.{once_named, fold_once, formal_named}
 
 -- ---- conditions over all instances of the models that are reached
 
-same_instances : (library : List ModelOf) (top : ℕ) (models : List ℕ) (test : InstanceOf → Bool) → ((m : ℕ) → among models m ≡ among (reached library top) m) → some_instance_in library models test ≡ some_instance_in library (reached library top) test
+pub same_instances : (library : List ModelOf) (top : ℕ) (models : List ℕ) (test : InstanceOf → Bool) → ((m : ℕ) → among models m ≡ among (reached library top) m) → some_instance_in library models test ≡ some_instance_in library (reached library top) test
 same_instances library top models test same = any_same_members (λ m. list_any test (model library m).instances) models (reached library top) same
 
 pub no_such_model_is : (library : List ModelOf) (models : List ℕ) (some : Bool) → some ≡ some_instance_in library models (names_no_model library) → (top : ℕ) → ((m : ℕ) → among models m ≡ among (reached library top) m) → some ≡ has_no_such_model library top

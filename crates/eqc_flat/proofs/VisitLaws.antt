@@ -1,13 +1,16 @@
 -- A search from a root, step by step: by the last of its path.
 use Rattle.std.proofs.Common.{◌==◌, ◌≡◌, ℕ, ◌+◌, ◌-◌, ◌<◌, ◌≤◌, inl, inr, true, false, not, ◌&&◌, List, [], ◌∷◌, ◌++◌, length, take, set, get_or, refl, sym, ◌∙◌, ap, subst, arith, Some, None, nat_lt}
+use Rattle.std.specs.Prelude.{Contains}
 use Rattle.std.specs.List.{slice_get}
 use Rattle.std.proofs.lemmas.Bool.{and_parts, ltb-true, not-true, true≢false, cases_lt, or_left, eq-eqb}
-use Rattle.std.proofs.lemmas.List.{take_all, take_more, get_or_read_under, set_at, length_push, nil_from_length}
+use Rattle.std.proofs.lemmas.List.{take_all, take_more, get_or_read_under, get_or_push, get_or_append_left, set_at, length_push, nil_from_length}
 use Rattle.std.proofs.lemmas.List.Sums.{sum_by_push}
-use Rattle.std.proofs.lemmas.Option.{slice_get_within, slice_get-get_or}
+use Rattle.std.proofs.lemmas.Option.{slice_get_within, slice_get-get_or, get_or_from_slice_get}
 use Rattle.eqc_flat.specs.Graph.{among, ends_within}
 use Rattle.eqc_flat.specs.declared.search.Stage.{Stage}
 use Rattle.eqc_flat.specs.declared.search.Stage.TheVariants.{Fresh, Open, Done}
+use Rattle.eqc_flat.specs.Walks.{IsWalk, WalksBack}
+use Rattle.eqc_flat.proofs.Members.{at_among}
 use Rattle.eqc_flat.specs.Searching.{is_fresh, stage_at, IsPath, on, IsSearch, IsRooted, IsVisit}
 use Rattle.eqc_flat.proofs.Orders.{all_last, among_left, among_end}
 use Rattle.eqc_flat.proofs.SearchLaws as steps
@@ -131,3 +134,33 @@ visit_ended deps n root begun stages path order h none = let P : List (ℕ × �
 
 pub root_placed : (deps : ℕ → List ℕ) (n root : ℕ) (begun : List ℕ) (stages : List Stage) (path : List (ℕ × ℕ)) (order : List ℕ) → IsVisit deps n root begun stages path order → length path ≡ 0 → among order root ≡ true
 root_placed deps n root begun stages path order h none = let P : List (ℕ × ℕ) → Type 0 = λ x. IsRooted root x order in subst P (nil_from_length path none) h.rooted
+
+-- a dependency at a place is one of them
+contained : (xs : List ℕ) (k t : ℕ) → slice_get xs k ≡ Some t → Contains xs t
+contained xs k t e = (k, slice_get_within xs k t e, get_or_from_slice_get xs k t t e)
+
+-- the nodes on a path, and a dependency of the last, are a walk
+path_walk : (deps : ℕ → List ℕ) (order : List ℕ) (front : List (ℕ × ℕ)) (p : ℕ × ℕ) (t : ℕ) → IsPath deps order (front ++ p ∷ []) → slice_get (deps p.0) p.1 ≡ Some t → IsWalk deps (on (front ++ p ∷ []) ++ t ∷ [])
+path_walk deps order [] p t h next = (contained (deps p.0) p.1 t next, tt)
+path_walk deps order (q ∷ []) p t h next = (contained (deps q.0) q.1 p.0 h.1, path_walk deps order [] p t h.2 next)
+path_walk deps order (q ∷ r ∷ front) p t h next = (contained (deps q.0) q.1 r.0 h.1, path_walk deps order (r ∷ front) p t h.2 next)
+
+-- a dependency that is on the path ends a walk from the root that comes back
+pub visit_walk : (deps : ℕ → List ℕ) (n root : ℕ) (begun : List ℕ) (stages : List Stage) (path front : List (ℕ × ℕ)) (order : List ℕ) (p : ℕ × ℕ) (t : ℕ) (trail : List ℕ) → IsVisit deps n root begun stages path order → path ≡ front ++ p ∷ [] → slice_get (deps p.0) p.1 ≡ Some t → stage_at stages t ≡ Open → trail ≡ on path ++ t ∷ [] → WalksBack deps root trail
+visit_walk deps n root begun stages path front order p t trail h split next open_ made =
+    let (j, inside, there) = at_among (on path) t (h.searching.open_on_path t open_) in
+    let P : List (ℕ × ℕ) → Type 0 = λ x. IsPath deps order x in
+    let Q : List (ℕ × ℕ) → Type 0 = λ x. IsWalk deps (on x ++ t ∷ []) in
+    let R : List (ℕ × ℕ) → Type 0 = λ x. IsRooted root x order in
+    let S : List (ℕ × ℕ) → Type 0 = λ x. get_or (on x ++ t ∷ []) 0 0 ≡ root in
+    let size : length (on path ++ t ∷ []) ≡ length (on path) + 1 = length_push (on path) t in
+    let last : get_or (on path ++ t ∷ []) (length (on path ++ t ∷ []) - 1) 0 ≡ t = get_or_push (on path) t 0 (length (on path ++ t ∷ []) - 1) (omega (arith, size)) in
+    rw made (record {
+      follows = subst Q (sym split) (path_walk deps order front p t (subst P split h.searching.chain) next);
+      begins = subst S (sym split) (first front (subst R split h.rooted));
+      back = (j, omega (arith, inside, size), get_or_append_left (on path) (t ∷ []) 0 j inside ∙ (there ∙ sym last));
+    })
+  where
+    first : (front : List (ℕ × ℕ)) → IsRooted root (front ++ p ∷ []) order → get_or (on (front ++ p ∷ []) ++ t ∷ []) 0 0 ≡ root
+    first [] r = r
+    first (q ∷ front) r = r

@@ -1,6 +1,5 @@
 -- For the proofs alone: the table of the drivers of the numbered signals while they are found. Each signal has a slot.
-use Rattle.std.specs.Prelude.{◌≡◌, ◌⊎◌, ℕ, ◌<◌, Bool, true, false, List, [], ◌∷◌, length, map, Option, Some, None, slice_index_or, nat_lt}
-use Rattle.std.specs.List.{list_any}
+use Rattle.std.specs.Prelude.{◌≡◌, ◌⊎◌, ℕ, ◌<◌, true, false, List, [], ◌∷◌, length, map, Option, Some, None, is_some, slice_index_or}
 use Rattle.std.specs.Option.{option_map}
 use Rattle.eqc_blif.specs.Netlist.{ModelOf}
 use Rattle.eqc_flat.specs.Graph.{DriverOf, IsWithinSizes}
@@ -17,21 +16,21 @@ abbrev pub in_slot : Option DriverOf → List DriverOf
 in_slot None = []
 in_slot (Some driver) = driver ∷ []
 
--- so far some drivings were gone through: a slot has what drives its signal among them, unless some signal was
--- driven twice
-pub record IsFilled (library : List ModelOf) (top : ℕ) (slots : List (Option DriverOf)) (twice : Bool) (done : List Driving) : Type 0 where
+-- so far some drivings were gone through: a slot has what drives its signal among them, unless a signal is known that
+-- they drive twice
+pub record IsFilled (library : List ModelOf) (top : ℕ) (slots : List (Option DriverOf)) (twice : Option ℕ) (done : List Driving) : Type 0 where
   pub size : length slots ≡ length (signals library top)
-  pub once : twice ≡ false → (s : ℕ) → s < length slots → sources_in done (signal_at library top s) ≡ map (source_of (signal_at library top) (all_rows library)) (in_slot (slice_index_or slots s None))
-  pub again : twice ≡ true → list_any (λ s. nat_lt 1 (length (sources_in done s))) (signals library top) ≡ true
+  pub once : is_some twice ≡ false → (s : ℕ) → s < length slots → sources_in done (signal_at library top s) ≡ map (source_of (signal_at library top) (all_rows library)) (in_slot (slice_index_or slots s None))
+  pub again : (s : ℕ) → twice ≡ Some s → (s < length (signals library top)) × (1 < length (sources_in done (signal_at library top s)))
   pub within : (s : ℕ) (driver : DriverOf) → s < length slots → slice_index_or slots s None ≡ Some driver → IsWithinSizes (length (model library top).inputs) (length (signals library top)) (length (all_rows library)) driver
 
 -- the same of slots in the form in which drivers are kept
-abbrev pub IsTable : List ModelOf → ℕ → List (Option StoredDriver) → Bool → List Driving → Type 0
+abbrev pub IsTable : List ModelOf → ℕ → List (Option StoredDriver) → Option ℕ → List Driving → Type 0
 IsTable library top slots twice done = IsFilled library top (map (option_map (driver_from (all_columns library))) slots) twice done
 
 -- each signal has one driver, and these are they
 abbrev pub IsDriven : List ModelOf → ℕ → List DriverOf → Type 0
-IsDriven library top drivers = IsFilled library top (map (λ driver. Some driver) drivers) false (drivings library top)
+IsDriven library top drivers = IsFilled library top (map (λ driver. Some driver) drivers) None (drivings library top)
 
 -- why some signal has not one driver, or that memory was refused
 abbrev pub IsDriverFault : List ModelOf → ℕ → ℕ → Type 0

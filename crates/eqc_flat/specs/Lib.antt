@@ -19,3 +19,5 @@ pub mod DriverTable
 pub mod Ordering
 pub mod Known
 pub mod Flattening
+pub mod Walks
+pub mod Finding

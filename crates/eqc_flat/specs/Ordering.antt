@@ -1,5 +1,6 @@
 -- For the proofs alone: an order of numbered signals in which each stands after those that it depends on, and circles.
 use Rattle.std.specs.Prelude.{◌≡◌, ℕ, ◌<◌, true, false, List, [], length, slice_index_or}
+use Rattle.eqc_flat.specs.Walks.{WalksBack}
 use Rattle.eqc_flat.specs.Graph.{DriverOf, input, dependencies, among, in_order, ends_within}
 
 -- what each signal depends on
@@ -17,3 +18,7 @@ pub record IsOrder (drivers : List DriverOf) (steps : List ℕ) : Type 0 where
 -- some signal leads to a circle
 abbrev pub IsCircular : List DriverOf → Type 0
 IsCircular drivers = (s : ℕ) × (s < length drivers) × ((steps : ℕ) → ends_within (signal_deps drivers) steps s ≡ false)
+
+-- a walk along dependencies that comes back
+abbrev pub IsTrail : List DriverOf → List ℕ → Type 0
+IsTrail drivers trail = (root : ℕ) × (root < length drivers) × WalksBack (signal_deps drivers) root trail

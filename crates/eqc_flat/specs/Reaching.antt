@@ -1,5 +1,5 @@
 -- For the proofs alone: the calls of a library, and the list of the models that a main model reaches while it grows.
-use Rattle.std.specs.Prelude.{◌≡◌, ℕ, ◌+◌, ◌<◌, ◌≤◌, Bool, true, false, not, List, length, map, slice_index_or}
+use Rattle.std.specs.Prelude.{◌≡◌, ℕ, ◌+◌, ◌<◌, ◌≤◌, Bool, true, false, not, List, [], length, map, slice_index_or}
 use Rattle.std.specs.List.{list_all, list_any, count_by, range_with_len}
 use Rattle.eqc_blif.specs.Netlist.{ModelOf, InstanceOf}
 use Rattle.eqc_flat.specs.Graph.{among}
@@ -12,6 +12,15 @@ calls_of library = map (callees library) (range_with_len 0 (length library + 1))
 -- whether some instance in some of these models passes a test
 abbrev pub some_instance_in : List ModelOf → List ℕ → (InstanceOf → Bool) → Bool
 some_instance_in library models test = list_any (λ m. list_any test (model library m).instances) models
+
+-- what stands for an instance where there is none
+abbrev pub no_instance : InstanceOf
+no_instance = record { model = []; pairs = [] }
+
+-- a model among these, and the position of an instance in it that passes a test
+abbrev pub IsPlaceIn : List ModelOf → List ℕ → (InstanceOf → Bool) → ℕ × ℕ → Type 0
+IsPlaceIn library models test place =
+    (among models place.0 ≡ true) × (place.1 < length (model library place.0).instances) × (test (slice_index_or (model library place.0).instances place.1 no_instance) ≡ true)
 
 -- the list of the models reached so far, the first k of which were looked at, and which of n numbers are in it
 pub record IsReaching (library : List ModelOf) (top n : ℕ) (seen : List Bool) (all : List ℕ) (k : ℕ) : Type 0 where

@@ -1,4 +1,4 @@
-ghost use Rattle.std.specs.Prelude.{◌≡◌, ℕ, ◌+◌, ◌<◌, ◌≤◌, ◌++◌, ◌∷◌, [], List, length, map, true, false, Some, slice_index_or, IfOk, IfErr, MatchOption, None};
+ghost use Rattle.std.specs.Prelude.{◌≡◌, ℕ, ◌+◌, ◌<◌, ◌≤◌, ◌++◌, ◌∷◌, [], List, length, map, true, false, Some, None, is_some, is_none, position, slice_index_or, IfOk, IfErr, MatchOption};
 ghost use Rattle.std.specs.List.{flat_map, enumerate_from};
 ghost use Rattle.eqc_blif.specs.Netlist.{ModelOf};
 ghost use Rattle.eqc_blif.specs.Names.{is_named};
@@ -23,19 +23,19 @@ use eqc_blif::{Cover, Library, Name};
 use std::alloc::{AllocError, Global};
 use std::marker::Model;
 
-/// The drivers of the flat signals while they are found: a slot for each signal, and whether one was driven twice. Once
+/// The drivers of the flat signals while they are found: a slot for each signal, and the first that was driven twice. Once
 /// one is, the answer is known, and nothing more is put in.
 #[derive(Drop)]
 pub(crate) struct DriverTable {
     slots: Vec<Option<StoredDriver>>,
-    twice: bool,
+    twice: Option<usize>,
 }
 
 impl Model for DriverTable {
-    ghost use Rattle.std.specs.Prelude.{List, Option, Bool};
+    ghost use Rattle.std.specs.Prelude.{ℕ, List, Option};
     ghost use Rattle.eqc_flat.specs.declared.stored_driver.StoredDriver.{StoredDriver};
 
-    ghost Value = { List (Option StoredDriver) × Bool };
+    ghost Value = { List (Option StoredDriver) × Option ℕ };
 
     ghost view = { λ a. (a.slots.items, a.twice) };
 }
@@ -79,17 +79,14 @@ impl DriverTable {
         for _k in 0..count {
             slots.push(None)?;
         }
-        Ok(DriverTable {
-            slots,
-            twice: false,
-        })
+        Ok(DriverTable { slots, twice: None })
     }
 
     /// Whether a signal is known to be driven twice.
     fn is_driven_twice(&self) -> bool
-        ensures { result ≡ self.now.1 }
+        ensures { result ≡ is_some self.now.1 }
     {
-        self.twice
+        self.twice.is_some()
     }
 
     /// Puts a driver into a signal's slot, or notes that the signal is driven twice.
@@ -104,7 +101,7 @@ impl DriverTable {
             IsTable library top self.new.0 self.new.1 (done ++ d ∷ []) }
     {
         if self.slots[signal].is_some() {
-            self.twice = true;
+            self.twice = self.twice.or(Some(signal));
         } else {
             self.slots[signal] = Some(driver);
         }
@@ -218,6 +215,39 @@ impl DriverTable {
     }
 }
 
+impl DriverTable {
+    /// The drivers of a hierarchy's signals. Fails where memory is refused.
+    pub(crate) fn of(
+        alloc: Global,
+        hierarchy: &Hierarchy<'_>,
+        rows: &RowTable<'_>,
+    ) -> Result<DriverTable, AllocError>
+        requires same { rows.now ≡ hierarchy.now.0 }
+        requires few { length (model hierarchy.now.0 hierarchy.now.1).inputs ≤ 2048 }
+        requires known { has_unknown_formal hierarchy.now.0 hierarchy.now.1 ≡ false }
+        ensures few { length (signals hierarchy.now.0 hierarchy.now.1) ≤ 1048576 }
+        ensures filled { IfOk result (λ table. IsTable hierarchy.now.0 hierarchy.now.1 table.0 table.1 (drivings hierarchy.now.0 hierarchy.now.1)) }
+    {
+        let mut table = DriverTable::new(alloc, hierarchy.signals())?;
+        table.fill(hierarchy, rows);
+        Ok(table)
+    }
+
+    /// A signal that is driven twice, if one is.
+    pub(crate) fn driven_twice(&self) -> Option<usize>
+        ensures { result ≡ self.now.1 }
+    {
+        self.twice
+    }
+
+    /// The first signal whose slot is empty, if one is.
+    pub(crate) fn first_empty(&self) -> Option<usize>
+        ensures { result ≡ position is_none self.now.0 }
+    {
+        self.slots.iter().position(|slot| slot.is_none())
+    }
+}
+
 /// The drivers in the slots, or none where a slot is empty. Fails where memory is refused.
 fn taken(
     alloc: Global,
@@ -252,9 +282,8 @@ pub(crate) fn drivers_of(
     ensures driven { IfOk result (λ drivers. IsDriven hierarchy.now.0 hierarchy.now.1 drivers) }
     ensures refused { IfErr result (λ fault. IsDriverFault hierarchy.now.0 hierarchy.now.1 fault.code) }
 {
-    let mut table = DriverTable::new(alloc, hierarchy.signals())?;
-    table.fill(hierarchy, rows);
-    if table.twice {
+    let table = DriverTable::of(alloc, hierarchy, rows)?;
+    if table.twice.is_some() {
         return Err(Rule::DrivenTwice.fault());
     }
     match taken(alloc, table.slots)? {

@@ -20,7 +20,7 @@ use eqc_blif::Library;
 use std::alloc::{AllocError, Global};
 
 /// How many inputs a main model may have.
-const MAX_INPUTS: usize = 2_048;
+pub(crate) const MAX_INPUTS: usize = 2_048;
 
 /// The flat netlist of a hierarchy with these rows, drivers and order. Fails where memory is refused.
 fn put_together<'a>(

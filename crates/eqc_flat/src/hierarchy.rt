@@ -1,12 +1,14 @@
-ghost use Rattle.std.specs.Prelude.{◌≡◌, ℕ, ◌<◌, ◌≤◌, ◌++◌, ◌∷◌, [], length, map, true, false, slice_index_or, IfOk, OnOk, MatchOption};
+ghost use Rattle.std.specs.Prelude.{◌≡◌, ℕ, ◌+◌, ◌<◌, ◌≤◌, ◌++◌, ◌∷◌, [], length, map, true, false, slice_index_or, IfOk, OnOk, MatchOption};
 ghost use Rattle.eqc_blif.specs.Names.{is_named};
 ghost use Rattle.eqc_flat.specs.Hierarchy.{model, model_at, paths};
 ghost use Rattle.eqc_flat.specs.Signals.{names_of, signals};
 ghost use Rattle.eqc_flat.specs.Codes.{is_recursive, is_too_large};
 ghost use Rattle.eqc_flat.specs.Instances.{IsGrowing};
 ghost use Rattle.eqc_flat.specs.Flattened.{path_at, model_of, first_signal, signal_at, named_here, all_named};
+ghost use Rattle.eqc_flat.specs.Finding.{steps_of, hierarchical_name};
 
 use crate::calls::Calls;
+use crate::hierarchical_name::{HierarchicalName, Step};
 use crate::instances::Instances;
 use crate::naming::Naming;
 use eqc_blif::Library;
@@ -147,6 +149,73 @@ impl<'a> Hierarchy<'a> {
     {
         let (k, is_input) = self.naming.port(self.instances.models[i], name);
         (self.signal_of(i, k), is_input)
+    }
+
+    /// The parent of instance `i`, which isn't the main model, and the position of `i` there.
+    fn place(&self, i: usize) -> (usize, usize)
+        requires inner { 0 < i }
+        requires instance { i < length (paths self.now.0 self.now.1) }
+        ensures place { path_at self.now.0 self.now.1 i ≡ result.1 ∷ path_at self.now.0 self.now.1 result.0 }
+        ensures before { result.0 < i }
+    {
+        let (parent, position) = self.instances.places[i - 1];
+        (parent as usize, position as usize)
+    }
+
+    /// The instances from instance `i` up to the main model, the innermost first. Fails where memory is refused.
+    fn steps(&self, alloc: Global, i: usize) -> Result<Vec<Step>, AllocError>
+        requires { i < length (paths self.now.0 self.now.1) }
+        ensures { IfOk result (λ steps. steps.items ≡ steps_of self.now.0 self.now.1 (path_at self.now.0 self.now.1 i)) }
+    {
+        let mut steps = Vec::new(alloc);
+        let mut inner = i;
+        'up: while inner > 0 {
+            let (parent, position) = self.place(inner);
+            let model = self.model(inner);
+            steps.push(Step { position, model })?;
+            inner = parent;
+        }
+        Ok(steps)
+    }
+
+    /// The number of signals of instance `i`.
+    fn count(&self, i: usize) -> usize
+        requires { i < length (paths self.now.0 self.now.1) }
+        ensures names { result ≡ length (names_of (model_of self.now.0 self.now.1 i)) }
+        ensures few { length (paths self.now.0 self.now.1) ≤ 1048577 }
+    {
+        self.naming.count(self.model(i))
+    }
+
+    /// The instance of signal `s`, and the signal's position among those of this instance.
+    fn instance_of(&self, s: usize) -> (usize, usize)
+        requires { s < length (signals self.now.0 self.now.1) }
+        ensures instance { result.0 < length (paths self.now.0 self.now.1) }
+        ensures position { result.1 < length (names_of (model_of self.now.0 self.now.1 result.0)) }
+        ensures signal { first_signal self.now.0 self.now.1 result.0 + result.1 ≡ s }
+    {
+        let mut i = 0;
+        let mut k = s;
+        'instances: while k >= self.count(i) {
+            k -= self.count(i);
+            i += 1;
+        }
+        (i, k)
+    }
+
+    /// The name of signal `s`. Fails where memory is refused.
+    pub(crate) fn name_of(
+        &self,
+        alloc: Global,
+        s: usize,
+    ) -> Result<HierarchicalName<'a>, AllocError>
+        requires { s < length (signals self.now.0 self.now.1) }
+        ensures { IfOk result (λ name. name ≡ hierarchical_name self.now.0 self.now.1 (signal_at self.now.0 self.now.1 s)) }
+    {
+        let (i, k) = self.instance_of(s);
+        let name = self.naming.name(self.model(i), k);
+        let steps = self.steps(alloc, i)?;
+        Ok(HierarchicalName::new(steps, name))
     }
 
     /// Puts the signals of instance `i` behind others. Fails where memory is refused.

@@ -1,9 +1,9 @@
-ghost use Rattle.std.specs.Prelude.{◌≡◌, [], not, map, length, IfOk, ◌<◌};
+ghost use Rattle.std.specs.Prelude.{◌≡◌, [], not, map, length, position, IfOk, ◌<◌};
 ghost use Rattle.std.specs.List.{list_any, fold};
 ghost use Rattle.std.specs.Str.{bytes_eq};
 ghost use Rattle.eqc_blif.specs.Names.{is_named, has_twice};
 ghost use Rattle.eqc_flat.specs.Codes.{formals};
-ghost use Rattle.eqc_flat.specs.Hierarchy.{model};
+ghost use Rattle.eqc_flat.specs.Hierarchy.{model, model_number};
 ghost use Rattle.eqc_flat.specs.NameSets.{with_name};
 ghost use Rattle.eqc_flat.specs.ModelFaults.{ports, ports_of};
 
@@ -80,6 +80,13 @@ fn ports_of<'a>(alloc: Global, library: &'a Library, m: usize) -> Result<NameSet
     Ok(all)
 }
 
+/// The position of the first of these pairs whose formal is not among the names, if there is one.
+fn first_other(names: &NameSet<'_>, pairs: &[(Name, Name)]) -> Option<usize>
+    ensures { result ≡ position (λ pair. not (is_named names.now pair.0)) pairs.now }
+{
+    pairs.iter().position(|pair| !names.has(pair.0.as_bytes()))
+}
+
 /// Whether one of the formals of an instance is not among these names.
 fn has_other(names: &NameSet<'_>, instance: &Instance) -> bool
     ensures { result ≡ list_any (λ formal. not (is_named names.now formal)) (formals instance.now) }
@@ -103,6 +110,15 @@ impl<'a> NamesNoFormal<'a> {
         }
         ports.push(NameSet::new(alloc))?;
         Ok(NamesNoFormal { library, ports })
+    }
+
+    /// The position of the first pair of an instance whose formal is neither input nor output of the instance's model, if
+    /// there is one.
+    pub(crate) fn first_unknown(&self, instance: &Instance) -> Option<usize>
+        ensures { result ≡ position (λ pair. not (is_named (ports self.now (model_number self.now instance.now.model)) pair.0)) instance.now.pairs }
+    {
+        let callee = model_number(self.library, &instance.model);
+        first_other(&self.ports[callee], &instance.pairs)
     }
 }
 
@@ -183,7 +199,10 @@ impl<'a> Model for LeavesInputOut<'a> {
 }
 
 /// The formals of an instance, each once.
-fn formals_of<'a>(alloc: Global, instance: &'a Instance) -> Result<NameSet<'a>, AllocError>
+pub(crate) fn formals_of<'a>(
+    alloc: Global,
+    instance: &'a Instance,
+) -> Result<NameSet<'a>, AllocError>
     ensures { IfOk result (λ names. names ≡ fold with_name [] (formals instance.now)) }
 {
     let mut names = NameSet::new(alloc);
@@ -194,7 +213,7 @@ fn formals_of<'a>(alloc: Global, instance: &'a Instance) -> Result<NameSet<'a>, 
 }
 
 /// The inputs of model `m`, or none where there is no such model.
-fn inputs(library: &Library, m: usize) -> &[Name]
+pub(crate) fn inputs(library: &Library, m: usize) -> &[Name]
     ensures { result.now ≡ (model library.now m).inputs }
 {
     if m < library.models() {

@@ -8,21 +8,32 @@
 //! - `calls` and `reach`, which models are reached; `model_faults`, what is asked of them, by `condition` and `instance_conditions`
 //! - `naming` and `model_names`, the names of each model, by `name_set`; `hierarchy` and `instances`, the instances in a row
 //! - `driver_table` and `drivers`, what drives each signal, by `stored_driver` and `row_table`
+//! - `explanation`, what is at fault, as a `finding`, by `driver_findings`, told by a `hierarchical_name`,
+//!   and `instance_findings`, told by a `found_instance`,
+//!   `recursion`, and `circle_finding`, told by a `circle`
 //! - `signal_order`, an order by dependency, by `search` over a `graph`; `evaluation`, values; `laws`, facts about the definitions
 #![tactic(auto)]
 
 mod calls;
+mod circle;
+mod circle_finding;
 mod condition;
 mod driver;
+mod driver_findings;
 mod driver_table;
 mod drivers;
 mod evaluation;
+mod explanation;
 mod fault;
+mod finding;
 mod flat;
 mod flattening;
+mod found_instance;
 mod graph;
+mod hierarchical_name;
 mod hierarchy;
 mod instance_conditions;
+mod instance_findings;
 mod instances;
 mod laws;
 mod model_faults;
@@ -30,6 +41,7 @@ mod model_names;
 mod name_set;
 mod naming;
 mod reach;
+mod recursion;
 mod row_table;
 mod rule;
 mod search;
@@ -37,11 +49,16 @@ mod signal_order;
 mod signals;
 mod stored_driver;
 
+pub use circle::Circle;
 pub use driver::Driver;
 pub use evaluation::eval;
+pub use explanation::explain;
 pub use fault::Fault;
+pub use finding::Finding;
 pub use flat::Flat;
 pub use flattening::flatten;
+pub use found_instance::{FoundFormal, FoundInstance};
+pub use hierarchical_name::{HierarchicalName, Step};
 pub use laws::{
     accepted_have_values, covers_depend_on_columns_alone, cyclic_where_reached,
     recursive_where_reached, signals_are_names_of_instances, signals_stand_once,

@@ -1,6 +1,7 @@
 ghost use Rattle.std.specs.Prelude.{◌≡◌, ℕ, ◌+◌, ◌<◌, List, [], ◌∷◌, vec_len, IfOk, OnOk, true, false, ◌++◌, ◌-◌, ◌↔◌, take, slice_set, IsTrue};
 ghost use Rattle.eqc_flat.specs.Graph.{among, ends_within};
-ghost use Rattle.eqc_flat.specs.Searching.{stage_at, IsClosed, IsSearch};
+ghost use Rattle.eqc_flat.specs.Walks.{WalksBack};
+ghost use Rattle.eqc_flat.specs.Searching.{stage_at, on, IsClosed, IsSearch};
 
 use crate::graph::Graph;
 use std::alloc::{AllocError, Global};
@@ -18,6 +19,20 @@ pub(crate) enum Stage {
 pub(crate) struct Search {
     stages: Vec<Stage>,
     order: Vec<usize>,
+    /// The way into the circle that was found: from the root on, and last a node that stands before in it.
+    trail: Vec<usize>,
+}
+
+/// The nodes on a path, and behind them one more. Fails where memory is refused.
+fn trail_of(alloc: Global, path: &[(usize, usize)], next: usize) -> Result<Vec<usize>, AllocError>
+    ensures { IfOk result (λ trail. trail.items ≡ on path.now ++ next ∷ []) }
+{
+    let mut trail = Vec::new(alloc);
+    for k in 0..path.len() {
+        trail.push(path[k].0)?;
+    }
+    trail.push(next)?;
+    Ok(trail)
 }
 
 impl Search {
@@ -27,6 +42,7 @@ impl Search {
         Ok(Search {
             stages: vec![in alloc; Stage::Fresh; nodes]?,
             order: Vec::with_capacity(alloc, nodes)?,
+            trail: Vec::new(alloc),
         })
     }
 
@@ -35,6 +51,13 @@ impl Search {
         ensures { result ≡ self.order }
     {
         self.order
+    }
+
+    /// The way into the circle that the last visit found.
+    pub(crate) fn into_trail(self) -> Vec<usize>
+        ensures { result ≡ self.trail }
+    {
+        self.trail
     }
 
     /// Puts `root` and all that it leads to into the order. Answers false where one of these depends on itself.
@@ -51,6 +74,7 @@ impl Search {
         ensures placed { IfOk result (λ ends. ends ≡ true → among self.new.order.items root ≡ true) }
         ensures kept { IfOk result (λ ends. ends ≡ true → (s : ℕ) → among self.old.order.items s ≡ true → among self.new.order.items s ≡ true) }
         ensures cyclic { IfOk result (λ ends. ends ≡ false → (steps : ℕ) → ends_within (G.deps graph.now) steps root ≡ false) }
+        ensures trail { IfOk result (λ ends. ends ≡ false → WalksBack (G.deps graph.now) root self.new.trail.items) }
     {
         let mut path: Vec<(usize, usize)> = Vec::new(alloc);
         if self.is_done(root) {
@@ -66,7 +90,10 @@ impl Search {
             };
             match self.stages[next] {
                 Stage::Fresh => self.enter(&mut path, next)?,
-                Stage::Open => return Ok(false),
+                Stage::Open => {
+                    self.trail = trail_of(alloc, &path, next)?;
+                    return Ok(false);
+                }
                 Stage::Done => path[top] = (node, k + 1),
             }
         }

@@ -1,7 +1,7 @@
-ghost use Rattle.std.specs.Prelude.{◌≡◌, ◌<◌, ◌≤◌, length, nat_lt, true, IfOk, MatchOption};
+ghost use Rattle.std.specs.Prelude.{◌≡◌, ◌<◌, ◌≤◌, length, nat_lt, true, false, IfOk, MatchOption};
 ghost use Rattle.std.specs.List.{list_all};
 ghost use Rattle.eqc_flat.specs.Searching.{IsClosed};
-ghost use Rattle.eqc_flat.specs.Ordering.{signal_deps, IsOrder, IsCircular};
+ghost use Rattle.eqc_flat.specs.Ordering.{signal_deps, IsOrder, IsCircular, IsTrail};
 
 use crate::drivers::Drivers;
 use crate::search::Search;
@@ -19,6 +19,25 @@ fn narrow(alloc: Global, numbers: &[usize]) -> Result<Vec<u32>, AllocError>
     Ok(all)
 }
 
+/// A search through all signals with these drivers, and whether it came to its end: it doesn't where a signal depends on
+/// itself. Fails where memory is refused.
+pub(crate) fn search_all(alloc: Global, drivers: &Drivers) -> Result<(bool, Search), AllocError>
+    requires few { length drivers.now ≤ 1048576 }
+    requires closed { IsClosed (signal_deps drivers.now) (length drivers.now) }
+    ensures order { IfOk result (λ done. done.0 ≡ true → IsOrder drivers.now done.1.order.items) }
+    ensures small { IfOk result (λ done. done.0 ≡ true → list_all (λ x. nat_lt x 1048576) done.1.order.items ≡ true) }
+    ensures circle { IfOk result (λ done. done.0 ≡ false → IsCircular drivers.now) }
+    ensures trail { IfOk result (λ done. done.0 ≡ false → IsTrail drivers.now done.1.trail.items) }
+{
+    let mut search = Search::new(alloc, drivers.len())?;
+    for s in 0..drivers.len() {
+        if !search.visit(alloc, drivers, s)? {
+            return Ok((false, search));
+        }
+    }
+    Ok((true, search))
+}
+
 /// An order of the signals with these drivers in which each stands after those that it depends on, or none where one
 /// depends on itself. Fails where memory is refused.
 pub(crate) fn order_of(alloc: Global, drivers: &Drivers) -> Result<Option<Vec<u32>>, AllocError>
@@ -28,11 +47,9 @@ pub(crate) fn order_of(alloc: Global, drivers: &Drivers) -> Result<Option<Vec<u3
         (IsCircular drivers.now)
         (λ order. IsOrder drivers.now order.items)) }
 {
-    let mut search = Search::new(alloc, drivers.len())?;
-    for s in 0..drivers.len() {
-        if !search.visit(alloc, drivers, s)? {
-            return Ok(None);
-        }
+    let (ended, search) = search_all(alloc, drivers)?;
+    if !ended {
+        return Ok(None);
     }
     let order = search.into_order();
     let steps = narrow(alloc, &order)?;

@@ -4,6 +4,8 @@
 //! - `words`, `operations`, of `eqc_tree`; `diagrams`, of `eqc_plain`; `machine`, of `eqc_core`
 //! - `reading`, of `eqc_blif`; `hierarchies` and `random_hierarchies`, of `eqc_flat`
 //! - `pairs`, `workers`, `reports`, `runs`, of `eqc_check`
+//! - `reading`, of `eqc_blif`; `hierarchies`, `random_hierarchies` and `explanations`, of `eqc_flat`
+//! - `pairs`, `reports`, `runs`, of `eqc_check`
 //! - `program`, `program_ends`, `compared_hierarchies`, `costs`, of this crate
 //! - `messages`, of the errors of all crates; `streams`, the readers, writers and files that fail
 //!
@@ -12,6 +14,7 @@
 mod compared_hierarchies;
 mod costs;
 mod diagrams;
+mod explanations;
 mod hierarchies;
 mod machine;
 mod messages;

@@ -1,4 +1,4 @@
-use Rattle.std.proofs.Common.{arith, ◌≡◌, ◌<◌, ◌+◌, ◌++◌, ◌∷◌, ◌∙◌, sym, ap, subst, [], ℕ, List, map, take, length, get_or, Option, Bool}
+use Rattle.std.proofs.Common.{arith, ◌≡◌, ◌<◌, ◌+◌, ◌++◌, ◌∷◌, ◌∙◌, sym, ap, subst, [], ℕ, List, map, take, length, get_or, Option}
 use Rattle.std.proofs.lemmas.List.{get_or_default, length-map}
 use Rattle.eqc_blif.specs.Names.{is_named}
 use Rattle.eqc_flat.specs.declared.stored_driver.StoredDriver.{StoredDriver}
@@ -44,7 +44,7 @@ loop-j-preserved c =
     elim c.if-is_input.branch [
       | then-is_input w ↦
           let d = driving ∙ pair_input path c.args.p callee pair (sym is ∙ w.if-is_input.true) in
-          let P : List (Option StoredDriver) × Bool → Type 0 = λ v. (length v.0 ≡ length c.args.self.now.0) × ((done : List Driving) → IsTable library top c.args.self.now.0 c.args.self.now.1 done → IsTable library top v.0 v.1 (done ++ take (c.loop-j.j + 1) all)) in
+          let P : List (Option StoredDriver) × Option ℕ → Type 0 = λ v. (length v.0 ≡ length c.args.self.now.0) × ((done : List Driving) → IsTable library top c.args.self.now.0 c.args.self.now.1 done → IsTable library top v.0 v.1 (done ++ take (c.loop-j.j + 1) all)) in
           let both = subst P (sym w.self-is) (
             w.drive.ensures.size ∙ c.loop-j.invariant.size,
             λ done h.
@@ -54,7 +54,7 @@ loop-j-preserved c =
           record { size = both.0; step = both.1 }
       | else-is_input w ↦
           let d = driving ∙ pair_output path c.args.p callee pair (sym is ∙ w.if-is_input.false) in
-          let P : List (Option StoredDriver) × Bool → Type 0 = λ v. (length v.0 ≡ length c.args.self.now.0) × ((done : List Driving) → IsTable library top c.args.self.now.0 c.args.self.now.1 done → IsTable library top v.0 v.1 (done ++ take (c.loop-j.j + 1) all)) in
+          let P : List (Option StoredDriver) × Option ℕ → Type 0 = λ v. (length v.0 ≡ length c.args.self.now.0) × ((done : List Driving) → IsTable library top c.args.self.now.0 c.args.self.now.1 done → IsTable library top v.0 v.1 (done ++ take (c.loop-j.j + 1) all)) in
           let both = subst P (sym w.self-is) (
             w.drive-else-is_input.ensures.size ∙ c.loop-j.invariant.size,
             λ done h.

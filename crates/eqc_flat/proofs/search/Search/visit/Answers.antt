@@ -1,4 +1,5 @@
-use Rattle.std.proofs.Common.{rules, arith, ◌<◌, ◌-◌, take, sym, ◌∙◌}
+use Rattle.std.proofs.Common.{rules, arith, ◌<◌, ◌-◌, ◌++◌, ◌∷◌, [], ℕ, List, take, sym, ap, ◌∙◌}
+use Rattle.eqc_flat.specs.Searching.{on}
 use Rattle.std.proofs.lemmas.List.{length-take-le}
 use Rattle.eqc_flat.proofs.VisitLaws as laws
 use Rattle.eqc_flat.proofs.search.Search.visit.Goals as goal
@@ -32,6 +33,9 @@ path-preserved-in-Continue-branch-3 g c = laws.visit_enter (g.G.Graph.deps c.arg
 
 pub returns-in-Open-clause-cyclic : goal.returns-in-Open-clause-cyclic
 returns-in-Open-clause-cyclic g c = λ _. laws.visit_circle (g.G.Graph.deps c.args.graph.now) (g.G.Graph.size c.args.graph.now) c.args.root c.args.self.now.order.items c.path.self.stages.items c.path.path.items (take (c.len-top.result - 1) c.path.path.items) c.path.self.order.items c.index.result.now c.in-Some.next c.path.invariant (laws.split_last c.path.path.items c.len-top.result c.index.result.now (search rules) (search rules) c.index.ensures) (sym c.dependency.ensures.value ∙ c.in-Some.is) (laws.read_stage c.path.self.stages.items (g.G.Graph.size c.args.graph.now) c.in-Some.next c.index-in-path.result.now c.path.invariant.searching.size (c.requires.closed c.index.result.now.0 c.index.result.now.1 c.in-Some.next (laws.node_within (g.G.Graph.deps c.args.graph.now) (g.G.Graph.size c.args.graph.now) c.args.root c.args.self.now.order.items c.path.self.stages.items c.path.path.items (take (c.len-top.result - 1) c.path.path.items) c.path.self.order.items c.index.result.now c.path.invariant (laws.split_last c.path.path.items c.len-top.result c.index.result.now (search rules) (search rules) c.index.ensures)) (sym c.dependency.ensures.value ∙ c.in-Some.is)) c.index-in-path.ensures ∙ c.in-Open.is)
+
+pub returns-in-Open-clause-trail : goal.returns-in-Open-clause-trail
+returns-in-Open-clause-trail g c = λ _. laws.visit_walk (g.G.Graph.deps c.args.graph.now) (g.G.Graph.size c.args.graph.now) c.args.root c.args.self.now.order.items c.path.self.stages.items c.path.path.items (take (c.len-top.result - 1) c.path.path.items) c.path.self.order.items c.index.result.now c.in-Some.next c.in_ok-self-in-Open.field-0.items c.path.invariant (laws.split_last c.path.path.items c.len-top.result c.index.result.now (search rules) (search rules) c.index.ensures) (sym c.dependency.ensures.value ∙ c.in-Some.is) (laws.read_stage c.path.self.stages.items (g.G.Graph.size c.args.graph.now) c.in-Some.next c.index-in-path.result.now c.path.invariant.searching.size (c.requires.closed c.index.result.now.0 c.index.result.now.1 c.in-Some.next (laws.node_within (g.G.Graph.deps c.args.graph.now) (g.G.Graph.size c.args.graph.now) c.args.root c.args.self.now.order.items c.path.self.stages.items c.path.path.items (take (c.len-top.result - 1) c.path.path.items) c.path.self.order.items c.index.result.now c.path.invariant (laws.split_last c.path.path.items c.len-top.result c.index.result.now (search rules) (search rules) c.index.ensures)) (sym c.dependency.ensures.value ∙ c.in-Some.is)) c.index-in-path.ensures ∙ c.in-Open.is) (c.in_ok-self-in-Open.ensures ∙ ap (λ (l : List (ℕ × ℕ)). on l ++ c.in-Some.next ∷ []) c.deref.ensures.value)
 
 pub path-smaller : goal.path-smaller
 path-smaller g c = laws.less_advance (g.G.Graph.deps c.args.graph.now) (g.G.Graph.size c.args.graph.now) c.path.self.stages.items c.path.path.items (take (c.len-top.result - 1) c.path.path.items) c.index.result.now c.in-Some.next (laws.split_last c.path.path.items c.len-top.result c.index.result.now (search rules) (search rules) c.index.ensures) (sym c.dependency.ensures.value ∙ c.in-Some.is) (c.len-top.result - 1) (search (rules, length-take-le))

@@ -2,7 +2,7 @@ use Rattle.std.proofs.Common.{◌≡◌, ◌<◌, [], length, true, ℕ}
 use Rattle.eqc_flat.specs.Graph.{among}
 use Rattle.eqc_flat.specs.Searching.{IsSearch}
 use Rattle.eqc_flat.specs.Ordering.{signal_deps}
-use Rattle.eqc_flat.proofs.signal_order.order_of.Given as goal
+use Rattle.eqc_flat.proofs.signal_order.search_all.Given as goal
 
 abbrev pub invariant-loop-s : goal.invariant-loop-s
 invariant-loop-s l = record {

@@ -1,0 +1,467 @@
+-- What is at fault is found, and told by its place.
+use Rattle.std.proofs.Common.{◌==◌, ◌≡◌, ℕ, zero, suc, ◌+◌, ◌-◌, ◌<◌, ◌≤◌, inl, inr, Bool, true, false, not, ◌||◌, ◌&&◌, List, [], ◌∷◌, ◌++◌, length, map, take, drop, get_or, refl, sym, ◌∙◌, ap, subst, arith, Option, Some, None, nat_lt, zero-add, cond}
+use Rattle.std.specs.Prelude.{slice_index_or, is_some, is_none, position, IsSome, Contains, MatchOption}
+use Rattle.std.specs.List.{list_any, flat_map, fold, position_or_len}
+use Rattle.std.specs.Option.{option_map}
+use Rattle.std.proofs.lemmas.Bool.{true≢false, cases_lt, lt-ltb, eq-eqb, eqb-true, ltb-true}
+use Rattle.std.proofs.lemmas.List.Quantifiers.{position-Some}
+use Rattle.std.proofs.lemmas.List.{append_assoc, append-nil, get_or-map, get_or-take, get_or-drop, length-map, length-take-le, length-drop, take_all, take_more}
+use Rattle.eqc_blif.specs.Netlist.{ModelOf, InstanceOf}
+use Rattle.eqc_blif.specs.Names.{is_named}
+use Rattle.eqc_flat.specs.Graph.{DriverOf, input, tie, cover, dependencies}
+use Rattle.eqc_flat.specs.HierarchyLaws.{needed}
+use Rattle.eqc_flat.specs.Ordering.{signal_deps, IsOrder, IsTrail}
+use Rattle.eqc_flat.specs.Walks.{IsWalk, from_on}
+use Rattle.eqc_flat.specs.Hierarchy.{model, model_number, model_at, reached, paths_within, paths}
+use Rattle.eqc_flat.specs.Signals.{SignalOf, needs, names_of, signals, sources, drivings}
+use Rattle.eqc_flat.specs.Codes.{formals, has_no_such_model, is_recursive, has_unknown_formal, has_formal_twice, has_missing_formal, is_too_large, has_many_inputs, is_driven_twice, is_undriven, is_cyclic, code_if, flat_code}
+use Rattle.eqc_flat.specs.Flattened.{path_at, model_of, first_signal, signal_at, source_of}
+use Rattle.eqc_flat.specs.DriverTable.{in_slot, IsFilled, IsDriven}
+use Rattle.eqc_flat.specs.RowTable.{all_rows}
+use Rattle.eqc_flat.specs.StoredDrivers.{driver_from}
+use Rattle.eqc_flat.specs.Finding.{steps_of, hierarchical_name, callee, IsCircle}
+use Rattle.eqc_flat.specs.NameSets.{with_name}
+use Rattle.eqc_flat.specs.Reaching.{some_instance_in}
+use Rattle.eqc_flat.specs.ModelFaults.{names_no_model, names_no_formal, names_formal_twice, leaves_input_out, ports}
+use Rattle.eqc_flat.specs.declared.hierarchical_name.Step.{Step}
+use Rattle.eqc_flat.specs.declared.stored_driver.StoredDriver.{StoredDriver}
+use Rattle.eqc_flat.proofs.InstanceLaws.{first_more, first_all}
+use Rattle.eqc_flat.proofs.ExpandedLaws.{front_place}
+use Rattle.eqc_flat.proofs.DrivingLaws.{slot_empty}
+use Rattle.eqc_flat.proofs.DepthLaws.{no_code}
+use Rattle.eqc_flat.proofs.Depth.{or_right}
+use Rattle.eqc_flat.proofs.Distinct.{Member, member_get}
+use Rattle.eqc_flat.proofs.FlatLaws.{are_sourced, in_order_not_cyclic}
+use Rattle.eqc_flat.proofs.SignalLaws.{member_place}
+use Rattle.eqc_flat.proofs.NamingLaws.{member_named, named_member}
+use Rattle.eqc_flat.proofs.NameSetLaws.{any_mapped, once_named, fold_once}
+use Rattle.eqc_flat.proofs.ModelFaultLaws.{no_formal_is, input_out_is}
+use Rattle.eqc_flat.proofs.DriverTableLaws.{none_place, sourced, driven_twice, not_driven_twice}
+
+-- the first instance is the main model
+pub first_path : (library : List ModelOf) (top : ℕ) → path_at library top 0 ≡ []
+unfolding paths_within
+first_path library top = by (length library)
+  where
+    by : (n : ℕ) → slice_index_or (paths_within library top n) 0 [] ≡ []
+    by zero = refl
+    by (suc n) = refl
+
+pub first_inside : (library : List ModelOf) (top : ℕ) → 0 < length (paths library top)
+unfolding paths_within
+first_inside library top = by (length library)
+  where
+    by : (n : ℕ) → 0 < length (paths_within library top n)
+    by zero = omega arith
+    by (suc n) = omega arith
+
+-- one step further up
+pub step_more : (library : List ModelOf) (top inner parent position m : ℕ) (all done now : List Step) → all ≡ done ++ steps_of library top (path_at library top inner) → path_at library top inner ≡ position ∷ path_at library top parent → m ≡ model_at library top (path_at library top inner) → now ≡ done ++ record { position = position; model = m } ∷ [] → all ≡ now ++ steps_of library top (path_at library top parent)
+step_more library top inner parent position m all done now is place named grown =
+    let up = steps_of library top (path_at library top parent) in
+    let here : steps_of library top (path_at library top inner) ≡ record { position = position; model = m } ∷ up =
+    ap (steps_of library top) place ∙ ap (λ (x : ℕ). record { position = position; model = x } ∷ up) (sym (named ∙ ap (model_at library top) place)) in
+    is ∙ (ap (λ (l : List Step). done ++ l) here ∙ (sym (append_assoc done (record { position = position; model = m } ∷ []) up) ∙ ap (λ (l : List Step). l ++ up) (sym grown)))
+
+pub steps_end : (library : List ModelOf) (top inner : ℕ) (all done : List Step) → all ≡ done ++ steps_of library top (path_at library top inner) → inner ≡ 0 → done ≡ all
+steps_end library top inner all done is none =
+    sym (is ∙ (ap (λ (i : ℕ). done ++ steps_of library top (path_at library top i)) none ∙ (ap (λ (path : List ℕ). done ++ steps_of library top path) (first_path library top) ∙ append-nil done)))
+
+-- the instance of a signal is looked for one instance further on
+pub next_instance : (library : List ModelOf) (top i k s n : ℕ) → i < length (paths library top) → first_signal library top i + k ≡ s → s < length (signals library top) → n ≡ length (names_of (model_of library top i)) → n ≤ k → (i + 1 < length (paths library top)) × (first_signal library top (i + 1) + (k - n) ≡ s)
+next_instance library top i k s n inside here less size most =
+    let more = first_more library top i inside in
+    let same : first_signal library top (i + 1) + (k - n) ≡ s = omega (arith, more, size, most, here) in (
+      elim (cases_lt (i + 1) (length (paths library top))) [
+        | inl further ↦ further
+        | inr past ↦ absurd (let all = first_all library top (i + 1) (omega (arith, past, inside)) in omega (arith, all, same, less))
+      ],
+      same,
+    )
+
+apart : (n m : ℕ) → (n ≡ m → ⊥) → Some n ≡ Some m → ⊥
+apart n m other e = other (inside e)
+  where
+    inside : Some n ≡ Some m → n ≡ m
+    inside e = cc
+
+none_some : (n : ℕ) → None ≡ Some n → ⊥
+none_some n e = cc
+
+-- what holds of a hierarchy whose signals were numbered, and what is left to be told
+pub record IsNumbered (library : List ModelOf) (top code : ℕ) : Type 0 where
+  pub not_recursive : is_recursive library top ≡ false
+  pub formals_known : has_unknown_formal library top ≡ false
+  pub small : is_too_large library top ≡ false
+  pub few : length (model library top).inputs ≤ 2048
+  pub left : code_if (is_driven_twice library top) 26 (code_if (is_undriven library top) 27 (code_if (is_cyclic library top) 28 None)) ≡ Some code
+
+pub numbered : (library : List ModelOf) (top code : ℕ) → 25 < code → code < 29 → flat_code library top ≡ Some code → IsNumbered library top code
+unfolding flat_code has_many_inputs
+numbered library top code low high e =
+    let a = no_code (Some code) (has_no_such_model library top) 21 _ (other 21 (λ k. omega (arith, k, low))) e in
+    let b = no_code (Some code) (is_recursive library top) 22 _ (other 22 (λ k. omega (arith, k, low))) a.1 in
+    let c = no_code (Some code) (has_unknown_formal library top) 23 _ (other 23 (λ k. omega (arith, k, low))) b.1 in
+    let d = no_code (Some code) (has_formal_twice library top) 24 _ (other 24 (λ k. omega (arith, k, low))) c.1 in
+    let f = no_code (Some code) (has_missing_formal library top) 25 _ (other 25 (λ k. omega (arith, k, low))) d.1 in
+    let g = no_code (Some code) (is_too_large library top) 29 _ (other 29 (λ k. omega (arith, k, high))) f.1 in
+    let h = no_code (Some code) (has_many_inputs library top) 30 _ (other 30 (λ k. omega (arith, k, high))) g.1 in
+    record { not_recursive = b.0; formals_known = c.0; small = g.0; few = few h.0; left = h.1 }
+  where
+    other : (n : ℕ) → (n ≡ code → ⊥) → Some n ≡ Some code → ⊥
+    other n = apart n code
+
+    few : nat_lt 2048 (length (model library top).inputs) ≡ false → length (model library top).inputs ≤ 2048
+    few e = elim (cases_lt 2048 (length (model library top).inputs)) [
+      | inl many ↦ absurd (true≢false (sym (lt-ltb 2048 (length (model library top).inputs) many) ∙ e))
+      | inr most ↦ most
+    ]
+
+-- which condition it is
+told_26 : (twice none circle : Bool) → code_if twice 26 (code_if none 27 (code_if circle 28 None)) ≡ Some 26 → twice ≡ true
+told_26 true none circle e = refl
+told_26 false true circle e = absurd (apart 27 26 (λ k. omega (arith, k)) e)
+told_26 false false true e = absurd (apart 28 26 (λ k. omega (arith, k)) e)
+told_26 false false false e = absurd (none_some 26 e)
+
+told_27 : (twice none circle : Bool) → code_if twice 26 (code_if none 27 (code_if circle 28 None)) ≡ Some 27 → (twice ≡ false) × (none ≡ true)
+told_27 true none circle e = absurd (apart 26 27 (λ k. omega (arith, k)) e)
+told_27 false true circle e = (refl, refl)
+told_27 false false true e = absurd (apart 28 27 (λ k. omega (arith, k)) e)
+told_27 false false false e = absurd (none_some 27 e)
+
+pub told_28 : (twice none circle : Bool) → code_if twice 26 (code_if none 27 (code_if circle 28 None)) ≡ Some 28 → (twice ≡ false) × (none ≡ false) × (circle ≡ true)
+told_28 true none circle e = absurd (apart 26 28 (λ k. omega (arith, k)) e)
+told_28 false true circle e = absurd (apart 27 28 (λ k. omega (arith, k)) e)
+told_28 false false true e = (refl, refl, refl)
+told_28 false false false e = absurd (none_some 28 e)
+
+-- a table of a hierarchy that is refused by 26 knows a signal that is driven twice
+pub twice_known : (library : List ModelOf) (top : ℕ) (slots : List (Option DriverOf)) (twice : Option ℕ) → IsNumbered library top 26 → IsFilled library top slots twice (drivings library top) → is_some twice ≡ true
+twice_known library top slots (Some s) h filled = refl
+twice_known library top slots None h filled = absurd (true≢false (sym (told_26 (is_driven_twice library top) (is_undriven library top) (is_cyclic library top) h.left) ∙ not_driven_twice library top slots filled))
+
+-- a table of a hierarchy that is refused by 27 knows none
+pub none_twice : (library : List ModelOf) (top : ℕ) (slots : List (Option DriverOf)) (twice : Option ℕ) → IsNumbered library top 27 → IsFilled library top slots twice (drivings library top) → twice ≡ None
+none_twice library top slots None h filled = refl
+none_twice library top slots (Some s) h filled = absurd (true≢false (sym (driven_twice library top slots s filled) ∙ (told_27 (is_driven_twice library top) (is_undriven library top) (is_cyclic library top) h.left).0))
+
+none_at : {X : Type 0} (p : X → Bool) (xs : List X) (k : ℕ) (d : X) → list_any p xs ≡ false → k < length xs → p (get_or xs k d) ≡ false
+none_at p [] k d e h = absurd (omega arith)
+none_at p (x ∷ xs) zero d e h = first (p x) (list_any p xs) e
+  where
+    first : (a b : Bool) → (a || b) ≡ false → a ≡ false
+    first false b k = refl
+    first true b k = absurd (true≢false k)
+none_at p (x ∷ xs) (suc k) d e h = none_at p xs k d (rest (p x) (list_any p xs) e) (omega (arith, h))
+  where
+    rest : (a b : Bool) → (a || b) ≡ false → b ≡ false
+    rest false b k = k
+    rest true b k = absurd (true≢false k)
+
+-- a hierarchy whose slots are all taken has a driver for each signal
+all_taken : (library : List ModelOf) (top : ℕ) (columns : List (List ℕ)) (slots : List (Option StoredDriver)) → IsFilled library top (map (option_map (driver_from columns)) slots) None (drivings library top) → list_any is_none slots ≡ false → is_undriven library top ≡ false
+unfolding is_undriven
+all_taken library top columns slots h e = none_place (λ s. length (sources library top s) == 0) (signals library top) (λ i k.
+    let room : i < length slots = omega (arith, h.size, k, length-map slots (option_map (driver_from columns))) in
+    by i room (slice_index_or slots i None) refl)
+  where
+    by : (i : ℕ) → i < length slots → (o : Option StoredDriver) → slice_index_or slots i None ≡ o → (length (sources library top (signal_at library top i)) == 0) ≡ false
+    by i room None is = absurd (true≢false (sym (ap is_none is) ∙ none_at is_none slots i None e room))
+    by i room (Some d) is =
+        let taken : slice_index_or (map (option_map (driver_from columns)) slots) i None ≡ Some (driver_from columns d) = get_or-map (option_map (driver_from columns)) slots i None None room ∙ ap (option_map (driver_from columns)) is in
+        rw (sourced library top (map (option_map (driver_from columns)) slots) i (driver_from columns d) h (omega (arith, room, length-map slots (option_map (driver_from columns)))) taken) refl
+
+-- what is nowhere stands at no place
+unplaced : {X : Type 0} (p : X → Bool) (xs : List X) → is_some (position p xs) ≡ false → list_any p xs ≡ false
+unplaced {X} p xs e = sym (sym (ap (λ (ys : List X). nat_lt (position_or_len p ys) (length xs)) (append-nil xs)) ∙ front_place p xs []) ∙ by (nat_lt (position_or_len p xs) (length xs)) (position_or_len p xs) e
+  where
+    by : (b : Bool) (n : ℕ) → is_some (cond b (Some n) None) ≡ false → b ≡ false
+    by true n k = absurd (true≢false k)
+    by false n k = refl
+
+-- a table of a hierarchy that is refused by 27 has an empty slot
+pub empty_known : (library : List ModelOf) (top : ℕ) (columns : List (List ℕ)) (slots : List (Option StoredDriver)) (twice : Option ℕ) → IsNumbered library top 27 → IsFilled library top (map (option_map (driver_from columns)) slots) twice (drivings library top) → is_some (position is_none slots) ≡ true
+empty_known library top columns slots twice h filled = by (is_some (position is_none slots)) refl
+  where
+    once : IsFilled library top (map (option_map (driver_from columns)) slots) None (drivings library top)
+    once = let P : Option ℕ → Type 0 = λ o. IsFilled library top (map (option_map (driver_from columns)) slots) o (drivings library top) in subst P (none_twice library top (map (option_map (driver_from columns)) slots) twice h filled) filled
+
+    by : (b : Bool) → is_some (position is_none slots) ≡ b → is_some (position is_none slots) ≡ true
+    by true e = e
+    by false e = absurd (true≢false (sym (told_27 (is_driven_twice library top) (is_undriven library top) (is_cyclic library top) h.left).1 ∙ all_taken library top columns slots once (unplaced is_none slots e)))
+
+-- an empty slot is that of a signal that nothing drives
+pub empty_undriven : (library : List ModelOf) (top : ℕ) (columns : List (List ℕ)) (slots : List (Option StoredDriver)) (twice : Option ℕ) (s : ℕ) → IsNumbered library top 27 → IsFilled library top (map (option_map (driver_from columns)) slots) twice (drivings library top) → position is_none slots ≡ Some s → (s < length (signals library top)) × (sources library top (signal_at library top s) ≡ [])
+empty_undriven library top columns slots twice s h filled e =
+    let found = position-Some is_none slots s None e in
+    let free : slice_index_or slots s None ≡ None = none_there (slice_index_or slots s None) found.1 in
+    let room : s < length (map (option_map (driver_from columns)) slots) = omega (arith, found.0, length-map slots (option_map (driver_from columns))) in
+    let once : is_some twice ≡ false = ap is_some (none_twice library top (map (option_map (driver_from columns)) slots) twice h filled) in (
+      omega (arith, room, filled.size),
+      filled.once once s room ∙ ap (λ o. map (source_of (signal_at library top) (all_rows library)) (in_slot o)) (slot_empty columns slots s found.0 free),
+    )
+  where
+    none_there : (o : Option StoredDriver) → is_none o ≡ true → o ≡ None
+    none_there None k = refl
+    none_there (Some d) k = absurd (true≢false (sym k))
+
+-- what is known is there
+pub there : (o : Option ℕ) → is_some o ≡ true → IsSome o
+there None e = absurd (true≢false (sym e))
+there (Some s) e = refl
+
+-- the conditions of the codes, each with its code, in their order
+abbrev conditions : List ModelOf → ℕ → List (Bool × ℕ)
+conditions library top =
+    (has_no_such_model library top, 21) ∷ (is_recursive library top, 22) ∷ (has_unknown_formal library top, 23) ∷ (has_formal_twice library top, 24) ∷ (has_missing_formal library top, 25)
+    ∷ (is_too_large library top, 29) ∷ (has_many_inputs library top, 30) ∷ (is_driven_twice library top, 26) ∷ (is_undriven library top, 27) ∷ (is_cyclic library top, 28) ∷ []
+
+-- the code of the first condition that holds
+abbrev first_code : List (Bool × ℕ) → Option ℕ
+first_code [] = None
+first_code (c ∷ cs) = code_if c.0 c.1 (first_code cs)
+
+code_first : (library : List ModelOf) (top : ℕ) → flat_code library top ≡ first_code (conditions library top)
+unfolding flat_code
+code_first library top = refl
+
+-- where a code is told, a condition with it holds
+told_by : (cs : List (Bool × ℕ)) (code : ℕ) → first_code cs ≡ Some code → list_any (λ c. (c.1 == code) && c.0) cs ≡ true
+told_by [] code e = absurd (none_some code e)
+told_by ((true, n) ∷ cs) code e = rw (eq-eqb n code (inside e)) refl
+  where
+    inside : Some n ≡ Some code → n ≡ code
+    inside e = cc
+told_by ((false, n) ∷ cs) code e = or_right ((n == code) && false) (list_any (λ c. (c.1 == code) && c.0) cs) (told_by cs code e)
+
+or_false : (b : Bool) → (b || false) ≡ true → b ≡ true
+or_false true e = refl
+or_false false e = e
+
+told_code : (library : List ModelOf) (top code : ℕ) → flat_code library top ≡ Some code → list_any (λ c. (c.1 == code) && c.0) (conditions library top) ≡ true
+told_code library top code e = told_by (conditions library top) code (sym (code_first library top) ∙ e)
+
+-- the conditions of the codes of models, over the models that are reached
+pub model_missing : (library : List ModelOf) (top : ℕ) → flat_code library top ≡ Some 21 → some_instance_in library (reached library top) (names_no_model library) ≡ true
+unfolding has_no_such_model
+model_missing library top e = or_false (has_no_such_model library top) (told_code library top 21 e)
+
+pub recursive : (library : List ModelOf) (top : ℕ) → flat_code library top ≡ Some 22 → is_recursive library top ≡ true
+recursive library top e = or_false (is_recursive library top) (told_code library top 22 e)
+
+pub formal_unknown : (library : List ModelOf) (top : ℕ) → flat_code library top ≡ Some 23 → some_instance_in library (reached library top) (names_no_formal library) ≡ true
+unfolding has_unknown_formal
+formal_unknown library top e = or_false (has_unknown_formal library top) (told_code library top 23 e)
+
+pub formal_repeated : (library : List ModelOf) (top : ℕ) → flat_code library top ≡ Some 24 → some_instance_in library (reached library top) names_formal_twice ≡ true
+unfolding has_formal_twice
+formal_repeated library top e = or_false (has_formal_twice library top) (told_code library top 24 e)
+
+pub input_missing : (library : List ModelOf) (top : ℕ) → flat_code library top ≡ Some 25 → some_instance_in library (reached library top) (leaves_input_out library) ≡ true
+unfolding has_missing_formal
+input_missing library top e = or_false (has_missing_formal library top) (told_code library top 25 e)
+
+pub inputs_many : (library : List ModelOf) (top : ℕ) → flat_code library top ≡ Some 30 → 2048 < length (model library top).inputs
+unfolding has_many_inputs
+inputs_many library top e = ltb-true 2048 (length (model library top).inputs) (or_false (has_many_inputs library top) (told_code library top 30 e))
+
+-- what stands somewhere has a first place
+pub place_known : {X : Type 0} (p : X → Bool) (xs : List X) → list_any p xs ≡ true → is_some (position p xs) ≡ true
+place_known p xs e = by (is_some (position p xs)) refl
+  where
+    by : (b : Bool) → is_some (position p xs) ≡ b → is_some (position p xs) ≡ true
+    by true k = k
+    by false k = absurd (true≢false (sym e ∙ unplaced p xs k))
+
+pub not_true : (b : Bool) → not b ≡ true → b ≡ false
+not_true false e = refl
+not_true true e = absurd (true≢false (sym e))
+
+-- the first formal that isn't among the ports of an instance's model
+pub unknown_known : (library : List ModelOf) (i : InstanceOf) → names_no_formal library i ≡ true → is_some (position (λ (pair : List ℕ × List ℕ). not (is_named (ports library (model_number library i.model)) pair.0)) i.pairs) ≡ true
+unknown_known library i e =
+    let known = ports library (model_number library i.model) in
+    place_known (λ (pair : List ℕ × List ℕ). not (is_named known pair.0)) i.pairs (sym (any_mapped (λ formal. not (is_named known formal)) (λ (pair : List ℕ × List ℕ). pair.0) i.pairs) ∙ (no_formal_is library i known refl ∙ e))
+
+-- a pair's formal is one of its instance
+pub formal_here : (i : InstanceOf) (k : ℕ) → k < length i.pairs → is_named (formals i) (get_or i.pairs k ([], [])).0 ≡ true
+formal_here i k inside =
+    let same : get_or (formals i) k [] ≡ (get_or i.pairs k ([], [])).0 = get_or-map (λ (pair : List ℕ × List ℕ). pair.0) i.pairs k ([], []) [] inside in
+    ap (is_named (formals i)) (sym same) ∙ member_named (get_or (formals i) k []) (formals i) (member_get (formals i) k [] (omega (arith, length-map i.pairs (λ (pair : List ℕ × List ℕ). pair.0), inside)))
+
+pub unknown_is : (library : List ModelOf) (i : InstanceOf) (k : ℕ) → position (λ (pair : List ℕ × List ℕ). not (is_named (ports library (model_number library i.model)) pair.0)) i.pairs ≡ Some k → (k < length i.pairs) × (is_named (formals i) (get_or i.pairs k ([], [])).0 ≡ true) × (is_named ((callee library i).inputs ++ (callee library i).outputs) (get_or i.pairs k ([], [])).0 ≡ false)
+unknown_is library i k e =
+    let found = position-Some (λ (pair : List ℕ × List ℕ). not (is_named (ports library (model_number library i.model)) pair.0)) i.pairs k ([], []) e in
+    let name = (get_or i.pairs k ([], [])).0 in (
+      found.0,
+      formal_here i k found.0,
+      sym (once_named ((callee library i).inputs ++ (callee library i).outputs) name) ∙ not_true (is_named (ports library (model_number library i.model)) name) found.1,
+    )
+
+-- the two places of a formal that stands in an earlier pair
+pub repeated_is : (i : InstanceOf) (k : ℕ) → k < length i.pairs → is_named (map (λ (pair : List ℕ × List ℕ). pair.0) (take k i.pairs)) (get_or i.pairs k ([], [])).0 ≡ true → (j : ℕ) × (l : ℕ) × (j < l) × (l < length (formals i)) × (get_or (formals i) j [] ≡ (get_or i.pairs k ([], [])).0) × (get_or (formals i) l [] ≡ (get_or i.pairs k ([], [])).0)
+repeated_is i k inside e =
+    let f = λ (pair : List ℕ × List ℕ). pair.0 in
+    let name = (get_or i.pairs k ([], [])).0 in
+    let (j, less, same) = member_place (map f (take k i.pairs)) name [] (named_member name (map f (take k i.pairs)) e) in
+    let before : j < k = omega (arith, less, length-map (take k i.pairs) f, length-take-le k i.pairs (omega (arith, inside))) in
+    let there : get_or (formals i) j [] ≡ get_or (map f (take k i.pairs)) j [] =
+    get_or-map f i.pairs j ([], []) [] (omega (arith, before, inside)) ∙ (ap f (sym (get_or-take k i.pairs j ([], []) before)) ∙ sym (get_or-map f (take k i.pairs) j ([], []) [] (omega (arith, less, length-map (take k i.pairs) f)))) in
+    (j, k, before, omega (arith, inside, length-map i.pairs f), there ∙ same, get_or-map f i.pairs k ([], []) [] inside)
+
+-- the first input that an instance leaves out
+pub input_known : (library : List ModelOf) (i : InstanceOf) (names inputs : List (List ℕ)) → names ≡ fold with_name [] (formals i) → inputs ≡ (callee library i).inputs → leaves_input_out library i ≡ true → is_some (position (λ word. not (is_named names word)) inputs) ≡ true
+input_known library i names inputs made same e =
+    place_known (λ word. not (is_named names word)) inputs (ap (list_any (λ word. not (is_named names word))) same ∙ (input_out_is library i names made ∙ e))
+
+pub input_is : (library : List ModelOf) (i : InstanceOf) (names inputs : List (List ℕ)) (k : ℕ) → names ≡ fold with_name [] (formals i) → inputs ≡ (callee library i).inputs → position (λ word. not (is_named names word)) inputs ≡ Some k → (k < length inputs) × (is_named (callee library i).inputs (get_or inputs k []) ≡ true) × (is_named (formals i) (get_or inputs k []) ≡ false)
+input_is library i names inputs k made same e =
+    let found = position-Some (λ word. not (is_named names word)) inputs k [] e in
+    let name = get_or inputs k [] in (
+      found.0,
+      ap (λ (all : List (List ℕ)). is_named all name) (sym same) ∙ member_named name inputs (member_get inputs k [] found.0),
+      sym (once_named (formals i) name) ∙ (ap (λ (all : List (List ℕ)). is_named all name) (sym (made ∙ fold_once (formals i))) ∙ not_true (is_named names name) found.1),
+    )
+
+-- walks go on from any place
+walk_drop : {X : Type 0} (next : X → List X) (k : ℕ) (xs : List X) → IsWalk next xs → IsWalk next (drop k xs)
+walk_drop next zero xs h = h
+walk_drop next (suc k) [] h = tt
+walk_drop next (suc k) (x ∷ []) h = walk_drop next k [] tt
+walk_drop next (suc k) (x ∷ y ∷ ys) h = walk_drop next k (y ∷ ys) h.1
+
+-- a walk that begins within a closed part stays there
+pub walk_within : (deps : ℕ → List ℕ) (n : ℕ) → ((x y : ℕ) → x < n → Contains (deps x) y → y < n) → (xs : List ℕ) → get_or xs 0 0 < n → IsWalk deps xs → (k : ℕ) → k < length xs → get_or xs k 0 < n
+walk_within deps n closed [] first h k inside = absurd (omega (arith, inside))
+walk_within deps n closed (x ∷ xs) first h zero inside = first
+walk_within deps n closed (x ∷ []) first h (suc k) inside = absurd (omega (arith, inside))
+walk_within deps n closed (x ∷ y ∷ ys) first h (suc k) inside = walk_within deps n closed (y ∷ ys) (closed x y first h.0) h.1 k (omega (arith, inside))
+
+-- a walk as a walk of what its nodes stand for
+walk_mapped : {X : Type 0} (deps : ℕ → List ℕ) (next : X → List X) (f : ℕ → X) (n : ℕ) → ((x y : ℕ) → x < n → Contains (deps x) y → y < n) → ((x y : ℕ) → x < n → Contains (deps x) y → Contains (next (f x)) (f y)) → (xs : List ℕ) → get_or xs 0 0 < n → IsWalk deps xs → IsWalk next (map f xs)
+walk_mapped deps next f n closed step [] first h = tt
+walk_mapped deps next f n closed step (x ∷ []) first h = tt
+walk_mapped deps next f n closed step (x ∷ y ∷ ys) first h = (step x y first h.0, walk_mapped deps next f n closed step (y ∷ ys) (closed x y first h.0) h.1)
+
+-- what a driver depends on is what its source needs
+needs_mapped : (signal : ℕ → SignalOf) (rows : List (List (List ℕ))) (d : DriverOf) → needs (source_of signal rows d) ≡ map signal (dependencies d)
+needs_mapped signal rows (input position) = refl
+needs_mapped signal rows (tie other) = refl
+needs_mapped signal rows (cover columns r) = refl
+
+pub dependency_closed : (library : List ModelOf) (top : ℕ) (drivers : List DriverOf) → IsDriven library top drivers → (x y : ℕ) → x < length drivers → Contains (signal_deps drivers x) y → y < length drivers
+dependency_closed library top drivers driven x y inside h =
+    let P : ℕ → Type 0 = λ z. Member z (signal_deps drivers x) in
+    (are_sourced library top [] [] [] drivers [] driven).closed x y inside (subst P h.2 (member_get (signal_deps drivers x) h.0 y h.1))
+
+dependency_needed : (library : List ModelOf) (top : ℕ) (drivers : List DriverOf) → IsDriven library top drivers → (x y : ℕ) → x < length drivers → Contains (signal_deps drivers x) y → Contains (needed library top (signal_at library top x)) (signal_at library top y)
+dependency_needed library top drivers driven x y inside h =
+    let deps = signal_deps drivers x in
+    let driver = slice_index_or drivers x (input 0) in
+    let source = source_of (signal_at library top) (all_rows library) driver in
+    let same : map (signal_at library top) deps ≡ needed library top (signal_at library top x) =
+    sym (ap (flat_map needs) ((are_sourced library top [] [] [] drivers [] driven).sourced x inside) ∙ (append-nil (needs source) ∙ needs_mapped (signal_at library top) (all_rows library) driver)) in
+    let P : List SignalOf → Type 0 = λ l. Contains l (signal_at library top y) in
+    subst P same (h.0, omega (arith, h.1, length-map deps (signal_at library top)), get_or-map (signal_at library top) deps h.0 y (signal_at library top y) h.1 ∙ ap (signal_at library top) h.2)
+
+-- the circle at the end of a walk along the drivers of a hierarchy
+pub circle_named : (library : List ModelOf) (top : ℕ) (drivers : List DriverOf) (walk : List ℕ) (start : ℕ) (circle : List (List Step × List ℕ) × ℕ) → IsDriven library top drivers → IsTrail drivers walk → start + 1 < length walk → slice_index_or walk start 0 ≡ slice_index_or walk (length walk - 1) 0 → circle ≡ (map (λ s. hierarchical_name library top (signal_at library top s)) (take 20 (from_on start walk)), length (from_on start walk)) → IsCircle library top circle
+circle_named library top drivers walk start circle driven (root, rooted, back) inside same is = (
+  members,
+  omega (arith, count, long),
+  ap (λ (c : List (List Step × List ℕ) × ℕ). c.1) is,
+  ap (λ (c : List (List Step × List ℕ) × ℕ). c.0) is,
+  (λ k less. (let bound = walk_within deps n closed round head steps k (omega (arith, less, count)) in let at = get_or-take (length round - 1) round k 0 (omega (arith, less, count)) in omega (arith, bound, at, driven.size, length-map drivers (λ (d : DriverOf). Some d)))),
+  walk_mapped deps (needed library top) (signal_at library top) n closed (dependency_needed library top drivers driven) (members ++ slice_index_or members 0 0 ∷ []) front closed_round,
+)
+  where
+    deps : ℕ → List ℕ
+    deps = signal_deps drivers
+
+    n : ℕ
+    n = length drivers
+
+    closed : (x y : ℕ) → x < n → Contains (deps x) y → y < n
+    closed = dependency_closed library top drivers driven
+
+    round : List ℕ
+    round = drop start walk
+
+    members : List ℕ
+    members = from_on start walk
+
+    long : length round ≡ length walk - start
+    long = length-drop start walk
+
+    count : length members ≡ length round - 1
+    count = length-take-le (length round - 1) round (omega arith)
+
+    steps : IsWalk deps round
+    steps = walk_drop deps start walk back.follows
+
+    whole : get_or walk 0 0 < n
+    whole = let P : ℕ → Type 0 = λ x. x < n in subst P (sym back.begins) rooted
+
+    head : get_or round 0 0 < n
+    head =
+        let bound = walk_within deps n closed walk whole back.follows (start + 0) (omega (arith, inside)) in
+        let at = get_or-drop start walk 0 0 in
+        omega (arith, bound, at)
+
+    first_member : get_or members 0 0 ≡ get_or round 0 0
+    first_member = get_or-take (length round - 1) round 0 0 (omega (arith, long, inside))
+
+    last : get_or round (length round - 1) 0 ≡ get_or members 0 0
+    last =
+        let place : start + (length round - 1) ≡ length walk - 1 = omega (arith, long, inside) in
+        let none : start + 0 ≡ start = omega arith in
+        get_or-drop start walk (length round - 1) 0 ∙ (ap (λ i. get_or walk i 0) place ∙ (sym same ∙ (ap (λ i. get_or walk i 0) (sym none) ∙ (sym (get_or-drop start walk 0 0) ∙ sym first_member))))
+
+    split : round ≡ members ++ get_or members 0 0 ∷ []
+    split =
+        let one : length round - 1 + 1 ≡ length round = omega (arith, long, inside) in
+        let all : take (length round - 1 + 1) round ≡ round = rw one (take_all (length round) round (omega arith)) in
+        sym all ∙ (take_more round (length round - 1) 0 (omega (arith, long, inside)) ∙ ap (λ x. members ++ x ∷ []) last)
+
+    closed_round : IsWalk deps (members ++ get_or members 0 0 ∷ [])
+    closed_round = let P : List ℕ → Type 0 = λ l. IsWalk deps l in subst P split steps
+
+    front : get_or (members ++ get_or members 0 0 ∷ []) 0 0 < n
+    front = let P : List ℕ → Type 0 = λ l. get_or l 0 0 < n in subst P split head
+
+-- the last of a walk that comes back is found before
+pub start_known : (walk : List ℕ) (j node : ℕ) → j < length walk → get_or walk j 0 ≡ node → is_some (position (λ other. other == node) walk) ≡ true
+start_known walk j node inside same = by (is_some (position (λ other. other == node) walk)) refl
+  where
+    by : (b : Bool) → is_some (position (λ other. other == node) walk) ≡ b → is_some (position (λ other. other == node) walk) ≡ true
+    by true e = e
+    by false e = absurd (true≢false (sym (eq-eqb (get_or walk j 0) node same) ∙ none_at (λ other. other == node) walk j 0 (unplaced (λ other. other == node) walk e) inside))
+
+pub start_is : (walk : List ℕ) (j node i : ℕ) → j < length walk → get_or walk j 0 ≡ node → position (λ other. other == node) walk ≡ Some i → (i ≤ j) × (get_or walk i 0 ≡ node)
+start_is walk j node i inside same e =
+    let found = position-Some (λ other. other == node) walk i 0 e in (
+      elim (cases_lt j i) [
+        | inl later ↦ absurd (true≢false (sym (eq-eqb (get_or walk j 0) node same) ∙ found.2 j later))
+        | inr before ↦ before
+      ],
+      eqb-true (get_or walk i 0) node found.1,
+    )
+
+-- the nodes of a walk along the drivers of a hierarchy are its signals
+pub walk_inside : (library : List ModelOf) (top : ℕ) (drivers : List DriverOf) (walk : List ℕ) → IsDriven library top drivers → IsTrail drivers walk → (k : ℕ) → k < length walk → slice_index_or walk k 0 < length (signals library top)
+walk_inside library top drivers walk driven (root, rooted, back) k inside =
+    let P : ℕ → Type 0 = λ x. x < length drivers in
+    let bound = walk_within (signal_deps drivers) (length drivers) (dependency_closed library top drivers driven) walk (subst P (sym back.begins) rooted) back.follows k inside in
+    omega (arith, bound, driven.size, length-map drivers (λ (d : DriverOf). Some d))
+
+-- the signals of a hierarchy that is refused by 28 have no order
+pub circle_left : (library : List ModelOf) (top : ℕ) (drivers : List DriverOf) (order : List ℕ) (ended : Bool) → IsNumbered library top 28 → IsDriven library top drivers → (ended ≡ true → IsOrder drivers order) → ended ≡ false
+circle_left library top drivers order false h driven sorted = refl
+circle_left library top drivers order true h driven sorted =
+    absurd (true≢false (sym (told_28 (is_driven_twice library top) (is_undriven library top) (is_cyclic library top) h.left).2 ∙ in_order_not_cyclic library top drivers order driven (sorted refl)))
+
+-- a hierarchy that isn't too large is there
+pub hierarchy_there : (library : List ModelOf) (top : ℕ) (o : Option (List ModelOf × ℕ)) → is_too_large library top ≡ false → MatchOption o (is_too_large library top ≡ true) (λ (h : List ModelOf × ℕ). (is_too_large library top ≡ false) × (h ≡ (library, top))) → IsSome o
+hierarchy_there library top None small e = absurd (true≢false (sym e ∙ small))
+hierarchy_there library top (Some h) small e = refl
