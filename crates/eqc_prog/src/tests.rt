@@ -2,10 +2,8 @@
 //! what was meant. They stand here alone, since a crate with tests is proved twice.
 //!
 //! - `words`, `operations`, of `eqc_tree`; `diagrams`, of `eqc_plain`; `machine`, of `eqc_core`
-//! - `reading`, of `eqc_blif`; `hierarchies` and `random_hierarchies`, of `eqc_flat`
-//! - `pairs`, `workers`, `reports`, `runs`, of `eqc_check`
 //! - `reading`, of `eqc_blif`; `hierarchies`, `random_hierarchies` and `explanations`, of `eqc_flat`
-//! - `pairs`, `reports`, `runs`, of `eqc_check`
+//! - `pairs`, `workers`, `reports`, `runs`, of `eqc_check`
 //! - `program`, `program_ends`, `compared_hierarchies`, `costs`, of this crate
 //! - `messages`, of the errors of all crates; `streams`, the readers, writers and files that fail
 //!
