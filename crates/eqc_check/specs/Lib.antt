@@ -18,3 +18,5 @@ pub mod Sources
 pub mod Answer
 pub mod Running
 pub mod AnswerLaws
+pub mod Warning
+pub mod Telling
