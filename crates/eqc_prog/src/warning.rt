@@ -76,10 +76,11 @@ fn warnings_text(
 pub fn warn<E: Write>(alloc: Global, request: &Request<'_>, warnings: &Warnings, err: &mut E)
     ensures { IsToldOf (warnings_text request.now warnings.now) (E.contents err.old) (E.contents err.new) }
 {
-    if warnings.first.is_none() && warnings.second.is_none() {
+    let Ok(text) = warnings_text(alloc, request, warnings) else {
         return;
-    }
-    if let Ok(text) = warnings_text(alloc, request, warnings) {
-        let _ = write_text(err, &text);
+    };
+    let bytes = text.as_slice();
+    if !bytes.is_empty() {
+        let _ = write_text(err, bytes);
     }
 }
