@@ -1,5 +1,5 @@
 -- Two netlists are accepted exactly where all checks pass.
-use Rattle.std.proofs.Common.{◌≡◌, ℕ, zero, suc, ◌^◌, ◌==◌, ◌<◌, ◌≤◌, Bool, true, false, not, List, [], ◌∷◌, ◌++◌, length, get_or, Option, Some, None, IfSome, Ok, Err, sym, ap, refl, ◌∙◌, arith, subst, zero-add}
+use Rattle.std.proofs.Common.{◌≡◌, ℕ, zero, suc, ◌^◌, ◌==◌, ◌<◌, ◌≤◌, Bool, true, false, not, List, [], ◌∷◌, ◌++◌, length, get_or, Option, Some, None, IfSome, Result, Ok, Err, sym, ap, refl, ◌∙◌, arith, subst, zero-add}
 use Rattle.std.specs.List.{range_with_len}
 use Rattle.std.proofs.lemmas.Option.{none-some}
 use Rattle.std.proofs.lemmas.Bool.{not-false, not_from_true, and_from, and_parts, le-leb, leb-true, ltb-false, le-ltb, eqb-true, eq-eqb}
@@ -8,7 +8,6 @@ use Rattle.std.proofs.lemmas.List.Folds.{Any-from_list_any, list_any_at}
 use Rattle.std.proofs.lemmas.List.Sums.{list_all-from_AllPass}
 use Rattle.std.proofs.lemmas.List.FromFn.{length-range_with_len, get_or-range_with_len}
 use Rattle.eqc_blif.specs.Names.{is_named}
-use Rattle.eqc_blif.specs.Reading.{Outcome, outcome}
 use Rattle.eqc_check.specs.declared.options.Options.{Options}
 use Rattle.eqc_check.specs.declared.report.Refused.{Refused}
 use Rattle.eqc_check.specs.declared.report.Side.{Side}
@@ -16,8 +15,8 @@ use Rattle.eqc_check.specs.declared.report.Side.TheVariants as side
 use Rattle.eqc_check.specs.Options.{is_between, is_cell_count}
 use Rattle.eqc_check.specs.Matched.{has_all, same_names, order_words}
 use Rattle.eqc_check.specs.Verdict.{position_of}
-use Rattle.eqc_check.specs.Answer.{TextsOf, one_text, two_texts, inputs_of}
-use Rattle.eqc_check.specs.AnswerLaws.{models_read, first_main, AreInRange, IsReadable, AreReadable, HaveSameNames, IsOrderOf, IsAccepted, refused_if, refused_by_code, refused_by_fault, first_reading, second_reading, option_checks, text_checks, order_checks, checks}
+use Rattle.eqc_check.specs.Answer.{TextsOf, MainOf, first_found, second_found, inputs_of}
+use Rattle.eqc_check.specs.AnswerLaws.{first_main, AreInRange, IsFound, HaveSameNames, IsOrderOf, IsAccepted, refused_if, refused_by_code, refused_by_fault, option_checks, text_checks, order_checks, checks}
 use Rattle.eqc_check.proofs.PlaceLemmas.{place_below, name_at, named_index, all_named}
 use Rattle.eqc_check.proofs.OrderedLemmas.{both_ways}
 use Rattle.eqc_check.proofs.CheckLemmas.{PassAll, pass_none, pass_more, pass_each, pass_both}
@@ -36,12 +35,12 @@ code_passed : (at : Side) (code : Option ℕ) → refused_by_code at code ≡ No
 code_passed at None e = refl
 code_passed at (Some code) e = absurd (none-some (record { side = at; line = 0; code = code }) (sym e))
 
-fault_passed : (at : Side) (text : List ℕ) (o : Outcome) → outcome text ≡ o → refused_by_fault at o ≡ None → IsReadable text
-fault_passed at text (Ok models) e h = (models, e)
-fault_passed at text (Err fault) e h = absurd (none-some (record { side = at; line = fault.0; code = fault.1 }) (sym h))
+fault_passed : (at : Side) (found : Result MainOf (ℕ × ℕ)) → refused_by_fault at found ≡ None → IsFound found
+fault_passed at (Ok m) h = (m, refl)
+fault_passed at (Err fault) h = absurd (none-some (record { side = at; line = fault.0; code = fault.1 }) (sym h))
 
-fault_passes : (at : Side) (text : List ℕ) → IsReadable text → refused_by_fault at (outcome text) ≡ None
-fault_passes at text read = ap (refused_by_fault at) read.1
+fault_passes : (at : Side) (found : Result MainOf (ℕ × ℕ)) → IsFound found → refused_by_fault at found ≡ None
+fault_passes at found is = ap (refused_by_fault at) is.1
 
 -- ---- options
 
@@ -130,25 +129,13 @@ passed_order inputs (Some text) pass = record {
 
 -- ---- texts
 
-passed_texts : (texts : TextsOf) → first_reading texts ≡ None → second_reading texts ≡ None → AreReadable texts
-passed_texts (one_text text) e h = (fault_passed side.First text (outcome text) refl e, ltb-false (length (models_read (outcome text))) 2 (passed_if _ side.Second 13 h))
-passed_texts (two_texts first second) e h = (fault_passed side.First first (outcome first) refl e, fault_passed side.Second second (outcome second) refl h)
-
-first_passes : (texts : TextsOf) → AreReadable texts → first_reading texts ≡ None
-first_passes (one_text text) read = fault_passes side.First text read.0
-first_passes (two_texts first second) read = fault_passes side.First first read.0
-
-second_passes : (texts : TextsOf) → AreReadable texts → second_reading texts ≡ None
-second_passes (one_text text) read = if_passes _ side.Second 13 (le-ltb (length (models_read (outcome text))) 2 read.1)
-second_passes (two_texts first second) read = fault_passes side.Second second read.1
-
 texts_pass : (texts : TextsOf) (order : Option (List ℕ)) (options : Options) → IsAccepted texts order options → PassAll (text_checks texts)
 texts_pass texts order options is =
     let first = ap (refused_by_code side.First) is.first_hierarchy in
     let second = ap (refused_by_code side.Second) is.second_hierarchy in
     let inputs = if_passes _ side.Pair 41 (same_passes _ _ is.inputs) in
     let outputs = if_passes _ side.Pair 42 (same_passes _ _ is.outputs) in
-    pass_each (text_checks texts) (first_passes texts is.readable, (second_passes texts is.readable, (first, (second, (inputs, (outputs, tt))))))
+    pass_each (text_checks texts) (fault_passes side.First (first_found texts) is.readable.0, (fault_passes side.Second (second_found texts) is.readable.1, (first, (second, (inputs, (outputs, tt))))))
 
 -- ---- all
 
@@ -175,7 +162,7 @@ passed_accepted texts order options pass =
     let read = passed_to (text_checks texts) orders behind in
     record {
       range = passed_range options (passed_to (option_checks options) (text_checks texts ++ orders) pass);
-      readable = passed_texts texts (read 0) (read 1);
+      readable = (fault_passed side.First (first_found texts) (read 0), fault_passed side.Second (second_found texts) (read 1));
       first_hierarchy = code_passed side.First _ (read 2);
       second_hierarchy = code_passed side.Second _ (read 3);
       inputs = passed_same _ _ (passed_if _ side.Pair 41 (read 4));

@@ -5,7 +5,7 @@ use Rattle.eqc_check.specs.declared.options.Options.{Options}
 use Rattle.eqc_check.specs.Verdict.{first_value, second_value, first_difference}
 use Rattle.eqc_check.specs.VerdictLaws.{NeverDiffers}
 use Rattle.eqc_check.specs.Report.{ReportOf, equivalent, differs, refused, stopped, difference_report}
-use Rattle.eqc_check.specs.Answer.{TextsOf, inputs_of, outputs_of, netlist_of_model, options_answer, texts_answer, answer, IsComparison, Answers, as_wanted}
+use Rattle.eqc_check.specs.Answer.{NamesOf, TextsOf, inputs_of, outputs_of, netlist_of_model, options_answer, texts_answer, answer, IsComparison, Answers, as_wanted}
 use Rattle.eqc_check.specs.Options.{options_code}
 use Rattle.eqc_check.specs.Running.{known_texts, known_order, IsReport, IsReportFor}
 use Rattle.eqc_check.specs.declared.running.Texts.{Texts}
@@ -145,14 +145,14 @@ answer_differs texts order options output inputs first second = (
 -- ---- runs
 
 -- a report on texts whose bytes are known
-report_answers : {R : Type 0} (remaining : R → Option (List ℕ)) (texts : Texts R) (order : Option R) (known : TextsOf) (order_text : Option (List ℕ)) (report : ReportOf) → known_texts remaining texts ≡ Some known → known_order remaining order ≡ Some order_text → IsReport remaining texts order report → Answers (texts_answer known order_text) report
-report_answers remaining texts order known order_text report e f is =
+report_answers : {R : Type 0} (names : NamesOf) (remaining : R → Option (List ℕ)) (texts : Texts R) (order : Option R) (known : TextsOf) (order_text : Option (List ℕ)) (report : ReportOf) → known_texts names remaining texts ≡ Some known → known_order remaining order ≡ Some order_text → IsReport names remaining texts order report → Answers (texts_answer known order_text) report
+report_answers names remaining texts order known order_text report e f is =
     let inner = subst (λ (k : Option TextsOf). IfSome k (λ t. IfSome (known_order remaining order) (λ o. Answers (texts_answer t o) report))) e is in
     subst (λ (k : Option (Option (List ℕ))). IfSome k (λ o. Answers (texts_answer known o) report)) f inner
 
 pub runs_are_answered : {R : Type 0} (remaining : R → Option (List ℕ)) → IsAnswerOfRuns remaining
-runs_are_answered {R} remaining texts order options known order_text report e f is = by (options_code options) is
+runs_are_answered {R} remaining names texts order options known order_text report e f is = by (options_code options) is
   where
-    by : (code : Option ℕ) → IsReportFor code remaining texts order report → Answers (options_answer code (texts_answer known order_text)) report
-    by None is = report_answers remaining texts order known order_text report e f is
+    by : (code : Option ℕ) → IsReportFor code names remaining texts order report → Answers (options_answer code (texts_answer known order_text)) report
+    by None is = report_answers names remaining texts order known order_text report e f is
     by (Some code) is = subst (Answers (refused side.Options 0 code)) (sym is) as_wanted

@@ -1,9 +1,8 @@
 -- The answer is the first refusal of a list of checks, or the comparison where all pass.
-use Rattle.std.proofs.Common.{◌≡◌, ◌⊎◌, inl, inr, ℕ, zero, suc, ◌<◌, Bool, true, false, not, List, [], ◌∷◌, ◌++◌, length, get_or, Option, Some, None, Ok, Err, sym, ap, refl, ◌∙◌, arith, subst, suc-le-suc, nat_lt, if◌then◌else◌}
+use Rattle.std.proofs.Common.{◌≡◌, ◌⊎◌, inl, inr, ℕ, zero, suc, ◌<◌, Bool, true, false, not, List, [], ◌∷◌, ◌++◌, length, get_or, Option, Some, None, Result, Ok, Err, sym, ap, refl, ◌∙◌, arith, subst, suc-le-suc, nat_lt, if◌then◌else◌}
 use Rattle.std.proofs.lemmas.Option.{none-some}
 use Rattle.std.proofs.lemmas.List.{get_or_past}
 use Rattle.eqc_blif.specs.Names.{has_twice}
-use Rattle.eqc_blif.specs.Reading.{Outcome, outcome}
 use Rattle.eqc_flat.specs.Codes.{flat_code}
 use Rattle.eqc_check.specs.declared.options.Options.{Options}
 use Rattle.eqc_check.specs.declared.report.Refused.{Refused}
@@ -12,8 +11,8 @@ use Rattle.eqc_check.specs.Options.{is_between, is_cell_count, options_code}
 use Rattle.eqc_check.specs.Matched.{has_all, same_names, order_words}
 use Rattle.eqc_check.specs.Verdict.{NetlistOf, first_difference}
 use Rattle.eqc_check.specs.Report.{ReportOf, refused, stopped, difference_report, comparison}
-use Rattle.eqc_check.specs.Answer.{TextsOf, one_text, two_texts, MainOf, inputs_of, outputs_of, netlist_of_model, order_answer, code_of_order, pair_answer, or_code, models_answer, one_answer, two_answer, texts_answer, options_answer, answer, IsComparison}
-use Rattle.eqc_check.specs.AnswerLaws.{models_read, first_main, second_main, refused_if, refused_by_code, refused_by_fault, text_checks, order_checks, checks, IsFirstRefusal}
+use Rattle.eqc_check.specs.Answer.{TextsOf, first_found, second_found, MainOf, inputs_of, outputs_of, netlist_of_model, order_answer, code_of_order, pair_answer, or_code, models_answer, found_answer, texts_answer, options_answer, answer, IsComparison}
+use Rattle.eqc_check.specs.AnswerLaws.{main_or_none, first_main, second_main, refused_if, refused_by_code, refused_by_fault, text_checks, order_checks, checks, IsFirstRefusal}
 
 -- the first refusal of a list, or else a report
 abbrev pub verdict : List (Option Refused) → ReportOf → ReportOf
@@ -168,28 +167,15 @@ models_checked m n order = by (flat_code m.0 m.1) (flat_code n.0 n.1)
     by None (Some y) = refl
     by None None = pair_checked m n order
 
-one_checked : (o : Outcome) (order : Option (List ℕ)) →
-    one_answer o order
-    ≡ verdict (refused_by_fault side.First o ∷ refused_if (nat_lt (length (models_read o)) 2) side.Second 13 ∷ models_checks (models_read o, 0) (models_read o, 1) order) (comparison (netlist_of_model (models_read o, 0)) (netlist_of_model (models_read o, 1)))
-one_checked (Err fault) order = refl
-one_checked (Ok models) order = by (nat_lt (length models) 2)
-  where
-    by : (few : Bool) →
-        (if few then refused side.Second 0 13 else models_answer (models, 0) (models, 1) order)
-        ≡ verdict (refused_if few side.Second 13 ∷ models_checks (models, 0) (models, 1) order) (comparison (netlist_of_model (models, 0)) (netlist_of_model (models, 1)))
-    by true = refl
-    by false = models_checked (models, 0) (models, 1) order
-
-two_checked : (o p : Outcome) (order : Option (List ℕ)) →
-    two_answer o p order
-    ≡ verdict (refused_by_fault side.First o ∷ refused_by_fault side.Second p ∷ models_checks (models_read o, 0) (models_read p, 0) order) (comparison (netlist_of_model (models_read o, 0)) (netlist_of_model (models_read p, 0)))
-two_checked (Err fault) p order = refl
-two_checked (Ok models) (Err fault) order = refl
-two_checked (Ok models) (Ok others) order = models_checked (models, 0) (others, 0) order
+found_checked : (first second : Result MainOf (ℕ × ℕ)) (order : Option (List ℕ)) →
+    found_answer first second order
+    ≡ verdict (refused_by_fault side.First first ∷ refused_by_fault side.Second second ∷ models_checks (main_or_none first) (main_or_none second) order) (comparison (netlist_of_model (main_or_none first)) (netlist_of_model (main_or_none second)))
+found_checked (Err fault) second order = refl
+found_checked (Ok m) (Err fault) order = refl
+found_checked (Ok m) (Ok n) order = models_checked m n order
 
 texts_checked : (texts : TextsOf) (order : Option (List ℕ)) → texts_answer texts order ≡ verdict (text_checks texts ++ order_checks (inputs_of (first_main texts)) order) (compared texts)
-texts_checked (one_text text) order = one_checked (outcome text) order
-texts_checked (two_texts first second) order = two_checked (outcome first) (outcome second) order
+texts_checked texts order = found_checked (first_found texts) (second_found texts) order
 
 -- the answer is the first refusal of all checks, or the comparison
 pub answer_checked : (texts : TextsOf) (order : Option (List ℕ)) (options : Options) → answer texts order options ≡ verdict (checks texts order options) (compared texts)

@@ -24,6 +24,7 @@ pub mod PairLaws
 pub mod DifferenceLaws
 pub mod InputLemmas
 pub mod ReportsLaws
+pub mod TellingLaws
 pub mod RunLaws
 pub mod CheckLemmas
 pub mod AcceptedLemmas

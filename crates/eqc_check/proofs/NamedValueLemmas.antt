@@ -1,5 +1,5 @@
 -- Values of outputs where each input has the value that is assigned to its name, and where a list has the values.
-use Rattle.std.proofs.Common.{◌≡◌, ℕ, ◌<◌, Bool, true, false, List, [], ◌∷◌, length, map, zip, get_or, sym, ap, refl, ◌∙◌, arith, Ok, Err}
+use Rattle.std.proofs.Common.{◌≡◌, ℕ, zero, suc, ◌<◌, nat_lt, if◌then◌else◌, Bool, true, false, List, [], ◌∷◌, length, map, zip, get_or, sym, ap, refl, ◌∙◌, arith, Option, Result, Ok, Err}
 use Rattle.std.specs.Prelude.{unwrap_or}
 use Rattle.std.proofs.lemmas.Bool.{not-true, and_parts, true≢false}
 use Rattle.std.proofs.lemmas.List.{length-map, get_or-map, get_or_default, same_lists}
@@ -13,23 +13,31 @@ use Rattle.eqc_flat.specs.Signals.{signals, output_value}
 use Rattle.eqc_flat.proofs.InputLaws.{values_depend_on_inputs_alone}
 use Rattle.eqc_check.specs.Verdict.{is_different, position_of, values_for, first_value, second_value}
 use Rattle.eqc_check.specs.VerdictLaws.{NeverDiffers}
-use Rattle.eqc_check.specs.Answer.{TextsOf, one_text, two_texts, MainOf, inputs_of, netlist_of_model}
-use Rattle.eqc_check.specs.AnswerLaws.{models_read, first_main, HaveSameNames, value_under}
+use Rattle.eqc_check.specs.Answer.{TextsOf, one_text, two_texts, MainOf, chosen_number, chosen, main_of, inputs_of, netlist_of_model}
+use Rattle.eqc_check.specs.AnswerLaws.{main_or_none, first_main, HaveSameNames, value_under}
 use Rattle.eqc_check.proofs.MatchedLemmas.{place_of_name}
 use Rattle.eqc_check.proofs.PlaceLemmas.{place_below, name_at, named_index}
 
--- no input of a main model stands twice
-once_first : (models : List ModelOf) → lists_are_distinct models ≡ true → has_twice (model models 0).inputs ≡ false
-once_first [] e = refl
-once_first (m ∷ models) e = not-true (has_twice m.inputs) (and_parts _ _ (and_parts _ _ e).0).0
+-- no input of a model stands twice
+once_at : (models : List ModelOf) (m : ℕ) → lists_are_distinct models ≡ true → has_twice (model models m).inputs ≡ false
+once_at [] m e = refl
+once_at (m ∷ models) zero e = not-true (has_twice m.inputs) (and_parts _ _ (and_parts _ _ e).0).0
+once_at (m ∷ models) (suc k) e = once_at models k (and_parts _ _ e).1
 
-once_read : (text : List ℕ) (o : Outcome) → outcome text ≡ o → has_twice (model (models_read o) 0).inputs ≡ false
-once_read text (Ok models) e = once_first models (libraries_have_no_name_twice text models e).1
-once_read text (Err fault) e = refl
+once_chosen : (models : List ModelOf) (name : Option (List ℕ)) (place : ℕ) → lists_are_distinct models ≡ true → has_twice (inputs_of (main_or_none (chosen models name place))) ≡ false
+once_chosen models name place e = by (nat_lt (chosen_number models name place) (length models))
+  where
+    by : (there : Bool) → has_twice (inputs_of (main_or_none (if there then Ok (models, chosen_number models name place) else Err (0, 13)))) ≡ false
+    by true = once_at models (chosen_number models name place) e
+    by false = refl
+
+once_read : (text : List ℕ) (o : Outcome) (name : Option (List ℕ)) (place : ℕ) → outcome text ≡ o → has_twice (inputs_of (main_or_none (main_of o name place))) ≡ false
+once_read text (Ok models) name place e = once_chosen models name place (libraries_have_no_name_twice text models e).1
+once_read text (Err fault) name place e = refl
 
 pub inputs_once : (texts : TextsOf) → has_twice (inputs_of (first_main texts)) ≡ false
-inputs_once (one_text text) = once_read text (outcome text) refl
-inputs_once (two_texts first second) = once_read first (outcome first) refl
+inputs_once (one_text names text) = once_read text (outcome text) names.first 0 refl
+inputs_once (two_texts names first second) = once_read first (outcome first) names.first 0 refl
 
 -- the values that an assignment gives declared names, as those of inputs with names among them
 named_value : (declared names : List (List ℕ)) (assigned : List ℕ → Bool) (k : ℕ) → is_named declared (get_or names k []) ≡ true → values_for declared (map assigned declared) names k ≡ assigned (get_or names k [])

@@ -23,7 +23,7 @@ use Rattle.eqc_check.specs.ReportView.{report_of}
 use Rattle.eqc_check.specs.Matched.{same_names, order_code}
 use Rattle.eqc_check.specs.PairOf.{pair_refusal, order_refused, no_memory}
 use Rattle.eqc_check.specs.Refusing.{IsRefused, refusal_report, flat_answer}
-use Rattle.eqc_check.specs.Answer.{MainOf, inputs_of, outputs_of, netlist_of_model, order_answer, code_of_order, pair_answer, models_answer, second_answer, one_answer, two_answer, IsComparison, MayStop, Answers, as_wanted, was_stopped, texts_answer, read_texts}
+use Rattle.eqc_check.specs.Answer.{MainOf, inputs_of, outputs_of, netlist_of_model, order_answer, code_of_order, pair_answer, models_answer, IsComparison, MayStop, Answers, as_wanted, was_stopped}
 use Rattle.std.specs.Borrow.{Bor}
 use Rattle.eqc_check.specs.Comparing.{netlist_of}
 use Rattle.eqc_check.proofs.PlaceLemmas.{place_below, all_named, name_at}
@@ -144,32 +144,6 @@ second_fault m n order code (Ok report) none h e = elim e [
   | inr is ↦ ap report_of h.1 ∙ rw (none, is) refl
 ]
 
--- a text that was refused
-pub refusal_reported : (s : Side) (refusal : Refusal) (result : Result Report Stop) (wanted : ReportOf) (o : Outcome) → IsRefused s refusal result → (refusal ≡ record { line = 0; code = 72 }) ⊎ (o ≡ Err (refusal.line, refusal.code)) → (o ≡ Err (refusal.line, refusal.code) → refused s refusal.line refusal.code ≡ wanted) → IfOk result (λ report. report_of report ≡ wanted)
-refusal_reported s refusal (Err stop) wanted o h e w = tt
-refusal_reported s refusal (Ok report) wanted o h e w = elim e [
-  | inl none ↦ absurd (h.0 (ap (λ (x : Refusal). x.code) none))
-  | inr is ↦ ap report_of h.1 ∙ w is
-]
-
-pub first_refused : (o : Outcome) (line code : ℕ) (order : Option (List ℕ)) → o ≡ Err (line, code) → refused side.First line code ≡ one_answer o order
-first_refused o line code order e = sym (ap (λ x. one_answer x order) e)
-
-pub first_refused_too : (o p : Outcome) (line code : ℕ) (order : Option (List ℕ)) → o ≡ Err (line, code) → refused side.First line code ≡ two_answer o p order
-first_refused_too o p line code order e = sym (ap (λ x. two_answer x p order) e)
-
-pub second_refused : (o p : Outcome) (models : List ModelOf) (line code : ℕ) (order : Option (List ℕ)) → o ≡ Ok models → p ≡ Err (line, code) → refused side.Second line code ≡ two_answer o p order
-second_refused o p models line code order e h = sym (ap (λ x. two_answer x p order) e ∙ ap (λ x. second_answer (models, 0) x order) h)
-
-pub second_missing : (o : Outcome) (models : List ModelOf) (order : Option (List ℕ)) → o ≡ Ok models → length models < 2 → refused side.Second 0 13 ≡ one_answer o order
-second_missing o models order e h = sym (ap (λ x. one_answer x order) e ∙ rw (lt-ltb (length models) 2 h) refl)
-
-pub one_compared : (o : Outcome) (models : List ModelOf) (order : Option (List ℕ)) → o ≡ Ok models → 2 ≤ length models → models_answer (models, 0) (models, 1) order ≡ one_answer o order
-one_compared o models order e h = sym (ap (λ x. one_answer x order) e ∙ rw (le-ltb (length models) 2 h) refl)
-
-pub two_compared : (o p : Outcome) (models others : List ModelOf) (order : Option (List ℕ)) → o ≡ Ok models → p ≡ Ok others → models_answer (models, 0) (others, 0) order ≡ two_answer o p order
-two_compared o p models others order e h = sym (ap (λ x. two_answer x p order) e ∙ ap (λ x. second_answer (models, 0) x order) h)
-
 -- what was reported answers
 pub answers : (wanted got : ReportOf) → got ≡ wanted → Answers wanted got
 answers wanted got e = subst (Answers wanted) (sym e) as_wanted
@@ -177,10 +151,6 @@ answers wanted got e = subst (Answers wanted) (sym e) as_wanted
 pub reported : (result : Result Report Stop) (a b : ReportOf) → IfOk result (λ report. report_of report ≡ a) → a ≡ b → IfOk result (λ report. report_of report ≡ b)
 reported (Ok report) a b h e = h ∙ e
 reported (Err stop) a b h e = tt
-
-pub answered : (wanted : ReportOf) (result : Result Report Stop) (got : Report) → IfOk result (λ report. report_of report ≡ wanted) → IfErr result (MayStop wanted) → MatchResult result (λ r. got ≡ r) (λ stop. got ≡ kind.Stopped stop) → Answers wanted (report_of got)
-answered wanted (Ok report) got h s e = answers wanted (report_of got) (ap report_of e ∙ h)
-answered wanted (Err stop) got h s e = subst (λ (r : Report). Answers wanted (report_of r)) (sym e) (was_stopped stop s)
 
 -- what may stop one report may stop an equal one
 pub stop_alike : (result : Result Report Stop) (a b : ReportOf) → IfErr result (MayStop a) → a ≡ b → IfErr result (MayStop b)
@@ -217,9 +187,3 @@ pair_reported f g order r (Ok report) h e = elim e [
 pub refused_stop : (s : Side) (refusal : Refusal) (result : Result Report Stop) (wanted : ReportOf) → IsRefused s refusal result → IfErr result (MayStop wanted)
 refused_stop s refusal (Ok report) wanted h = tt
 refused_stop s refusal (Err stop) wanted h = subst (MayStop wanted) (sym h.1) tt
-
-pub none_second : (first : List ℕ) (second : Option (Bor (List ℕ))) (order : Option (List ℕ)) (got : ReportOf) → second ≡ None → Answers (one_answer (outcome first) order) got → Answers (texts_answer (read_texts first (option_copied second)) order) got
-none_second first second order got e h = subst (λ (s : Option (Bor (List ℕ))). Answers (texts_answer (read_texts first (option_copied s)) order) got) (sym e) h
-
-pub some_second : (first : List ℕ) (text : Bor (List ℕ)) (second : Option (Bor (List ℕ))) (order : Option (List ℕ)) (got : ReportOf) → second ≡ Some text → Answers (two_answer (outcome first) (outcome text.now) order) got → Answers (texts_answer (read_texts first (option_copied second)) order) got
-some_second first text second order got e h = subst (λ (s : Option (Bor (List ℕ))). Answers (texts_answer (read_texts first (option_copied s)) order) got) (sym e) h

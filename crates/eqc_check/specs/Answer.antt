@@ -1,10 +1,10 @@
 -- The answer of a run: the refusal of the first check that fails, else the report on the two netlists. The
--- checks are, in this order: the options, the reading of the first text, that of the second, the hierarchies, the
--- pair and the order text. The order of variables and the options otherwise play no part.
-use Rattle.std.specs.Prelude.{ℕ, not, nat_lt, List, length, Option, Some, None, Ok, Err, if◌then◌else◌}
+-- checks are, in this order: the options, the reading of the first text and the choice of its model, those of the
+-- second, the hierarchies, the pair and the order text. The order of variables and the options otherwise play no part.
+use Rattle.std.specs.Prelude.{ℕ, not, nat_lt, List, length, Option, Some, None, Result, Ok, Err, if◌then◌else◌}
 use Rattle.eqc_blif.specs.Netlist.{ModelOf}
 use Rattle.eqc_blif.specs.Reading.{Outcome, outcome}
-use Rattle.eqc_flat.specs.Hierarchy.{model}
+use Rattle.eqc_flat.specs.Hierarchy.{model, model_number}
 use Rattle.eqc_flat.specs.Signals.{output_value}
 use Rattle.eqc_flat.specs.Codes.{flat_code}
 use Rattle.eqc_check.specs.declared.options.Options.{Options}
@@ -18,14 +18,48 @@ use Rattle.eqc_tree.specs.Stopping.{code_of}
 use Rattle.eqc_tree.specs.declared.stopping.Stop.{Stop}
 use Rattle.eqc_tree.specs.declared.stopping.Stop.TheVariants.{NodeLimit, Memory, References, Threads}
 
--- the texts of a run: one, of which the first two models are compared, or two, of which the main models are
+-- the names by which the first and the second model are chosen; without one, the place decides
+pub record NamesOf : Type 0 where
+  pub first : Option (List ℕ)
+  pub second : Option (List ℕ)
+
+-- no names
+abbrev pub unnamed : NamesOf
+unnamed = record { first = None; second = None }
+
+-- the texts of a run, with the names: one text, whose first two models are compared where no name is given, or two
+-- texts, whose first models are
 pub data TextsOf : Type 0 where
-  one_text : List ℕ → TextsOf
-  two_texts : List ℕ → List ℕ → TextsOf
+  one_text : NamesOf → List ℕ → TextsOf
+  two_texts : NamesOf → List ℕ → List ℕ → TextsOf
 
 -- a main model: a library, and the number of one of its models
 abbrev pub MainOf : Type 0
 MainOf = List ModelOf × ℕ
+
+-- the number of the model of this name, else of the one at this place; as large as there are models, or larger, where
+-- there is no such model
+abbrev pub chosen_number : List ModelOf → Option (List ℕ) → ℕ → ℕ
+chosen_number models None place = place
+chosen_number models (Some name) place = model_number models name
+
+-- that model, or code 13 without a line where there is none
+abbrev pub chosen : List ModelOf → Option (List ℕ) → ℕ → Result MainOf (ℕ × ℕ)
+chosen models name place = if nat_lt (chosen_number models name place) (length models) then Ok (models, chosen_number models name place) else Err (0, 13)
+
+-- the model that is chosen of a text, or the fault of its reading
+abbrev pub main_of : Outcome → Option (List ℕ) → ℕ → Result MainOf (ℕ × ℕ)
+main_of (Err fault) name place = Err fault
+main_of (Ok models) name place = chosen models name place
+
+-- the two models that are compared
+abbrev pub first_found : TextsOf → Result MainOf (ℕ × ℕ)
+first_found (one_text names text) = main_of (outcome text) names.first 0
+first_found (two_texts names first second) = main_of (outcome first) names.first 0
+
+abbrev pub second_found : TextsOf → Result MainOf (ℕ × ℕ)
+second_found (one_text names text) = main_of (outcome text) names.second 1
+second_found (two_texts names first second) = main_of (outcome second) names.second 0
 
 abbrev pub inputs_of : MainOf → List (List ℕ)
 inputs_of m = (model m.0 m.1).inputs
@@ -60,23 +94,13 @@ or_code side (Some code) rest = refused side 0 code
 abbrev pub models_answer : MainOf → MainOf → Option (List ℕ) → ReportOf
 models_answer m n order = or_code side.First (flat_code m.0 m.1) (or_code side.Second (flat_code n.0 n.1) (pair_answer m n order))
 
-abbrev pub second_answer : MainOf → Outcome → Option (List ℕ) → ReportOf
-second_answer m (Err fault) order = refused side.Second fault.0 fault.1
-second_answer m (Ok models) order = models_answer m (models, 0) order
-
-abbrev pub one_answer : Outcome → Option (List ℕ) → ReportOf
-one_answer (Err fault) order = refused side.First fault.0 fault.1
-one_answer (Ok models) order =
-    if nat_lt (length models) 2 then refused side.Second 0 13
-    else models_answer (models, 0) (models, 1) order
-
-abbrev pub two_answer : Outcome → Outcome → Option (List ℕ) → ReportOf
-two_answer (Err fault) second order = refused side.First fault.0 fault.1
-two_answer (Ok models) second order = second_answer (models, 0) second order
+abbrev pub found_answer : Result MainOf (ℕ × ℕ) → Result MainOf (ℕ × ℕ) → Option (List ℕ) → ReportOf
+found_answer (Err fault) second order = refused side.First fault.0 fault.1
+found_answer (Ok m) (Err fault) order = refused side.Second fault.0 fault.1
+found_answer (Ok m) (Ok n) order = models_answer m n order
 
 abbrev pub texts_answer : TextsOf → Option (List ℕ) → ReportOf
-texts_answer (one_text text) order = one_answer (outcome text) order
-texts_answer (two_texts first second) order = two_answer (outcome first) (outcome second) order
+texts_answer texts order = found_answer (first_found texts) (second_found texts) order
 
 abbrev pub options_answer : Option ℕ → ReportOf → ReportOf
 options_answer None rest = rest
@@ -107,6 +131,6 @@ pub data Answers (wanted : ReportOf) : ReportOf → Type 0 where
   was_stopped : (stop : Stop) → MayStop wanted stop → Answers wanted (stopped (code_of stop))
 
 -- texts that were read
-abbrev pub read_texts : List ℕ → Option (List ℕ) → TextsOf
-read_texts first None = one_text first
-read_texts first (Some second) = two_texts first second
+abbrev pub read_texts : NamesOf → List ℕ → Option (List ℕ) → TextsOf
+read_texts names first None = one_text names first
+read_texts names first (Some second) = two_texts names first second

@@ -1,10 +1,8 @@
 -- What a report promises, without the definition of the answer: the two main models, the checks in their order, and
 -- the values of outputs where each input has the value that is assigned to its name.
-use Rattle.std.specs.Prelude.{◌≡◌, ◌≢◌, ◌↔◌, ℕ, ◌^◌, ◌≤◌, ◌<◌, Bool, false, not, List, [], ◌∷◌, ◌++◌, length, map, nat_lt, slice_index_or, Option, Some, None, IfSome, Ok, Err, if◌then◌else◌}
+use Rattle.std.specs.Prelude.{◌≡◌, ◌≢◌, ◌↔◌, ℕ, ◌^◌, ◌≤◌, ◌<◌, Bool, false, not, List, [], ◌∷◌, ◌++◌, length, map, nat_lt, slice_index_or, Option, Some, None, IfSome, Result, Ok, Err, if◌then◌else◌}
 use Rattle.std.specs.List.{All}
-use Rattle.eqc_blif.specs.Netlist.{ModelOf}
 use Rattle.eqc_blif.specs.Names.{is_named, has_twice}
-use Rattle.eqc_blif.specs.Reading.{Outcome, outcome}
 use Rattle.eqc_flat.specs.Signals.{output_value}
 use Rattle.eqc_flat.specs.Codes.{flat_code}
 use Rattle.eqc_check.specs.declared.options.Options.{Options}
@@ -15,26 +13,23 @@ use Rattle.eqc_check.specs.Options.{is_between, is_cell_count, options_code}
 use Rattle.eqc_check.specs.Matched.{has_all, same_names, order_words}
 use Rattle.eqc_check.specs.VerdictLaws.{IsBelow}
 use Rattle.eqc_check.specs.Report.{ReportOf, equivalent, differs, refused, stopped}
-use Rattle.eqc_check.specs.Answer.{TextsOf, one_text, two_texts, MainOf, inputs_of, outputs_of, answer, IsComparison, Answers}
+use Rattle.eqc_check.specs.Answer.{NamesOf, TextsOf, first_found, second_found, MainOf, inputs_of, outputs_of, answer, IsComparison, Answers}
 use Rattle.eqc_check.specs.Running.{known_texts, known_order, IsReportFor}
 use Rattle.eqc_check.specs.declared.running.Texts.{Texts}
 
 -- ---- the main models
 
--- the models that were read; none where a text has a fault
-abbrev pub models_read : Outcome → List ModelOf
-models_read (Ok models) = models
-models_read (Err fault) = []
+-- the main models: those that are chosen. Where a text has a fault or no such model, this stands for a model without
+-- inputs and outputs: a check that comes before all that look at it refuses
+abbrev pub main_or_none : Result MainOf (ℕ × ℕ) → MainOf
+main_or_none (Ok m) = m
+main_or_none (Err fault) = ([], 0)
 
--- the main models: the first two of one text, or the first of each of two. Where a text has a fault or no such
--- model, this stands for a model without inputs and outputs: a check that comes before all that look at it refuses
 abbrev pub first_main : TextsOf → MainOf
-first_main (one_text text) = (models_read (outcome text), 0)
-first_main (two_texts first second) = (models_read (outcome first), 0)
+first_main texts = main_or_none (first_found texts)
 
 abbrev pub second_main : TextsOf → MainOf
-second_main (one_text text) = (models_read (outcome text), 1)
-second_main (two_texts first second) = (models_read (outcome second), 0)
+second_main texts = main_or_none (second_found texts)
 
 -- ---- what is accepted
 
@@ -47,14 +42,13 @@ pub record AreInRange (options : Options) : Type 0 where
   pub power : (k : ℕ) × (k ≤ 20) × (options.cells ≡ 2 ^ k)
   pub few_forks : options.forks ≤ 16
 
--- a text has no fault
-abbrev pub IsReadable : List ℕ → Type 0
-IsReadable text = (models : List ModelOf) × (outcome text ≡ Ok models)
+-- a text has no fault, and the model that is chosen of it is there
+abbrev pub IsFound : Result MainOf (ℕ × ℕ) → Type 0
+IsFound found = (m : MainOf) × (found ≡ Ok m)
 
--- the texts have no fault, and one text has two models
+-- so it is for both texts, or for both models of one
 abbrev pub AreReadable : TextsOf → Type 0
-AreReadable (one_text text) = IsReadable text × (2 ≤ length (models_read (outcome text)))
-AreReadable (two_texts first second) = IsReadable first × IsReadable second
+AreReadable texts = IsFound (first_found texts) × IsFound (second_found texts)
 
 -- a name is in both lists or in neither
 abbrev pub HaveSameNames : List (List ℕ) → List (List ℕ) → Type 0
@@ -118,17 +112,9 @@ abbrev pub refused_by_code : Side → Option ℕ → Option Refused
 refused_by_code at None = None
 refused_by_code at (Some number) = Some (record { side = at; line = 0; code = number })
 
-abbrev pub refused_by_fault : Side → Outcome → Option Refused
-refused_by_fault at (Ok models) = None
+abbrev pub refused_by_fault : Side → Result MainOf (ℕ × ℕ) → Option Refused
+refused_by_fault at (Ok m) = None
 refused_by_fault at (Err fault) = Some (record { side = at; line = fault.0; code = fault.1 })
-
-abbrev pub second_reading : TextsOf → Option Refused
-second_reading (one_text text) = refused_if (nat_lt (length (models_read (outcome text))) 2) side.Second 13
-second_reading (two_texts first second) = refused_by_fault side.Second (outcome second)
-
-abbrev pub first_reading : TextsOf → Option Refused
-first_reading (one_text text) = refused_by_fault side.First (outcome text)
-first_reading (two_texts first second) = refused_by_fault side.First (outcome first)
 
 -- whether there is an order text that fails a test
 abbrev pub order_fails : Option (List ℕ) → (List ℕ → Bool) → Bool
@@ -146,8 +132,8 @@ option_checks options =
 
 abbrev pub text_checks : TextsOf → List (Option Refused)
 text_checks texts =
-    first_reading texts
-    ∷ second_reading texts
+    refused_by_fault side.First (first_found texts)
+    ∷ refused_by_fault side.Second (second_found texts)
     ∷ refused_by_code side.First (flat_code (first_main texts).0 (first_main texts).1)
     ∷ refused_by_code side.Second (flat_code (second_main texts).0 (second_main texts).1)
     ∷ refused_if (not (same_names (inputs_of (first_main texts)) (inputs_of (second_main texts)))) side.Pair 41
@@ -225,6 +211,6 @@ AnswerIsNoStop = (texts : TextsOf) (order : Option (List ℕ)) (options : Option
 -- a report that answers a run, over readers whose bytes are known, is the answer on these, or says why the run was stopped
 abbrev pub IsAnswerOfRuns : {R : Type 0} → (R → Option (List ℕ)) → Type 0
 IsAnswerOfRuns {R} remaining =
-    (texts : Texts R) (order : Option R) (options : Options) (known : TextsOf) (order_text : Option (List ℕ)) (report : ReportOf)
-    → known_texts remaining texts ≡ Some known → known_order remaining order ≡ Some order_text
-    → IsReportFor (options_code options) remaining texts order report → Answers (answer known order_text options) report
+    (names : NamesOf) (texts : Texts R) (order : Option R) (options : Options) (known : TextsOf) (order_text : Option (List ℕ)) (report : ReportOf)
+    → known_texts names remaining texts ≡ Some known → known_order remaining order ≡ Some order_text
+    → IsReportFor (options_code options) names remaining texts order report → Answers (answer known order_text options) report

@@ -1,21 +1,23 @@
 ghost use Rattle.std.specs.Prelude.{◌≡◌, ◌<◌, ◌⊎◌, length, None, IfOk, IfErr, Ok, MatchResult};
 ghost use Rattle.std.specs.Option.{option_copied};
-ghost use Rattle.eqc_blif.specs.Reading.{outcome};
 ghost use Rattle.eqc_check.specs.Refusing.{IsRefused, flat_answer};
 ghost use Rattle.eqc_check.specs.ReportView.{report_of};
 ghost use Rattle.eqc_check.specs.Options.{options_code};
-ghost use Rattle.eqc_check.specs.Answer.{models_answer, one_answer, two_answer, read_texts, texts_answer, Answers, MayStop};
+ghost use Rattle.eqc_check.specs.Answer.{one_text, two_texts, models_answer, read_texts, texts_answer, Answers, MayStop};
+ghost use Rattle.eqc_check.specs.Telling.{IsToldRefusal, IsToldWith, Tells, WarnsOf};
 
+use crate::choice::{Main, ModelNames, choose, read_main};
 use crate::options::Options;
 use crate::pairing::matched_pair::recall_laws;
 use crate::pairing::pair;
 use crate::report::{Refused, Report, Side};
 use crate::workers::check;
 use crate::workers::gate::NoGate;
-use eqc_blif::{Library, Refusal, Rule, read};
+use crate::warning::{Warnings, warnings_in_one, warnings_in_two};
+use eqc_blif::{Library, Refusal};
 use eqc_flat::{Fault, Flat, flatten};
 use eqc_tree::Stop;
-use std::alloc::Global;
+use std::alloc::{AllocError, Global};
 use std::sync::Wait;
 use std::thread::Threads;
 
@@ -77,76 +79,136 @@ fn models_report<R: Threads + Wait + Sync>(
     flat_report(alloc, rt, &f, &g, order, options)
 }
 
-/// The report on the first two models of a text.
+/// A report, and the warnings on the models that were compared for it.
+#[derive(Drop)]
+pub(crate) struct Told {
+    pub report: Report,
+    pub warnings: Warnings,
+}
+
+impl Told {
+    /// A report that compares nothing, without warnings.
+    pub fn alone(report: Report) -> Told
+        ensures { result.report ≡ report }
+    {
+        Told {
+            report,
+            warnings: Warnings::none(),
+        }
+    }
+}
+
+/// A refusal of a side, without warnings.
+fn told_refusal(side: Side, refusal: Refusal) -> Result<Told, Stop>
+    ensures { IsToldRefusal side refusal result }
+{
+    Ok(Told::alone(refused(side, refusal)?))
+}
+
+/// A report with its warnings, or want of memory for these.
+fn with_warnings(
+    report: Result<Report, Stop>,
+    warnings: Result<Warnings, AllocError>,
+) -> Result<Told, Stop>
+    ensures { IsToldWith report warnings result }
+{
+    let report = report?;
+    match warnings {
+        Ok(warnings) => Ok(Told { report, warnings }),
+        Err(_) => Err(Stop::Memory),
+    }
+}
+
+/// The report on two models of a text.
 fn one_report<R: Threads + Wait + Sync>(
     alloc: Global,
     rt: &R,
     text: &[u8],
+    names: &ModelNames<'_>,
     order: Option<&[u8]>,
     options: &Options,
-) -> Result<Report, Stop>
+) -> Result<Told, Stop>
     requires options { options_code options.now ≡ None }
-    ensures report { IfOk result (λ report. report_of report ≡ one_answer (outcome text.now) (option_copied order.entry)) }
-    ensures stop { IfErr result (MayStop (one_answer (outcome text.now) (option_copied order.entry))) }
+    ensures { Tells (one_text names.now text.now) (option_copied order.entry) result }
 {
-    let library = match read(alloc, text) {
-        Ok(library) => library,
-        Err(refusal) => return refused(Side::First, refusal),
+    let Main { library, model } = match read_main(alloc, text, names.first, 0) {
+        Ok(main) => main,
+        Err(refusal) => return told_refusal(Side::First, refusal),
     };
-    if library.models() < 2 {
-        return refused(Side::Second, Rule::NoModel.without_line());
-    }
-    models_report(alloc, rt, (&library, 0), (&library, 1), order, options)
+    let other = match choose(alloc, &library, names.second, 1) {
+        Ok(other) => other,
+        Err(refusal) => return told_refusal(Side::Second, refusal),
+    };
+    with_warnings(
+        models_report(
+            alloc,
+            rt,
+            (&library, model),
+            (&library, other),
+            order,
+            options,
+        ),
+        warnings_in_one(alloc, &library, model, other),
+    )
 }
 
-/// The report on the main models of two texts.
+/// The report on a model of one text and one of another.
 fn two_report<R: Threads + Wait + Sync>(
     alloc: Global,
     rt: &R,
     first: &[u8],
     second: &[u8],
+    names: &ModelNames<'_>,
     order: Option<&[u8]>,
     options: &Options,
-) -> Result<Report, Stop>
+) -> Result<Told, Stop>
     requires options { options_code options.now ≡ None }
-    ensures report { IfOk result (λ report. report_of report ≡ two_answer (outcome first.now) (outcome second.now) (option_copied order.entry)) }
-    ensures stop { IfErr result (MayStop (two_answer (outcome first.now) (outcome second.now) (option_copied order.entry))) }
+    ensures { Tells (two_texts names.now first.now second.now) (option_copied order.entry) result }
 {
-    let first = match read(alloc, first) {
-        Ok(library) => library,
-        Err(refusal) => return refused(Side::First, refusal),
+    let first = match read_main(alloc, first, names.first, 0) {
+        Ok(main) => main,
+        Err(refusal) => return told_refusal(Side::First, refusal),
     };
-    let second = match read(alloc, second) {
-        Ok(library) => library,
-        Err(refusal) => return refused(Side::Second, refusal),
+    let second = match read_main(alloc, second, names.second, 0) {
+        Ok(main) => main,
+        Err(refusal) => return told_refusal(Side::Second, refusal),
     };
-    models_report(alloc, rt, (&first, 0), (&second, 0), order, options)
+    let (f, g) = (
+        (&first.library, first.model),
+        (&second.library, second.model),
+    );
+    with_warnings(
+        models_report(alloc, rt, f, g, order, options),
+        warnings_in_two(alloc, f, g),
+    )
 }
 
-/// The report, or that of the stop.
-fn or_stopped(report: Result<Report, Stop>) -> Report
-    ensures { MatchResult report (λ r. result ≡ r) (λ stop. result ≡ Report.Stopped stop) }
+/// The report with its warnings, or that of the stop.
+fn or_stopped(told: Result<Told, Stop>) -> Told
+    ensures { MatchResult told (λ t. result ≡ t) (λ stop. (result.report ≡ Report.Stopped stop)) }
 {
-    match report {
-        Ok(report) => report,
-        Err(stop) => Report::Stopped(stop),
+    match told {
+        Ok(told) => told,
+        Err(stop) => Told::alone(Report::Stopped(stop)),
     }
 }
 
-/// The report on texts that were read.
+/// The report on texts that were read, with the warnings where it is a comparison.
 pub(crate) fn texts_report<R: Threads + Wait + Sync>(
     alloc: Global,
     rt: &R,
     first: &[u8],
     second: Option<&[u8]>,
+    names: &ModelNames<'_>,
     order: Option<&[u8]>,
     options: &Options,
-) -> Report
+) -> Told
     requires options { options_code options.now ≡ None }
-    ensures { Answers (texts_answer (read_texts first.now (option_copied second.entry)) (option_copied order.entry)) (report_of result) }
+    ensures report { Answers (texts_answer (read_texts names.now first.now (option_copied second.entry)) (option_copied order.entry)) (report_of result.report) }
+    ensures warned { WarnsOf (read_texts names.now first.now (option_copied second.entry)) (report_of result.report) result.warnings }
 {
     match second {
-        None => or_stopped(one_report(alloc, rt, first, order, options)),
-        Some(second) => or_stopped(two_report(alloc, rt, first, second, order, options)),
+        None => or_stopped(one_report(alloc, rt, first, names, order, options)),
+        Some(second) => or_stopped(two_report(alloc, rt, first, second, names, order, options)),
     }
 }

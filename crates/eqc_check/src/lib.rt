@@ -4,7 +4,8 @@
 //! What the report has to be is said in `specs/Answer.antt`, `specs/Verdict.antt` and `specs/Report.antt`. Read the modules in this
 //! order, the way of the data:
 //!
-//! - `running`, texts in and a report out, over `io`, readers and writers; `decide`, which refusal or comparison it is
+//! - `running`, texts in and a report out, over `io`, readers and writers; `decide`, which refusal or comparison it is;
+//!   `choice`, which models are compared; `warning`, models that are contained in others
 //! - `pairing`, two netlists as a pair; `options` and `rule`, what is asked for and what is refused
 //! - `making`, what is made of references; `build`, the diagrams of signals
 //! - `compare`, one output; `least`, its least assignment; `checking`, all outputs on one thread; `workers`, on several
@@ -13,6 +14,7 @@
 
 mod build;
 mod checking;
+mod choice;
 mod compare;
 mod decide;
 mod io;
@@ -24,9 +26,11 @@ mod pairing;
 mod report;
 mod rule;
 mod running;
+mod warning;
 mod workers;
 
 pub use checking::check_plain;
+pub use choice::ModelNames;
 pub use compare::compare_output;
 pub use io::fault::RunFault;
 pub use io::writing::write_text;
@@ -44,6 +48,7 @@ pub use pairing::pair;
 pub use report::text::write_report;
 pub use report::{Refused, Report, Side, Status};
 pub use rule::{OPTION_RULES, PAIR_RULES, Rule};
-pub use running::{Texts, run};
+pub use running::{Finished, Texts, run, run_models};
+pub use warning::{Contained, Warnings};
 pub use workers::gate::{Gate, NoGate};
 pub use workers::{check, check_with};

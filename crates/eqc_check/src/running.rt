@@ -5,14 +5,18 @@ ghost use Rattle.eqc_check.specs.ReportView.{report_of};
 ghost use Rattle.eqc_check.specs.Ends.{AppendsPrefix};
 ghost use Rattle.eqc_check.specs.Report.{text, stopped};
 ghost use Rattle.eqc_check.specs.Options.{options_code};
+ghost use Rattle.eqc_check.specs.Answer.{unnamed};
 ghost use Rattle.eqc_check.specs.Running.{IsReport, IsReportFor, IsShown, IsWritten, IsCutShort, IsAnswered, IsCutOff};
+ghost use Rattle.eqc_check.specs.Warning.{IsWarned, WarnsOfKnown};
 
-use crate::decide::texts_report;
+use crate::choice::ModelNames;
+use crate::decide::{Told, texts_report};
 use crate::io::fault::RunFault;
 use crate::io::reading::read_text;
 use crate::options::{Options, options_fault};
 use crate::report::text::write_report;
 use crate::report::{Refused, Report, Side, Status};
+use crate::warning::Warnings;
 use eqc_tree::Stop;
 use std::alloc::Global;
 use std::io::{Read, Write};
@@ -79,26 +83,28 @@ fn bytes_of(text: &Option<Vec<u8>>) -> Option<&[u8]>
     }
 }
 
-/// The report of a run whose options are in their ranges.
+/// The report of a run whose options are in their ranges, with the warnings where it is a comparison.
 fn read_report<RT: Threads + Wait + Sync, R: Read + Drop>(
     alloc: Global,
     rt: &RT,
     texts: Texts<R>,
+    names: &ModelNames<'_>,
     order: Option<R>,
     options: &Options,
-) -> Result<Report, RunFault>
+) -> Result<Told, RunFault>
     requires options { options_code options.now ≡ None }
-    ensures report { IfOk result (λ report. IsReport R.remaining texts order (report_of report)) }
+    ensures report { IfOk result (λ told. IsReport names.now R.remaining texts order (report_of told.report)) }
+    ensures warned { IfOk result (λ told. WarnsOfKnown names.now R.remaining texts (report_of told.report) told.warnings) }
     ensures fault { IfErr result (λ fault. fault ≡ RunFault.Read) }
 {
     let sources = match read_sources(alloc, texts, order) {
         Ok(sources) => sources,
         Err(RunFault::Read) => return Err(RunFault::Read),
-        Err(_) => return Ok(Report::Stopped(Stop::Memory)),
+        Err(_) => return Ok(Told::alone(Report::Stopped(Stop::Memory))),
     };
     let second = bytes_of(&sources.second);
     let order = bytes_of(&sources.order);
-    Ok(texts_report(alloc, rt, &sources.first, second, order, options))
+    Ok(texts_report(alloc, rt, &sources.first, second, names, order, options))
 }
 
 /// Writes `stopped 72`, which takes no memory.
@@ -127,24 +133,70 @@ fn write_or_stop<W: Write>(alloc: Global, report: &Report, out: &mut W) -> Resul
     }
 }
 
-/// The report of a run: a refusal of its options before any text is read, else that on its texts.
+/// The report of a run with its warnings: a refusal of its options before any text is read, else that on its texts.
 fn report_for<RT: Threads + Wait + Sync, R: Read + Drop>(
     alloc: Global,
     rt: &RT,
     texts: Texts<R>,
+    names: &ModelNames<'_>,
     order: Option<R>,
     options: &Options,
-) -> Result<Report, RunFault>
-    ensures report { IfOk result (λ report. IsReportFor (options_code options.now) R.remaining texts order (report_of report)) }
+) -> Result<Told, RunFault>
+    ensures report { IfOk result (λ told. IsReportFor (options_code options.now) names.now R.remaining texts order (report_of told.report)) }
+    ensures warned { IfOk result (λ told. WarnsOfKnown names.now R.remaining texts (report_of told.report) told.warnings) }
     ensures fault { IfErr result (λ fault. (fault ≡ RunFault.Read) × (options_code options.now ≡ None)) }
 {
     match options_fault(options) {
-        Some(code) => Ok(Report::Refused(Refused {
+        Some(code) => Ok(Told::alone(Report::Refused(Refused {
             side: Side::Options,
             line: 0,
             code,
-        })),
-        None => read_report(alloc, rt, texts, order, options),
+        }))),
+        None => read_report(alloc, rt, texts, names, order, options),
+    }
+}
+
+/// A run whose report was written: the kind of the report, and what is to be warned of.
+#[derive(Drop)]
+pub struct Finished {
+    pub status: Status,
+    pub warnings: Warnings,
+}
+
+/// Compares two netlists and writes the report, as `run` does, and chooses the models by their names where these are
+/// given.
+///
+/// Each name is looked up in the models of its text, both in those of a single text. Where there is no model of a
+/// name, the report is the refusal of that side with code 13. Without a name the place decides: of one text the first
+/// model and the second, whatever the other side's name is, and of two texts the first of each.
+///
+/// Where the report is a verdict, `equivalent` or that an output differs, the answer has a warning for each compared
+/// model that a model of its text contains which isn't compared.
+pub fn run_models<RT: Threads + Wait + Sync, R: Read + Drop, W: Write>(
+    rt: &RT,
+    alloc: Global,
+    texts: Texts<R>,
+    names: &ModelNames<'_>,
+    order: Option<R>,
+    options: &Options,
+    out: &mut W,
+) -> Result<Finished, RunFault>
+    ensures answered { IfOk result (λ finished. IsAnswered names.now R.remaining texts order options.now (W.contents out.old) (W.contents out.new) finished.status) }
+    ensures warned { IfOk result (λ finished. IsWarned names.now R.remaining texts finished.status finished.warnings) }
+    ensures write { result ≡ Err RunFault.Write → IsCutOff names.now R.remaining texts order options.now (W.contents out.old) (W.contents out.new) }
+    ensures read { result ≡ Err RunFault.Read → (options_code options.now ≡ None) × (out.new ≡ out.old) }
+    ensures memory { IfErr result (λ fault. fault ≢ RunFault.Memory) }
+{
+    let Told { report, warnings } = match report_for(alloc, rt, texts, names, order, options) {
+        Ok(told) => told,
+        Err(_) => return Err(RunFault::Read),
+    };
+    match write_or_stop(alloc, &report, out) {
+        Ok(status) => Ok(Finished {
+            status,
+            warnings: warnings.at(status),
+        }),
+        Err(_) => Err(RunFault::Write),
     }
 }
 
@@ -166,17 +218,14 @@ pub fn run<RT: Threads + Wait + Sync, R: Read + Drop, W: Write>(
     options: &Options,
     out: &mut W,
 ) -> Result<Status, RunFault>
-    ensures answered { IfOk result (λ status. IsAnswered R.remaining texts order options.now (W.contents out.old) (W.contents out.new) status) }
-    ensures write { result ≡ Err RunFault.Write → IsCutOff R.remaining texts order options.now (W.contents out.old) (W.contents out.new) }
+    ensures answered { IfOk result (λ status. IsAnswered unnamed R.remaining texts order options.now (W.contents out.old) (W.contents out.new) status) }
+    ensures write { result ≡ Err RunFault.Write → IsCutOff unnamed R.remaining texts order options.now (W.contents out.old) (W.contents out.new) }
     ensures read { result ≡ Err RunFault.Read → (options_code options.now ≡ None) × (out.new ≡ out.old) }
     ensures memory { IfErr result (λ fault. fault ≢ RunFault.Memory) }
 {
-    let report = match report_for(alloc, rt, texts, order, options) {
-        Ok(report) => report,
-        Err(_) => return Err(RunFault::Read),
-    };
-    match write_or_stop(alloc, &report, out) {
-        Ok(status) => Ok(status),
-        Err(_) => Err(RunFault::Write),
+    let names = ModelNames::none();
+    match run_models(rt, alloc, texts, &names, order, options, out) {
+        Ok(finished) => Ok(finished.status),
+        Err(fault) => Err(fault),
     }
 }

@@ -4,6 +4,8 @@ use Rattle.std.specs.Prelude.{Result, Ok, IfSome}
 use Rattle.std.specs.Str.Parse.{ParsesUnsigned, digits_value, without_leading_plus}
 use Rattle.clap.specs.Faults.{fault_of, is_simple_and_free}
 use Rattle.clap.specs.Built.{AddsArg}
+use Rattle.clap.specs.Kinds.{HasKind}
+use Rattle.clap.specs.declared.error.Error.{Error}
 use Rattle.clap.specs.Matches.{found_of, one_text, ReadsOne}
 use Rattle.clap.specs.Simple.{App, HasMatchesOf, app_of, is_simple, matches_of, with_rule}
 use Rattle.clap.specs.Walk.{Rule, Text, rows_of, rule_of}
@@ -42,6 +44,11 @@ words_ask a words m request is has asked =
 pub words_taken : (a : App) (words : List Text) → a ≡ eqc_app → (is_simple_and_free a ≡ true → fault_of a words ≡ [])
     → fault_of eqc_app words ≡ []
 words_taken a words is taken = subst (λ b. fault_of b words ≡ []) is (taken (ap is_simple_and_free is ∙ app_is_free))
+
+-- and a bad one fails as its words say
+pub words_refused : (a : App) (words : List Text) (error : Error) → a ≡ eqc_app → (is_simple_and_free a ≡ true → HasKind (fault_of a words) error)
+    → HasKind (fault_of eqc_app words) error
+words_refused a words error is refused = subst (λ b. HasKind (fault_of b words) error) is (refused (ap is_simple_and_free is ∙ app_is_free))
 
 -- a number that was read is the option's
 pub number_read : {E : Type 0} (G : List ℕ → Result ℕ E → Type 0) (f : Found) (name : List ℕ) (r : Option ℕ)

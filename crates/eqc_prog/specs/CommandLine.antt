@@ -1,8 +1,8 @@
 -- The command line as `clap` takes it, and what its words ask for.
-use Rattle.std.specs.Prelude.{◌≡◌, ℕ, pos, List, [], ◌∷◌, codes, Option, Some, option_map}
+use Rattle.std.specs.Prelude.{◌≡◌, ℕ, true, pos, List, [], ◌∷◌, codes, Option, Some, option_map}
 use Rattle.std.specs.Str.Parse.{digits_value, without_leading_plus}
 use Rattle.clap.specs.Walk.{Rule, Row, Text, first_of, one_of}
-use Rattle.clap.specs.Simple.{App, matches_of, new_app, new_rule, with_rule}
+use Rattle.clap.specs.Simple.{App, matches_of, new_app, new_rule, on_top, with_rule}
 use Rattle.clap.specs.declared.builder.value_parser.ValueParser.TheVariants.{Signed}
 use Rattle.eqc_prog.specs.declared.command_line.Request.{Request}
 
@@ -19,18 +19,24 @@ number_rule name default = record (new_rule name) {
 abbrev pub path_rule : Text → Rule
 path_rule name = record (new_rule name) { value_names = 1 }
 
--- the option with the order text's path
-abbrev pub order_rule : Rule
-order_rule = record (path_rule (codes "order")) { long = Some (codes "order") }
+-- an option with a text: a path or a name
+abbrev pub text_rule : Text → Rule
+text_rule name = record (path_rule name) { long = Some name }
 
--- four numbers, the order text's path and at most two paths
+-- a command line that can be asked for its version
+abbrev pub with_version : App → App
+with_version a = on_top (λ s. record s { has_version = true }) a
+
+-- four numbers, the order text's path, the names of two models and at most two paths
 abbrev pub eqc_app : App
-eqc_app = with_rule (with_rule (with_rule (with_rule (with_rule (with_rule (with_rule (new_app (codes "eqc"))
+eqc_app = with_rule (with_rule (with_rule (with_rule (with_rule (with_rule (with_rule (with_rule (with_rule (with_version (new_app (codes "eqc")))
     (number_rule (codes "workers") (codes "2")))
     (number_rule (codes "nodes") (codes "65536")))
     (number_rule (codes "cells") (codes "8192")))
     (number_rule (codes "forks") (codes "0")))
-    order_rule)
+    (text_rule (codes "order")))
+    (text_rule (codes "first-model")))
+    (text_rule (codes "second-model")))
     (path_rule (codes "first")))
     (path_rule (codes "second"))
 
@@ -49,5 +55,7 @@ pub record IsAsked (rows : List Row) (request : Request) : Type 0 where
   pub cells : number_of (codes "cells") rows ≡ Some request.options.cells
   pub forks : number_of (codes "forks") rows ≡ Some request.options.forks
   pub order : option_map (λ s. s.now) request.order ≡ first_of (codes "order") rows
+  pub first_model : option_map (λ s. s.now) request.first_model ≡ first_of (codes "first-model") rows
+  pub second_model : option_map (λ s. s.now) request.second_model ≡ first_of (codes "second-model") rows
   pub first : option_map (λ s. s.now) request.first ≡ first_of (codes "first") rows
   pub second : option_map (λ s. s.now) request.second ≡ first_of (codes "second") rows

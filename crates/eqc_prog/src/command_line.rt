@@ -5,9 +5,10 @@ ghost use Rattle.clap.specs.Kinds.{HasKind};
 ghost use Rattle.clap.specs.Matches.{found_of};
 ghost use Rattle.clap.specs.Simple.{app_of};
 ghost use Rattle.clap.specs.Walk.{rows_of, rule_of};
-ghost use Rattle.eqc_prog.specs.CommandLine.{eqc_app, number_rule, order_rule, path_rule, number_of, rows_asked, IsAsked};
+ghost use Rattle.eqc_prog.specs.CommandLine.{eqc_app, number_rule, text_rule, path_rule, number_of, rows_asked, IsAsked};
 
 use crate::help::{ABOUT, USAGE};
+use crate::version::VERSION;
 use clap::{Arg, ArgMatches, Command, Error, value_parser};
 use eqc_check::Options;
 use std::alloc::{AllocError, Global};
@@ -18,6 +19,10 @@ pub struct Request<'a> {
     pub options: Options,
     /// The path of the order text.
     pub order: Option<&'a str>,
+    /// The name of the first model that is compared; without it, the place decides.
+    pub first_model: Option<&'a str>,
+    /// The name of the second.
+    pub second_model: Option<&'a str>,
     /// The path of the first text; without it, standard input is read.
     pub first: Option<&'a str>,
     /// The path of the second text.
@@ -45,17 +50,15 @@ fn path<'a>(alloc: Global, name: &'a str, help: &'a str) -> Arg<'a>
     Arg::new(alloc, name).value_name("FILE").help(help)
 }
 
-/// The option with the order text's path.
-fn order_path<'a>(alloc: Global) -> Arg<'a>
-    ensures rule { rule_of result ≡ order_rule }
+/// An option with a text, which the help shows as `shown`.
+fn text<'a>(alloc: Global, name: &'a str, shown: &'a str, help: &'a str) -> Arg<'a>
+    ensures rule { rule_of result ≡ text_rule name.now }
     ensures own { result.global ≡ false }
 {
-    path(
-        alloc,
-        "order",
-        "Takes the variables in this file's order, a word for each input of the first netlist",
-    )
-    .long("order")
+    Arg::new(alloc, name)
+        .long(name)
+        .value_name(shown)
+        .help(help)
 }
 
 /// The command line of the program; its help ends with `answers`.
@@ -63,6 +66,7 @@ fn command<'a>(alloc: Global, answers: &'a str) -> Result<Command<'a>, AllocErro
     ensures { IfOk result (λ c. app_of c ≡ eqc_app) }
 {
     Command::new(alloc, "eqc")
+        .version(VERSION)
         .about(ABOUT)
         .override_usage(USAGE)
         .after_help(answers)
@@ -90,7 +94,24 @@ fn command<'a>(alloc: Global, answers: &'a str) -> Result<Command<'a>, AllocErro
             "0",
             "Shares this many levels of an operation among workers, 0 to 16",
         ))?
-        .arg(order_path(alloc))?
+        .arg(text(
+            alloc,
+            "order",
+            "FILE",
+            "Takes the variables in this file's order, a word for each input of the first netlist",
+        ))?
+        .arg(text(
+            alloc,
+            "first-model",
+            "NAME",
+            "Compares the model of this name of the first netlist's text",
+        ))?
+        .arg(text(
+            alloc,
+            "second-model",
+            "NAME",
+            "Compares the model of this name of the second netlist's text",
+        ))?
         .arg(path(alloc, "first", "The first netlist, or both"))?
         .arg(path(alloc, "second", "The second netlist"))
 }
@@ -114,12 +135,14 @@ fn request_of<'a>(matches: &ArgMatches<'a>) -> Option<Request<'a>>
             forks: number_given(matches, "forks")?,
         },
         order: matches.get_str("order"),
+        first_model: matches.get_str("first-model"),
+        second_model: matches.get_str("second-model"),
         first: matches.get_str("first"),
         second: matches.get_str("second"),
     })
 }
 
-/// Reads a command line, the program's name first. A bad one, a request for help and want of memory are errors. The help
+/// Reads a command line, the program's name first. A bad one, a request for help or the version and want of memory are errors. The help
 /// ends with `answers`.
 pub fn read_words<'a>(
     alloc: Global,

@@ -7,13 +7,16 @@ use std::fmt::Display;
 pub const ABOUT: &str =
     "Decides whether two combinational netlists in BLIF compute the same outputs.";
 
-pub const USAGE: &str =
-    "eqc [--workers N] [--nodes N] [--cells N] [--forks N] [--order FILE] [FILE [FILE]]";
+pub const USAGE: &str = "\
+eqc [--workers N] [--nodes N] [--cells N] [--forks N] [--order FILE]
+           [--first-model NAME] [--second-model NAME] [FILE [FILE]]";
 
 /// The texts that are compared, and the reports with their statuses.
 const REPORTS: &str = "\
 Without a FILE the first two models of standard input are compared, with one FILE its first two models,
-with two the first model of each. `--` ends the options. Numbers go from 0 to 4294967295.
+with two the first model of each. --first-model and --second-model choose a model by its name instead; with one
+text both choose from it. A warning on standard error says that a model was compared which another model of its
+text contains, as where a tool wrote a part of a design first. `--` ends the options. Numbers go from 0 to 4294967295.
 Each worker has a thread and diagrams of its own. So far --cells and --forks are checked, and change nothing else.
 
 Statuses and reports:

@@ -8,6 +8,8 @@ mod source;
 mod start;
 #[cfg(test)]
 mod tests;
+mod version;
+mod warning;
 
 use start::program;
 use std::process::ExitCode;

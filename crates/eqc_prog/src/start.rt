@@ -1,29 +1,32 @@
 //! The program over readers and writers.
 ghost use Rattle.std.specs.Prelude.{◌≡◌, ◌↔◌, IsTrue, map, string_bytes};
+ghost use Rattle.std.specs.Option.{option_copied, option_map};
 ghost use Rattle.clap.specs.Values.{kind_of};
-ghost use Rattle.eqc_prog.specs.Ends.{IsRunEnd, IsHelpEnd, IsEnd, IsDone};
+ghost use Rattle.eqc_prog.specs.Ends.{names_of, IsRunEnd, IsShowing, IsHelpEnd, IsEnd, IsDone};
 
 use crate::command_line::{Request, read_words};
 use crate::ending::{End, tell};
 use crate::help::answers;
 use crate::source::open;
+use crate::warning::warn;
 use clap::Error;
 use clap::error::ErrorKind;
-use eqc_check::{RunFault, run, write_text};
+use eqc_check::{ModelNames, RunFault, run_models, write_text};
 use std::alloc::{AllocError, Global};
 use std::io::{Read, Write};
 use std::rt::Files;
 use std::sync::Wait;
 use std::thread::Threads;
 
-/// Whether an error is a request for help.
-fn is_help(error: &Error) -> bool
-    ensures { IsTrue result ↔ (kind_of error.now ≡ ErrorKind.DisplayHelp) }
+/// Whether an error is a request for help or for the version.
+fn is_showing(error: &Error) -> bool
+    ensures { IsTrue result ↔ IsShowing (kind_of error.now) }
 {
-    error.kind() == ErrorKind::DisplayHelp
+    let kind = error.kind();
+    kind == ErrorKind::DisplayHelp || kind == ErrorKind::DisplayVersion
 }
 
-/// Writes the help.
+/// Writes the help or the version.
 fn write_help<W: Write>(alloc: Global, help: Error, out: &mut W) -> End
     ensures { IsHelpEnd (W.contents out.old) (W.contents out.new) result }
 {
@@ -36,27 +39,52 @@ fn write_help<W: Write>(alloc: Global, help: Error, out: &mut W) -> End
     }
 }
 
-/// Opens the files and runs the comparison.
-fn compare<RT: Files + AllocGlobal + Threads + Wait + Sync, R: Read + Drop, W: Write>(
+/// The bytes of a text that may be missing.
+fn bytes_of<'a>(text: Option<&'a str>) -> Option<&'a [u8]>
+    ensures { option_copied result ≡ option_map (λ s. s.now) text.entry }
+{
+    match text {
+        Some(text) => Some(text.as_bytes()),
+        None => None,
+    }
+}
+
+/// The names of the models that are asked for.
+fn names_of<'a>(request: &Request<'a>) -> ModelNames<'a>
+    ensures { result ≡ names_of request.now }
+{
+    ModelNames {
+        first: bytes_of(request.first_model),
+        second: bytes_of(request.second_model),
+    }
+}
+
+/// Opens the files, runs the comparison, and warns of what it is.
+fn compare<RT: Files + AllocGlobal + Threads + Wait + Sync, R: Read + Drop, W: Write, E: Write>(
     rt: &RT,
     request: &Request<'_>,
     input: R,
     out: &mut W,
+    err: &mut E,
 ) -> End
-    ensures { IsRunEnd R.remaining RT.File.remaining request.now input (W.contents out.old) (W.contents out.new) result }
+    ensures { IsRunEnd R.remaining RT.File.remaining request.now input (W.contents out.old) (W.contents out.new) (E.contents err.old) (E.contents err.new) result }
 {
     let Ok(sources) = open(rt, request, input) else {
         return End::Failed(RunFault::Read);
     };
-    match run(
+    match run_models(
         rt,
         rt.alloc(),
         sources.texts,
+        &names_of(request),
         sources.order,
         &request.options,
         out,
     ) {
-        Ok(status) => End::Reported(status),
+        Ok(finished) => {
+            warn(rt.alloc(), request, &finished.warnings, err);
+            End::Reported(finished.status)
+        }
         Err(fault) => End::Failed(fault),
     }
 }
@@ -70,20 +98,21 @@ fn shown(text: &Result<String, AllocError>) -> &str {
 }
 
 /// Reads the words, and does what they ask for.
-fn perform<RT: Files + AllocGlobal + Threads + Wait + Sync, R: Read + Drop, W: Write>(
+fn perform<RT: Files + AllocGlobal + Threads + Wait + Sync, R: Read + Drop, W: Write, E: Write>(
     rt: &RT,
     words: &[String],
     input: R,
     out: &mut W,
+    err: &mut E,
 ) -> End
-    ensures { IsEnd R.remaining RT.File.remaining (map string_bytes words.now) input (W.contents out.old) (W.contents out.new) result }
+    ensures { IsEnd R.remaining RT.File.remaining (map string_bytes words.now) input (W.contents out.old) (W.contents out.new) (E.contents err.old) (E.contents err.new) result }
 {
     let answers = answers(rt.alloc());
     let error = match read_words(rt.alloc(), shown(&answers), words) {
-        Ok(request) => return compare(rt, &request, input, out),
+        Ok(request) => return compare(rt, &request, input, out, err),
         Err(error) => error,
     };
-    if !is_help(&error) {
+    if !is_showing(&error) {
         return End::BadWords(error);
     }
     write_help(rt.alloc(), error, out)
@@ -92,14 +121,15 @@ fn perform<RT: Files + AllocGlobal + Threads + Wait + Sync, R: Read + Drop, W: W
 /// Does all that the program does, and answers its exit status.
 ///
 /// The words are those of the command line, the program's name first; `input`, `out` and `err` are standard input,
-/// output and error. The options are `--workers N`, `--nodes N`, `--cells N`, `--forks N` and `--order FILE`, and up
-/// to two files are compared. All files are opened before one is read. The report is written to `out`.
+/// output and error. The options are `--workers N`, `--nodes N`, `--cells N`, `--forks N` and `--order FILE`,
+/// `--first-model NAME` and `--second-model NAME`, and up to two files are compared. All files are opened before one is read. The report is written to `out`. Where
+/// it is a verdict on a model that a model of its text contains which isn't compared, `err` gets a warning on it.
 ///
 /// The status is 0 where the netlists are equivalent, 1 where they differ, 2 where the input is refused and 3 where
 /// the comparison was stopped. It is 4 where a read or a write failed, and then `err` gets `fault 91` for a read, or
 /// a file that can't be opened, and `fault 92` for a write. It is 5 for a bad command line and for want of memory in
-/// reading it; `err` gets a text on it. For `--help` the help is written to `out`, and the status is 0. The call may
-/// wait, for the threads that compare.
+/// reading it; `err` gets a text on it. For `--help` and `--version` what they ask for is written to `out`, and the
+/// status is 0. The call may wait, for the threads that compare.
 pub fn program<RT: Files + AllocGlobal + Threads + Wait + Sync, R: Read + Drop, W: Write, E: Write>(
     rt: &RT,
     words: &[String],
@@ -109,7 +139,7 @@ pub fn program<RT: Files + AllocGlobal + Threads + Wait + Sync, R: Read + Drop, 
 ) -> u8
     ensures { IsDone R.remaining RT.File.remaining (map string_bytes words.now) input (W.contents out.old) (W.contents out.new) (E.contents err.old) (E.contents err.new) result }
 {
-    let end = perform(rt, words, input, out);
+    let end = perform(rt, words, input, out, err);
     tell(rt.alloc(), &end, err);
     end.status()
 }

@@ -4,7 +4,7 @@
 //! - `words`, `operations`, of `eqc_tree`; `diagrams`, of `eqc_plain`; `machine`, of `eqc_core`
 //! - `reading`, of `eqc_blif`; `hierarchies`, `random_hierarchies` and `explanations`, of `eqc_flat`
 //! - `pairs`, `workers`, `reports`, `runs`, of `eqc_check`
-//! - `program`, `program_ends`, `compared_hierarchies`, `costs`, of this crate
+//! - `program`, `program_ends`, `models`, `compared_hierarchies`, `costs`, of this crate
 //! - `messages`, of the errors of all crates; `streams`, the readers, writers and files that fail
 //!
 //! In the texts of `pairs` and of what comes after it `;` stands for LF.
@@ -16,6 +16,7 @@ mod explanations;
 mod hierarchies;
 mod machine;
 mod messages;
+mod models;
 mod operations;
 mod pairs;
 mod program;

@@ -9,8 +9,16 @@ use std::process::Abort;
 use std::sync::Wait;
 use std::thread::Threads;
 
+/// A leaf, and the conjunction of what it gives with another input.
+pub const LEAF_FIRST: &str =
+    ".model leaf;.inputs a;.outputs z;.names a z;1 1;.end;.model top;.inputs a b;.outputs z;.subckt leaf a=a z=t;.names t b z;11 1;.end;";
+
+/// The same leaf, and the disjunction.
+const OTHER_TOP: &str =
+    ".model leaf;.inputs a;.outputs z;.names a z;1 1;.end;.model top;.inputs a b;.outputs z;.subckt leaf a=a z=t;.names t b z;1- 1;-1 1;.end;";
+
 /// The files that the command lines of the tests may name. One whose name ends in `!` fails at its first read.
-const FILES: [(&str, &str); 12] = [
+const FILES: [(&str, &str); 14] = [
     ("equal", EQUAL),
     ("unequal", UNEQUAL),
     (
@@ -22,6 +30,8 @@ const FILES: [(&str, &str); 12] = [
         ".model m;.inputs x y;.outputs z;.names x y z;1- 1;-1 1;",
     ),
     ("latch", ".model m;.latch a z 0;"),
+    ("leaf_first", LEAF_FIRST),
+    ("other_top", OTHER_TOP),
     ("broken!", ""),
     ("yx", "y x"),
     ("yx_with_comment", "y # x;x"),

@@ -34,7 +34,7 @@ fn files_that_fail_are_faults(rt: HostRuntime) -> Result<(), AllocError> {
 }
 
 /// Bad command lines.
-static BAD_WORDS: [&str; 15] = [
+static BAD_WORDS: [&str; 17] = [
     "eqc --workers x",
     "eqc a b c",
     "eqc --workers",
@@ -45,6 +45,8 @@ static BAD_WORDS: [&str; 15] = [
     "eqc --cells=",
     "eqc --cells 1 --cells 1",
     "eqc --order a --order a",
+    "eqc --second-model",
+    "eqc --first-model f --first-model f",
     "eqc --work 1",
     "eqc --unknown",
     "eqc -w 1",
@@ -83,13 +85,16 @@ fn check_numbers(rt: &(impl Abort + AllocGlobal), help: &str) -> Result<(), Allo
 }
 
 /// The options of the command line.
-static OPTIONS: [&str; 6] = [
+static OPTIONS: [&str; 9] = [
     "--workers <N>",
     "--nodes <N>",
     "--cells <N>",
     "--forks <N>",
     "--order <FILE>",
+    "--first-model <NAME>",
+    "--second-model <NAME>",
     "--help",
+    "--version",
 ];
 
 #[test]
@@ -101,6 +106,24 @@ fn help_has_every_number(rt: HostRuntime) -> Result<(), AllocError> {
     check_numbers(&rt, help.as_str())?;
     for option in OPTIONS.iter() {
         assert!(rt; help.as_str().contains(option), "{option}");
+    }
+    Ok(())
+}
+
+#[test]
+fn the_version_says_what_is_proved(rt: HostRuntime) -> Result<(), AllocError> {
+    for line in ["eqc --version", "eqc -V", "eqc or --version"] {
+        let written = written_by(rt.alloc(), line, Feed::whole(EQUAL))?;
+        assert_eq!(rt; written.status, 0, "{line}");
+        assert!(rt; written.err.is_empty(), "{line}");
+        let text = String::from_utf8(written.out).expect(&rt, "text");
+        assert!(rt; text.as_str().starts_with("eqc "), "{line}");
+        assert!(rt;
+            text.as_str()
+                .contains("\nproved and built with rattle-kit-"),
+            "{line}"
+        );
+        assert!(rt; text.as_str().contains("\nproved: "), "{line}");
     }
     Ok(())
 }

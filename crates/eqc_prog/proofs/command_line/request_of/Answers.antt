@@ -10,6 +10,8 @@ returns c = record {
   cells = c.in_ok-number_given-3.ensures;
   forks = c.in_ok-number_given-4.ensures;
   order = c.get_str.ensures ∙ first_value-rows (found_of c.args.matches.now) (codes "order");
-  first = c.get_str-2.ensures ∙ first_value-rows (found_of c.args.matches.now) (codes "first");
-  second = c.get_str-3.ensures ∙ first_value-rows (found_of c.args.matches.now) (codes "second");
+  first_model = c.get_str-2.ensures ∙ first_value-rows (found_of c.args.matches.now) (codes "first-model");
+  second_model = c.get_str-3.ensures ∙ first_value-rows (found_of c.args.matches.now) (codes "second-model");
+  first = c.get_str-4.ensures ∙ first_value-rows (found_of c.args.matches.now) (codes "first");
+  second = c.get_str-5.ensures ∙ first_value-rows (found_of c.args.matches.now) (codes "second");
 }

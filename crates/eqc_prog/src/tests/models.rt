@@ -1,0 +1,166 @@
+//! Which models are compared, by their names or their places, and the warnings on models that others contain.
+
+use super::is_text;
+use super::program::{LEAF_FIRST, words_of, written_by};
+use super::streams::{Drain, Feed};
+use crate::program;
+use std::alloc::AllocError;
+
+/// Warnings on the leaf of two texts.
+const ON_BOTH: &str =
+    "eqc: warning: leaf_first: model 'leaf' is compared, which model 'top' contains;eqc: warning: other_top: model 'leaf' is compared, which model 'top' contains;";
+
+/// Warnings on the leaf of one text, that is compared with itself.
+const ON_BOTH_OF_ONE: &str =
+    "eqc: warning: leaf_first: model 'leaf' is compared, which model 'top' contains;eqc: warning: leaf_first: model 'leaf' is compared, which model 'top' contains;";
+
+/// Command lines with files, their report, status and warnings.
+static NAMED: [(&str, &str, u8, &str); 15] = [
+    ("eqc leaf_first other_top", "equivalent;", 0, ON_BOTH),
+    (
+        "eqc --first-model top --second-model top leaf_first other_top",
+        "differs at z;a=0;b=1;first=0;second=1;",
+        1,
+        "",
+    ),
+    (
+        "eqc --second-model top leaf_first other_top",
+        "refused pair 0 41;",
+        2,
+        "",
+    ),
+    (
+        "eqc --first-model=leaf leaf_first other_top",
+        "equivalent;",
+        0,
+        ON_BOTH,
+    ),
+    (
+        "eqc --first-model none leaf_first other_top",
+        "refused first 0 13;",
+        2,
+        "",
+    ),
+    (
+        "eqc --second-model none leaf_first other_top",
+        "refused second 0 13;",
+        2,
+        "",
+    ),
+    (
+        "eqc --first-model none leaf_first latch",
+        "refused first 0 13;",
+        2,
+        "",
+    ),
+    (
+        "eqc --second-model none latch leaf_first",
+        "refused first 2 4;",
+        2,
+        "",
+    ),
+    ("eqc leaf_first", "refused pair 0 41;", 2, ""),
+    ("eqc --first-model top leaf_first", "equivalent;", 0, ""),
+    (
+        "eqc --second-model leaf leaf_first",
+        "equivalent;",
+        0,
+        ON_BOTH_OF_ONE,
+    ),
+    (
+        "eqc --first-model top --second-model leaf leaf_first",
+        "refused pair 0 41;",
+        2,
+        "",
+    ),
+    (
+        "eqc --first-model m --second-model m or",
+        "equivalent;",
+        0,
+        "",
+    ),
+    (
+        "eqc --second-model m --first-model none or",
+        "refused first 0 13;",
+        2,
+        "",
+    ),
+    (
+        "eqc --second-model leaf leaf_first leaf_first --nodes 0",
+        "refused options 0 82;",
+        2,
+        "",
+    ),
+];
+
+#[test]
+fn models_are_chosen_and_warned_of(rt: HostRuntime) -> Result<(), AllocError> {
+    for (line, report, status, warnings) in &NAMED {
+        let written = written_by(rt.alloc(), line, Feed::whole(""))?;
+        assert_eq!(rt; written.status, *status, "{line}");
+        assert!(rt; is_text(&written.out, report), "{line}");
+        assert!(rt; is_text(&written.err, warnings), "{line}");
+    }
+    Ok(())
+}
+
+/// Texts on standard input, and the warnings on them: a container that is compared is none to warn of.
+static CONTAINED: [(&str, &str); 3] = [
+    (
+        ".model f;.inputs a;.outputs z;.subckt g a=a z=z;.end;.model g;.inputs a;.outputs z;.names a z;1 1;.end;",
+        "",
+    ),
+    (
+        ".model f;.inputs a;.outputs z;.names a z;1 1;.end;.model g;.inputs a;.outputs z;.names a z;1 1;.end;.model h;.subckt g a=a z=z;.end;",
+        "eqc: warning: standard input: model 'g' is compared, which model 'h' contains;",
+    ),
+    (
+        ".model f;.outputs z;.names z;.end;.model g;.outputs z;.names z;1;.end;.model h;.end;.model i;.subckt f;.end;.model j;.subckt f;.end;",
+        "eqc: warning: standard input: model 'f' is compared, which model 'i' contains;",
+    ),
+];
+
+#[test]
+fn containers_are_named(rt: HostRuntime) -> Result<(), AllocError> {
+    for (text, warnings) in &CONTAINED {
+        let written = written_by(rt.alloc(), "eqc", Feed::whole(text))?;
+        assert!(rt; written.status < 2, "{text}");
+        assert!(rt; is_text(&written.err, warnings), "{text}");
+    }
+    Ok(())
+}
+
+#[test]
+fn a_warning_that_is_cut_off_changes_nothing(rt: HostRuntime) -> Result<(), AllocError> {
+    let alloc = rt.alloc();
+    let words = words_of(alloc, "eqc --first-model leaf --second-model leaf")?;
+    let mut out = Vec::new(alloc);
+    let mut err = Drain::new(Vec::new(alloc), 4, 1, true);
+    assert_eq!(rt;
+        program(&rt, &words, Feed::whole(LEAF_FIRST), &mut out, &mut err),
+        0
+    );
+    assert!(rt; is_text(&out, "equivalent;"));
+    assert!(rt; is_text(&err.bytes, "eqc:"));
+    Ok(())
+}
+
+/// Two conjunctions, one of which a third model contains.
+const AND_IN_THIRD: &str =
+    ".model f;.inputs x y;.outputs z;.names x y z;11 1;.end;.model g;.inputs x y;.outputs z;.names x y z;11 1;.end;.model h;.subckt f x=a y=b z=c;.end;";
+
+#[test]
+fn a_stop_is_not_warned_of(rt: HostRuntime) -> Result<(), AllocError> {
+    let stopped = written_by(rt.alloc(), "eqc --nodes 1", Feed::whole(AND_IN_THIRD))?;
+    assert_eq!(rt; stopped.status, 3);
+    assert!(rt; stopped.err.is_empty());
+    let answered = written_by(rt.alloc(), "eqc", Feed::whole(AND_IN_THIRD))?;
+    assert_eq!(rt; answered.status, 0);
+    assert!(rt;
+        is_text(
+            &answered.err,
+            "eqc: warning: standard input: model 'f' is compared, which model 'h' contains;"
+        )
+    );
+    Ok(())
+}
