@@ -28,4 +28,5 @@ pub mod CheckLemmas
 pub mod AcceptedLemmas
 pub mod NamedValueLemmas
 pub mod DifferingLemmas
+pub mod ChoiceProofs
 pub mod AnswerProofs
