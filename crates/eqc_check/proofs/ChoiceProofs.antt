@@ -1,6 +1,5 @@
 -- The model that is chosen by its name, or by its place.
-use Rattle.std.proofs.Common.{◌≡◌, ◌⊎◌, inl, inr, ℕ, ◌<◌, ◌≤◌, Bool, true, false, nat_lt, if◌then◌else◌, List, [], ◌∷◌, length, map, get_or, Option, Some, None, Result, Ok, Err, sym, ap, refl, ◌∙◌, arith, subst}
-use Rattle.std.specs.List.{position_or_len}
+use Rattle.std.proofs.Common.{◌≡◌, inl, inr, ℕ, ◌<◌, true, false, nat_lt, List, [], ◌∷◌, length, map, get_or, Option, Some, None, Result, Ok, Err, sym, ap, refl, ◌∙◌, arith, subst}
 use Rattle.std.specs.Str.{bytes_eq}
 use Rattle.std.proofs.lemmas.Bool.{cases_Bool, cases_lt, lt-ltb, le-ltb}
 use Rattle.std.proofs.lemmas.List.{get_or-map, length-map}
@@ -13,7 +12,7 @@ use Rattle.eqc_flat.specs.Hierarchy.{model, model_number}
 use Rattle.eqc_check.specs.Verdict.{position_of}
 use Rattle.eqc_check.specs.Answer.{MainOf, chosen_number, chosen, main_of}
 use Rattle.eqc_check.specs.AnswerLaws.{main_or_none, IsChoice, ModelIsChosen}
-use Rattle.eqc_check.proofs.PlaceLemmas.{same_bytes, bytes_itself, place_itself}
+use Rattle.eqc_check.proofs.PlaceLemmas.{same_bytes, place_itself}
 
 -- a model is chosen where its number is below the number of models
 chosen_there : (models : List ModelOf) (name : Option (List ℕ)) (place : ℕ) (m : MainOf) → chosen models name place ≡ Ok m → (m.0 ≡ models) × (m.1 < length models) × (m.1 ≡ chosen_number models name place)
