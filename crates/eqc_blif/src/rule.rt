@@ -31,7 +31,7 @@ pub enum Rule {
     ModelTwice,
     #[error("a name twice in one model's inputs, or twice in its outputs")]
     NameTwice,
-    #[error("no statement, or no second model where one is wanted")]
+    #[error("no statement, or no model of the name or at the place that is wanted")]
     NoModel,
     #[error("memory was refused")]
     Memory,

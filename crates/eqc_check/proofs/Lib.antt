@@ -30,6 +30,7 @@ pub mod CheckLemmas
 pub mod AcceptedLemmas
 pub mod NamedValueLemmas
 pub mod DifferingLemmas
+pub mod ChoiceProofs
 pub mod AnswerProofs
 pub mod TicketCounts
 pub mod TicketSteps

@@ -19,10 +19,10 @@ use Rattle.eqc_check.specs.Matched.{has_all, same_names, ArePlaces}
 use Rattle.eqc_check.proofs.NameLemmas.{named_at}
 use Rattle.eqc_blif.proofs.NameLemmas.{bytes_eq-sym}
 
-same_bytes : (a b : List ℕ) → bytes_eq a b ≡ true → a ≡ b
+pub same_bytes : (a b : List ℕ) → bytes_eq a b ≡ true → a ≡ b
 same_bytes a b e = search (rules, bytes_eq-Decides a b)
 
-bytes_itself : (a : List ℕ) → bytes_eq a a ≡ true
+pub bytes_itself : (a : List ℕ) → bytes_eq a a ≡ true
 bytes_itself [] = refl
 bytes_itself (x ∷ xs) = rw (eq-eqb x x refl, bytes_itself xs) refl
 
@@ -38,7 +38,7 @@ pub named_index : (xs : List (List ℕ)) (i : ℕ) → i < length xs → is_name
 named_index xs i inside = list_any_at (λ other. bytes_eq (get_or xs i []) other) xs i [] inside (bytes_itself (get_or xs i []))
 
 -- each name of a list stands at its own place, where none stands twice
-place_itself : (xs : List (List ℕ)) (i : ℕ) → has_twice xs ≡ false → i < length xs → position_of xs (get_or xs i []) ≡ i
+pub place_itself : (xs : List (List ℕ)) (i : ℕ) → has_twice xs ≡ false → i < length xs → position_of xs (get_or xs i []) ≡ i
 place_itself [] i once inside = absurd (omega arith)
 place_itself (x ∷ xs) zero once inside = rw (bytes_itself x) refl
 place_itself (x ∷ xs) (suc i) once inside = by (place_itself xs i (or_parts (is_named xs x) (has_twice xs) once).1 (omega arith)) (cases_Bool (bytes_eq (get_or xs i []) x))

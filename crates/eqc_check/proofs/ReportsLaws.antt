@@ -1,19 +1,16 @@
 -- The reports on texts are those that they define.
-use Rattle.std.proofs.Common.{◌≡◌, ◌⊎◌, inl, inr, ℕ, ◌<◌, ◌≤◌, Bool, true, false, List, [], length, get_or, refl, sym, ◌∙◌, ap, subst, Option, Some, None, Result, Ok, Err, IfOk, IfErr, MatchResult}
+use Rattle.std.proofs.Common.{◌≡◌, ◌⊎◌, inl, inr, ℕ, ◌<◌, Bool, true, false, List, [], length, get_or, refl, sym, ◌∙◌, ap, subst, Option, Some, None, Result, Ok, Err, IfOk, IfErr}
 use Rattle.std.proofs.lemmas.List.{get_or_default}
-use Rattle.std.proofs.lemmas.Bool.{cases_Bool, lt-ltb, le-ltb}
-use Rattle.std.specs.Option.{option_map, option_copied}
+use Rattle.std.proofs.lemmas.Bool.{cases_Bool}
+use Rattle.std.specs.Option.{option_map}
 use Rattle.eqc_tree.specs.declared.stopping.Stop.{Stop}
 use Rattle.eqc_tree.specs.declared.stopping.Stop.TheVariants as stops
-use Rattle.eqc_blif.specs.Netlist.{ModelOf}
-use Rattle.eqc_blif.specs.Reading.{Outcome, outcome}
 use Rattle.eqc_blif.specs.declared.refusal.Refusal.{Refusal}
 use Rattle.eqc_flat.specs.Graph.{FlatOf, IsFlat, value_of}
 use Rattle.eqc_flat.specs.Signals.{output_value}
 use Rattle.eqc_flat.specs.Codes.{flat_code}
 use Rattle.eqc_flat.specs.Flattened.{IsFlatOf}
 use Rattle.eqc_check.specs.declared.report.Report.{Report}
-use Rattle.eqc_check.specs.declared.report.Report.TheVariants as kind
 use Rattle.eqc_check.specs.declared.report.Side.{Side}
 use Rattle.eqc_check.specs.declared.report.Side.TheVariants as side
 use Rattle.eqc_check.specs.declared.report.Refused.{Refused}
@@ -23,8 +20,7 @@ use Rattle.eqc_check.specs.ReportView.{report_of}
 use Rattle.eqc_check.specs.Matched.{same_names, order_code}
 use Rattle.eqc_check.specs.PairOf.{pair_refusal, order_refused, no_memory}
 use Rattle.eqc_check.specs.Refusing.{IsRefused, refusal_report, flat_answer}
-use Rattle.eqc_check.specs.Answer.{MainOf, inputs_of, outputs_of, netlist_of_model, order_answer, code_of_order, pair_answer, models_answer, IsComparison, MayStop, Answers, as_wanted, was_stopped}
-use Rattle.std.specs.Borrow.{Bor}
+use Rattle.eqc_check.specs.Answer.{MainOf, inputs_of, outputs_of, netlist_of_model, order_answer, code_of_order, pair_answer, models_answer, IsComparison, MayStop, Answers, as_wanted}
 use Rattle.eqc_check.specs.Comparing.{netlist_of}
 use Rattle.eqc_check.proofs.PlaceLemmas.{place_below, all_named, name_at}
 use Rattle.eqc_check.proofs.OrderedLemmas.{both_ways}

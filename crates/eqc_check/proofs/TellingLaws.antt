@@ -1,9 +1,7 @@
 -- Reports with warnings on the models that are chosen.
-use Rattle.std.proofs.Common.{◌≡◌, ◌⊎◌, inl, inr, ℕ, ◌+◌, ◌<◌, Bool, true, false, not, ◌&&◌, List, [], ◌∷◌, length, map, get_or, drop, find, refl, sym, ◌∙◌, ap, subst, arith, Option, Some, None, Result, Ok, Err, IfOk, IfErr, MatchResult}
+use Rattle.std.proofs.Common.{◌≡◌, ◌⊎◌, inl, inr, ℕ, Bool, true, not, ◌&&◌, List, map, refl, sym, ◌∙◌, ap, subst, Option, Some, None, Result, Ok, Err, IfOk, IfErr, MatchResult}
 use Rattle.std.specs.declared.alloc.AllocError.{AllocError}
 use Rattle.eqc_tree.specs.declared.stopping.Stop.{Stop}
-use Rattle.eqc_tree.specs.declared.stopping.Stop.TheVariants as stops
-use Rattle.eqc_blif.specs.Reading.{outcome}
 use Rattle.eqc_blif.specs.declared.refusal.Refusal.{Refusal}
 use Rattle.eqc_check.specs.declared.decide.Told.{Told}
 use Rattle.eqc_check.specs.declared.report.Report.{Report}

@@ -13,7 +13,10 @@ use Rattle.eqc_check.specs.Options.{is_between, is_cell_count, options_code}
 use Rattle.eqc_check.specs.Matched.{has_all, same_names, order_words}
 use Rattle.eqc_check.specs.VerdictLaws.{IsBelow}
 use Rattle.eqc_check.specs.Report.{ReportOf, equivalent, differs, refused, stopped}
-use Rattle.eqc_check.specs.Answer.{NamesOf, TextsOf, first_found, second_found, MainOf, inputs_of, outputs_of, answer, IsComparison, Answers}
+use Rattle.eqc_blif.specs.Netlist.{ModelOf}
+use Rattle.eqc_blif.specs.Reading.{outcome}
+use Rattle.eqc_flat.specs.Hierarchy.{model}
+use Rattle.eqc_check.specs.Answer.{NamesOf, TextsOf, main_of, first_found, second_found, MainOf, inputs_of, outputs_of, answer, IsComparison, Answers}
 use Rattle.eqc_check.specs.Running.{known_texts, known_order, IsReportFor}
 use Rattle.eqc_check.specs.declared.running.Texts.{Texts}
 
@@ -30,6 +33,11 @@ first_main texts = main_or_none (first_found texts)
 
 abbrev pub second_main : TextsOf → MainOf
 second_main texts = main_or_none (second_found texts)
+
+-- a model of a text is the one of a name or, without a name, the one at a place
+abbrev pub IsChoice : List ModelOf → Option (List ℕ) → ℕ → MainOf → Type 0
+IsChoice models (Some name) place m = (m.0 ≡ models) × (m.1 < length models) × ((model models m.1).name ≡ name)
+IsChoice models None place m = (m.0 ≡ models) × (m.1 < length models) × (m.1 ≡ place)
 
 -- ---- what is accepted
 
@@ -207,6 +215,13 @@ ChecksAccept =
 -- it is no stop
 abbrev pub AnswerIsNoStop : Type 0
 AnswerIsNoStop = (texts : TextsOf) (order : Option (List ℕ)) (options : Options) (code : ℕ) → answer texts order options ≢ stopped code
+
+-- the model that is chosen of a text without a fault is the one of the name or at the place, and it is chosen wherever it
+-- is there
+abbrev pub ModelIsChosen : Type 0
+ModelIsChosen =
+    (text : List ℕ) (models : List ModelOf) (name : Option (List ℕ)) (place : ℕ) (m : MainOf) → outcome text ≡ Ok models
+    → (main_of (outcome text) name place ≡ Ok m) ↔ IsChoice models name place m
 
 -- a report that answers a run, over readers whose bytes are known, is the answer on these, or says why the run was stopped
 abbrev pub IsAnswerOfRuns : {R : Type 0} → (R → Option (List ℕ)) → Type 0

@@ -1,6 +1,6 @@
 -- The warnings on what is compared: a model that another model of its text contains, where that one isn't compared
 -- itself. Then the text holds more than was compared.
-use Rattle.std.specs.Prelude.{◌≡◌, ℕ, Bool, not, ◌&&◌, List, [], ◌∷◌, find, Option, Some, None, IfSome, option_map}
+use Rattle.std.specs.Prelude.{◌≡◌, ℕ, Bool, not, ◌&&◌, List, [], ◌∷◌, find, Option, None, IfSome, option_map}
 use Rattle.std.specs.List.{list_any}
 use Rattle.std.specs.Str.{bytes_eq}
 use Rattle.eqc_blif.specs.Names.{is_named}

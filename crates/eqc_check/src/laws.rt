@@ -1,4 +1,4 @@
-ghost use Rattle.eqc_check.specs.AnswerLaws.{AnswerIsOne, AnswerIsEquivalent, AnswerDiffers, AnswerIsFirstRefusal, AnswerCompares, ChecksAccept, AnswerIsNoStop, IsAnswerOfRuns};
+ghost use Rattle.eqc_check.specs.AnswerLaws.{AnswerIsOne, AnswerIsEquivalent, AnswerDiffers, AnswerIsFirstRefusal, AnswerCompares, ChecksAccept, AnswerIsNoStop, ModelIsChosen, IsAnswerOfRuns};
 ghost use Rattle.eqc_check.specs.VerdictLaws.{DifferenceLaw, MatchingLaw, LeastLaw, NoneLaw, UniqueLaw, FirstLaw, EquivalentLaw};
 
 use std::io::Read;
@@ -63,6 +63,12 @@ pub fn answer_is_first_refusal()
     ensures compared { AnswerCompares }
     ensures accepted { ChecksAccept }
     ensures stopped { AnswerIsNoStop }
+{}
+
+/// The model that is chosen of a text is the one of the name that is given or, without a name, the one at the place; and it
+/// is chosen wherever it is there.
+pub fn chosen_model_is_the_named_one()
+    ensures { ModelIsChosen }
 {}
 
 /// What `run` writes is the answer on the bytes of its readers, where those are known, or says why it was stopped.

@@ -36,10 +36,10 @@ pub use io::fault::RunFault;
 pub use io::writing::write_text;
 pub use laws::{
     answer_differs_at_first_difference, answer_is_equivalent_where_always_equal,
-    answer_is_first_refusal, answer_is_one_for_all_orders, difference_is_of_values,
-    first_difference_is_first, first_difference_is_none_where_equal, inputs_are_matched_by_name,
-    least_difference_is_least, least_difference_is_none_where_equal, least_difference_is_unique,
-    runs_are_answered,
+    answer_is_first_refusal, answer_is_one_for_all_orders, chosen_model_is_the_named_one,
+    difference_is_of_values, first_difference_is_first, first_difference_is_none_where_equal,
+    inputs_are_matched_by_name, least_difference_is_least, least_difference_is_none_where_equal,
+    least_difference_is_unique, runs_are_answered,
 };
 pub use least::least_assignment;
 pub use options::{Options, options_fault};

@@ -1,4 +1,4 @@
-use Rattle.std.proofs.Common.{subst, sym}
+use Rattle.std.proofs.Common.{subst}
 use Rattle.std.specs.Option.{option_map}
 use Rattle.eqc_check.specs.Answer.{IsComparison}
 use Rattle.eqc_check.specs.ReportView.{report_of}
