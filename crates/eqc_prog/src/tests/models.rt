@@ -96,7 +96,7 @@ static NAMED: [(&str, &str, u8, &str); 15] = [
 #[test]
 fn models_are_chosen_and_warned_of(rt: HostRuntime) -> Result<(), AllocError> {
     for (line, report, status, warnings) in &NAMED {
-        let written = written_by(rt.alloc(), line, Feed::whole(""))?;
+        let written = written_by(&rt, line, Feed::whole(""))?;
         assert_eq!(rt; written.status, *status, "{line}");
         assert!(rt; is_text(&written.out, report), "{line}");
         assert!(rt; is_text(&written.err, warnings), "{line}");
@@ -123,7 +123,7 @@ static CONTAINED: [(&str, &str); 3] = [
 #[test]
 fn containers_are_named(rt: HostRuntime) -> Result<(), AllocError> {
     for (text, warnings) in &CONTAINED {
-        let written = written_by(rt.alloc(), "eqc", Feed::whole(text))?;
+        let written = written_by(&rt, "eqc", Feed::whole(text))?;
         assert!(rt; written.status < 2, "{text}");
         assert!(rt; is_text(&written.err, warnings), "{text}");
     }
@@ -151,10 +151,10 @@ const AND_IN_THIRD: &str =
 
 #[test]
 fn a_stop_is_not_warned_of(rt: HostRuntime) -> Result<(), AllocError> {
-    let stopped = written_by(rt.alloc(), "eqc --nodes 1", Feed::whole(AND_IN_THIRD))?;
+    let stopped = written_by(&rt, "eqc --nodes 1", Feed::whole(AND_IN_THIRD))?;
     assert_eq!(rt; stopped.status, 3);
     assert!(rt; stopped.err.is_empty());
-    let answered = written_by(rt.alloc(), "eqc", Feed::whole(AND_IN_THIRD))?;
+    let answered = written_by(&rt, "eqc", Feed::whole(AND_IN_THIRD))?;
     assert_eq!(rt; answered.status, 0);
     assert!(rt;
         is_text(

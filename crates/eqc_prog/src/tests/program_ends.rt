@@ -113,7 +113,7 @@ fn help_has_every_number(rt: HostRuntime) -> Result<(), AllocError> {
 #[test]
 fn the_version_says_what_is_proved(rt: HostRuntime) -> Result<(), AllocError> {
     for line in ["eqc --version", "eqc -V", "eqc or --version"] {
-        let written = written_by(rt.alloc(), line, Feed::whole(EQUAL))?;
+        let written = written_by(&rt, line, Feed::whole(EQUAL))?;
         assert_eq!(rt; written.status, 0, "{line}");
         assert!(rt; written.err.is_empty(), "{line}");
         let text = String::from_utf8(written.out).expect(&rt, "text");
