@@ -3,7 +3,7 @@
 ghost use Rattle.std.specs.Prelude.{◌<◌, length};
 
 use eqc_blif::{Library, read};
-use eqc_flat::{Finding, FoundInstance, HierarchicalName, explain};
+use eqc_flat::{Finding, FoundFormal, FoundInstance, HierarchicalName, explain};
 use std::alloc::Global;
 use std::process::Abort;
 use std::test::Fail;
@@ -111,40 +111,47 @@ fn is_instance(found: &FoundInstance<'_>, wanted: &Wanted) -> bool {
         && found.instance().model.as_bytes() == wanted.name
 }
 
-#[test]
-fn names_a_missing_model_and_who_asks_for_it(rt: HostRuntime) -> Result<(), Fail> {
-    let text =
-        b".model m\n.subckt n x=a\n.end\n.model n\n.inputs x\n.subckt n2 x=x\n.subckt o x=x\n.end\n.model n2\n.inputs x\n.end\n";
-    let library = read(rt.alloc(), text).ok().ok_or("refused")?;
+/// Whether a model `o` is missing, which the second instance of model 1 asks for.
+fn misses_a_model(finding: &Option<Finding<'_>>) -> bool {
     let wanted = Wanted {
         model: 1,
         position: 1,
         name: b"o",
     };
-    match found(rt.alloc(), &library)? {
-        Some(Finding::NoSuchModel(instance)) => assert!(rt; is_instance(&instance, &wanted)),
-        _ => return Err(Fail::from("nothing named")),
+    match finding {
+        Some(Finding::NoSuchModel(instance)) => is_instance(instance, &wanted),
+        _ => false,
     }
+}
+
+#[test]
+fn names_a_missing_model_and_who_asks_for_it(rt: HostRuntime) -> Result<(), Fail> {
+    let text =
+        b".model m\n.subckt n x=a\n.end\n.model n\n.inputs x\n.subckt n2 x=x\n.subckt o x=x\n.end\n.model n2\n.inputs x\n.end\n";
+    let library = read(rt.alloc(), text).ok().ok_or("refused")?;
+    let finding = found(rt.alloc(), &library)?;
+    assert!(rt; misses_a_model(&finding));
     Ok(())
 }
 
-/// The code and the formal of a finding about a formal of the second instance of the main model, one of model `n`.
-fn formal_of(finding: Option<Finding<'_>>) -> Result<(u8, &[u8]), Fail> {
-    let (code, found) = match finding {
-        Some(Finding::UnknownFormal(found)) => (23, found),
-        Some(Finding::FormalTwice(found)) => (24, found),
-        Some(Finding::MissingInput(found)) => (25, found),
-        _ => return Err(Fail::from("no formal named")),
-    };
+/// Whether this is the formal, of the second instance of the main model, one of model `n`.
+fn is_formal(found: &FoundFormal<'_>, formal: &[u8]) -> bool {
     let wanted = Wanted {
         model: 0,
         position: 1,
         name: b"n",
     };
-    if !is_instance(found.instance(), &wanted) {
-        return Err(Fail::from("another instance"));
+    is_instance(found.instance(), &wanted) && found.formal() == formal
+}
+
+/// Whether the finding of a code names this formal.
+fn names_formal(finding: &Option<Finding<'_>>, code: u8, formal: &[u8]) -> bool {
+    match finding {
+        Some(Finding::UnknownFormal(found)) => code == 23 && is_formal(found, formal),
+        Some(Finding::FormalTwice(found)) => code == 24 && is_formal(found, formal),
+        Some(Finding::MissingInput(found)) => code == 25 && is_formal(found, formal),
+        _ => false,
     }
-    Ok((code, found.formal()))
 }
 
 /// Main models with two instances of a model with the inputs `x` and `v` and the output `z`, each with the code and the
@@ -168,9 +175,8 @@ fn names_the_formal_at_fault(rt: HostRuntime) -> Result<(), Fail> {
         text.extend_from_slice(instances)?;
         text.extend_from_slice(b".end\n.model n\n.inputs x v\n.outputs z\n.end\n")?;
         let library = read(rt.alloc(), &text).ok().ok_or("refused")?;
-        let (found_code, found_formal) = formal_of(found(rt.alloc(), &library)?)?;
-        assert_eq!(rt; found_code, *code);
-        assert!(rt; found_formal == *formal);
+        let finding = found(rt.alloc(), &library)?;
+        assert!(rt; names_formal(&finding, *code, formal));
     }
     Ok(())
 }
