@@ -9,11 +9,11 @@ use Rattle.eqc_core.specs.Words.{Words, word_at, times}
 use Rattle.eqc_core.specs.Tables.{Homes}
 use Rattle.eqc_core.specs.Owners.{owned}
 use Rattle.eqc_core.specs.Lawful.{Lawful}
-use Rattle.eqc_core.specs.Laws.{AreTabled}
+use Rattle.eqc_core.specs.Facts.{AreTabled}
 use Rattle.eqc_core.proofs.Sums.{at_le_sum}
 use Rattle.eqc_core.proofs.Names.{times-nil}
 use Rattle.eqc_core.proofs.Counting.{known_tabled}
-use Rattle.eqc_core.proofs.Tables.{owned_is, owned_tabled, held_tabled, in_cell_tabled, supported_tabled, child_tabled}
+use Rattle.eqc_core.proofs.Tables.{has_le, owned_is, owned_tabled, held_tabled, in_box_tabled, in_cell_tabled, supported_tabled, child_tabled, table_tabled}
 
 module _ (z : Sizes) (w : Words) (hs : Homes) (vs : List View) (law : Lawful z w hs vs) where
   -- a view that is not active has no names
@@ -37,9 +37,12 @@ module _ (z : Sizes) (w : Words) (hs : Homes) (vs : List View) (law : Lawful z w
     held = λ id x v at has. held_tabled z w hs vs law id x v at (slot id x v at (omega arith) v.active refl) has;
     retired = λ id x v at has. owned_tabled z w hs vs law id x v at (slot id x v at (omega arith) v.active refl) (omega (arith, owned_is x v));
     confirmed = λ id k x v at on is. let f = law.views id v at on in supported_tabled z w hs vs law (word_at z id k) x (f.named k (Confirmed x) is).0 (f.support k x is);
+    supported = λ i x two is. supported_tabled z w hs vs law i x two is;
     read = λ id v r at on is. let h = ((law.views id v at on).read r is).held_still in held_tabled z w hs vs law id r.name v at (slot id r.name v at (omega arith) v.active refl) h;
     known = λ id x v at on two knows. known_tabled z w hs vs id v law at on x two knows;
     cells = λ c x word at two named. in_cell_tabled z w hs vs law c x word at two named;
+    boxes = λ b x word at two named. in_box_tabled z w hs vs law b x word at two named;
+    entries = λ s t i e is at. let h = has_le t i e at in omega (arith, table_tabled hs vs s t e.1 is);
     children = λ x y tab two child. child_tabled z w hs vs law x y tab two child;
   }
 

@@ -12,11 +12,13 @@ pub mod Splitting
 pub mod Joining
 pub mod Confirmed
 pub mod Known
+pub mod Bounds
 pub mod Literals
 pub mod Opening
 pub mod Trees
 pub mod Wraps
 pub mod Runs
+pub mod Rooms
 pub mod Removals
 pub mod Stored
 pub mod Cofactors

@@ -68,6 +68,15 @@ length-without x (y ∷ ys) = step (ℕ_discrete y x) (length-without x ys)
     step (yes e) rest = rw (eq-eqb y x e) (omega arith)
     step (no n) rest = rw (ne_eqb y x n) (omega arith)
 
+-- one entry less, where there is one
+pub length-without_one : (x : ℕ) (ys : List ℕ) → 0 < times x ys → suc (length (without x ys)) ≡ length ys
+length-without_one x [] h = absurd (let n = times-nil x in omega arith)
+length-without_one x (y ∷ ys) h = step (ℕ_discrete y x) (length-without_one x ys)
+  where
+    step : Dec (y ≡ x) → (0 < times x ys → suc (length (without x ys)) ≡ length ys) → suc (length (without x (y ∷ ys))) ≡ length (y ∷ ys)
+    step (yes e) rest = rw (eq-eqb y x e) refl
+    step (no n) rest = rw (ne_eqb y x n) (let r = rest (omega (arith, times-other x y ys n)) in ap suc r)
+
 pub length-without_each : (xs ys : List ℕ) → length (without_each xs ys) ≤ length ys
 length-without_each [] ys = omega arith
 length-without_each (x ∷ xs) ys = omega (arith, length-without_each xs (without x ys), length-without x ys)

@@ -10,8 +10,8 @@ use Rattle.eqc_core.specs.declared.event.Step.TheVariants.{Split, Join, Announce
 use Rattle.eqc_core.specs.View.{View, unused, view_at}
 use Rattle.eqc_core.specs.Lawful.{Lawful}
 use Rattle.eqc_core.specs.State.{State, IsLawful, IsWithinLimits, opening}
-use Rattle.eqc_core.specs.Run.{May, view_after, words_after, views_after, IsAllowed, after, Runs}
-use Rattle.eqc_core.specs.Laws.{ConfirmedCounted}
+use Rattle.eqc_core.specs.Run.{May, view_after, words_after, homes_after, views_after, IsAllowed, after, Runs}
+use Rattle.eqc_core.specs.Facts.{ConfirmedCounted}
 use Rattle.eqc_core.proofs.Lists.{get_at, get_past}
 use Rattle.eqc_core.proofs.Announcing.{look_keeps, announce_keeps, recheck_keeps}
 use Rattle.eqc_core.proofs.Counting.{up_keeps, down_keeps}
@@ -31,7 +31,7 @@ active_there vs id on = go (dec_le (length vs) id)
     go (no lt) = get_at vs id unused (omega arith)
 
 step_lawful : (s : State) (id : ℕ) (v : View) (p : Step) → IsLawful s → get_elem? s.views id ≡ some v → v.active ≡ true → May s v p → length (view_after s v p).held ≤ 2 ^ 40
-    → Lawful s.sizes (words_after s id p) s.homes (views_after s id v p)
+    → Lawful s.sizes (words_after s id p) (homes_after s v p) (views_after s id v p)
 step_lawful s id v (Split to) law at on may room = split_keeps s.sizes s.words s.homes s.views id to v law at on may
 step_lawful s id v (Join from) law at on may room =
     join_keeps s.sizes s.words s.homes s.views id from v (view_at s.views from) law at on (active_there s.views from may.3) may room

@@ -90,7 +90,11 @@ module _ (z : Sizes) (w : Words) (hs : Homes) (vs : List View) (law : Lawful z w
   pub held_tabled : (id x : ℕ) (v : View) → get_elem? vs id ≡ some v → 2 ≤ x → 0 < times x v.held → 0 < tabled hs vs x
   held_tabled id x v at two holds = owned_tabled id x v at two (omega (arith, owned_is x v))
 
-  -- what a cell or a box names is tabled
+  -- what a box or a cell names is tabled
+  pub in_box_tabled : (b x word : ℕ) → get_elem? w.boxes b ≡ some word → 2 ≤ x → 0 < times x (cell_names word) → 0 < tabled hs vs x
+  unfolding in_words
+  in_box_tabled b x word at two named = law.counted.owners_tabled x two (let l = at_le_sum (λ n. times x (cell_names n)) w.boxes b word at in omega arith)
+
   pub in_cell_tabled : (c x word : ℕ) → get_elem? w.cells c ≡ some word → 2 ≤ x → 0 < times x (cell_names word) → 0 < tabled hs vs x
   unfolding in_words
   in_cell_tabled c x word at two named = law.counted.owners_tabled x two (let l = at_le_sum (λ n. times x (cell_names n)) w.cells c word at in omega arith)

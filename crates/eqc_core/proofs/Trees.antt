@@ -9,6 +9,7 @@ use Rattle.eqc_core.specs.Words.{Words, variable_of, low_of, high_of}
 use Rattle.eqc_core.specs.Tables.{IsName, Homes, tabled}
 use Rattle.eqc_core.specs.Trees.{IsTree, variable_at}
 use Rattle.eqc_core.specs.Lawful.{Lawful}
+use Rattle.eqc_core.specs.Facts.{HaveTrees}
 use Rattle.eqc_core.proofs.Names.{names_low, names_high}
 use Rattle.eqc_core.proofs.Tables.{child_tabled}
 
@@ -130,10 +131,9 @@ ordered z w hs vs (Node v l h) x law (inr p) is =
 pub canonical : (z : Sizes) (w : Words) (hs : Homes) (vs : List View) (t : Tree) (x : ℕ) → Lawful z w hs vs → IsName hs vs x → IsTree w.nodes t x → IsCanonical t
 canonical z w hs vs t x law p is = let o = ordered z w hs vs t x law p is in record { ordered = o.0; reduced = o.1 }
 
-pub trees_are_one : (z : Sizes) (w : Words) (hs : Homes) (vs : List View) → Lawful z w hs vs
-    → ((x : ℕ) → 0 < tabled hs vs x → (t : Tree) × IsTree w.nodes t x × IsCanonical t)
-    × ((x y : ℕ) (t : Tree) → 0 < tabled hs vs x → 0 < tabled hs vs y → IsTree w.nodes t x → IsTree w.nodes t y → x ≡ y)
-trees_are_one z w hs vs law = (
-  (λ x tab. let t = tree_there z w hs vs x law (inr tab) in (t.0, t.1, canonical z w hs vs t.0 x law (inr tab) t.1)),
-  (λ x y t a b p q. one_slot z w hs vs t x y law (inr a) (inr b) p q),
-)
+pub have_trees : (z : Sizes) (w : Words) (hs : Homes) (vs : List View) → Lawful z w hs vs → HaveTrees w hs vs
+have_trees z w hs vs law = record {
+  tree = λ x is. let t = tree_there z w hs vs x law is in (t.0, t.1, canonical z w hs vs t.0 x law is t.1);
+  one_tree = λ x s t a b. is_tree_one w.nodes s t x a b;
+  one_name = λ x y t a b p q. one_slot z w hs vs t x y law a b p q;
+}

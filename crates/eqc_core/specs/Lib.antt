@@ -19,4 +19,5 @@ pub mod State
 pub mod Machine
 pub mod Run
 pub mod Replay
+pub mod Facts
 pub mod Laws

@@ -24,6 +24,10 @@ taken_out hs s = set hs s none
 abbrev pub locked : View → ℕ → Entries → View
 locked v s t = record v { hand = Some (record { stripe = s; entries = t }); turn = []; stops = [] }
 
+-- the event of a try says whether it was won, so that it tells what it changes
+abbrev pub MayTryLock : Words → View → ℕ → Bool → Type 0
+MayTryLock w v s won = MayLock v s × (wins_lock w s ≡ won)
+
 -- two tables with the same entries, in any order: all sums over them are equal
 abbrev pub SameEntries : Entries → Entries → Type 0
 SameEntries t u = (f : ℕ × ℕ → ℕ) → sum_by f t ≡ sum_by f u

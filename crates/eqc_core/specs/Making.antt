@@ -1,5 +1,6 @@
 -- A node's life: a free slot is claimed, its word is written and stands in its stripe's table, its children are read, and a node that only the table owns is taken back. No event takes these steps yet.
 use Rattle.std.specs.Prelude.{◌≡◌, ℕ, ◌<◌, ◌≤◌, List, [], ◌∷◌, ◌++◌, get_or, if◌then◌else◌, eqb, Some, None, Bool}
+use Rattle.eqc_tree.specs.Word.{node_word}
 use Rattle.eqc_core.specs.View.{View, Hand}
 use Rattle.eqc_core.specs.Words.{Words, times, children, stripe_of, slots_of}
 use Rattle.eqc_core.specs.Tables.{Entries, table_has, table_word}
@@ -12,6 +13,10 @@ MayClaim v x = IsReady v × (2 ≤ x) × (x < v.sizes.names) × (v.draft ≡ Non
 -- a try is won exactly where the slot's count is 0; one that is not won changes no word
 abbrev pub wins_claim : Words → ℕ → Bool
 wins_claim w x = eqb (get_or w.counts x 0) 0
+
+-- the event of a try says whether it was won, so that it tells what it changes
+abbrev pub MayTryClaim : Words → View → ℕ → Bool → Type 0
+MayTryClaim w v x won = MayClaim v x × (wins_claim w x ≡ won)
 
 -- the count of a draft is 2: that of the table and that of a name held, once it is written
 abbrev pub claimed_words : Words → ℕ → Words
@@ -41,6 +46,12 @@ pub record MayWrite (nodes : List ℕ) (v : View) (d : ℕ) (h : Hand) (word : �
   pub new : table_word word h.entries ≡ 0
   pub shaped : IsShaped v.sizes.variables nodes word
   pub held : AreHeld (children word) v.held
+
+-- the event that writes a node has its variable and its children, which are there: the word of a child of 2 ^ 20 would have a greater variable, and no such child
+pub record MayWriteNode (nodes : List ℕ) (v : View) (d : ℕ) (h : Hand) (variable low high : ℕ) : Type 0 where
+  pub low_there : low < v.sizes.names
+  pub high_there : high < v.sizes.names
+  pub word : MayWrite nodes v d h (node_word variable low high)
 
 abbrev pub written_words : Words → ℕ → ℕ → Words
 written_words w d word = with_node w d word

@@ -5,6 +5,7 @@ use Rattle.eqc_core.specs.declared.event.Step.{Step}
 use Rattle.eqc_core.specs.declared.event.Step.TheVariants.{Split, Join, Announce, Look, Recheck, Up, Down, SwapCell, ScanOne}
 use Rattle.eqc_core.specs.View.{View, view_at, phase_at}
 use Rattle.eqc_core.specs.Words.{Words, word_at}
+use Rattle.eqc_core.specs.Tables.{Homes}
 use Rattle.eqc_core.specs.State.{State}
 use Rattle.eqc_core.specs.Moves.{with_announced, with_count, with_cell}
 use Rattle.eqc_core.specs.Announcing.{MayLook, looked, MayAnnounce, announced, announced_cell, MayRecheck, rechecked}
@@ -37,6 +38,18 @@ view_after s v (Down x) = downed v x
 view_after s v (SwapCell c word) = swapped v (get_or s.words.cells c 0) word
 view_after s v ScanOne = scanned v (get_or s.words.announced v.position 0)
 
+-- how many names the workers of the step hold before it: a join has two
+abbrev pub held_before : State → View → Step → ℕ
+held_before s v (Split to) = length v.held
+held_before s v (Join from) = length v.held + length (view_at s.views from).held
+held_before s v (Announce x) = length v.held
+held_before s v (Look c) = length v.held
+held_before s v Recheck = length v.held
+held_before s v (Up x) = length v.held
+held_before s v (Down x) = length v.held
+held_before s v (SwapCell c word) = length v.held
+held_before s v ScanOne = length v.held
+
 -- the words after the step of worker id
 abbrev pub words_after : State → ℕ → Step → Words
 words_after s id (Split to) = s.words
@@ -48,6 +61,18 @@ words_after s id (Up x) = with_count s.words x (get_or s.words.counts x 0 + 1)
 words_after s id (Down x) = with_count s.words x (get_or s.words.counts x 0 - 1)
 words_after s id (SwapCell c word) = with_cell s.words c word
 words_after s id ScanOne = s.words
+
+-- the tables at home after it: of these steps, none takes a table out or puts one home
+abbrev pub homes_after : State → View → Step → Homes
+homes_after s v (Split to) = s.homes
+homes_after s v (Join from) = s.homes
+homes_after s v (Announce x) = s.homes
+homes_after s v (Look c) = s.homes
+homes_after s v Recheck = s.homes
+homes_after s v (Up x) = s.homes
+homes_after s v (Down x) = s.homes
+homes_after s v (SwapCell c word) = s.homes
+homes_after s v ScanOne = s.homes
 
 -- all views after it: a split and a join change two of them
 abbrev pub views_after : State → ℕ → View → Step → List View
@@ -68,7 +93,8 @@ pub record IsAllowed (s : State) (e : Event) : Type 0 where
   pub room : length (view_after s (view_at s.views e.worker) e.step).held ≤ 2 ^ 40
 
 abbrev pub after : State → Event → State
-after s e = record s { words = words_after s e.worker e.step; views = views_after s e.worker (view_at s.views e.worker) e.step }
+after s e =
+    let v = view_at s.views e.worker in record s { words = words_after s e.worker e.step; homes = homes_after s v e.step; views = views_after s e.worker v e.step }
 
 -- the events lead from s to t, each allowed when it is taken
 abbrev pub Runs : State → List Event → State → Type 0

@@ -1,5 +1,6 @@
 //! The laws of the machine. Each function is a fact about the definitions, with nothing to run.
-ghost use Rattle.eqc_core.specs.Laws.{LookKeeps, AnnounceKeeps, RecheckKeeps, UpKeeps, DownKeeps, SwapCellKeeps, ScanOneKeeps, SplitKeeps, JoinKeeps, RunIsLawful, NoCountWraps, TreesAreOne, ViewsAreBounded, HeldIsCounted, ConfirmedIsCounted, NamesAreTabled};
+ghost use Rattle.eqc_core.specs.Laws.{LookKeeps, AnnounceKeeps, RecheckKeeps, UpKeeps, DownKeeps, SwapCellKeeps, ScanOneKeeps, SplitKeeps, JoinKeeps, RunIsLawful, StepsKeepTrees, StepsHaveRoom};
+ghost use Rattle.eqc_core.specs.Facts.{NoCountWraps, TreesAreOne, ViewsAreBounded, HeldIsCounted, ConfirmedIsCounted, NamesAreTabled, ScansKeepNames, ScansLeaveFew, SplitsComeLast, NothingOutIsAlone, WrittenFieldsAreRead};
 
 /// Every state of every run is lawful, and the count of a confirmed name is at least 2.
 ///
@@ -54,12 +55,22 @@ pub fn join_keeps()
     ensures { JoinKeeps }
 {}
 
+/// A step leaves the tree of each slot that is in a table before and after it.
+pub fn steps_keep_trees()
+    ensures { StepsKeepTrees }
+{}
+
+/// From 2^39 names held at most, no step leads beyond the 2^40 that a worker may hold.
+pub fn steps_have_room()
+    ensures { StepsHaveRoom }
+{}
+
 /// No count wraps its word.
 pub fn no_count_wraps()
     ensures { NoCountWraps }
 {}
 
-/// Each tabled slot stands for one ordered reduced tree, and no two stand for the same.
+/// Each constant and each tabled slot stands for one ordered reduced tree, and no two for the same.
 pub fn trees_are_one()
     ensures { TreesAreOne }
 {}
@@ -79,8 +90,33 @@ pub fn confirmed_is_counted()
     ensures { ConfirmedIsCounted }
 {}
 
-/// Names held, retired, confirmed, read last and in cells are in a table, and so are the children
-/// of such names and whatever an active worker knows to stay.
+/// Names held, retired, confirmed, read last and in cells and boxes are in a table, and so are the
+/// children of such names, what is supported, and whatever an active worker knows to stay.
 pub fn names_are_tabled()
     ensures { NamesAreTabled }
+{}
+
+/// A step of a scan makes retired names held, and changes no other name.
+pub fn scans_keep_names()
+    ensures { ScansKeepNames }
+{}
+
+/// After a whole scan at most as many names are retired as there are announcement words.
+pub fn scans_leave_few()
+    ensures { ScansLeaveFew }
+{}
+
+/// Worker 0 may split off the next number that was never given, and its view comes behind the others.
+pub fn splits_come_last()
+    ensures { SplitsComeLast }
+{}
+
+/// Where no number is out of worker 0's view, no other worker is active.
+pub fn nothing_out_is_alone()
+    ensures { NothingOutIsAlone }
+{}
+
+/// The word of a node that may be written has the variable and the children that were given.
+pub fn written_fields_are_read()
+    ensures { WrittenFieldsAreRead }
 {}

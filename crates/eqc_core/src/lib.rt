@@ -5,7 +5,8 @@
 //! one change of one word by one worker, a run is a list of steps, and the laws say that each step
 //! keeps the state lawful. The running layer rests on them. Read the modules in this order:
 //!
-//! - `laws`, with `specs/Lawful.antt` and `specs/Laws.antt`; `event`, the steps
+//! - `laws`, with `specs/Lawful.antt`, `specs/Laws.antt` (the steps) and `specs/Facts.antt` (what a
+//!   lawful state says); `event`, the steps
 //! - `state`, a state as callers have it; `playback`, what a list of events makes of it
 //! - `machine`, the stored words; `worker` and `phase`, what a worker knows; `agreement`, whether a
 //!   cell's word is right; `multiset`, `sizes` and `stock`, what these stand on

@@ -1,5 +1,5 @@
-use Rattle.eqc_core.proofs.Trees as lemmas
+use Rattle.eqc_core.proofs.Trees.{have_trees}
 use Rattle.eqc_core.proofs.laws.trees_are_one.Goals as goal
 
 pub returns : goal.returns
-returns c = λ z w hs vs law. lemmas.trees_are_one z w hs vs law
+returns c = λ z w hs vs law. have_trees z w hs vs law
