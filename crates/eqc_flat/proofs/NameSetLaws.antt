@@ -1,5 +1,5 @@
 -- Names each once, as a set that they are put into has them; and where a name stands among others.
-use Rattle.std.proofs.Common.{◌≡◌, ℕ, zero, suc, Bool, true, false, not, ◌||◌, cond, List, [], ◌∷◌, ◌++◌, map, refl, sym, ◌∙◌, ap, nat_eq, nat_lt, inl, inr, arith, ◌+◌, ◌<◌, length, take, drop, get_or, ltb, position, Bor, is_some, filter}
+use Rattle.std.proofs.Common.{◌≡◌, ℕ, zero, suc, Bool, true, false, not, ◌||◌, cond, List, [], ◌∷◌, ◌++◌, map, refl, sym, ◌∙◌, ap, nat_eq, nat_lt, inl, inr, arith, ◌+◌, ◌<◌, length, take, drop, get_or, ltb, position, Bor, is_some, filter, Option, Some, None, IfSome}
 use Rattle.std.specs.List.{list_any, position_or_len, fold, flat_map}
 use Rattle.std.specs.Str.{bytes_eq}
 use Rattle.std.proofs.Math.Seq.{split_at}
@@ -304,6 +304,30 @@ place_stays names (x ∷ later) name e = by (is_named names x) refl (place_stays
     by : (b : Bool) → is_named names x ≡ b → place_in (fold with_name names later) name ≡ place_in names name → place_in (fold with_name (names ++ x ∷ []) later) name ≡ place_in (names ++ x ∷ []) name → place_in (fold with_name (with_name names x) later) name ≡ place_in names name
     by true h same more = ap (λ ns. place_in (fold with_name ns later) name) (let kept : with_name names x ≡ names = rw h refl in kept) ∙ same
     by false h same more = ap (λ ns. place_in (fold with_name ns later) name) (with_new names x h) ∙ (more ∙ place_before names (x ∷ []) name e)
+
+-- what an answer says of itself
+pub if_answered : {X : Type 0} (found known : Option X) → found ≡ known → IfSome found (λ k. known ≡ Some k)
+if_answered None known e = tt
+if_answered (Some k) known e = sym e
+
+-- what is known where an answer was some
+pub some_answered : {X : Type 0} (found known : Option X) → is_some found ≡ true → IfSome found (λ k. known ≡ Some k) → is_some known ≡ true
+some_answered None known e told = absurd (false≢true e)
+some_answered (Some k) known e told = ap is_some told
+
+-- a place that was found
+place_is : {X : Type 0} (p : X → Bool) (xs : List X) (k : ℕ) → position p xs ≡ Some k → k ≡ position_or_len p xs
+place_is p xs k e = by (ltb (position_or_len p xs) (length xs)) refl
+  where
+    by : (b : Bool) → ltb (position_or_len p xs) (length xs) ≡ b → k ≡ position_or_len p xs
+    by true h = cc
+    by false h = cc
+
+-- a name whose place was found is there already, and stays at its place
+pub name_found : (names later : List (List ℕ)) (name : List ℕ) (k : ℕ) → position (λ other. bytes_eq name other) names ≡ Some k → (is_named names name ≡ true) × (k ≡ place_in (fold with_name names later) name)
+name_found names later name k e =
+    let there : is_named names name ≡ true = sym (named_if_found names name) ∙ ap is_some e in
+    (there, place_is (λ other. bytes_eq name other) names k e ∙ sym (place_stays names later name there))
 
 -- the place at which a slice is put in
 pub place_kept : (keys new : List (Bor (List ℕ))) (name : Bor (List ℕ)) (place : ℕ) (later : List (List ℕ)) → place ≡ position_or_len (λ (key : Bor (List ℕ)). bytes_eq name.now key.now) keys → bytes_in new ≡ with_name (bytes_in keys) name.now → place ≡ place_in (fold with_name (bytes_in new) later) name.now

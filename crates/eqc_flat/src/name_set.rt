@@ -1,4 +1,4 @@
-ghost use Rattle.std.specs.Prelude.{◌≡◌, ℕ, ◌<◌, List, [], length, position, slice_index_or, not, IfOk, OnOk};
+ghost use Rattle.std.specs.Prelude.{◌≡◌, ℕ, ◌<◌, List, [], length, position, slice_index_or, not, Some, IfOk, OnOk, IfSome};
 ghost use Rattle.std.specs.List.{fold};
 ghost use Rattle.std.specs.Str.{bytes_eq};
 ghost use Rattle.eqc_blif.specs.Names.{is_named};
@@ -43,11 +43,26 @@ impl<'a> NameSet<'a> {
         }
     }
 
+    /// Where a name stands, if there are few names and it is one of them.
+    fn place_among_few(&self, name: &[u8]) -> Option<usize>
+        ensures first { IfSome result (λ k. position (λ other. bytes_eq name.now other) self.now ≡ Some k) }
+        ensures small { IfSome result (λ k. k < 8) }
+    {
+        if self.names.len() <= FEW {
+            place_among(self.names.as_slice(), name)
+        } else {
+            None
+        }
+    }
+
     /// Puts the name of these bytes in, unless it is there, and answers whether it was not. Fails where memory is refused.
     pub fn insert_bytes(&mut self, name: &'a [u8]) -> Result<bool, AllocError>
         ensures fresh { IfOk result (λ fresh. fresh ≡ not (is_named self.old name.now)) }
         ensures names { OnOk result (self.new ≡ with_name self.old name.now) }
     {
+        if self.place_among_few(name).is_some() {
+            return Ok(false);
+        }
         let fresh = self.names.insert(name)?;
         Ok(fresh)
     }
@@ -67,7 +82,11 @@ impl<'a> NameSet<'a> {
         ensures names { OnOk result (self.new ≡ with_name self.old name.now) }
         ensures place { IfOk result (λ place. (later : List (List ℕ)) → place ≡ place_in (fold with_name self.new later) name.now) }
     {
-        let (place, _) = self.names.insert_full(name.as_bytes())?;
+        let bytes = name.as_bytes();
+        if let Some(place) = self.place_among_few(bytes) {
+            return Ok(place as u32);
+        }
+        let (place, _) = self.names.insert_full(bytes)?;
         if place > u32::MAX as usize {
             return Err(AllocError);
         }
