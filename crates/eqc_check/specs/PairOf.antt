@@ -85,6 +85,21 @@ order_refusal inputs order = option_map_or (λ text. option_map order_refused (o
 abbrev pub pair_refused : ℕ → Refused
 pair_refused code = record { side = Pair; line = 0; code = code }
 
+-- the refusal of two netlists whose names differ
+abbrev pub names_refusal : FlatOf → FlatOf → Option Refused
+names_refusal f g =
+    if not (same_names f.inputs g.inputs) then Some (pair_refused 41)
+    else if not (same_names f.outputs g.outputs) then Some (pair_refused 42)
+    else None
+
+-- where the names of two netlists with the same ones stand: the second's inputs among those of the first, and the
+-- first's outputs among those of the second
+pub record AreMatched (f g : FlatOf) (inputs outputs : List ℕ) : Type 0 where
+  pub same_inputs : same_names f.inputs g.inputs ≡ true
+  pub same_outputs : same_names f.outputs g.outputs ≡ true
+  pub inputs_are : inputs ≡ map (position_of f.inputs) g.inputs
+  pub outputs_are : outputs ≡ map (position_of g.outputs) f.outputs
+
 -- the refusal of two netlists with an order text: 41 where the sets of input names differ, 42 where those of
 -- output names do, or the code of the text
 abbrev pub pair_refusal : FlatOf → FlatOf → Option (List ℕ) → Option Refused

@@ -3,13 +3,13 @@ ghost use Rattle.std.specs.Option.{option_copied};
 ghost use Rattle.eqc_blif.specs.Names.{has_twice};
 ghost use Rattle.eqc_check.specs.Verdict.{position_of};
 ghost use Rattle.eqc_check.specs.Matched.{same_names};
-ghost use Rattle.eqc_check.specs.PairOf.{order_for, pair_refusal, pair_refused, no_memory};
+ghost use Rattle.eqc_check.specs.PairOf.{AreMatched, order_for, names_refusal, pair_refusal, pair_refused, no_memory};
 
 pub(crate) mod matched_pair;
 mod name_index;
 pub(crate) mod order;
 
-use crate::pairing::matched_pair::Pair;
+use crate::pairing::matched_pair::{Pair, recall_laws};
 use crate::pairing::name_index::{bytes_of, places_among};
 use crate::pairing::order::order_of;
 use crate::report::{Refused, Side};
@@ -56,6 +56,30 @@ fn matched(alloc: Global, names: &[Name], others: &[Name]) -> Result<Option<Vec<
     places_among(alloc, &names, &others)
 }
 
+/// Where the names of two netlists with the same ones stand.
+#[derive(Drop)]
+struct Matches {
+    /// Of each input of the second, its place among those of the first.
+    inputs: Vec<usize>,
+    /// Of each output of the first, its place among those of the second.
+    outputs: Vec<usize>,
+}
+
+/// Where the names of two netlists stand, or their refusal: two sets of input names that differ (41) or of output
+/// names (42); or no memory.
+fn matches_of(alloc: Global, first: &Flat<'_>, second: &Flat<'_>) -> Result<Matches, Refused>
+    ensures matched { IfOk result (λ m. AreMatched first.now second.now m.inputs.items m.outputs.items) }
+    ensures refused { IfErr result (λ refused. (refused ≡ no_memory) ⊎ (names_refusal first.now second.now ≡ Some refused)) }
+{
+    let Some(inputs) = matched(alloc, first.inputs(), second.inputs())? else {
+        return Err(refusal(Rule::OtherInputs.code()));
+    };
+    let Some(outputs) = matched(alloc, second.outputs(), first.outputs())? else {
+        return Err(refusal(Rule::OtherOutputs.code()));
+    };
+    Ok(Matches { inputs, outputs })
+}
+
 /// The pair of two netlists, whose inputs and outputs are matched by name, with the order of an order text,
 /// else with that in which the first netlist declares its inputs. Refused are, in this order: two sets of
 /// input names that differ (41) or of output names (42), and of the order text what is too long (2), a word
@@ -71,12 +95,8 @@ pub fn pair<'a>(
     ensures order { IfOk result (λ p. p.order ≡ order_for first.now.inputs (option_copied order.entry)) }
     ensures refused { IfErr result (λ refused. (refused ≡ no_memory) ⊎ (pair_refusal first.now second.now (option_copied order.entry) ≡ Some refused)) }
 {
-    let Some(inputs) = matched(alloc, first.inputs(), second.inputs())? else {
-        return Err(refusal(Rule::OtherInputs.code()));
-    };
-    let Some(outputs) = matched(alloc, second.outputs(), first.outputs())? else {
-        return Err(refusal(Rule::OtherOutputs.code()));
-    };
+    recall_laws(second);
+    let Matches { inputs, outputs } = matches_of(alloc, first, second)?;
     let order = order_of(alloc, first.inputs(), order)?;
     Ok(Pair::laid_out(alloc, first, second, &inputs, &outputs, order)?)
 }

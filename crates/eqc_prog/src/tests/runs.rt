@@ -10,34 +10,42 @@ use std::io::{Read, Write};
 use std::sync::Wait;
 use std::thread::Threads;
 
-const DEFAULTS: Options = Options {
-    workers: 2,
-    nodes: 65_536,
-    cells: 8_192,
-    forks: 0,
-};
+/// How many workers the runs are made with.
+const WORKERS: [u32; 3] = [1, 2, 8];
+
+/// The default options, save the number of workers.
+fn options_of(workers: u32) -> Options {
+    Options {
+        workers,
+        nodes: 65_536,
+        cells: 8_192,
+        forks: 0,
+    }
+}
 
 const EMPTY: &str = ".model f;.end;.model g;.end;";
 
-/// Runs with the default options.
+/// Runs with so many workers and the default options.
 fn ran<RT: AllocGlobal + Threads + Wait + Sync, R: Read + Drop, W: Write>(
     rt: &RT,
     texts: Texts<R>,
     order: Option<R>,
+    workers: u32,
     out: &mut W,
 ) -> Result<Status, RunFault> {
-    run(rt, rt.alloc(), texts, order, &DEFAULTS, out)
+    run(rt, rt.alloc(), texts, order, &options_of(workers), out)
 }
 
-/// Whether a run with the default options writes this report and tells that it did.
+/// Whether a run with so many workers writes this report and tells that it did.
 fn reports<R: Read + Drop>(
     rt: &(impl AllocGlobal + Threads + Wait + Sync),
     texts: Texts<R>,
     order: Option<R>,
+    workers: u32,
     report: &str,
 ) -> bool {
     let mut out = Vec::new(rt.alloc());
-    let done = ran(rt, texts, order, &mut out);
+    let done = ran(rt, texts, order, workers, &mut out);
     done.is_ok() && is_text(&out, report)
 }
 
@@ -143,15 +151,17 @@ static READS: [(usize, usize); 3] = [(1, 10), (4, 4), (100, 2)];
 
 #[test]
 fn a_text_is_read_whole(rt: HostRuntime) {
-    for (step, reads) in &READS {
-        let mut feed = Feed::new(".model m;", *step, NEVER);
-        let mut out = Vec::new(rt.alloc());
-        let texts = Texts::One(&mut feed);
-        let done = ran(&rt, texts, None, &mut out);
-        assert_eq!(rt; done, Ok(Status::Refused), "by {step}");
-        assert!(rt; is_text(&out, "refused second 0 13;"), "by {step}");
-        assert!(rt; feed.is_at_end(), "by {step}");
-        assert_eq!(rt; feed.calls, *reads, "by {step}");
+    for workers in WORKERS {
+        for (step, reads) in &READS {
+            let mut feed = Feed::new(".model m;", *step, NEVER);
+            let mut out = Vec::new(rt.alloc());
+            let texts = Texts::One(&mut feed);
+            let done = ran(&rt, texts, None, workers, &mut out);
+            assert_eq!(rt; done, Ok(Status::Refused), "by {step}");
+            assert!(rt; is_text(&out, "refused second 0 13;"), "by {step}");
+            assert!(rt; feed.is_at_end(), "by {step}");
+            assert_eq!(rt; feed.calls, *reads, "by {step}");
+        }
     }
 }
 
@@ -161,7 +171,7 @@ fn a_failed_read_is_not_tried_again(rt: HostRuntime) {
         let mut feed = Feed::new(".model m;", 1, call);
         let mut out = Vec::new(rt.alloc());
         let texts = Texts::One(&mut feed);
-        let done = ran(&rt, texts, None, &mut out);
+        let done = ran(&rt, texts, None, 2, &mut out);
         assert_eq!(rt; done, Err(RunFault::Read), "at {call}");
         assert_eq!(rt;
             feed.calls,
@@ -174,12 +184,14 @@ fn a_failed_read_is_not_tried_again(rt: HostRuntime) {
 
 #[test]
 fn a_text_may_come_byte_by_byte(rt: HostRuntime) {
-    for step in [1, 2, 7, 1000] {
-        let mut out = Vec::new(rt.alloc());
-        let texts = Texts::One(Feed::new(EQUAL, step, NEVER));
-        let done = ran(&rt, texts, None, &mut out);
-        assert_eq!(rt; done, Ok(Status::Equivalent), "by {step}");
-        assert!(rt; is_text(&out, "equivalent;"), "by {step}");
+    for workers in WORKERS {
+        for step in [1, 2, 7, 1000] {
+            let mut out = Vec::new(rt.alloc());
+            let texts = Texts::One(Feed::new(EQUAL, step, NEVER));
+            let done = ran(&rt, texts, None, workers, &mut out);
+            assert_eq!(rt; done, Ok(Status::Equivalent), "by {step}");
+            assert!(rt; is_text(&out, "equivalent;"), "by {step}");
+        }
     }
 }
 
@@ -190,7 +202,7 @@ fn fails_unwritten(
     order: Option<Feed<'_>>,
 ) -> bool {
     let mut out = Drain::new(Vec::new(rt.alloc()), NEVER, NEVER, true);
-    let done = ran(rt, texts, order, &mut out);
+    let done = ran(rt, texts, order, 2, &mut out);
     done == Err(RunFault::Read) && out.calls == 0
 }
 
@@ -209,16 +221,18 @@ fn nothing_is_written_after_a_failed_read(rt: HostRuntime) {
 
 #[test]
 fn a_part_is_written_before_a_failed_write(rt: HostRuntime) {
-    for (step, fails_at, flushes, outcome, written) in &WRITERS {
-        let mut out = Drain::new(Vec::new(rt.alloc()), *step, *fails_at, *flushes);
-        let texts = Texts::One(Feed::whole(EMPTY));
-        let done = ran(&rt, texts, None, &mut out);
-        assert_eq!(rt;
-            done,
-            outcome.map(|()| Status::Equivalent),
-            "{step} {fails_at}"
-        );
-        assert!(rt; is_text(&out.bytes, written), "{step} {fails_at}");
+    for workers in WORKERS {
+        for (step, fails_at, flushes, outcome, written) in &WRITERS {
+            let mut out = Drain::new(Vec::new(rt.alloc()), *step, *fails_at, *flushes);
+            let texts = Texts::One(Feed::whole(EMPTY));
+            let done = ran(&rt, texts, None, workers, &mut out);
+            assert_eq!(rt;
+                done,
+                outcome.map(|()| Status::Equivalent),
+                "{step} {fails_at}"
+            );
+            assert!(rt; is_text(&out.bytes, written), "{step} {fails_at}");
+        }
     }
 }
 
@@ -228,7 +242,7 @@ fn a_text_without_end_is_too_long(rt: HostRuntime) {
     let mut endless = Endless::new();
     let mut out = Vec::new(rt.alloc());
     let texts = Texts::One(&mut endless);
-    let done = ran(&rt, texts, None, &mut out);
+    let done = ran(&rt, texts, None, 2, &mut out);
     assert_eq!(rt; done, Ok(Status::Refused));
     assert!(rt; is_text(&out, "refused first 0 2;"));
     assert_eq!(rt; endless.given, 16_777_217);
@@ -246,10 +260,15 @@ static ORDERED: [(&str, &str, &str); 5] = [
 
 #[test]
 fn order_texts_change_no_answer(rt: HostRuntime) {
-    for (text, order, report) in &ORDERED {
-        let texts = Texts::One(Feed::whole(text));
-        let order = Some(Feed::whole(order));
-        assert!(rt; reports(&rt, texts, order, report), "{report}");
+    for workers in WORKERS {
+        for (text, order, report) in &ORDERED {
+            let texts = Texts::One(Feed::whole(text));
+            let order = Some(Feed::whole(order));
+            assert!(rt;
+                reports(&rt, texts, order, workers, report),
+                "{workers} {report}"
+            );
+        }
     }
 }
 
@@ -276,8 +295,13 @@ static SIDES: [(&str, &str, &str); 5] = [
 
 #[test]
 fn two_texts_have_sides(rt: HostRuntime) {
-    for (first, second, report) in &SIDES {
-        let texts = Texts::Two(Feed::whole(first), Feed::whole(second));
-        assert!(rt; reports(&rt, texts, None, report), "{report}");
+    for workers in WORKERS {
+        for (first, second, report) in &SIDES {
+            let texts = Texts::Two(Feed::whole(first), Feed::whole(second));
+            assert!(rt;
+                reports(&rt, texts, None, workers, report),
+                "{workers} {report}"
+            );
+        }
     }
 }
