@@ -7,7 +7,7 @@ use Rattle.std.proofs.Math.ListN.{length-set}
 use Rattle.eqc_tree.specs.Holding.{Entry, Holding, says, Keeps, Gains}
 use Rattle.eqc_flat.specs.Graph.{FlatOf, driver_at, value_of, FollowsDrivers, driven, input, tie, cover}
 use Rattle.eqc_blif.specs.Cover.{cover_value}
-use Rattle.eqc_check.specs.Matching.{AreHeld, said}
+use Rattle.eqc_cover.specs.Matching.{AreHeld, said}
 use Rattle.eqc_check.specs.Building.{held_by, tally, OwnsTable, Moves, Fills, Adds, Advances, Releases, IsBuilt, AreReady, AreSignals, reference_of, inputs_under}
 use Rattle.eqc_check.specs.Schedule.{moment, uses_at, AreLastMoments, AreWanted, IsBehind}
 use Rattle.eqc_check.proofs.TableLaws.{owned_held, moves_twice}

@@ -130,6 +130,3 @@ gained_says d0 d1 r p o g = record { each = g.function }
 -- a diagram that is given back whatever is found
 pub kept_lost : (d0 d1 d2 : Holding) (r : Entry) → Keeps d0 d1 → Loses d1 d2 r → Loses d0 d2 r
 kept_lost d0 d1 d2 r k l = record { variables = l.variables ∙ k.variables; held = λ e. omega (arith, k.held e, l.held e) }
-
-pub kept_held : (d0 d1 : Holding) (r : Entry) → Keeps d0 d1 → IsHeld d0 r → IsHeld d1 r
-kept_held d0 d1 r k h = omega (arith, k.held r, h)

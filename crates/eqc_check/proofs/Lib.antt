@@ -1,13 +1,7 @@
-pub mod MatchingLaws
-pub mod MakingLaws
-pub mod MappedLemmas
-pub mod RowLaws
-pub mod HeldLaws
 pub mod TableLaws
 pub mod BuildLaws
 pub mod ScheduleLaws
 pub mod WantedLaws
-pub mod Blocks
 pub mod LeastLemmas
 pub mod VerdictLemmas
 pub mod MatchedLemmas

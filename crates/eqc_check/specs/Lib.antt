@@ -7,12 +7,9 @@ pub mod PairOf
 pub mod Report
 pub mod Rule
 pub mod ReportView
-pub mod Matching
-pub mod Making
 pub mod Building
 pub mod Schedule
 pub mod Assigned
-pub mod Narrowing
 pub mod Comparing
 pub mod Turns
 pub mod Refusing

@@ -1,23 +1,21 @@
 ghost use Rattle.std.specs.Prelude.{◌≡◌, ◌≢◌, ℕ, ◌+◌, ◌<◌, ◌≤◌, length, IfOk, IfErr, OnOk, OnErr, IsSome, Some, map, slice_index};
 ghost use Rattle.eqc_tree.specs.Holding.{Keeps};
 ghost use Rattle.eqc_flat.specs.Graph.{driver_at, dependencies, value_of};
-ghost use Rattle.eqc_check.specs.Making.{Makes};
+ghost use Rattle.eqc_cover.specs.Making.{Makes};
 ghost use Rattle.eqc_check.specs.Building.{OwnsTable, IsBuilt, AreReady, AreVariables, Adds, Advances, Moves, inputs_under, reference_of};
 ghost use Rattle.eqc_check.specs.Schedule.{moment, uses_at, AreLastMoments, ArePlaces};
 
-mod cover;
 pub(crate) mod kept;
-mod rows;
 pub(crate) mod schedule;
 pub(crate) mod table;
 mod wanted;
 
-use crate::build::cover::cover_diagram;
 use crate::build::kept::Kept;
 use crate::build::schedule::{Schedule, moment};
 use crate::build::table::{put, reference_at, release};
 use crate::build::wanted::wanted;
 use crate::pairing::matched_pair::recall_laws;
+use eqc_cover::cover_diagram;
 use eqc_flat::{Driver, Flat, Signals};
 use eqc_tree::{Diagrams, References, Stop};
 use std::alloc::{AllocError, Global};

@@ -7,8 +7,8 @@
 //! - `running`, texts in and a report out, over `io`, readers and writers; `decide`, which refusal or comparison it is;
 //!   `choice`, which models are compared; `warning`, models that are contained in others
 //! - `pairing`, two netlists as a pair; `options` and `rule`, what is asked for and what is refused
-//! - `making`, what is made of references; `build`, the diagrams of signals
-//! - `compare`, one output; `least`, its least assignment; `checking`, all outputs on one thread; `workers`, on several
+//! - `build`, the diagrams of signals; `least`, the least assignment of a pair's inputs
+//! - `compare`, one output; `checking`, all outputs on one thread; `workers`, on several
 //! - `report`, reports and their bytes; `laws`, facts about the definitions, as functions without a body
 #![tactic(auto, using(eqc_tree::proofs::HoldingLemmas::counts_itself))]
 
@@ -20,7 +20,6 @@ mod decide;
 mod io;
 mod laws;
 mod least;
-mod making;
 mod options;
 mod pairing;
 mod report;

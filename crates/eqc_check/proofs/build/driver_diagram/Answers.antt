@@ -1,7 +1,7 @@
 use Rattle.std.proofs.Common.{sym, ◌∙◌, ap, arith}
 use Rattle.eqc_flat.specs.Drivers.{driver_of}
 use Rattle.eqc_check.proofs.TableLaws.{owned_held}
-use Rattle.eqc_check.proofs.MakingLaws.{call_makes, reference_makes, makes_as, memory_makes}
+use Rattle.eqc_cover.proofs.MakingLaws.{call_makes, reference_makes, makes_as, memory_makes}
 use Rattle.eqc_check.proofs.BuildLaws.{found_held, input_follows, tie_follows, cover_follows}
 use Rattle.eqc_check.proofs.build.driver_diagram.Goals as goal
 

@@ -1,6 +1,6 @@
 use Rattle.std.proofs.Common.{arith}
 use Rattle.eqc_check.specs.Comparing.{differs_at}
-use Rattle.eqc_check.proofs.HeldLaws.{gains_as}
+use Rattle.eqc_cover.proofs.HeldLaws.{gains_as}
 use Rattle.eqc_check.proofs.TableLaws.{owned_held}
 use Rattle.eqc_check.proofs.PairLaws.{pair_matched}
 use Rattle.eqc_check.proofs.DifferenceLaws.{first_owned, second_owned, xor_says}

@@ -1,5 +1,5 @@
 use Rattle.std.proofs.Common.{arith}
-use Rattle.eqc_check.proofs.MappedLemmas.{none_more}
+use Rattle.eqc_cover.proofs.MappedLemmas.{none_more}
 use Rattle.eqc_check.proofs.build.table.empty_table.Goals as goal
 
 pub unwrap-requires : goal.unwrap-requires

@@ -1,5 +1,0 @@
-use Rattle.std.proofs.Common.{◌≡◌, ◌++◌, replicate}
-use Rattle.eqc_check.proofs.least.push_times.Given as goal
-
-abbrev pub invariant-values : goal.invariant-values
-invariant-values l = l.values.items ≡ l.fn.values.items ++ replicate l._k l.value

@@ -1,0 +1,219 @@
+//! The rows of a cover: which of them match, their cofactors, and what an expansion of them costs.
+ghost use Rattle.std.specs.Prelude.{◌≡◌, ℕ, Bool, List, [], ◌∷◌, true, length, map, take, IfOk, option_to_list};
+ghost use Rattle.std.specs.List.{list_any};
+ghost use Rattle.std.specs.Option.{option_copied};
+ghost use Rattle.eqc_cover.specs.Matching.{some_match, cofactor, is_literal, has_free_row, constrains_first, MatchAlike};
+
+use eqc_blif::{Rows, allows, row_matches};
+use indexmap::IndexSet;
+use std::alloc::{AllocError, Global};
+
+/// Up to so many columns a cover is expanded column by column whatever its rows.
+const NARROW: usize = 8;
+
+/// Above so many columns a cover isn't expanded, however many its rows.
+const WIDEST: usize = 20;
+
+/// So many visits to rows an expansion may take, for each place of a cover's text.
+const VISITS: usize = 96;
+
+/// Where the bound that is quickly found is at most so many for each place, they aren't counted.
+const BOUND: usize = 160;
+
+pub(crate) fn some_match(rows: &[&[u8]], values: &[bool]) -> bool
+    ensures { result ≡ some_match (map (λ r. r.now) rows.now) values.now }
+{
+    for row in rows {
+        if row_matches(row, values) {
+            return true;
+        }
+    }
+    false
+}
+
+/// A row without its first column, where that allows the value.
+fn without_first<'a>(row: &'a [u8], value: bool) -> Option<&'a [u8]>
+    ensures { option_to_list (option_copied result) ≡ cofactor value (row.now ∷ []) }
+{
+    match row.split_first() {
+        None => Some(row),
+        Some((byte, rest)) => {
+            if allows(*byte, value) {
+                Some(rest)
+            } else {
+                None
+            }
+        }
+    }
+}
+
+/// The rows that allow this value of their first column, without it.
+pub(crate) fn cofactor<'a>(
+    alloc: Global,
+    rows: &[&'a [u8]],
+    value: bool,
+) -> Result<Vec<&'a [u8]>, AllocError>
+    ensures { IfOk result (λ kept. map (λ r. r.now) kept.items ≡ cofactor value (map (λ r. r.now) rows.now)) }
+{
+    let mut kept = Vec::with_capacity(alloc, rows.len())?;
+    for row in rows {
+        if let Some(rest) = without_first(row, value) {
+            kept.push(rest)?;
+        }
+    }
+    Ok(kept)
+}
+
+fn is_literal(byte: u8) -> bool
+    ensures { result ≡ is_literal byte }
+{
+    byte == b'0' || byte == b'1'
+}
+
+/// Whether one of these places of a row asks for a value.
+fn has_literal(places: &[u8]) -> bool
+    ensures { result ≡ list_any is_literal places.now }
+{
+    for byte in places {
+        if is_literal(*byte) {
+            return true;
+        }
+    }
+    false
+}
+
+/// Whether one of the rows matches whatever the values of so many columns.
+pub(crate) fn has_free_row(rows: &[&[u8]], columns: usize) -> bool
+    ensures { result ≡ has_free_row columns (map (λ r. r.now) rows.now) }
+{
+    for row in rows {
+        if !has_literal(&row[..columns.min(row.len())]) {
+            return true;
+        }
+    }
+    false
+}
+
+/// Whether one of the rows asks for a value of its first column.
+pub(crate) fn constrains_first(rows: &[&[u8]]) -> bool
+    ensures { result ≡ constrains_first (map (λ r. r.now) rows.now) }
+{
+    for row in rows {
+        if has_literal(&row[..row.len().min(1)]) {
+            return true;
+        }
+    }
+    false
+}
+
+fn slices<'a>(alloc: Global, rows: &'a Rows<'_>) -> Result<Vec<&'a [u8]>, AllocError>
+    ensures { IfOk result (λ v. map (λ r. r.now) v.items ≡ rows.now) }
+{
+    let mut slices = Vec::with_capacity(alloc, rows.len())?;
+    for k in 0..rows.len() {
+        slices.push(rows.get(k))?;
+    }
+    Ok(slices)
+}
+
+/// The rows, those that stand several times once. Fails where memory is refused.
+fn distinct<'a>(alloc: Global, rows: &'a Rows<'_>) -> Result<Vec<&'a [u8]>, AllocError>
+    ensures { IfOk result (λ kept. MatchAlike (map (λ r. r.now) kept.items) rows.now) }
+{
+    let mut seen = IndexSet::new(alloc);
+    let mut kept = Vec::new(alloc);
+    'rows: for k in 0..rows.len() {
+        let row = rows.get(k);
+        if seen.insert(row)? {
+            kept.push(row)?;
+        }
+    }
+    Ok(kept)
+}
+
+/// What is left of a budget after an expansion of the rows over so many columns, which visits each row of each
+/// cofactor once, or none where the budget doesn't suffice. Fails where memory is refused.
+fn left_after(
+    alloc: Global,
+    rows: &[&[u8]],
+    columns: usize,
+    budget: usize,
+) -> Result<Option<usize>, AllocError> {
+    let Some(left) = budget.checked_sub(rows.len()) else {
+        return Ok(None);
+    };
+    if columns <= 2 || rows.is_empty() || has_free_row(rows, columns) {
+        return Ok(Some(left));
+    }
+    let with_one = cofactor(alloc, rows, true)?;
+    let Some(left) = left_after(alloc, &with_one, columns - 1, left)? else {
+        return Ok(None);
+    };
+    if !constrains_first(rows) {
+        return Ok(Some(left));
+    }
+    let with_zero = cofactor(alloc, rows, false)?;
+    left_after(alloc, &with_zero, columns - 1, left)
+}
+
+/// A number of visits that no expansion of the rows over so many columns exceeds: a row stands in each cofactor that
+/// its dashes allow.
+fn most_visits(rows: &[&[u8]], columns: usize) -> usize {
+    let mut visits: usize = 0;
+    for row in rows {
+        let mut cofactors: usize = 1;
+        for byte in &row[..columns.min(row.len())] {
+            visits = visits.saturating_add(cofactors);
+            if !is_literal(*byte) {
+                cofactors = cofactors.saturating_mul(2);
+            }
+        }
+    }
+    visits
+}
+
+/// Whether an expansion is thought of: where the columns are few, or where the rows have as many places as there are
+/// values of the columns.
+fn is_narrow(columns: usize, rows: usize) -> bool {
+    columns <= NARROW || (columns <= WIDEST && rows >= 1 << (columns - NARROW))
+}
+
+/// How a cover is built.
+#[derive(Drop)]
+pub(crate) struct Plan<'a> {
+    /// Its rows, of which some that stand several times may be left out.
+    pub(crate) rows: Vec<&'a [u8]>,
+    /// Whether it is expanded column by column, at a price in proportion to its text.
+    pub(crate) expands: bool,
+}
+
+/// How a cover of these rows over so many columns is built. Fails where memory is refused.
+pub(crate) fn plan_cover<'a>(
+    alloc: Global,
+    rows: &'a Rows<'_>,
+    columns: usize,
+) -> Result<Plan<'a>, AllocError>
+    ensures { IfOk result (λ plan. MatchAlike (map (λ r. r.now) plan.rows.items) rows.now) }
+{
+    let all = slices(alloc, rows)?;
+    if !is_narrow(columns, all.len()) {
+        return Ok(Plan {
+            rows: all,
+            expands: false,
+        });
+    }
+    let places = all.len().saturating_mul(columns);
+    if columns <= NARROW || most_visits(&all, columns) <= places.saturating_mul(BOUND) {
+        return Ok(Plan {
+            rows: all,
+            expands: true,
+        });
+    }
+    let once = distinct(alloc, rows)?;
+    let budget = places.saturating_mul(VISITS);
+    let expands = left_after(alloc, &once, columns, budget)?.is_some();
+    Ok(Plan {
+        rows: once,
+        expands,
+    })
+}
