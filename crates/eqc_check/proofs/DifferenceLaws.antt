@@ -10,6 +10,8 @@ use Rattle.eqc_tree.specs.Assigned.{assigned, DependsOnlyOn, assignments}
 use Rattle.eqc_check.specs.Verdict.{position_of, values_for, first_value, second_value, least_difference}
 use Rattle.eqc_check.specs.PairOf.{PairOf, IsPair, first_variables, second_variables, second_signals}
 use Rattle.eqc_check.specs.Comparing.{netlist_of, differs_at, SaysDifference}
+use Rattle.eqc_check.specs.Turns.{MovesKept}
+use Rattle.eqc_check.specs.declared.build.kept.Tables.{Tables}
 use Rattle.eqc_check.proofs.MatchedLemmas.{place_of_name, assigned_value, IsDifference, least_of_difference, none_of_difference}
 use Rattle.eqc_check.proofs.BuildLaws.{tally_none}
 use Rattle.eqc_check.proofs.CompareLaws.{value_agrees, xor_differs}
@@ -92,6 +94,12 @@ both_moves entry d0 d1 d2 f0 f1 s0 s1 m n = record { variables = n.variables ∙
 
 pub both_twice : {X : Type 0} (entry : X → Entry) (d0 d1 d2 : Holding) (f0 f1 f2 s0 s1 s2 : List (Option X)) → MovesBoth entry d0 f0 s0 d1 f1 s1 → MovesBoth entry d1 f1 s1 d2 f2 s2 → MovesBoth entry d0 f0 s0 d2 f2 s2
 both_twice entry d0 d1 d2 f0 f1 f2 s0 s1 s2 m n = record { variables = n.variables ∙ m.variables; held = λ e. omega (arith, m.held e, n.held e) }
+
+pub kept_twice : {X : Type 0} (entry : X → Entry) (p : PairOf) (d0 d1 d2 : Holding) (t0 t1 t2 : Tables X) → MovesKept entry p d0 t0 d1 t1 → MovesKept entry p d1 t1 d2 t2 → MovesKept entry p d0 t0 d2 t2
+kept_twice entry p d0 d1 d2 t0 t1 t2 m n = record {
+  moves = both_twice entry d0 d1 d2 t0.first.table.items t1.first.table.items t2.first.table.items t0.second.table.items t1.second.table.items t2.second.table.items m.moves n.moves;
+  built = n.built;
+}
 
 -- a call that keeps what is held moves nothing
 pub both_still : {X : Type 0} (entry : X → Entry) (d0 d1 d2 : Holding) (f0 f1 s0 s1 : List (Option X)) → MovesBoth entry d0 f0 s0 d1 f1 s1 → Keeps d1 d2 → MovesBoth entry d0 f0 s0 d2 f1 s1

@@ -1,7 +1,10 @@
 -- What members find at the outputs that they draw, and all of it put in order.
-use Rattle.std.specs.Prelude.{◌≡◌, ◌≢◌, ℕ, ◌+◌, ◌<◌, ◌≤◌, Bool, true, false, IsTrue, List, [], ◌∷◌, length, map, ltb, Option, Some, None, All, slice_index_or, if◌then◌else◌}
+use Rattle.std.specs.Prelude.{◌≡◌, ◌≢◌, ℕ, ◌+◌, ◌<◌, ◌≤◌, Bool, true, false, IsTrue, List, [], ◌∷◌, length, map, ltb, Option, Some, None, All, Vec, vec_len, ◌^◌, slice_index_or, if◌then◌else◌}
+use Rattle.std.specs.declared.alloc.Global.{Global}
 use Rattle.atomic_table.specs.Seated.{TableId}
 use Rattle.atomic_table.specs.declared.shared.Seat.{Seat}
+use Rattle.eqc_tree.specs.Holding.{Holding}
+use Rattle.eqc_check.specs.declared.workers.ticket.Key.{Key}
 use Rattle.eqc_check.specs.declared.workers.ticket.View.{View}
 use Rattle.eqc_check.specs.declared.workers.verdict.Finding.{Finding}
 use Rattle.eqc_check.specs.declared.workers.verdict.Finding.TheVariants.{Equal, Differs, Behind}
@@ -51,6 +54,20 @@ pub record IsShare (p : PairOf) (id : TableId) (members : ℕ) (seat : Seat ℕ 
   pub done : strangers (length p.first.outputs) seat.me.0.drawn ≡ members
   pub each : named verdicts ≡ insiders (length p.first.outputs) seat.me.0.drawn
   pub right : All (IsRight p) verdicts
+
+-- a seat for so many members, of which none has drawn, at the outputs of a pair
+pub record IsFresh (p : PairOf) (id : TableId) (key : Key) (members : ℕ) (seat : Seat ℕ View) : Type 0 where
+  pub own : IsSeat id seat
+  pub outputs : key.outputs ≡ length p.first.outputs
+  pub seats : seat.me.0.seats ≡ members
+  pub drawn : seat.me.0.drawn ≡ []
+
+-- members that share a seat: each has diagrams with a variable for each input, and all have numbers, from the first one's on
+pub record AreSeated {D : Type 0} (holding : D → Holding) (p : PairOf) (id : TableId) (key : Key) (seat : Seat ℕ View) (first : ℕ) (members : Vec D Global) : Type 0 where
+  pub fresh : IsFresh p id key (vec_len members) seat
+  pub some : 1 ≤ vec_len members
+  pub numbers : first + vec_len members < 2 ^ 32
+  pub variables : All (λ d. length p.first.inputs ≤ (holding d).variables) members.items
 
 -- a member between two draws: all its numbers are outputs, the last is below `least`, and it knows of an earlier difference
 -- where it says so

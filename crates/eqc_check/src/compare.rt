@@ -3,9 +3,9 @@ ghost use Rattle.std.specs.Option.{option_map};
 ghost use Rattle.eqc_tree.specs.Holding.{IsHeld, says, Keeps, Gains, Loses};
 ghost use Rattle.eqc_check.specs.Verdict.{least_difference, first_difference};
 ghost use Rattle.eqc_check.specs.PairOf.{second_signals};
-ghost use Rattle.eqc_check.specs.Building.{AreBuilt, OwnsBoth, MovesBoth, KeepsLater, reference_of};
+ghost use Rattle.eqc_check.specs.Building.{AreBuilt, OwnsBoth, MovesBoth, KeepsLater};
 ghost use Rattle.eqc_check.specs.Schedule.{moment};
-ghost use Rattle.eqc_check.specs.Turns.{AreScheduled, IsTurn, AreTurns};
+ghost use Rattle.eqc_check.specs.Turns.{AreScheduled, IsTurn, AreTurns, AreKept, MovesKept, HasOutput};
 ghost use Rattle.eqc_check.specs.Comparing.{netlist_of, differs_at, SaysDifference, found_at};
 
 use crate::build::complete;
@@ -27,10 +27,8 @@ fn output_difference<R, D: Diagrams<R>>(
     output: usize,
 ) -> Result<D::Ref, Stop>
     requires output { output < length pair.now.first.outputs }
-    requires built { AreBuilt D.entry pair.now tables.now.first.table.items tables.now.second.table.items }
-    requires owned { OwnsBoth D.entry (D.holding d.old) tables.now.first.table.items tables.now.second.table.items }
-    requires first_ready { IsSome (reference_of tables.now.first.table.items (slice_index pair.now.first.output_signals output)) }
-    requires second_ready { IsSome (reference_of tables.now.second.table.items (slice_index (second_signals pair.now) output)) }
+    requires kept { AreKept D.entry pair.now (D.holding d.old) tables.now }
+    requires ready { HasOutput pair.now tables.now output }
     ensures ok { IfOk result (λ r. Gains (D.holding d.old) (D.holding d.new) (D.entry r) (differs_at pair.now output)) }
     ensures stop { OnErr result (Keeps (D.holding d.old) (D.holding d.new)) }
     ensures only { IfErr result (λ s. s ≢ Stop.Threads) }
@@ -83,12 +81,9 @@ fn difference<R, D: Diagrams<R>>(
     tables: &Tables<D::Ref>,
     output: usize,
 ) -> Result<Option<Vec<bool>>, Stop>
-    requires variables { length pair.now.first.inputs ≤ (D.holding d.old).variables }
     requires output { output < length pair.now.first.outputs }
-    requires built { AreBuilt D.entry pair.now tables.now.first.table.items tables.now.second.table.items }
-    requires owned { OwnsBoth D.entry (D.holding d.old) tables.now.first.table.items tables.now.second.table.items }
-    requires first_ready { IsSome (reference_of tables.now.first.table.items (slice_index pair.now.first.output_signals output)) }
-    requires second_ready { IsSome (reference_of tables.now.second.table.items (slice_index (second_signals pair.now) output)) }
+    requires kept { AreKept D.entry pair.now (D.holding d.old) tables.now }
+    requires ready { HasOutput pair.now tables.now output }
     ensures found { IfOk result (λ found. option_map (λ v. v.items) found ≡ least_difference (netlist_of pair.now.first) (netlist_of pair.now.second) (slice_index_or pair.now.first.outputs output [])) }
     ensures kept { Keeps (D.holding d.old) (D.holding d.new) }
     ensures only { IfErr result (λ s. s ≢ Stop.Threads) }
@@ -108,16 +103,12 @@ fn complete_both<R, D: Diagrams<R>>(
     output: usize,
     turn: u32,
 ) -> Result<(), Stop>
-    requires variables { length pair.now.first.inputs ≤ (D.holding d.old).variables }
     requires output { output < length pair.now.first.outputs }
-    requires scheduled { AreScheduled pair.now schedules.now.first schedules.now.second }
-    requires turn { IsTurn pair.now schedules.now.first schedules.now.second output turn }
-    requires built { AreBuilt D.entry pair.now tables.old.first.table.items tables.old.second.table.items }
-    requires owned { OwnsBoth D.entry (D.holding d.old) tables.old.first.table.items tables.old.second.table.items }
-    ensures moves { MovesBoth D.entry (D.holding d.old) tables.old.first.table.items tables.old.second.table.items (D.holding d.new) tables.new.first.table.items tables.new.second.table.items }
-    ensures built { AreBuilt D.entry pair.now tables.new.first.table.items tables.new.second.table.items }
-    ensures first_ready { OnOk result (IsSome (reference_of tables.new.first.table.items (slice_index pair.now.first.output_signals output))) }
-    ensures second_ready { OnOk result (IsSome (reference_of tables.new.second.table.items (slice_index (second_signals pair.now) output))) }
+    requires scheduled { AreScheduled pair.now schedules.now }
+    requires turn { IsTurn pair.now schedules.now output turn }
+    requires kept { AreKept D.entry pair.now (D.holding d.old) tables.old }
+    ensures moves { MovesKept D.entry pair.now (D.holding d.old) tables.old (D.holding d.new) tables.new }
+    ensures ready { OnOk result (HasOutput pair.now tables.new output) }
     ensures only { IfErr result (λ s. s ≢ Stop.Threads) }
 {
     pair.recall_laws();
@@ -155,11 +146,9 @@ fn release_both<D: References>(
     tables: &mut Tables<D::Ref>,
     turn: u32,
 )
-    requires scheduled { AreScheduled pair.now schedules.now.first schedules.now.second }
-    requires built { AreBuilt D.entry pair.now tables.old.first.table.items tables.old.second.table.items }
-    requires owned { OwnsBoth D.entry (D.holding d.old) tables.old.first.table.items tables.old.second.table.items }
-    ensures moves { MovesBoth D.entry (D.holding d.old) tables.old.first.table.items tables.old.second.table.items (D.holding d.new) tables.new.first.table.items tables.new.second.table.items }
-    ensures built { AreBuilt D.entry pair.now tables.new.first.table.items tables.new.second.table.items }
+    requires scheduled { AreScheduled pair.now schedules.now }
+    requires kept { AreKept D.entry pair.now (D.holding d.old) tables.old }
+    ensures moves { MovesKept D.entry pair.now (D.holding d.old) tables.old (D.holding d.new) tables.new }
     ensures first_later { KeepsLater schedules.now.first.last.items tables.old.first.table.items tables.new.first.table.items (moment turn (length pair.now.first.drivers + 1)) }
     ensures second_later { KeepsLater schedules.now.second.last.items tables.old.second.table.items tables.new.second.table.items (moment turn (length pair.now.second.drivers + 1)) }
 {
@@ -182,15 +171,12 @@ fn compare_turn<R, D: Diagrams<R>>(
     output: usize,
     turn: u32,
 ) -> Result<Option<Vec<bool>>, Stop>
-    requires variables { length pair.now.first.inputs ≤ (D.holding d.old).variables }
     requires output { output < length pair.now.first.outputs }
-    requires scheduled { AreScheduled pair.now schedules.now.first schedules.now.second }
-    requires turn { IsTurn pair.now schedules.now.first schedules.now.second output turn }
-    requires built { AreBuilt D.entry pair.now tables.old.first.table.items tables.old.second.table.items }
-    requires owned { OwnsBoth D.entry (D.holding d.old) tables.old.first.table.items tables.old.second.table.items }
+    requires scheduled { AreScheduled pair.now schedules.now }
+    requires turn { IsTurn pair.now schedules.now output turn }
+    requires kept { AreKept D.entry pair.now (D.holding d.old) tables.old }
     ensures found { IfOk result (λ found. option_map (λ v. v.items) found ≡ least_difference (netlist_of pair.now.first) (netlist_of pair.now.second) (slice_index_or pair.now.first.outputs output [])) }
-    ensures moves { MovesBoth D.entry (D.holding d.old) tables.old.first.table.items tables.old.second.table.items (D.holding d.new) tables.new.first.table.items tables.new.second.table.items }
-    ensures built { AreBuilt D.entry pair.now tables.new.first.table.items tables.new.second.table.items }
+    ensures moves { MovesKept D.entry pair.now (D.holding d.old) tables.old (D.holding d.new) tables.new }
     ensures only { IfErr result (λ s. s ≢ Stop.Threads) }
 {
     complete_both(alloc, rt, d, pair, schedules, tables, output, turn)?;
@@ -201,10 +187,8 @@ fn compare_turn<R, D: Diagrams<R>>(
 
 /// Gives back all that is kept.
 fn clear_both<D: References>(d: &mut D, pair: &Pair<'_>, tables: &mut Tables<D::Ref>)
-    requires built { AreBuilt D.entry pair.now tables.old.first.table.items tables.old.second.table.items }
-    requires owned { OwnsBoth D.entry (D.holding d.old) tables.old.first.table.items tables.old.second.table.items }
-    ensures moves { MovesBoth D.entry (D.holding d.old) tables.old.first.table.items tables.old.second.table.items (D.holding d.new) tables.new.first.table.items tables.new.second.table.items }
-    ensures built { AreBuilt D.entry pair.now tables.new.first.table.items tables.new.second.table.items }
+    requires kept { AreKept D.entry pair.now (D.holding d.old) tables.old }
+    ensures moves { MovesKept D.entry pair.now (D.holding d.old) tables.old (D.holding d.new) tables.new }
 {
     pair.recall_laws();
     clear(d, &mut tables.first);
@@ -222,15 +206,12 @@ pub(crate) fn compare_kept<R, D: Diagrams<R>>(
     output: usize,
     turn: u32,
 ) -> Result<Option<Vec<bool>>, Stop>
-    requires variables { length pair.now.first.inputs ≤ (D.holding d.old).variables }
     requires output { output < length pair.now.first.outputs }
-    requires scheduled { AreScheduled pair.now schedules.now.first schedules.now.second }
-    requires turn { IsTurn pair.now schedules.now.first schedules.now.second output turn }
-    requires built { AreBuilt D.entry pair.now tables.old.first.table.items tables.old.second.table.items }
-    requires owned { OwnsBoth D.entry (D.holding d.old) tables.old.first.table.items tables.old.second.table.items }
+    requires scheduled { AreScheduled pair.now schedules.now }
+    requires turn { IsTurn pair.now schedules.now output turn }
+    requires kept { AreKept D.entry pair.now (D.holding d.old) tables.old }
     ensures found { IfOk result (λ found. option_map (λ v. v.items) found ≡ least_difference (netlist_of pair.now.first) (netlist_of pair.now.second) (slice_index_or pair.now.first.outputs output [])) }
-    ensures moves { MovesBoth D.entry (D.holding d.old) tables.old.first.table.items tables.old.second.table.items (D.holding d.new) tables.new.first.table.items tables.new.second.table.items }
-    ensures built { AreBuilt D.entry pair.now tables.new.first.table.items tables.new.second.table.items }
+    ensures moves { MovesKept D.entry pair.now (D.holding d.old) tables.old (D.holding d.new) tables.new }
     ensures only { IfErr result (λ s. s ≢ Stop.Threads) }
 {
     let keeps = !tables.first.due.is_empty() || !tables.second.due.is_empty();
@@ -281,9 +262,7 @@ pub(crate) fn give_back_both<D: References>(d: &mut D, tables: Tables<D::Ref>)
 
 /// The schedules of a pair whose outputs are compared in their order. Fails where memory is refused.
 pub(crate) fn schedules_of(alloc: Global, pair: &Pair<'_>) -> Result<Schedules, AllocError>
-    ensures scheduled { IfOk result (λ s. AreScheduled pair.now s.first s.second) }
-    ensures turns { IfOk result (λ s. AreTurns pair.now s.first s.second) }
-    ensures few { OnOk result (length pair.now.first.outputs ≤ 4294967295) }
+    ensures { IfOk result (AreTurns pair.now) }
 {
     pair.recall_laws();
     // The names alone of so many outputs would take a hundred gigabytes.
@@ -300,7 +279,7 @@ pub(crate) fn schedules_of(alloc: Global, pair: &Pair<'_>) -> Result<Schedules, 
 fn one_turn(alloc: Global, pair: &Pair<'_>, s: u32, t: u32) -> Result<Schedules, AllocError>
     requires s { s < length pair.now.first.drivers }
     requires t { t < length pair.now.second.drivers }
-    ensures scheduled { IfOk result (λ x. AreScheduled pair.now x.first x.second) }
+    ensures scheduled { IfOk result (AreScheduled pair.now) }
     ensures first { IfOk result (λ x. moment 1 (length pair.now.first.drivers + 1) ≤ slice_index x.first.last.items s) }
     ensures second { IfOk result (λ x. moment 1 (length pair.now.second.drivers + 1) ≤ slice_index x.second.last.items t) }
 {
@@ -320,15 +299,11 @@ fn compare_in_turn<R, D: Diagrams<R>>(
     schedules: &Schedules,
     tables: &mut Tables<D::Ref>,
 ) -> Result<Option<(usize, Vec<bool>)>, Stop>
-    requires variables { length pair.now.first.inputs ≤ (D.holding d.old).variables }
-    requires few { length pair.now.first.outputs ≤ 4294967295 }
-    requires scheduled { AreScheduled pair.now schedules.now.first schedules.now.second }
-    requires turns { AreTurns pair.now schedules.now.first schedules.now.second }
-    requires built { AreBuilt D.entry pair.now tables.old.first.table.items tables.old.second.table.items }
-    requires owned { OwnsBoth D.entry (D.holding d.old) tables.old.first.table.items tables.old.second.table.items }
+    requires turns { AreTurns pair.now schedules.now }
+    requires kept { AreKept D.entry pair.now (D.holding d.old) tables.old }
     ensures found { IfOk result (λ found. found_at pair.now.first found ≡ first_difference (netlist_of pair.now.first) (netlist_of pair.now.second) pair.now.first.outputs) }
     ensures within { IfOk result (λ found. IfSome found (λ p. p.0 < length pair.now.first.outputs)) }
-    ensures moves { MovesBoth D.entry (D.holding d.old) tables.old.first.table.items tables.old.second.table.items (D.holding d.new) tables.new.first.table.items tables.new.second.table.items }
+    ensures moves { MovesKept D.entry pair.now (D.holding d.old) tables.old (D.holding d.new) tables.new }
     ensures only { IfErr result (λ s. s ≢ Stop.Threads) }
 {
     for o in 0..pair.first().outputs().len() {

@@ -1,7 +1,7 @@
 //! What a member compares with.
 ghost use Rattle.std.specs.Prelude.{◌≡◌, ◌≢◌, ◌<◌, ◌≤◌, ◌^◌, length, IfOk, IfErr};
 ghost use Rattle.std.specs.Option.{option_map};
-ghost use Rattle.eqc_check.specs.Turns.{AreKept, AreScheduled, AreTurns};
+ghost use Rattle.eqc_check.specs.Turns.{AreKept, AreTurns};
 ghost use Rattle.eqc_check.specs.Verdicts.{difference_at};
 
 use crate::build::kept::Tables;
@@ -24,7 +24,7 @@ pub(crate) fn begin<D: References + Drop>(
     pair: &Pair<'_>,
 ) -> Result<Member<D>, Stop>
     requires variables { length pair.now.first.inputs ≤ (D.holding diagrams).variables }
-    ensures kept { IfOk result (λ m. AreKept D.entry pair.now (D.holding m.diagrams) m.tables.first.table.items m.tables.second.table.items) }
+    ensures kept { IfOk result (λ m. AreKept D.entry pair.now (D.holding m.diagrams) m.tables) }
     ensures only { IfErr result (λ s. s ≡ Stop.Memory) }
 {
     let mut diagrams = diagrams;
@@ -41,13 +41,11 @@ pub(crate) fn compare<R, D: Diagrams<R>>(
     schedules: &Schedules,
     output: u32,
 ) -> Result<Option<Vec<bool>>, Stop>
-    requires kept { AreKept D.entry pair.now (D.holding member.old.diagrams) member.old.tables.first.table.items member.old.tables.second.table.items }
-    requires scheduled { AreScheduled pair.now schedules.now.first schedules.now.second }
-    requires turns { AreTurns pair.now schedules.now.first schedules.now.second }
-    requires few { length pair.now.first.outputs < 2 ^ 32 }
+    requires kept { AreKept D.entry pair.now (D.holding member.old.diagrams) member.old.tables }
+    requires turns { AreTurns pair.now schedules.now }
     requires output { output < length pair.now.first.outputs }
     ensures least { IfOk result (λ found. option_map (λ v. v.items) found ≡ difference_at pair.now output) }
-    ensures kept { AreKept D.entry pair.now (D.holding member.new.diagrams) member.new.tables.first.table.items member.new.tables.second.table.items }
+    ensures kept { AreKept D.entry pair.now (D.holding member.new.diagrams) member.new.tables }
     ensures only { IfErr result (λ s. s ≢ Stop.Threads) }
 {
     let Member { diagrams, tables } = member;
@@ -65,7 +63,7 @@ pub(crate) fn compare<R, D: Diagrams<R>>(
 
 /// The member's diagrams, with what they held at first.
 pub(crate) fn end<D: References>(member: Member<D>, pair: &Pair<'_>) -> D
-    requires { AreKept D.entry pair.now (D.holding member.diagrams) member.tables.first.table.items member.tables.second.table.items }
+    requires { AreKept D.entry pair.now (D.holding member.diagrams) member.tables }
 {
     let Member {
         mut diagrams,

@@ -1,10 +1,8 @@
 //! Members that draw outputs and compare them, each in a thread of its own, and what they give back.
-ghost use Rattle.std.specs.Prelude.{◌≡◌, ◌≢◌, ◌+◌, ◌<◌, ◌≤◌, ◌^◌, IsTrue, [], length, vec_len, IfOk, IfErr};
-ghost use Rattle.std.specs.List.{All};
+ghost use Rattle.std.specs.Prelude.{◌≡◌, ◌≢◌, ◌+◌, ◌<◌, ◌≤◌, IsTrue, length, vec_len, IfOk, IfErr};
 ghost use Rattle.std.specs.Thread.{IsSync, IsSend};
-ghost use Rattle.eqc_check.specs.Ticket.{IsSeat};
-ghost use Rattle.eqc_check.specs.Turns.{AreKept, AreScheduled, AreTurns};
-ghost use Rattle.eqc_check.specs.Verdicts.{DiffersBefore, IsFoundAt, IsShare};
+ghost use Rattle.eqc_check.specs.Turns.{AreKept, AreTurns};
+ghost use Rattle.eqc_check.specs.Verdicts.{DiffersBefore, IsFoundAt, IsShare, IsFresh, AreSeated};
 
 use crate::build::schedule::Schedules;
 use crate::pairing::matched_pair::Pair;
@@ -37,14 +35,12 @@ fn finding<R, D: Diagrams<R>, G: Gate<R>>(
     output: u32,
     behind: bool,
 ) -> Result<Finding, Stop>
-    requires kept { AreKept D.entry pair.now (D.holding member.old.diagrams) member.old.tables.first.table.items member.old.tables.second.table.items }
-    requires scheduled { AreScheduled pair.now schedules.now.first schedules.now.second }
-    requires turns { AreTurns pair.now schedules.now.first schedules.now.second }
-    requires few { length pair.now.first.outputs < 2 ^ 32 }
+    requires kept { AreKept D.entry pair.now (D.holding member.old.diagrams) member.old.tables }
+    requires turns { AreTurns pair.now schedules.now }
     requires output { output < length pair.now.first.outputs }
     requires knows { IsTrue behind → DiffersBefore pair.now output }
     ensures found { IfOk result (λ found. IsFoundAt pair.now output found) }
-    ensures kept { AreKept D.entry pair.now (D.holding member.new.diagrams) member.new.tables.first.table.items member.new.tables.second.table.items }
+    ensures kept { AreKept D.entry pair.now (D.holding member.new.diagrams) member.new.tables }
     ensures only { IfErr result (λ s. s ≢ Stop.Threads) }
 {
     if behind {
@@ -70,16 +66,12 @@ fn draw_all<R, D: Diagrams<R>, G: Gate<R>>(
     seat: Drawer,
     member: &mut Member<D>,
 ) -> Result<Share, Stop>
-    requires own { IsSeat words.now.table_id seat }
-    requires one { (seat.me.0.seats ≡ 1) × (seat.me.0.drawn ≡ []) }
-    requires key { words.now.key.outputs ≡ length pair.now.first.outputs }
-    requires few { length pair.now.first.outputs < 2 ^ 32 }
-    requires kept { AreKept D.entry pair.now (D.holding member.old.diagrams) member.old.tables.first.table.items member.old.tables.second.table.items }
-    requires scheduled { AreScheduled pair.now schedules.now.first schedules.now.second }
-    requires turns { AreTurns pair.now schedules.now.first schedules.now.second }
+    requires fresh { IsFresh pair.now words.now.table_id words.now.key 1 seat }
+    requires kept { AreKept D.entry pair.now (D.holding member.old.diagrams) member.old.tables }
+    requires turns { AreTurns pair.now schedules.now }
     ensures share { IfOk result (λ s. IsShare pair.now words.now.table_id 1 s.seat s.verdicts.items) }
     ensures only { IfErr result (λ s. s ≢ Stop.Threads) }
-    ensures kept { AreKept D.entry pair.now (D.holding member.new.diagrams) member.new.tables.first.table.items member.new.tables.second.table.items }
+    ensures kept { AreKept D.entry pair.now (D.holding member.new.diagrams) member.new.tables }
 {
     let mut seat = seat;
     let mut verdicts = Vec::new(alloc);
@@ -116,13 +108,9 @@ fn work_alone<R, D: Diagrams<R> + Drop, G: Gate<R>>(
     seat: Drawer,
     diagrams: D,
 ) -> Result<Share, Stop>
-    requires own { IsSeat words.now.table_id seat }
-    requires one { (seat.me.0.seats ≡ 1) × (seat.me.0.drawn ≡ []) }
-    requires key { words.now.key.outputs ≡ length pair.now.first.outputs }
-    requires few { length pair.now.first.outputs < 2 ^ 32 }
+    requires fresh { IsFresh pair.now words.now.table_id words.now.key 1 seat }
     requires variables { length pair.now.first.inputs ≤ (D.holding diagrams).variables }
-    requires scheduled { AreScheduled pair.now schedules.now.first schedules.now.second }
-    requires turns { AreTurns pair.now schedules.now.first schedules.now.second }
+    requires turns { AreTurns pair.now schedules.now }
     ensures share { IfOk result (λ s. IsShare pair.now words.now.table_id 1 s.seat s.verdicts.items) }
     ensures only { IfErr result (λ s. s ≢ Stop.Threads) }
 {
@@ -196,15 +184,8 @@ fn work<
     seat: Drawer,
     members: Vec<D>,
 ) -> Result<Share, Stop>
-    requires own { IsSeat words.now.table_id seat }
-    requires seats { (seat.me.0.seats ≡ vec_len members) × (seat.me.0.drawn ≡ []) }
-    requires key { words.now.key.outputs ≡ length pair.now.first.outputs }
-    requires few { length pair.now.first.outputs < 2 ^ 32 }
-    requires some { 1 ≤ vec_len members }
-    requires numbers { worker + vec_len members < 2 ^ 32 }
-    requires variables { All (λ d. length pair.now.first.inputs ≤ (D.holding d).variables) members.items }
-    requires scheduled { AreScheduled pair.now schedules.now.first schedules.now.second }
-    requires turns { AreTurns pair.now schedules.now.first schedules.now.second }
+    requires seated { AreSeated D.holding pair.now words.now.table_id words.now.key seat worker members }
+    requires turns { AreTurns pair.now schedules.now }
     ensures share { IfOk result (λ s. IsShare pair.now words.now.table_id (vec_len members) s.seat s.verdicts.items) }
 {
     let mut seat = seat;
@@ -229,12 +210,8 @@ fn work<
         members: theirs.len() as u64,
     };
     let there = move || -> Result<Share, Stop>
-        requires { IsSync R.row × IsSync G.row × IsSend D.row
-            × IsSeat words.now.table_id other × (other.me.0.seats ≡ vec_len theirs) × (other.me.0.drawn ≡ [])
-            × (words.now.key.outputs ≡ length pair.now.first.outputs) × (length pair.now.first.outputs < 2 ^ 32)
-            × (1 ≤ vec_len theirs) × (next + vec_len theirs < 2 ^ 32)
-            × AreScheduled pair.now schedules.now.first schedules.now.second × AreTurns pair.now schedules.now.first schedules.now.second
-            × All (λ d. length pair.now.first.inputs ≤ (D.holding d).variables) theirs.items }
+        requires { IsSync R.row × IsSync G.row × IsSend D.row × AreTurns pair.now schedules.now
+            × AreSeated D.holding pair.now words.now.table_id words.now.key other next theirs }
         ensures { IfOk result (λ s. IsShare pair.entry.now words.entry.now.table_id (vec_len theirs) s.seat s.verdicts.items) }
     {
         work(
@@ -266,26 +243,16 @@ pub(crate) fn work_together<
     seat: Drawer,
     members: Vec<D>,
 ) -> Result<Share, Stop>
-    requires own { IsSeat words.now.table_id seat }
-    requires seats { (seat.me.0.seats ≡ vec_len members) × (seat.me.0.drawn ≡ []) }
-    requires key { words.now.key.outputs ≡ length pair.now.first.outputs }
-    requires few { length pair.now.first.outputs < 2 ^ 32 }
-    requires some { 1 ≤ vec_len members }
-    requires numbers { vec_len members < 2 ^ 32 }
-    requires variables { All (λ d. length pair.now.first.inputs ≤ (D.holding d).variables) members.items }
-    requires scheduled { AreScheduled pair.now schedules.now.first schedules.now.second }
-    requires turns { AreTurns pair.now schedules.now.first schedules.now.second }
+    requires seated { AreSeated D.holding pair.now words.now.table_id words.now.key seat 0 members }
+    requires turns { AreTurns pair.now schedules.now }
     ensures share { IfOk result (λ s. IsShare pair.now words.now.table_id (vec_len members) s.seat s.verdicts.items) }
 {
     scope(
         scope_env(),
         rt,
         move |scope| -> Result<Share, Stop>
-            requires { IsSeat words.now.table_id seat × (seat.me.0.seats ≡ vec_len members) × (seat.me.0.drawn ≡ [])
-                × (words.now.key.outputs ≡ length pair.now.first.outputs) × (length pair.now.first.outputs < 2 ^ 32)
-                × (1 ≤ vec_len members) × (vec_len members < 2 ^ 32)
-                × AreScheduled pair.now schedules.now.first schedules.now.second × AreTurns pair.now schedules.now.first schedules.now.second
-                × All (λ d. length pair.now.first.inputs ≤ (D.holding d).variables) members.items }
+            requires { AreTurns pair.now schedules.now
+                × AreSeated D.holding pair.now words.now.table_id words.now.key seat 0 members }
             ensures { IfOk result (λ s. IsShare pair.entry.now words.entry.now.table_id (vec_len members) s.seat s.verdicts.items) }
         {
             work(

@@ -2,7 +2,7 @@ use Rattle.std.proofs.Common.{arith, ap, sym, ◌∙◌, length, ◌<◌, Bool, 
 use Rattle.std.specs.Option.{option_map}
 use Rattle.eqc_check.specs.Comparing.{netlist_of}
 use Rattle.eqc_check.proofs.CompareLaws.{none_more, found_first}
-use Rattle.eqc_check.proofs.DifferenceLaws.{both_twice}
+use Rattle.eqc_check.proofs.DifferenceLaws.{kept_twice}
 use Rattle.eqc_check.proofs.compare.compare_in_turn.Goals as goal
 
 pub returns-in-Some-clause-found : goal.returns-in-Some-clause-found
@@ -16,6 +16,5 @@ loop-o-preserved g c =
     let outputs = rw c.first.ensures at c.outputs-o-end.ensures in
     let inside : c.loop-o.o < length c.args.pair.now.first.outputs = omega (arith, ap length outputs) in (
       none_more (netlist_of c.args.pair.now.first) (netlist_of c.args.pair.now.second) c.args.pair.now.first.outputs c.loop-o.o c.in_ok-values.field-0 inside c.in-None.is c.in_ok-values.ensures.found c.loop-o.invariant.0,
-      both_twice g.D.References.entry _ _ _ _ _ _ _ _ _ c.loop-o.invariant.1 c.compare_kept.ensures.moves,
-      c.compare_kept.ensures.built,
+      kept_twice g.D.References.entry c.args.pair.now _ _ _ _ _ _ c.loop-o.invariant.1 c.compare_kept.ensures.moves,
     )

@@ -6,7 +6,7 @@ pub bounds-second_signals-output : goal.bounds-second_signals-output
 bounds-second_signals-output g c = rw c.second_signals.ensures.each (omega (arith, (pair_matched c.args.pair.now c.recall_laws.ensures).size))
 
 pub complete-requires-clause-variables : goal.complete-requires-clause-variables
-complete-requires-clause-variables g c = rw (c.first-2.ensures, c.variables.ensures.each) (first_within c.args.pair.now _ c.recall_laws.ensures c.requires.variables)
+complete-requires-clause-variables g c = rw (c.first-2.ensures, c.variables.ensures.each) (first_within c.args.pair.now _ c.recall_laws.ensures c.requires.kept.variables)
 
 pub complete-requires-2-clause-variables : goal.complete-requires-2-clause-variables
-complete-requires-2-clause-variables g c = rw (c.second.ensures, c.second_variables.ensures.each) (second_within c.args.pair.now _ c.recall_laws.ensures (omega (arith, c.complete.ensures.moves.variables)))
+complete-requires-2-clause-variables g c = rw (c.second.ensures, c.second_variables.ensures.each) (second_within c.args.pair.now _ c.recall_laws.ensures (omega (arith, c.requires.kept.variables, c.complete.ensures.moves.variables)))
