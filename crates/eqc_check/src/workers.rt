@@ -2,7 +2,7 @@
 //! that differs is the same whichever member drew it.
 //!
 //! - `ticket`, the word from which outputs are drawn; `member`, what a member compares with; `gate`, what is told of it
-//! - `share`, members in threads and what they give back; `verdict`, all of it put in order
+//! - `group`, members that share a seat; `share`, members in threads and what they give back; `verdict`, all of it put in order
 ghost use Rattle.std.specs.Prelude.{◌≡◌, ◌<◌, ◌≤◌, ◌^◌, ℕ, None, length, vec_len, IfOk, IfErr, IfSome};
 ghost use Rattle.std.specs.List.{All};
 ghost use Rattle.eqc_tree.specs.Holding.{Holding};
@@ -14,6 +14,7 @@ ghost use Rattle.eqc_check.specs.Comparing.{netlist_of, found_at};
 ghost use Rattle.eqc_check.specs.Verdicts.{AreOnce, IsRight, IsShare};
 
 pub(crate) mod gate;
+mod group;
 mod member;
 mod share;
 mod ticket;
@@ -25,6 +26,7 @@ use crate::options::Options;
 use crate::pairing::matched_pair::Pair;
 use crate::report::Report;
 use crate::workers::gate::Gate;
+use crate::workers::group::Group;
 use crate::workers::share::{Share, work_together};
 use crate::workers::ticket::{Key, TicketTable, open, settle};
 use crate::workers::verdict::{Verdict, first_of, in_order};
@@ -72,16 +74,12 @@ fn first_found<R: Threads + Wait + Sync, D: Diagrams<R> + Send + Drop, G: Gate<R
     let Ok((table, seat)) = open(alloc, key) else {
         return Err(Stop::Memory);
     };
-    let share = work_together(
-        rt,
-        alloc,
-        pair,
-        &schedules,
-        &table.shared,
-        gate,
+    let group = Group {
+        worker: 0,
         seat,
         members,
-    )?;
+    };
+    let share = work_together(rt, alloc, pair, &schedules, &table.shared, gate, group)?;
     let verdicts = verdicts_of(table, pair, share);
     let Ok(row) = in_order(alloc, pair, verdicts) else {
         return Err(Stop::Memory);

@@ -7,8 +7,9 @@ ghost use Rattle.eqc_check.specs.Verdicts.{DiffersBefore, IsFoundAt, IsShare, Is
 use crate::build::schedule::Schedules;
 use crate::pairing::matched_pair::Pair;
 use crate::workers::gate::Gate;
+use crate::workers::group::{Group, halves};
 use crate::workers::member::{self, Member};
-use crate::workers::ticket::{Drawer, Words, draw, halve, take_in};
+use crate::workers::ticket::{Drawer, Words, draw, take_in};
 use crate::workers::verdict::{Finding, Verdict};
 use eqc_tree::{Diagrams, References, Stop};
 use std::alloc::Global;
@@ -130,6 +131,34 @@ fn work_alone<R, D: Diagrams<R> + Drop, G: Gate<R>>(
     share
 }
 
+/// What the only member of a group does.
+fn work_only<R, D: Diagrams<R> + Drop, G: Gate<R>>(
+    rt: &R,
+    alloc: Global,
+    pair: &Pair<'_>,
+    schedules: &Schedules,
+    words: &Words,
+    gate: &G,
+    group: Group<D>,
+) -> Result<Share, Stop>
+    requires seated { AreSeated D.holding pair.now words.now.table_id words.now.key group.seat group.worker group.members }
+    requires only { vec_len group.members ≡ 1 }
+    requires turns { AreTurns pair.now schedules.now }
+    ensures share { IfOk result (λ s. IsShare pair.now words.now.table_id 1 s.seat s.verdicts.items) }
+{
+    let Group {
+        worker,
+        seat,
+        mut members,
+    } = group;
+    let Some(diagrams) = members.pop() else {
+        unreachable!()
+    };
+    work_alone(
+        rt, alloc, pair, schedules, words, gate, worker, seat, diagrams,
+    )
+}
+
 /// Puts two shares together.
 fn put_together(words: &Words, pair: &Pair<'_>, mine: Share, theirs: Share) -> Result<Share, Stop>
     requires mine { IsShare pair.now words.now.table_id mine.seat.me.0.seats mine.seat mine.verdicts.items }
@@ -180,50 +209,30 @@ fn work<
     schedules: &'s Schedules,
     words: &'s Words,
     gate: &'s G,
-    worker: u32,
-    seat: Drawer,
-    members: Vec<D>,
+    group: Group<D>,
 ) -> Result<Share, Stop>
-    requires seated { AreSeated D.holding pair.now words.now.table_id words.now.key seat worker members }
+    requires seated { AreSeated D.holding pair.now words.now.table_id words.now.key group.seat group.worker group.members }
     requires turns { AreTurns pair.now schedules.now }
-    ensures share { IfOk result (λ s. IsShare pair.now words.now.table_id (vec_len members) s.seat s.verdicts.items) }
+    ensures share { IfOk result (λ s. IsShare pair.now words.now.table_id (vec_len group.members) s.seat s.verdicts.items) }
 {
-    let mut seat = seat;
-    let mut members = members;
-    if members.len() == 1 {
-        let Some(diagrams) = members.pop() else {
-            unreachable!()
-        };
-        return work_alone(
-            rt, alloc, pair, schedules, words, gate, worker, seat, diagrams,
-        );
+    if group.members.len() == 1 {
+        return work_only(rt, alloc, pair, schedules, words, gate, group);
     }
-    let keep = members.len() - members.len() / 2;
-    let Ok(theirs) = members.split_off(keep) else {
-        return Err(Stop::Memory);
-    };
-    let other = halve(words, &mut seat);
-    let next = worker + keep as u32;
+    let (mine, theirs) = halves(words, pair, group)?;
     let kept = Kept {
         pair: Snapshot::of(pair),
         words: Snapshot::of(words),
-        members: theirs.len() as u64,
+        members: theirs.members.len() as u64,
     };
     let there = move || -> Result<Share, Stop>
         requires { IsSync R.row × IsSync G.row × IsSend D.row × AreTurns pair.now schedules.now
-            × AreSeated D.holding pair.now words.now.table_id words.now.key other next theirs }
-        ensures { IfOk result (λ s. IsShare pair.entry.now words.entry.now.table_id (vec_len theirs) s.seat s.verdicts.items) }
-    {
-        work(
-            rt, scope, alloc, pair, schedules, words, gate, next, other, theirs,
-        )
-    };
+            × AreSeated D.holding pair.now words.now.table_id words.now.key theirs.seat theirs.worker theirs.members }
+        ensures { IfOk result (λ s. IsShare pair.entry.now words.entry.now.table_id (vec_len theirs.members) s.seat s.verdicts.items) }
+    { work(rt, scope, alloc, pair, schedules, words, gate, theirs) };
     let Ok(child) = scope.spawn_with(kept, there) else {
         return Err(Stop::Threads);
     };
-    let mine = work(
-        rt, scope, alloc, pair, schedules, words, gate, worker, seat, members,
-    );
+    let mine = work(rt, scope, alloc, pair, schedules, words, gate, mine);
     let theirs = child.join(rt);
     put_together(words, pair, mine?, theirs?)
 }
@@ -240,24 +249,19 @@ pub(crate) fn work_together<
     schedules: &Schedules,
     words: &Words,
     gate: &G,
-    seat: Drawer,
-    members: Vec<D>,
+    group: Group<D>,
 ) -> Result<Share, Stop>
-    requires seated { AreSeated D.holding pair.now words.now.table_id words.now.key seat 0 members }
+    requires seated { AreSeated D.holding pair.now words.now.table_id words.now.key group.seat group.worker group.members }
     requires turns { AreTurns pair.now schedules.now }
-    ensures share { IfOk result (λ s. IsShare pair.now words.now.table_id (vec_len members) s.seat s.verdicts.items) }
+    ensures share { IfOk result (λ s. IsShare pair.now words.now.table_id (vec_len group.members) s.seat s.verdicts.items) }
 {
     scope(
         scope_env(),
         rt,
         move |scope| -> Result<Share, Stop>
             requires { AreTurns pair.now schedules.now
-                × AreSeated D.holding pair.now words.now.table_id words.now.key seat 0 members }
-            ensures { IfOk result (λ s. IsShare pair.entry.now words.entry.now.table_id (vec_len members) s.seat s.verdicts.items) }
-        {
-            work(
-                rt, scope, alloc, pair, schedules, words, gate, 0, seat, members,
-            )
-        },
+                × AreSeated D.holding pair.now words.now.table_id words.now.key group.seat group.worker group.members }
+            ensures { IfOk result (λ s. IsShare pair.entry.now words.entry.now.table_id (vec_len group.members) s.seat s.verdicts.items) }
+        { work(rt, scope, alloc, pair, schedules, words, gate, group) },
     )
 }
