@@ -13,3 +13,6 @@ pub mod TwiceLaws
 pub mod FitLaws
 pub mod PlainLaws
 pub mod ReadBackLaws
+pub mod CodeLemmas
+pub mod FindingLemmas
+pub mod BadByteLemmas

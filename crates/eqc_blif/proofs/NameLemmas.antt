@@ -1,13 +1,16 @@
 -- Names in a list, and a name that stands twice.
-use Rattle.std.proofs.Common.{◌≡◌, Bool, true, false, not, cond, ◌||◌, List, [], ◌∷◌, ◌++◌, nat_eq, ℕ, ◌+◌, ◌<◌, length, take, drop, get_or, Option, Some, None, refl, sym, ◌∙◌, ap, inl, inr}
+use Rattle.std.proofs.Common.{◌≡◌, Bool, true, false, not, cond, ◌||◌, List, [], ◌∷◌, ◌++◌, nat_eq, ℕ, ◌+◌, suc, ◌<◌, length, take, drop, get_or, Option, Some, None, refl, sym, ◌∙◌, ap, arith, inl, inr}
 use Rattle.std.specs.Str.{bytes_eq}
 use Rattle.std.specs.Option.{option_map}
-use Rattle.std.proofs.lemmas.List.{take_more, drop_more, take-append-drop}
+use Rattle.std.proofs.lemmas.List.{take_more, drop_more, take-append-drop, length-append, append-nil, get_or_append_left}
+use Rattle.std.proofs.Math.Seq.{get_or-append_seam}
+use Rattle.std.proofs.lemmas.Slice.Eq.{bytes_eq-Decides}
 use Rattle.std.proofs.lemmas.List.Folds.{list_any-append}
 use Rattle.std.proofs.lemmas.Bool.{cases_eq, cases_Bool, or_parts, or_cases, ne_eqb, eq-eqb, true≢false}
 use Rattle.indexmap.specs.IndexSet.{insert_key}
 use Rattle.eqc_blif.specs.Names.{is_named, has_twice}
 use Rattle.eqc_blif.specs.Steps.{few_or_many}
+use Rattle.eqc_blif.specs.Finding.{StandsTwice}
 
 nat_eq-sym : (a b : ℕ) → nat_eq a b ≡ nat_eq b a
 nat_eq-sym a b = elim (cases_eq a b) [
@@ -83,3 +86,29 @@ set_more names i keys new copy once within so_far is inserted =
       | inl there ↦ absurd (true≢false (sym (twice_there (take i names) (drop (i + 1) names) copy there) ∙ (ap has_twice (sym cut) ∙ once)))
       | inr fresh ↦ inserted ∙ rw (so_far, fresh, next) refl
     ]
+
+-- where a name is known to stand twice, a word is left
+pub word_left : (names ws all : List (List ℕ)) → names ++ ws ≡ all → has_twice all ≡ true → has_twice names ≡ false → ws ≡ [] → ⊥
+word_left names ws all are twice once none = true≢false (sym twice ∙ (ap has_twice (sym are ∙ (ap (λ more. names ++ more) none ∙ append-nil names)) ∙ once))
+
+-- a name of a list stands at a place of it
+place_of : (names : List (List ℕ)) (name : List ℕ) → is_named names name ≡ true → (k : ℕ) × (k < length names) × (get_or names k [] ≡ name)
+place_of [] name there = cc
+place_of (x ∷ xs) name there = elim (cases_Bool (bytes_eq name x)) [
+  | inl here ↦ (0, omega arith, sym ((bytes_eq-Decides name x).0 here))
+  | inr other ↦ let behind = place_of xs name (rw other at there) in (suc behind.0, omega (arith, behind.1), behind.2)
+]
+
+-- a word that is among the names before it stands twice
+pub twice_at : (names ws rest all : List (List ℕ)) (word name : List ℕ) → names ++ ws ≡ all → ws ≡ word ∷ rest → name ≡ word → is_named names name ≡ true → StandsTwice all name
+twice_at names ws rest all word name are cut is there =
+    let first = place_of names name there in
+    let list : all ≡ names ++ name ∷ rest = sym are ∙ (ap (λ more. names ++ more) (cut ∙ ap (λ w. w ∷ rest) (sym is))) in
+    let long : length all ≡ length names + suc (length rest) = ap length list ∙ length-append names (name ∷ rest) in (
+      first.0,
+      length names,
+      first.1,
+      omega (arith, long),
+      ap (λ l. get_or l first.0 []) list ∙ (get_or_append_left names (name ∷ rest) [] first.0 first.1 ∙ first.2),
+      ap (λ l. get_or l (length names) []) list ∙ get_or-append_seam names name rest [],
+    )

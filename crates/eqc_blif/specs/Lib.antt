@@ -10,3 +10,4 @@ pub mod Steps
 pub mod Laws
 pub mod PlainText
 pub mod Rule
+pub mod Finding

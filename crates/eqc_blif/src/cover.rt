@@ -71,7 +71,7 @@ fn has_row_shape(columns: usize, row: &[u8]) -> bool
 }
 
 /// The last byte of a row, or 0 where there is none.
-fn row_output(row: &[u8]) -> u8
+pub(crate) fn row_output(row: &[u8]) -> u8
     ensures { result ≡ row_output row.now }
 {
     match row.last() {

@@ -125,7 +125,7 @@ impl<'a> Lines<'a> {
     }
 
     /// The next physical line, with its number.
-    fn next_physical(&mut self) -> Option<(u32, &'a [u8])>
+    pub(crate) fn next_physical(&mut self) -> Option<(u32, &'a [u8])>
         ensures { TakesFirst self.old (option_map (λ p. (p.0, p.1.now)) result) self.new }
     {
         let text = self.rest?;

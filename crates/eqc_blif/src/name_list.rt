@@ -2,6 +2,7 @@ ghost use Rattle.std.specs.Prelude.{◌≡◌, [], ◌∷◌, ◌++◌, IfOk, no
 ghost use Rattle.std.specs.List.{list_any};
 ghost use Rattle.eqc_blif.specs.Words.{words};
 ghost use Rattle.eqc_blif.specs.Names.{is_named, has_twice};
+ghost use Rattle.eqc_blif.specs.Finding.{StandsTwice};
 
 use crate::name::Name;
 use crate::sparing::push_sparing;
@@ -115,6 +116,23 @@ impl NameList {
         }
         let _ = self.as_slice();
         Ok(true)
+    }
+
+    /// The first of the words of a line that stands among the names or the words before it, where one does. The words
+    /// before it were added.
+    pub(crate) fn first_twice(&mut self, alloc: Global, line: &[u8]) -> Result<Name, AllocError>
+        requires { has_twice (self.old ++ words line.now) ≡ true }
+        ensures { IfOk result (λ name. StandsTwice (self.old ++ words line.now) name) }
+    {
+        let mut rest = line;
+        'words: loop {
+            let _ = self.as_slice();
+            let (word, others) = split_word(rest).unwrap();
+            if !self.add(alloc, Name::new(alloc, word)?)? {
+                return Name::new(alloc, word);
+            }
+            rest = others;
+        }
     }
 
     pub(crate) fn as_slice(&self) -> &[Name]

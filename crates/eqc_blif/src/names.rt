@@ -1,6 +1,7 @@
 ghost use Rattle.std.specs.Prelude.{◌≡◌, [], ◌++◌, IfOk, not, true, false};
 ghost use Rattle.eqc_blif.specs.Words.{words};
 ghost use Rattle.eqc_blif.specs.Names.{has_twice};
+ghost use Rattle.eqc_blif.specs.Finding.{StandsTwice};
 
 use crate::name::Name;
 use crate::name_list::NameList;
@@ -43,6 +44,19 @@ impl Names {
         let once = list.add_words(alloc, line)?;
         self.list = Some(list);
         Ok(once)
+    }
+
+    /// The first of the words of a line that stands among the names or the words before it, where one does. The names are
+    /// lost.
+    pub(crate) fn first_twice(&mut self, alloc: Global, line: &[u8]) -> Result<Name, AllocError>
+        requires { has_twice (self.old ++ words line.now) ≡ true }
+        ensures { IfOk result (λ name. StandsTwice (self.old ++ words line.now) name) }
+    {
+        let mut list = match self.list.take() {
+            Some(list) => list,
+            None => Box::new(alloc, NameList::new(alloc))?,
+        };
+        list.first_twice(alloc, line)
     }
 
     pub(crate) fn as_slice(&self) -> &[Name]

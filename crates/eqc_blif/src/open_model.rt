@@ -1,6 +1,8 @@
-ghost use Rattle.std.specs.Prelude.{◌≡◌, ◌++◌, IfOk, OnOk, IsTrue, false, None};
+ghost use Rattle.std.specs.Prelude.{◌≡◌, ◌++◌, IfOk, OnOk, IsTrue, true, false, None};
 ghost use Rattle.eqc_blif.specs.Words.{words, without_blanks};
-ghost use Rattle.eqc_blif.specs.Reading.{begun, OpenModel, declared, with_inputs, with_outputs, with_instance, with_new_cover, with_new_row};
+ghost use Rattle.eqc_blif.specs.Names.{has_twice};
+ghost use Rattle.eqc_blif.specs.Finding.{StandsTwice};
+ghost use Rattle.eqc_blif.specs.Reading.{begun, OpenModel, last_cover, declared, with_inputs, with_outputs, with_instance, with_new_cover, with_new_row};
 ghost use Rattle.eqc_blif.specs.Steps.{MayChange, model_of, declares, declaration, declaration_code, inputs_code, outputs_code, cover_code, instance_code, row_code_in};
 
 use crate::cover::Cover;
@@ -155,6 +157,32 @@ impl OpenModel {
             Kind::Subckt => self.take_subckt(alloc, rest),
             _ => self.take_row(line),
         }
+    }
+
+    /// The cover that is being read.
+    pub(crate) fn last_cover(&self) -> &Cover
+        requires { self.now.in_cover ≡ true }
+        ensures { result.now ≡ last_cover self.now.model.covers }
+    {
+        self.cover.as_ref().unwrap()
+    }
+
+    /// The name that stands twice in the inputs with the words of `line`. The inputs are lost.
+    pub(crate) fn input_twice(&mut self, alloc: Global, line: &[u8]) -> Result<Name, AllocError>
+        requires { has_twice (self.old.model.inputs ++ words line.now) ≡ true }
+        ensures { IfOk result (λ name. StandsTwice (self.old.model.inputs ++ words line.now) name) }
+    {
+        self.close_cover()?;
+        self.declarations.inputs.first_twice(alloc, line)
+    }
+
+    /// The name that stands twice in the outputs with the words of `line`. The outputs are lost.
+    pub(crate) fn output_twice(&mut self, alloc: Global, line: &[u8]) -> Result<Name, AllocError>
+        requires { has_twice (self.old.model.outputs ++ words line.now) ≡ true }
+        ensures { IfOk result (λ name. StandsTwice (self.old.model.outputs ++ words line.now) name) }
+    {
+        self.close_cover()?;
+        self.declarations.outputs.first_twice(alloc, line)
     }
 
     /// The name and the declarations; a cover that is not closed is left out.

@@ -1,9 +1,12 @@
-ghost use Rattle.std.specs.Prelude.{◌≡◌, IfOk, OnOk, IsTrue, None, []};
+ghost use Rattle.std.specs.Prelude.{◌≡◌, ◌++◌, IfOk, OnOk, IsTrue, true, is_some, None, []};
 ghost use Rattle.std.specs.List.{list_any};
 ghost use Rattle.eqc_blif.specs.Words.{words, without_blanks};
-ghost use Rattle.eqc_blif.specs.Reading.{start, models, opened, stands_in_model, is_bad_byte};
+ghost use Rattle.eqc_blif.specs.Reading.{start, models, current, is_in_cover, last_cover, opened, stands_in_model, is_bad_byte};
+ghost use Rattle.eqc_blif.specs.Names.{has_twice};
+ghost use Rattle.eqc_blif.specs.Finding.{StandsTwice};
 ghost use Rattle.eqc_blif.specs.Steps.{Takes, TakesLine, declares};
 
+use crate::cover::Cover;
 use crate::declarations::Declarations;
 use crate::kind::{Kind, kind_of};
 use crate::library::Library;
@@ -34,7 +37,7 @@ impl Model for Reader {
     ghost invariant = { λ a. is_new_name (map (λ e. model_of e.0 e.1) a.closed.entries) a.open_model ≡ true };
 }
 
-fn is_bad_byte(byte: u8) -> bool
+pub(crate) fn is_bad_byte(byte: u8) -> bool
     ensures { result ≡ is_bad_byte byte }
 {
     ((byte < 32) & (byte != b'\t')) | (byte == 127)
@@ -71,7 +74,7 @@ impl Reader {
     }
 
     /// Opens a model without a name before a first statement of another kind than `.model`.
-    fn open_before(&mut self, alloc: Global, kind: Kind) -> Result<(), AllocError>
+    pub(crate) fn open_before(&mut self, alloc: Global, kind: Kind) -> Result<(), AllocError>
         ensures { OnOk result (self.new ≡ opened kind self.old) }
     {
         if !stands_in_model(kind) || self.open_model.is_some() || !self.closed.is_empty() {
@@ -170,6 +173,34 @@ impl Reader {
         self.open_before(alloc, kind)?;
         let code = self.take_statement(alloc, kind, rest, line)?;
         Ok(code)
+    }
+
+    /// The cover that is being read.
+    pub(crate) fn last_cover(&self) -> &Cover
+        requires { is_in_cover self.now.open_model ≡ true }
+        ensures { result.now ≡ last_cover (current self.now).covers }
+    {
+        self.open_model.as_ref().unwrap().last_cover()
+    }
+
+    /// The name that stands twice in the inputs of the open model with the words of `line`. The inputs are lost.
+    pub(crate) fn input_twice(&mut self, alloc: Global, line: &[u8]) -> Result<Name, AllocError>
+        requires opened { is_some self.old.open_model ≡ true }
+        requires twice { has_twice ((current self.old).inputs ++ words line.now) ≡ true }
+        ensures { IfOk result (λ name. StandsTwice ((current self.old).inputs ++ words line.now) name) }
+    {
+        let mut model = self.open_model.take().unwrap();
+        model.input_twice(alloc, line)
+    }
+
+    /// The name that stands twice in the outputs of the open model with the words of `line`. The outputs are lost.
+    pub(crate) fn output_twice(&mut self, alloc: Global, line: &[u8]) -> Result<Name, AllocError>
+        requires opened { is_some self.old.open_model ≡ true }
+        requires twice { has_twice ((current self.old).outputs ++ words line.now) ≡ true }
+        ensures { IfOk result (λ name. StandsTwice ((current self.old).outputs ++ words line.now) name) }
+    {
+        let mut model = self.open_model.take().unwrap();
+        model.output_twice(alloc, line)
     }
 
     /// The library of all models that were read.

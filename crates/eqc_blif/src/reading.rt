@@ -9,7 +9,7 @@ use crate::rule::Rule;
 use std::alloc::Global;
 
 /// How many bytes a text may have.
-const MAX_BYTES: usize = 16_777_216;
+pub(crate) const MAX_BYTES: usize = 16_777_216;
 
 /// Reads a netlist (BLIF 1992, in the profile of `docs/blif.md`).
 ///

@@ -1,8 +1,9 @@
-ghost use Rattle.std.specs.Prelude.{◌≡◌, ◌<◌, ◌≤◌, ◌++◌, [], ◌∷◌, length, IfOk, IfSome, MatchOption, map, ◌+◌, is_ok, if◌then◌else◌, vec_len, vec_capacity};
-ghost use Rattle.std.specs.List.{position_or_len};
+ghost use Rattle.std.specs.Prelude.{◌≡◌, ◌<◌, ◌≤◌, ◌++◌, [], ◌∷◌, length, IfOk, IfSome, MatchOption, map, true, false, ◌+◌, is_ok, if◌then◌else◌, vec_len, vec_capacity};
+ghost use Rattle.std.specs.List.{position_or_len, list_all};
 ghost use Rattle.std.specs.Option.{option_map};
 ghost use Rattle.eqc_blif.specs.Lines.{is_blank};
-ghost use Rattle.eqc_blif.specs.Words.{words, first_of, arguments, without_blanks, is_equals_sign};
+ghost use Rattle.eqc_blif.specs.Words.{words, first_of, arguments, without_blanks, is_equals_sign, is_pair};
+ghost use Rattle.eqc_blif.specs.Names.{is_named};
 ghost use Rattle.eqc_blif.specs.Steps.{ArePairs, IsPair};
 
 use crate::name::Name;
@@ -190,4 +191,20 @@ pub(crate) fn pairs_in(alloc: Global, line: &[u8]) -> Result<Option<Vec<(Name, N
         rest = others;
     }
     Ok(Some(pairs))
+}
+
+/// The first word of a line that is no pair, where one of them is none.
+pub(crate) fn first_no_pair(line: &[u8]) -> &[u8]
+    requires { list_all is_pair (words line.now) ≡ false }
+    ensures word { is_named (words line.now) result.now ≡ true }
+    ensures no_pair { is_pair result.now ≡ false }
+{
+    let mut rest = line;
+    'words: loop {
+        let (word, others) = split_word(rest).unwrap();
+        if split_pair(word).is_none() {
+            return word;
+        }
+        rest = others;
+    }
 }

@@ -1,0 +1,65 @@
+ghost use Rattle.std.specs.Prelude.{◌≡◌, IfOk, Some};
+ghost use Rattle.std.specs.Option.{option_map};
+ghost use Rattle.eqc_blif.specs.Finding.{refused, IsExplained};
+
+use crate::bad_byte::bad_byte;
+use crate::finding::Finding;
+use crate::kind::kind_of;
+use crate::line_findings::line_finding;
+use crate::reading::{MAX_BYTES, read};
+use crate::refusal::Refusal;
+use crate::refused_line::line_of_refusal;
+use crate::rule::Rule;
+use crate::words::split_first;
+use std::alloc::{AllocError, Global};
+
+/// Why a text is refused, if it is. Fails where memory is refused.
+fn refusal(alloc: Global, text: &[u8]) -> Result<Option<Refusal>, AllocError>
+    ensures { IfOk result (λ found. option_map (λ r. (r.line, r.code)) found ≡ refused text.now) }
+{
+    match read(alloc, text) {
+        Ok(_) => Ok(None),
+        Err(refusal) => {
+            if refusal.is_memory() {
+                return Err(AllocError);
+            }
+            Ok(Some(refusal))
+        }
+    }
+}
+
+/// What is at fault in a text that is refused. Fails where memory is refused.
+fn finding(alloc: Global, text: &[u8], refusal: Refusal) -> Result<Option<Finding>, AllocError>
+    requires { refused text.now ≡ Some (refusal.line, refusal.code) }
+    ensures { IfOk result (λ found. IsExplained text.now found) }
+{
+    let code = refusal.code;
+    if code == Rule::TextTooLong.code() {
+        let bytes = text.len();
+        let limit = MAX_BYTES;
+        return Ok(Some(Finding::TextTooLong { bytes, limit }));
+    }
+    if code == Rule::NoModel.code() {
+        return Ok(Some(Finding::NoStatement));
+    }
+    if code == Rule::ControlByte.code() {
+        let (byte, line, column) = bad_byte(text);
+        return Ok(Some(Finding::ControlByte { byte, line, column }));
+    }
+    let (mut reader, line) = line_of_refusal(alloc, text, refusal)?;
+    let (word, _) = split_first(&line);
+    reader.open_before(alloc, kind_of(word))?;
+    line_finding(alloc, &mut reader, &line, code)
+}
+
+/// What is at fault in a text, for a reader of its refusal: it is read once more, and then the line of the refusal is
+/// looked at against what stands before it. None where the text is read, and where it is refused for a latch, of which
+/// nothing is named. Fails where memory is refused.
+pub fn explain(alloc: Global, text: &[u8]) -> Result<Option<Finding>, AllocError>
+    ensures { IfOk result (λ found. IsExplained text.now found) }
+{
+    match refusal(alloc, text)? {
+        Some(refusal) => finding(alloc, text, refusal),
+        None => Ok(None),
+    }
+}
