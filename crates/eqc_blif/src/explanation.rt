@@ -1,4 +1,4 @@
-ghost use Rattle.std.specs.Prelude.{◌≡◌, IfOk, Some};
+ghost use Rattle.std.specs.Prelude.{◌≡◌, ◌≢◌, IfOk, Some};
 ghost use Rattle.std.specs.Option.{option_map};
 ghost use Rattle.eqc_blif.specs.Finding.{refused, IsExplained};
 
@@ -6,9 +6,10 @@ use crate::bad_byte::bad_byte;
 use crate::finding::Finding;
 use crate::kind::kind_of;
 use crate::line_findings::line_finding;
+use crate::reader::Reader;
 use crate::reading::{MAX_BYTES, read};
 use crate::refusal::Refusal;
-use crate::refused_line::line_of_refusal;
+use crate::refused_line::go_to_line;
 use crate::rule::Rule;
 use crate::words::split_first;
 use std::alloc::{AllocError, Global};
@@ -26,6 +27,24 @@ fn refusal(alloc: Global, text: &[u8]) -> Result<Option<Refusal>, AllocError>
             Ok(Some(refusal))
         }
     }
+}
+
+/// What is at fault in the line that a text is refused for. Fails where memory is refused.
+fn finding_in_line(
+    alloc: Global,
+    text: &[u8],
+    refusal: Refusal,
+) -> Result<Option<Finding>, AllocError>
+    requires refused { refused text.now ≡ Some (refusal.line, refusal.code) }
+    requires line { (refusal.code ≢ 1) × (refusal.code ≢ 2) × (refusal.code ≢ 13) }
+    ensures { IfOk result (λ found. IsExplained text.now found) }
+{
+    let mut reader = Reader::new(alloc);
+    let mut line = Vec::new(alloc);
+    go_to_line(alloc, text, refusal, &mut reader, &mut line)?;
+    let (word, _) = split_first(&line);
+    reader.open_before(alloc, kind_of(word))?;
+    line_finding(alloc, &mut reader, &line, refusal.code)
 }
 
 /// What is at fault in a text that is refused. Fails where memory is refused.
@@ -46,10 +65,7 @@ fn finding(alloc: Global, text: &[u8], refusal: Refusal) -> Result<Option<Findin
         let (byte, line, column) = bad_byte(text);
         return Ok(Some(Finding::ControlByte { byte, line, column }));
     }
-    let (mut reader, line) = line_of_refusal(alloc, text, refusal)?;
-    let (word, _) = split_first(&line);
-    reader.open_before(alloc, kind_of(word))?;
-    line_finding(alloc, &mut reader, &line, code)
+    finding_in_line(alloc, text, refusal)
 }
 
 /// What is at fault in a text, for a reader of its refusal: it is read once more, and then the line of the refusal is

@@ -1,4 +1,4 @@
-ghost use Rattle.std.specs.Prelude.{◌≡◌, ◌<◌, ◌^◌, length, IfOk, Some};
+ghost use Rattle.std.specs.Prelude.{◌≡◌, ◌<◌, ◌^◌, length, OnOk, Some};
 ghost use Rattle.eqc_blif.specs.Lines.{logical_lines};
 ghost use Rattle.eqc_blif.specs.Reading.{start, first_fault, line_code};
 ghost use Rattle.eqc_blif.specs.Finding.{line_at};
@@ -8,29 +8,30 @@ use crate::reader::Reader;
 use crate::refusal::Refusal;
 use std::alloc::{AllocError, Global};
 
-/// The line that a text is refused for, and what was read before it. Fails where memory is refused.
-pub(crate) fn line_of_refusal(
+/// Brings a new reader to what stands before the line that a text is refused for, and that line into `line`. Fails where
+/// memory is refused.
+pub(crate) fn go_to_line(
     alloc: Global,
     text: &[u8],
     refusal: Refusal,
-) -> Result<(Reader, Vec<u8>), AllocError>
+    reader: &mut Reader,
+    line: &mut Vec<u8>,
+) -> Result<(), AllocError>
     requires short { length text.now < 2 ^ 31 }
     requires fault { first_fault start (logical_lines text.now) ≡ Some (refusal.line, refusal.code) }
-    ensures there { IfOk result (λ found. line_at refusal.line start (logical_lines text.now) ≡ Some (found.0, found.1.items)) }
-    ensures faulty { IfOk result (λ found. line_code found.0 found.1.items ≡ Some refusal.code) }
+    requires new { reader.old ≡ start }
+    ensures there { OnOk result (line_at refusal.line start (logical_lines text.now) ≡ Some (reader.new, line.new.items)) }
+    ensures faulty { OnOk result (line_code reader.new line.new.items ≡ Some refusal.code) }
 {
     let mut lines = Lines::new(text);
-    let mut joined = Vec::new(alloc);
-    let mut reader = Reader::new(alloc);
     'lines: loop {
-        let (number, whole) = lines.next_logical(&mut joined)?.unwrap();
-        let line = match whole {
-            Some(line) => line,
-            None => joined.as_slice(),
-        };
+        let (number, whole) = lines.next_logical(line)?.unwrap();
+        if let Some(bytes) = whole {
+            line.clear();
+            line.extend_from_slice(bytes)?;
+        }
         if number == refusal.line {
-            let line = Vec::from_slice(alloc, line)?;
-            return Ok((reader, line));
+            return Ok(());
         }
         let _ = reader.take_line(alloc, line)?;
     }

@@ -2,7 +2,7 @@
 //! what was meant. They stand here alone, since a crate with tests is proved twice.
 //!
 //! - `words`, `operations`, of `eqc_tree`; `diagrams`, of `eqc_plain`; `machine`, of `eqc_core`
-//! - `reading`, of `eqc_blif`; `hierarchies`, `random_hierarchies` and `explanations`, of `eqc_flat`
+//! - `reading` and `text_findings`, of `eqc_blif`; `hierarchies`, `random_hierarchies` and `explanations`, of `eqc_flat`
 //! - `pairs`, `workers`, `reports`, `runs`, of `eqc_check`
 //! - `program`, `program_ends`, `models`, `compared_hierarchies`, `costs`, of this crate
 //! - `messages`, of the errors of all crates; `streams`, the readers, writers and files that fail
@@ -26,6 +26,7 @@ mod reading;
 mod reports;
 mod runs;
 mod streams;
+mod text_findings;
 mod words;
 mod workers;
 

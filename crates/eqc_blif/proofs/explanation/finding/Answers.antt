@@ -1,8 +1,6 @@
-use Rattle.std.proofs.Common.{◌≡◌, ℕ, ◌∙◌, Some, ap, sym, refl}
-use Rattle.std.proofs.lemmas.Result.{IfOk-weaker}
-use Rattle.eqc_blif.specs.Kind.{kind_of, kind_of_line}
+use Rattle.std.proofs.Common.{ℕ, ◌∙◌, Some, ap, sym, refl}
 use Rattle.eqc_blif.proofs.BadByteLemmas.{bad_in_text}
-use Rattle.eqc_blif.proofs.FindingLemmas.{told_long, told_empty, told_line, explained}
+use Rattle.eqc_blif.proofs.FindingLemmas.{told_long, told_empty, told_line}
 use Rattle.eqc_blif.proofs.explanation.finding.Goals as goal
 
 pub returns-then-code : goal.returns-then-code
@@ -17,9 +15,3 @@ pub bad_byte-byte-requires-clause-some : goal.bad_byte-byte-requires-clause-some
 bad_byte-byte-requires-clause-some c =
     let told = told_line c.args.text.now c.args.refusal.line c.args.refusal.code c.requires (λ is. c.if-code.false (is ∙ sym c.code.ensures)) (λ is. c.if-code-2.false (is ∙ sym c.code-2.ensures)) in
     bad_in_text c.args.refusal.line c.args.text.now (told.fault ∙ ap (λ (k : ℕ). Some (c.args.refusal.line, k)) (c.if-code-3.true ∙ c.code-3.ensures))
-
-pub returns : goal.returns
-returns c =
-    let line = c.in_ok-reader.line.items in
-    let kind : c.kind_of.result ≡ kind_of_line line = c.kind_of.ensures ∙ (ap kind_of c.split_first.ensures.first ∙ ap kind_of_line c.deref.ensures.value) in
-    IfOk-weaker _ _ _ (λ found holds. explained c.args.text.now c.args.refusal.line c.args.refusal.code c.in_ok-reader.reader _ line c.deref-2.result.now c.kind_of.result found c.requires c.in_ok-reader.ensures.there c.deref-2.ensures.value kind c.in_ok-open_before.ensures holds) c.line_finding.ensures

@@ -2,7 +2,7 @@ use Rattle.std.proofs.Common.{◌≡◌, Some, length}
 use Rattle.eqc_blif.specs.Lines.{logical, logical_lines}
 use Rattle.eqc_blif.specs.Reading.{first_fault, start}
 use Rattle.eqc_blif.specs.Finding.{line_at}
-use Rattle.eqc_blif.proofs.refused_line.line_of_refusal.Given as goal
+use Rattle.eqc_blif.proofs.refused_line.go_to_line.Given as goal
 
 abbrev pub invariant-lines : goal.invariant-lines
 invariant-lines l = record {
