@@ -85,11 +85,6 @@ one_signal f s h = record { each = one }
     one zero lt = h
     one (suc k) lt = absurd (omega arith)
 
--- a table without references
-pub tally_none : {X : Type 0} (entry : X → Entry) (table : List (Option X)) (e : Entry) → ((s : ℕ) → reference_of table s ≡ None) → tally entry table e ≡ 0
-tally_none entry [] e none = refl
-tally_none entry (o ∷ table) e none = omega (arith, sum_by-cons (held_by entry e) o table, ap (held_by entry e) (none 0), tally_none entry table e (λ s. none (suc s)))
-
 -- the value of a cover's diagram
 pub cover_follows : {X : Type 0} (entry : X → Entry) (f : FlatOf) (variables : List ℕ) (table : List (Option X)) (columns : List ℕ) (found : List (Bor X)) (rows : List (List ℕ)) (r s : ℕ) (a : ℕ → Bool) → FollowsDrivers f → s < length f.drivers → cover columns r ≡ driver_at f s → rows ≡ get_or f.rows r [] → IsBuilt entry f variables table → map (λ r. Some r.now) found ≡ map (reference_of table) columns → cover_value rows (said entry found a) ≡ value_of f (inputs_under variables a) s
 cover_follows entry f variables table columns found rows r s a follows inside is rows_are built e =

@@ -13,7 +13,7 @@ use Rattle.eqc_check.specs.Comparing.{netlist_of, differs_at, SaysDifference}
 use Rattle.eqc_check.specs.Turns.{MovesKept}
 use Rattle.eqc_check.specs.declared.build.kept.Tables.{Tables}
 use Rattle.eqc_check.proofs.MatchedLemmas.{place_of_name, assigned_value, IsDifference, least_of_difference, none_of_difference}
-use Rattle.eqc_check.proofs.BuildLaws.{tally_none}
+use Rattle.eqc_check.proofs.TableLaws.{tally_none}
 use Rattle.eqc_check.proofs.CompareLaws.{value_agrees, xor_differs}
 use Rattle.eqc_check.proofs.PairLaws.{AreMatched, pair_matched}
 
@@ -97,7 +97,7 @@ both_twice entry d0 d1 d2 f0 f1 f2 s0 s1 s2 m n = record { variables = n.variabl
 
 pub kept_twice : {X : Type 0} (entry : X → Entry) (p : PairOf) (d0 d1 d2 : Holding) (t0 t1 t2 : Tables X) → MovesKept entry p d0 t0 d1 t1 → MovesKept entry p d1 t1 d2 t2 → MovesKept entry p d0 t0 d2 t2
 kept_twice entry p d0 d1 d2 t0 t1 t2 m n = record {
-  moves = both_twice entry d0 d1 d2 t0.first.table.items t1.first.table.items t2.first.table.items t0.second.table.items t1.second.table.items t2.second.table.items m.moves n.moves;
+  moves = both_twice entry d0 d1 d2 t0.first.table t1.first.table t2.first.table t0.second.table t1.second.table t2.second.table m.moves n.moves;
   built = n.built;
 }
 

@@ -1,7 +1,9 @@
 pub mod TableLaws
 pub mod BuildLaws
 pub mod ScheduleLaws
+pub mod ListedLaws
 pub mod WantedLaws
+pub mod ConeLaws
 pub mod LeastLemmas
 pub mod VerdictLemmas
 pub mod MatchedLemmas

@@ -13,7 +13,7 @@ use Rattle.eqc_check.proofs.CompareLaws.{value_agrees}
 use Rattle.eqc_check.proofs.VerdictLemmas.{found_is_first}
 use Rattle.eqc_check.specs.Schedule.{EndsAtRoots}
 use Rattle.eqc_check.specs.Turns.{AreScheduled, AreTurns}
-use Rattle.eqc_check.specs.declared.build.schedule.Schedules.{Schedules}
+use Rattle.eqc_check.specs.declared.build.moments.Schedules.{Schedules}
 use Rattle.eqc_check.specs.PairOf.{PairOf, IsPair, variable_in, variables_in, first_variables, second_variables, second_signals, output_signal}
 use Rattle.eqc_check.specs.Building.{AreVariables, AreSignals}
 use Rattle.eqc_check.specs.Comparing.{netlist_of}
@@ -127,7 +127,7 @@ pub difference_long : (f g : FlatOf) (output : List ℕ) (a : List Bool) → fir
 difference_long f g output a found = (found_is_first (netlist_of f) (netlist_of g) f.outputs output a found).least.long
 
 -- the outputs' signals are used until their turns, where the schedules have them as roots in their order
-pub turns_of : (p : PairOf) (s : Schedules) → IsPair p → AreScheduled p s → EndsAtRoots p.first p.first.output_signals s.first.last.items → EndsAtRoots p.second (second_signals p) s.second.last.items → length p.first.outputs ≤ 4294967295 → AreTurns p s
+pub turns_of : (p : PairOf) (s : Schedules) → IsPair p → AreScheduled p s → EndsAtRoots p.first p.first.output_signals s.first → EndsAtRoots p.second (second_signals p) s.second → length p.first.outputs ≤ 4294967295 → AreTurns p s
 turns_of p s h t a b few = record {
   scheduled = t;
   each = λ o inside. record {

@@ -4,7 +4,8 @@ use Rattle.std.proofs.lemmas.List.{get_or-set_same, get_or-set_other}
 use Rattle.std.proofs.lemmas.Bool.{cases_eq}
 use Rattle.std.proofs.Math.ListN.{length-set}
 use Rattle.eqc_flat.specs.Graph.{FlatOf, IsFlat}
-use Rattle.eqc_check.specs.Schedule.{moment, uses_at, AreLastMoments, EndsAtRoots, ArePlaces, IsRaised}
+use Rattle.eqc_check.specs.PairOf.{ArePlaces}
+use Rattle.eqc_check.specs.Schedule.{moment, uses_at, AreLastMoments, EndsAtRoots, IsRaised}
 use Rattle.eqc_flat.proofs.EvaluationLaws.{dep_before, step_of}
 
 pub raised_none : (old signals : List ℕ) (at : ℕ) → IsRaised old old signals 0 at

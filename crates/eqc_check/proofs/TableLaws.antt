@@ -1,11 +1,13 @@
 -- Tables of references, and what an object holds beside them.
-use Rattle.std.proofs.Common.{◌≡◌, ℕ, zero, suc, ◌+◌, ◌<◌, ◌≤◌, List, [], ◌∷◌, ◌++◌, length, get_or, set, refl, sym, ◌∙◌, ap, arith, Option, Some, None, inl, inr}
+use Rattle.std.proofs.Common.{◌≡◌, ℕ, zero, suc, ◌+◌, ◌<◌, ◌≤◌, List, [], ◌∷◌, ◌++◌, cond, nat_eq, length, get_or, set, refl, sym, ◌∙◌, ap, subst, arith, Option, Some, None, inl, inr}
 use Rattle.std.proofs.lemmas.List.{get_or-set_same, get_or-set_other, get_or_default}
 use Rattle.std.proofs.lemmas.List.Sums.{sum_by-set, sum_by-cons, sum_by-append}
 use Rattle.std.proofs.lemmas.Bool.{cases_eq}
 use Rattle.std.proofs.Math.ListN.{length-set}
 use Rattle.eqc_tree.specs.Holding.{Entry, Holding, IsHeld, weight, Loses, Keeps}
 use Rattle.eqc_tree.proofs.HoldingLemmas.{counts_itself}
+use Rattle.eqc_check.specs.Listed.{listed}
+use Rattle.eqc_check.proofs.ListedLaws.{listed_size, listed_at, listed_set, listed_none}
 use Rattle.eqc_check.specs.Building.{held_by, tally, OwnsTable, Moves, Fills, Empties, Releases, reference_of}
 
 -- a reference of a table is counted there
@@ -16,6 +18,11 @@ tally_there entry (o ∷ table) (suc s) r e is = omega (arith, sum_by-cons (held
 
 pub owned_held : {X : Type 0} (entry : X → Entry) (d : Holding) (table : List (Option X)) (s : ℕ) (r : X) → OwnsTable entry d table → reference_of table s ≡ Some r → IsHeld d (entry r)
 owned_held entry d table s r h is = omega (arith, counts_itself d (entry r), h.held (entry r), tally_there entry table s r (entry r) is)
+
+-- a table without references
+pub tally_none : {X : Type 0} (entry : X → Entry) (table : List (Option X)) (e : Entry) → ((s : ℕ) → reference_of table s ≡ None) → tally entry table e ≡ 0
+tally_none entry [] e none = refl
+tally_none entry (o ∷ table) e none = omega (arith, sum_by-cons (held_by entry e) o table, ap (held_by entry e) (none 0), tally_none entry table e (λ s. none (suc s)))
 
 -- what was read at a place
 pub found : {X : Type 0} (table : List (Option X)) (s : ℕ) (o : Option X) (r : X) → s < length table → o ≡ get_or table s o → Some r ≡ o → reference_of table s ≡ Some r
@@ -116,3 +123,16 @@ popped_none entry d0 d1 t0 old new is m = record { variables = m.variables; held
 
 pub owned_kept : {X : Type 0} (entry : X → Entry) (old new : Holding) (table : List (Option X)) → Keeps old new → OwnsTable entry old table → OwnsTable entry new table
 owned_kept entry old new table k o = record { held = λ e. omega (arith, k.held e, o.held e) }
+
+-- ---- references in a map
+
+pub few_held : {X : Type 0} (entry : X → Entry) (d : Holding) (n : ℕ) (f : ℕ → Option X) (s : ℕ) (r : X) → f s ≡ Some r → s < n → OwnsTable entry d (listed n f) → IsHeld d (entry r)
+few_held entry d n f s r was inside own = owned_held entry d (listed n f) s r own (listed_at n f s None inside ∙ was)
+
+-- one of them is taken out and given back
+pub few_moves : {X : Type 0} (entry : X → Entry) (d0 d1 : Holding) (n : ℕ) (f g : ℕ → Option X) (s : ℕ) (r : X) → f s ≡ Some r → s < n → ((q : ℕ) → g q ≡ cond (nat_eq s q) None (f q)) → Loses d0 d1 (entry r) → Moves entry d0 (listed n f) d1 (listed n g)
+few_moves entry d0 d1 n f g s r was inside now l = subst (Moves entry d0 (listed n f) d1) (sym (listed_set n f g s None inside now)) (emptied entry d0 d1 (listed n f) s r (omega (arith, inside, listed_size n f)) (listed_at n f s None inside ∙ was) l).moves
+
+-- none is left
+pub few_given : {X : Type 0} (entry : X → Entry) (d0 d1 : Holding) (t0 : List (Option X)) (n : ℕ) (f : ℕ → Option X) → ((s : ℕ) → f s ≡ None) → Moves entry d0 t0 d1 (listed n f) → Moves entry d0 t0 d1 []
+few_given entry d0 d1 t0 n f none m = record { variables = m.variables; held = λ e. omega (arith, m.held e, tally_none entry (listed n f) e (listed_none n f none)) }

@@ -1,5 +1,7 @@
 -- The steps that are still to be made for an output.
 use Rattle.std.proofs.Common.{◌≡◌, ℕ, ◌+◌, ◌<◌, ◌≤◌, Bool, true, false, ◌||◌, nat_eq, List, [], ◌∷◌, ◌++◌, length, get_or, Option, Some, None, IfSome, refl, sym, ◌∙◌, ap, arith, inl, inr, ◌⊎◌, subst, IsSome}
+use Rattle.std.specs.Borrow.{Bor}
+use Rattle.std.specs.Option.{option_copied}
 use Rattle.std.specs.List.{All, list_any}
 use Rattle.std.specs.Ordering.{nat_cmp}
 use Rattle.std.specs.BinaryHeap.{IsHeap, IsUpperBound, PopsGreatest}
@@ -14,7 +16,8 @@ use Rattle.std.proofs.lemmas.List.{get_or_default}
 use Rattle.eqc_flat.specs.Graph.{FlatOf, IsFlat}
 use Rattle.eqc_flat.proofs.EvaluationLaws.{dep_before}
 use Rattle.eqc_check.specs.Building.{reference_of}
-use Rattle.eqc_check.specs.Schedule.{moment, uses_at, AreLastMoments, ArePlaces, AreWanted, AreOpened, IsBehind, IsOpen}
+use Rattle.eqc_check.specs.PairOf.{ArePlaces}
+use Rattle.eqc_check.specs.Schedule.{moment, uses_at, AreLastMoments, AreWanted, AreOpened, IsBehind, IsOpen}
 
 pub open_none : (x : ℕ) → IsOpen [] x → ⊥
 unfolding IsOpen
@@ -87,6 +90,11 @@ nothing_in (x ∷ xs) h = absurd (omega arith)
 
 pub open_below_top : (xs : List ℕ) (top x : ℕ) → IsUpperBound nat_cmp top xs → IsOpen xs x → x ≤ top
 open_below_top xs top x upper h = open_all (λ y. y ≤ top) xs x (le_from_greatest top xs upper) h
+
+-- what was borrowed at a place
+pub some_copied : {X : Type 0} (o : Option (Bor X)) (p : Option X) → option_copied o ≡ p → IsSome o → IsSome p
+some_copied None p is h = subst (λ q. IsSome q) is h
+some_copied (Some r) p is h = subst (λ q. IsSome q) is h
 
 -- the first signals' steps were opened
 pub opened_none : {X : Type 0} (places : List ℕ) (table : List (Option X)) (signals items : List ℕ) → AreOpened places table signals items items 0

@@ -9,6 +9,7 @@ pub mod Rule
 pub mod ReportView
 pub mod Building
 pub mod Schedule
+pub mod Listed
 pub mod Assigned
 pub mod Comparing
 pub mod Turns

@@ -1,6 +1,6 @@
 -- Two netlists with the same inputs and outputs, matched by name, and an order of the inputs as variables; or
 -- why they make no pair.
-use Rattle.std.specs.Prelude.{◌≡◌, ℕ, ◌<◌, ◌≤◌, Bool, true, false, not, List, length, map, slice_index_or, ◌==◌, Option, Some, None, if◌then◌else◌}
+use Rattle.std.specs.Prelude.{◌≡◌, ℕ, ◌<◌, ◌≤◌, Bool, true, false, not, List, length, map, slice_index, slice_index_or, ◌==◌, Option, Some, None, if◌then◌else◌}
 use Rattle.std.specs.List.{position_or_len, range_with_len}
 use Rattle.std.specs.Option.{option_map, option_map_or}
 use Rattle.eqc_flat.specs.Graph.{FlatOf, IsFlat}
@@ -63,12 +63,20 @@ pub record IsPair (p : PairOf) : Type 0 where
   pub same_outputs : same_names p.first.outputs p.second.outputs ≡ true
   pub ordered : IsOrder (length p.first.inputs) p.order
 
+-- the step of each signal of a netlist, counted from 0
+pub record ArePlaces (f : FlatOf) (places : List ℕ) : Type 0 where
+  pub size : length places ≡ length f.drivers
+  pub within : (s : ℕ) → s < length f.drivers → slice_index places s < length f.steps
+  pub at : (s : ℕ) → s < length f.drivers → slice_index f.steps (slice_index places s) ≡ s
+
 -- a pair with what its comparison reads
-pub record IsLaidOut (p : PairOf) (variables seconds signals : List ℕ) : Type 0 where
+pub record IsLaidOut (p : PairOf) (variables seconds signals places others : List ℕ) : Type 0 where
   pub lawful : IsPair p
   pub variables_are : variables ≡ first_variables p
   pub seconds_are : seconds ≡ second_variables p
   pub signals_are : signals ≡ second_signals p
+  pub first_steps : ArePlaces p.first places
+  pub second_steps : ArePlaces p.second others
 
 -- the order that a text gives; without a text the inputs as the first netlist declares them
 abbrev pub order_for : List (List ℕ) → Option (List ℕ) → List ℕ

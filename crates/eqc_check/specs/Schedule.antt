@@ -22,12 +22,6 @@ pub record AreLastMoments (f : FlatOf) (last : List ℕ) : Type 0 where
 pub record EndsAtRoots (f : FlatOf) (roots last : List ℕ) : Type 0 where
   pub each : (o : ℕ) → o < length roots → moment (o + 1) (length f.drivers + 1) ≤ slice_index last (slice_index roots o)
 
--- the step of each signal, counted from 0
-pub record ArePlaces (f : FlatOf) (places : List ℕ) : Type 0 where
-  pub size : length places ≡ length f.drivers
-  pub within : (s : ℕ) → s < length f.drivers → slice_index places s < length f.steps
-  pub at : (s : ℕ) → s < length f.drivers → slice_index f.steps (slice_index places s) ≡ s
-
 -- a number is noted for those of the first n signals whose number is lower
 pub record IsRaised (old new signals : List ℕ) (n at : ℕ) : Type 0 where
   pub size : length new ≡ length old
@@ -56,3 +50,11 @@ pub record AreOpened {X : Type 0} (places : List ℕ) (table : List (Option X)) 
   pub kept : (x : ℕ) → IsOpen old x → IsOpen new x
   pub there : (k : ℕ) → k < n → IsSome (reference_of table (slice_index signals k)) ⊎ IsOpen new (slice_index places (slice_index signals k))
   pub only : (x : ℕ) → IsOpen new x → IsOpen old x ⊎ ((k : ℕ) × (k < n) × (slice_index places (slice_index signals k) ≡ x))
+
+-- a moment was noted for those of the first n signals that had none, which is 0, and their steps were opened
+pub record AreNoted (places signals : List ℕ) (at : ℕ) (old : ℕ → ℕ) (old_steps : List ℕ) (new : ℕ → ℕ) (new_steps : List ℕ) (n : ℕ) : Type 0 where
+  pub stays : (s : ℕ) → 0 < old s → new s ≡ old s
+  pub there : (k : ℕ) → k < n → 0 < new (slice_index signals k)
+  pub fresh : (s : ℕ) → old s ≡ 0 → 0 < new s → (new s ≡ at) × IsOpen new_steps (slice_index places s)
+  pub still : (x : ℕ) → IsOpen old_steps x → IsOpen new_steps x
+  pub only : (x : ℕ) → IsOpen new_steps x → IsOpen old_steps x ⊎ ((k : ℕ) × (k < n) × (slice_index places (slice_index signals k) ≡ x))

@@ -3,16 +3,20 @@ ghost use Rattle.eqc_tree.specs.Holding.{Keeps};
 ghost use Rattle.eqc_flat.specs.Graph.{driver_at, dependencies, value_of};
 ghost use Rattle.eqc_cover.specs.Making.{Makes};
 ghost use Rattle.eqc_check.specs.Building.{OwnsTable, IsBuilt, AreReady, AreVariables, Adds, Advances, Moves, inputs_under, reference_of};
-ghost use Rattle.eqc_check.specs.Schedule.{moment, uses_at, AreLastMoments, ArePlaces};
+ghost use Rattle.eqc_check.specs.PairOf.{ArePlaces};
+ghost use Rattle.eqc_check.specs.Schedule.{moment, uses_at, AreLastMoments};
 
+pub(crate) mod cone;
 pub(crate) mod kept;
+pub(crate) mod moments;
 pub(crate) mod schedule;
 pub(crate) mod table;
 mod wanted;
 
 use crate::build::kept::Kept;
-use crate::build::schedule::{Schedule, moment};
-use crate::build::table::{put, reference_at, release};
+use crate::build::moments::Moments;
+use crate::build::schedule::moment;
+use crate::build::table::{Table, put, reference_at, release};
 use crate::build::wanted::wanted;
 use crate::pairing::matched_pair::recall_laws;
 use eqc_cover::cover_diagram;
@@ -25,7 +29,7 @@ use std::collections::BinaryHeap;
 /// The references of signals that have one.
 fn references<'a, X>(
     alloc: Global,
-    table: &'a [Option<X>],
+    table: &'a Table<X>,
     signals: &Signals<'_>,
 ) -> Result<Vec<&'a X>, AllocError>
     requires within { (k : ℕ) → k < length signals.now → slice_index signals.now k < length table.now }
@@ -46,7 +50,7 @@ fn driver_diagram<R, D: Diagrams<R>>(
     d: &mut D,
     flat: &Flat<'_>,
     variables: &[u16],
-    table: &[Option<D::Ref>],
+    table: &Table<D::Ref>,
     s: u32,
 ) -> Result<D::Ref, Stop>
     requires within { s < length flat.now.drivers }
@@ -76,22 +80,21 @@ fn build_signal<R, D: Diagrams<R>>(
     d: &mut D,
     flat: &Flat<'_>,
     variables: &[u16],
-    table: &mut Vec<Option<D::Ref>>,
+    table: &mut Table<D::Ref>,
     s: u32,
 ) -> Result<(), Stop>
     requires within { s < length flat.now.drivers }
     requires variables { AreVariables flat.now variables.now (D.holding d.old).variables }
-    requires owned { OwnsTable D.entry (D.holding d.old) table.old.items }
-    requires built { IsBuilt D.entry flat.now variables.now table.old.items }
-    requires ready { AreReady table.old.items (dependencies (driver_at flat.now s)) }
-    ensures ok { OnOk result (Adds D.entry flat.now variables.now (D.holding d.old) table.old.items (D.holding d.new) table.new.items s) }
+    requires owned { OwnsTable D.entry (D.holding d.old) table.old }
+    requires built { IsBuilt D.entry flat.now variables.now table.old }
+    requires ready { AreReady table.old (dependencies (driver_at flat.now s)) }
+    ensures ok { OnOk result (Adds D.entry flat.now variables.now (D.holding d.old) table.old (D.holding d.new) table.new s) }
     ensures stop { OnErr result (Keeps (D.holding d.old) (D.holding d.new)) }
-    ensures table { OnErr result (table.new.items ≡ table.old.items) }
+    ensures table { OnErr result (table.new ≡ table.old) }
     ensures only { IfErr result (λ s. s ≢ Stop.Threads) }
 {
     let reference = driver_diagram(alloc, rt, d, flat, variables, table, s)?;
-    put(d, table, s, reference);
-    Ok(())
+    put(d, table, s, reference)
 }
 
 /// Puts the diagram of a step's signal into the table, at a moment, and gives back what is used there for the last time.
@@ -101,20 +104,20 @@ fn build_step<R, D: Diagrams<R>>(
     d: &mut D,
     flat: &Flat<'_>,
     variables: &[u16],
-    last: &[u64],
-    table: &mut Vec<Option<D::Ref>>,
+    last: &Moments,
+    table: &mut Table<D::Ref>,
     step: u32,
     at: u64,
 ) -> Result<(), Stop>
     requires step { step < length flat.now.steps }
     requires last { length last.now ≡ length flat.now.drivers }
     requires variables { AreVariables flat.now variables.now (D.holding d.old).variables }
-    requires owned { OwnsTable D.entry (D.holding d.old) table.old.items }
-    requires built { IsBuilt D.entry flat.now variables.now table.old.items }
-    requires ready { AreReady table.old.items (uses_at flat.now step) }
-    ensures ok { OnOk result (Advances D.entry flat.now variables.now last.now (D.holding d.old) table.old.items (D.holding d.new) table.new.items (slice_index flat.now.steps step) at) }
+    requires owned { OwnsTable D.entry (D.holding d.old) table.old }
+    requires built { IsBuilt D.entry flat.now variables.now table.old }
+    requires ready { AreReady table.old (uses_at flat.now step) }
+    ensures ok { OnOk result (Advances D.entry flat.now variables.now last.now (D.holding d.old) table.old (D.holding d.new) table.new (slice_index flat.now.steps step) at) }
     ensures stop { OnErr result (Keeps (D.holding d.old) (D.holding d.new)) }
-    ensures table { OnErr result (table.new.items ≡ table.old.items) }
+    ensures table { OnErr result (table.new ≡ table.old) }
     ensures only { IfErr result (λ s. s ≢ Stop.Threads) }
 {
     let s = flat.steps()[step as usize];
@@ -150,32 +153,33 @@ pub(crate) fn complete<R, D: Diagrams<R>>(
     d: &mut D,
     flat: &Flat<'_>,
     variables: &[u16],
-    schedule: &Schedule,
+    places: &[u32],
+    last: &Moments,
     kept: &mut Kept<D::Ref>,
     root: u32,
     output: u32,
 ) -> Result<(), Stop>
     requires some { 1 ≤ output }
     requires root { root < length flat.now.drivers }
-    requires places { ArePlaces flat.now schedule.now.places.items }
-    requires last { AreLastMoments flat.now schedule.now.last.items }
-    requires needed { moment output (length flat.now.drivers + 1) ≤ slice_index schedule.now.last.items root }
+    requires places { ArePlaces flat.now places.now }
+    requires last { AreLastMoments flat.now last.now }
+    requires needed { moment output (length flat.now.drivers + 1) ≤ slice_index last.now root }
     requires variables { AreVariables flat.now variables.now (D.holding d.old).variables }
-    requires owned { OwnsTable D.entry (D.holding d.old) kept.old.table.items }
-    requires built { IsBuilt D.entry flat.now variables.now kept.old.table.items }
-    ensures moves { Moves D.entry (D.holding d.old) kept.old.table.items (D.holding d.new) kept.new.table.items }
-    ensures built { IsBuilt D.entry flat.now variables.now kept.new.table.items }
-    ensures ready { OnOk result (IsSome (reference_of kept.new.table.items root)) }
-    ensures kept { (s : ℕ) → moment output (length flat.now.drivers + 1) < slice_index schedule.now.last.items s → IsSome (reference_of kept.old.table.items s) → IsSome (reference_of kept.new.table.items s) }
+    requires owned { OwnsTable D.entry (D.holding d.old) kept.old.table }
+    requires built { IsBuilt D.entry flat.now variables.now kept.old.table }
+    ensures moves { Moves D.entry (D.holding d.old) kept.old.table (D.holding d.new) kept.new.table }
+    ensures built { IsBuilt D.entry flat.now variables.now kept.new.table }
+    ensures ready { OnOk result (IsSome (reference_of kept.new.table root)) }
+    ensures kept { (s : ℕ) → moment output (length flat.now.drivers + 1) < slice_index last.now s → IsSome (reference_of kept.old.table s) → IsSome (reference_of kept.new.table s) }
     ensures only { IfErr result (λ s. s ≢ Stop.Threads) }
 {
-    let Ok(mut steps) = wanted(alloc, flat, schedule, &kept.table, root, output) else {
+    let Ok(mut steps) = wanted(alloc, flat, places, last, &kept.table, root, output) else {
         return Err(Stop::Memory);
     };
     let end = moment(output, flat.steps().len() as u32);
     while let Some(step) = steps.pop() {
         let s = flat.steps()[step as usize];
-        note_due(&mut kept.due, schedule.last[s as usize], s, end)?;
+        note_due(&mut kept.due, last.at(s), s, end)?;
         let at = moment(output, step + 1);
         build_step(
             alloc,
@@ -183,7 +187,7 @@ pub(crate) fn complete<R, D: Diagrams<R>>(
             d,
             flat,
             variables,
-            &schedule.last,
+            last,
             &mut kept.table,
             step,
             at,

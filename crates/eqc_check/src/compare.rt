@@ -1,6 +1,6 @@
 ghost use Rattle.std.specs.Prelude.{◌≡◌, ◌≢◌, ℕ, ◌+◌, ◌<◌, ◌≤◌, [], None, length, slice_index, slice_index_or, IfOk, IfErr, IfSome, IsSome, OnOk, OnErr};
 ghost use Rattle.std.specs.Option.{option_map};
-ghost use Rattle.eqc_tree.specs.Holding.{IsHeld, says, Keeps, Gains, Loses};
+ghost use Rattle.eqc_tree.specs.Holding.{Holding, IsHeld, says, Keeps, Gains, Loses};
 ghost use Rattle.eqc_check.specs.Verdict.{least_difference, first_difference};
 ghost use Rattle.eqc_check.specs.PairOf.{second_signals};
 ghost use Rattle.eqc_check.specs.Building.{AreBuilt, OwnsBoth, MovesBoth, KeepsLater};
@@ -9,14 +9,17 @@ ghost use Rattle.eqc_check.specs.Turns.{AreScheduled, IsTurn, AreTurns, AreKept,
 ghost use Rattle.eqc_check.specs.Comparing.{netlist_of, differs_at, SaysDifference, found_at};
 
 use crate::build::complete;
-use crate::build::kept::{Tables, clear, give_back_kept, nothing_kept, release_due};
-use crate::build::schedule::{Schedules, moment, schedule_of};
+use crate::build::cone::moments_below;
+use crate::build::kept::{
+    Tables, clear, give_back_kept, nothing_kept, nothing_kept_of_few, release_due,
+};
+use crate::build::moments::Schedules;
+use crate::build::schedule::{moment, moments_of};
 use crate::build::table::reference_at;
 use crate::pairing::matched_pair::Pair;
 use eqc_cover::{is_false, least_over};
 use eqc_tree::{Diagrams, Op, References, Stop};
 use std::alloc::{AllocError, Global};
-use std::slice::from_ref;
 
 /// The diagram that is true where an output differs.
 fn output_difference<R, D: Diagrams<R>>(
@@ -120,6 +123,7 @@ fn complete_both<R, D: Diagrams<R>>(
         d,
         pair.first(),
         pair.variables(),
+        pair.first_places(),
         &schedules.first,
         &mut tables.first,
         s,
@@ -131,6 +135,7 @@ fn complete_both<R, D: Diagrams<R>>(
         d,
         pair.second(),
         pair.second_variables(),
+        pair.second_places(),
         &schedules.second,
         &mut tables.second,
         t,
@@ -149,14 +154,14 @@ fn release_both<D: References>(
     requires scheduled { AreScheduled pair.now schedules.now }
     requires kept { AreKept D.entry pair.now (D.holding d.old) tables.old }
     ensures moves { MovesKept D.entry pair.now (D.holding d.old) tables.old (D.holding d.new) tables.new }
-    ensures first_later { KeepsLater schedules.now.first.last.items tables.old.first.table.items tables.new.first.table.items (moment turn (length pair.now.first.drivers + 1)) }
-    ensures second_later { KeepsLater schedules.now.second.last.items tables.old.second.table.items tables.new.second.table.items (moment turn (length pair.now.second.drivers + 1)) }
+    ensures first_later { KeepsLater schedules.now.first tables.old.first.table tables.new.first.table (moment turn (length pair.now.first.drivers + 1)) }
+    ensures second_later { KeepsLater schedules.now.second tables.old.second.table tables.new.second.table (moment turn (length pair.now.second.drivers + 1)) }
 {
     pair.recall_laws();
     let first_end = moment(turn, pair.first().steps().len() as u32 + 1);
-    release_due(d, &mut tables.first, &schedules.first.last, first_end);
+    release_due(d, &mut tables.first, &schedules.first, first_end);
     let second_end = moment(turn, pair.second().steps().len() as u32 + 1);
-    release_due(d, &mut tables.second, &schedules.second.last, second_end);
+    release_due(d, &mut tables.second, &schedules.second, second_end);
 }
 
 /// Compares an output in its turn, counted from 1; outputs come in rising order. The references that later turns need
@@ -233,8 +238,8 @@ pub(crate) fn no_tables<D: References>(
     pair: &Pair<'_>,
 ) -> Result<Tables<D::Ref>, Stop>
     ensures kept { Keeps (D.holding d.old) (D.holding d.new) }
-    ensures built { IfOk result (λ t. AreBuilt D.entry pair.now t.first.table.items t.second.table.items) }
-    ensures owned { IfOk result (λ t. MovesBoth D.entry (D.holding d.old) [] [] (D.holding d.new) t.first.table.items t.second.table.items) }
+    ensures built { IfOk result (λ t. AreBuilt D.entry pair.now t.first.table t.second.table) }
+    ensures owned { IfOk result (λ t. MovesBoth D.entry (D.holding d.old) [] [] (D.holding d.new) t.first.table t.second.table) }
     ensures only { IfErr result (λ s. s ≡ Stop.Memory) }
 {
     pair.recall_laws();
@@ -252,8 +257,8 @@ pub(crate) fn no_tables<D: References>(
 
 /// Gives all references of two tables back.
 pub(crate) fn give_back_both<D: References>(d: &mut D, tables: Tables<D::Ref>)
-    requires { OwnsBoth D.entry (D.holding d.old) tables.first.table.items tables.second.table.items }
-    ensures { MovesBoth D.entry (D.holding d.old) tables.first.table.items tables.second.table.items (D.holding d.new) [] [] }
+    requires { OwnsBoth D.entry (D.holding d.old) tables.first.table tables.second.table }
+    ensures { MovesBoth D.entry (D.holding d.old) tables.first.table tables.second.table (D.holding d.new) [] [] }
 {
     let Tables { first, second } = tables;
     give_back_kept(d, first);
@@ -270,9 +275,21 @@ pub(crate) fn schedules_of(alloc: Global, pair: &Pair<'_>) -> Result<Schedules, 
         return Err(AllocError);
     }
     Ok(Schedules {
-        first: schedule_of(alloc, pair.first(), pair.first().output_signals())?,
-        second: schedule_of(alloc, pair.second(), pair.second_signals())?,
+        first: moments_of(alloc, pair.first(), pair.first().output_signals())?,
+        second: moments_of(alloc, pair.second(), pair.second_signals())?,
     })
+}
+
+/// No references, for an output of a pair: their memory is in proportion to what gets one.
+fn few_tables<D: References>(alloc: Global, pair: &Pair<'_>) -> Tables<D::Ref>
+    ensures built { AreBuilt D.entry pair.now result.first.table result.second.table }
+    ensures owned { (d : Holding) → MovesBoth D.entry d [] [] d result.first.table result.second.table }
+{
+    pair.recall_laws();
+    Tables {
+        first: nothing_kept_of_few(alloc, pair.first().steps().len()),
+        second: nothing_kept_of_few(alloc, pair.second().steps().len()),
+    }
 }
 
 /// The schedules of a pair of which one output is compared, by its signals.
@@ -280,13 +297,13 @@ fn one_turn(alloc: Global, pair: &Pair<'_>, s: u32, t: u32) -> Result<Schedules,
     requires s { s < length pair.now.first.drivers }
     requires t { t < length pair.now.second.drivers }
     ensures scheduled { IfOk result (AreScheduled pair.now) }
-    ensures first { IfOk result (λ x. moment 1 (length pair.now.first.drivers + 1) ≤ slice_index x.first.last.items s) }
-    ensures second { IfOk result (λ x. moment 1 (length pair.now.second.drivers + 1) ≤ slice_index x.second.last.items t) }
+    ensures first { IfOk result (λ x. moment 1 (length pair.now.first.drivers + 1) ≤ slice_index x.first s) }
+    ensures second { IfOk result (λ x. moment 1 (length pair.now.second.drivers + 1) ≤ slice_index x.second t) }
 {
     pair.recall_laws();
     Ok(Schedules {
-        first: schedule_of(alloc, pair.first(), from_ref(&s))?,
-        second: schedule_of(alloc, pair.second(), from_ref(&t))?,
+        first: moments_below(alloc, pair.first(), pair.first_places(), s)?,
+        second: moments_below(alloc, pair.second(), pair.second_places(), t)?,
     })
 }
 
@@ -344,8 +361,9 @@ pub(crate) fn compare_outputs<R, D: Diagrams<R>>(
 /// none. The pair's order of variables plays no part.
 ///
 /// `d` has at least as many variables as the pair has inputs, and `output` is below the number of outputs. The
-/// diagram of each signal that the output depends on is built, and of no other. The errors are those of the
-/// diagrams, 71, 72 and 73, and 72 where memory is refused. All references are given back, whatever the answer.
+/// diagram of each signal that the output depends on is built, and of no other: beside what the diagrams take, time and
+/// memory are in proportion to those signals and their drivers. The errors are those of the diagrams, 71, 72 and 73, and
+/// 72 where memory is refused. All references are given back, whatever the answer.
 pub fn compare_output<R, D: Diagrams<R>>(
     rt: &R,
     alloc: Global,
@@ -365,7 +383,7 @@ pub fn compare_output<R, D: Diagrams<R>>(
     let Ok(schedules) = one_turn(alloc, pair, s, t) else {
         return Err(Stop::Memory);
     };
-    let mut tables = no_tables(alloc, d, pair)?;
+    let mut tables = few_tables::<D>(alloc, pair);
     let found = compare_turn(alloc, rt, d, pair, &schedules, &mut tables, output, 1);
     give_back_both(d, tables);
     found

@@ -8,6 +8,7 @@ ghost use Rattle.eqc_check.specs.PairOf.{AreMatched, order_for, names_refusal, p
 pub(crate) mod matched_pair;
 mod name_index;
 pub(crate) mod order;
+mod places;
 
 use crate::pairing::matched_pair::{Pair, recall_laws};
 use crate::pairing::name_index::{bytes_of, places_among};

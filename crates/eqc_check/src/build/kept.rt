@@ -1,7 +1,8 @@
 ghost use Rattle.std.specs.Prelude.{◌≡◌, ℕ, ◌≤◌, [], length, IfOk, None};
 ghost use Rattle.eqc_check.specs.Building.{Moves, OwnsTable, KeepsLater, reference_of};
 
-use crate::build::table::{empty_table, give_back_all, take_back};
+use crate::build::moments::Moments;
+use crate::build::table::{Table, give_back_all, take_back};
 use eqc_tree::References;
 use std::alloc::{AllocError, Global};
 use std::cmp::Reverse;
@@ -10,27 +11,43 @@ use std::collections::BinaryHeap;
 /// The references of signals of one netlist, which are kept from one output to the next.
 pub(crate) struct Kept<X> {
     /// The reference of each signal that has one.
-    pub(crate) table: Vec<Option<X>>,
+    pub(crate) table: Table<X>,
     /// The signals that are to be given back after the last moment that uses them, the earliest first.
     pub(crate) due: BinaryHeap<Reverse<(u64, u32)>>,
 }
 
 /// No reference, for `count` signals.
 pub(crate) fn nothing_kept<X>(alloc: Global, count: usize) -> Result<Kept<X>, AllocError>
-    ensures size { IfOk result (λ kept. length kept.table.items ≡ count) }
-    ensures none { IfOk result (λ kept. (s : ℕ) → reference_of kept.table.items s ≡ None) }
+    ensures size { IfOk result (λ kept. length kept.table ≡ count) }
+    ensures none { IfOk result (λ kept. (s : ℕ) → reference_of kept.table s ≡ None) }
 {
-    let table = empty_table(alloc, count)?;
+    let table = Table::of_each(alloc, count)?;
     let due = BinaryHeap::new(alloc);
     Ok(Kept { table, due })
 }
 
+/// No reference, where few of `count` signals get one.
+pub(crate) fn nothing_kept_of_few<X>(alloc: Global, count: usize) -> Kept<X>
+    ensures size { length result.table ≡ count }
+    ensures none { (s : ℕ) → reference_of result.table s ≡ None }
+{
+    Kept {
+        table: Table::of_few(alloc, count),
+        due: BinaryHeap::new(alloc),
+    }
+}
+
 /// Gives back what is used at no moment later than `at`.
-pub(crate) fn release_due<D: References>(d: &mut D, kept: &mut Kept<D::Ref>, last: &[u64], at: u64)
-    requires size { length last.now ≡ length kept.old.table.items }
-    requires owned { OwnsTable D.entry (D.holding d.old) kept.old.table.items }
-    ensures moves { Moves D.entry (D.holding d.old) kept.old.table.items (D.holding d.new) kept.new.table.items }
-    ensures later { KeepsLater last.now kept.old.table.items kept.new.table.items at }
+pub(crate) fn release_due<D: References>(
+    d: &mut D,
+    kept: &mut Kept<D::Ref>,
+    last: &Moments,
+    at: u64,
+)
+    requires size { length last.now ≡ length kept.old.table }
+    requires owned { OwnsTable D.entry (D.holding d.old) kept.old.table }
+    ensures moves { Moves D.entry (D.holding d.old) kept.old.table (D.holding d.new) kept.new.table }
+    ensures later { KeepsLater last.now kept.old.table kept.new.table at }
 {
     while let Some(next) = kept.due.peek() {
         let Reverse((moment, s)) = *next;
@@ -38,7 +55,7 @@ pub(crate) fn release_due<D: References>(d: &mut D, kept: &mut Kept<D::Ref>, las
             return;
         }
         kept.due.pop();
-        if (s as usize) < last.len() && last[s as usize] <= at {
+        if (s as usize) < kept.table.len() && last.at(s) <= at {
             take_back(d, &mut kept.table, s);
         }
     }
@@ -46,11 +63,11 @@ pub(crate) fn release_due<D: References>(d: &mut D, kept: &mut Kept<D::Ref>, las
 
 /// Gives back all references that are kept.
 pub(crate) fn clear<D: References>(d: &mut D, kept: &mut Kept<D::Ref>)
-    requires owned { OwnsTable D.entry (D.holding d.old) kept.old.table.items }
-    requires few { length kept.old.table.items ≤ 1048576 }
-    ensures moves { Moves D.entry (D.holding d.old) kept.old.table.items (D.holding d.new) kept.new.table.items }
-    ensures size { length kept.new.table.items ≡ length kept.old.table.items }
-    ensures none { (s : ℕ) → reference_of kept.new.table.items s ≡ None }
+    requires owned { OwnsTable D.entry (D.holding d.old) kept.old.table }
+    requires few { length kept.old.table ≤ 1048576 }
+    ensures moves { Moves D.entry (D.holding d.old) kept.old.table (D.holding d.new) kept.new.table }
+    ensures size { length kept.new.table ≡ length kept.old.table }
+    ensures none { (s : ℕ) → reference_of kept.new.table s ≡ None }
 {
     kept.due.clear();
     for s in 0..kept.table.len() {
@@ -60,8 +77,8 @@ pub(crate) fn clear<D: References>(d: &mut D, kept: &mut Kept<D::Ref>)
 
 /// Gives back all references that are kept, for good.
 pub(crate) fn give_back_kept<D: References>(d: &mut D, kept: Kept<D::Ref>)
-    requires { OwnsTable D.entry (D.holding d.old) kept.table.items }
-    ensures { Moves D.entry (D.holding d.old) kept.table.items (D.holding d.new) [] }
+    requires { OwnsTable D.entry (D.holding d.old) kept.table }
+    ensures { Moves D.entry (D.holding d.old) kept.table (D.holding d.new) [] }
 {
     let Kept { table, due: _ } = kept;
     give_back_all(d, table);

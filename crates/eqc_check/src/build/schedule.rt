@@ -1,19 +1,10 @@
 ghost use Rattle.std.specs.Prelude.{◌≡◌, ℕ, ◌+◌, ◌<◌, ◌≤◌, length, IfOk, slice_index};
 ghost use Rattle.eqc_check.specs.Building.{AreSignals};
-ghost use Rattle.eqc_check.specs.Schedule.{moment, AreLastMoments, EndsAtRoots, ArePlaces, IsRaised};
+ghost use Rattle.eqc_check.specs.Schedule.{moment, AreLastMoments, EndsAtRoots, IsRaised};
 
+use crate::build::moments::Moments;
 use eqc_flat::{Flat, Signals};
 use std::alloc::{AllocError, Global};
-
-/// When the signals of a netlist are used, in comparisons that go over its outputs in rising order. Members that share
-/// the outputs of a pair share it.
-#[derive(Drop)]
-pub(crate) struct Schedule {
-    /// The step of each signal, counted from 0.
-    pub(crate) places: Vec<u32>,
-    /// The last moment at which each signal is used, 0 where no output depends on it.
-    pub(crate) last: Vec<u64>,
-}
 
 /// An output and a step, each counted from 1, as one number: moments of later outputs are later.
 pub(crate) fn moment(output: u32, step: u32) -> u64
@@ -29,18 +20,6 @@ fn start_of(at: u64) -> u64
     ensures whole { (step : ℕ) → step < 4294967296 → result + step < 18446744073709551616 }
 {
     at - at % 4294967296
-}
-
-/// The step of each signal.
-fn places_of(alloc: Global, flat: &Flat<'_>) -> Result<Vec<u32>, AllocError>
-    ensures { IfOk result (λ places. ArePlaces flat.now places.items) }
-{
-    let steps = flat.steps();
-    let mut places = vec![in alloc; 0u32; steps.len()]?;
-    for k in 0..steps.len() {
-        places[steps[k] as usize] = k as u32;
-    }
-    Ok(places)
 }
 
 /// Notes a moment for those of the signals that have an earlier one.
@@ -93,27 +72,16 @@ fn last_moments(alloc: Global, flat: &Flat<'_>, roots: &[u32]) -> Result<Vec<u64
     Ok(last)
 }
 
-/// The schedule of a netlist whose outputs' signals are the roots.
-pub(crate) fn schedule_of(
+/// The last moments of all signals of a netlist whose outputs' signals are the roots.
+pub(crate) fn moments_of(
     alloc: Global,
     flat: &Flat<'_>,
     roots: &[u32],
-) -> Result<Schedule, AllocError>
+) -> Result<Moments, AllocError>
     requires roots { AreSignals flat.now roots.now }
     requires few { length roots.now < 4294967296 }
-    ensures places { IfOk result (λ schedule. ArePlaces flat.now schedule.places.items) }
-    ensures last { IfOk result (λ schedule. AreLastMoments flat.now schedule.last.items) }
-    ensures roots { IfOk result (λ schedule. EndsAtRoots flat.now roots.now schedule.last.items) }
+    ensures last { IfOk result (AreLastMoments flat.now) }
+    ensures roots { IfOk result (EndsAtRoots flat.now roots.now) }
 {
-    Ok(Schedule {
-        places: places_of(alloc, flat)?,
-        last: last_moments(alloc, flat, roots)?,
-    })
-}
-
-/// The schedules of both netlists of a pair.
-#[derive(Drop)]
-pub(crate) struct Schedules {
-    pub(crate) first: Schedule,
-    pub(crate) second: Schedule,
+    Ok(Moments::of_each(last_moments(alloc, flat, roots)?))
 }

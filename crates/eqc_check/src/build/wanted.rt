@@ -2,15 +2,17 @@ ghost use Rattle.std.specs.Prelude.{◌≡◌, ℕ, ◌+◌, ◌<◌, ◌≤◌,
 ghost use Rattle.std.specs.Ordering.{nat_cmp};
 ghost use Rattle.std.specs.BinaryHeap.{heap_items, IsHeap};
 ghost use Rattle.eqc_check.specs.Building.{reference_of, AreSignals};
-ghost use Rattle.eqc_check.specs.Schedule.{moment, AreLastMoments, ArePlaces, AreWanted, AreOpened, IsBehind, IsOpen};
+ghost use Rattle.eqc_check.specs.PairOf.{ArePlaces};
+ghost use Rattle.eqc_check.specs.Schedule.{moment, AreLastMoments, AreWanted, AreOpened, IsBehind, IsOpen};
 
-use crate::build::schedule::Schedule;
+use crate::build::moments::Moments;
+use crate::build::table::Table;
 use eqc_flat::{Flat, Signals};
 use std::alloc::{AllocError, Global};
 use std::collections::BinaryHeap;
 
 /// Takes the numbers from `step` on out of a heap.
-fn drop_repeats(heap: &mut BinaryHeap<u32>, step: u32)
+pub(crate) fn drop_repeats(heap: &mut BinaryHeap<u32>, step: u32)
     requires heap { IsHeap nat_cmp (heap_items heap.old) }
     requires below { (x : ℕ) → IsOpen (heap_items heap.old) x → x ≤ step }
     ensures heap { IsHeap nat_cmp (heap_items heap.new) }
@@ -30,7 +32,7 @@ fn drop_repeats(heap: &mut BinaryHeap<u32>, step: u32)
 fn open_missing<X>(
     heap: &mut BinaryHeap<u32>,
     places: &[u32],
-    table: &[Option<X>],
+    table: &Table<X>,
     signals: &Signals<'_>,
 ) -> Result<(), AllocError>
     requires heap { IsHeap nat_cmp (heap_items heap.old) }
@@ -40,9 +42,9 @@ fn open_missing<X>(
     ensures opened { OnOk result (AreOpened places.now table.now signals.now (heap_items heap.old) (heap_items heap.new) (length signals.now)) }
 {
     for k in 0..signals.len() {
-        let s = signals.get(k) as usize;
-        if table[s].is_none() {
-            heap.push(places[s])?;
+        let s = signals.get(k);
+        if table.get(s).is_none() {
+            heap.push(places[s as usize])?;
         }
     }
     Ok(())
@@ -53,31 +55,32 @@ fn open_missing<X>(
 pub(crate) fn wanted<X>(
     alloc: Global,
     flat: &Flat<'_>,
-    schedule: &Schedule,
-    table: &[Option<X>],
+    places: &[u32],
+    last: &Moments,
+    table: &Table<X>,
     root: u32,
     output: u32,
 ) -> Result<Vec<u32>, AllocError>
     requires some { 1 ≤ output }
     requires root { root < length flat.now.drivers }
     requires table { length table.now ≡ length flat.now.drivers }
-    requires places { ArePlaces flat.now schedule.now.places.items }
-    requires last { AreLastMoments flat.now schedule.now.last.items }
-    requires needed { moment output 0 ≤ slice_index schedule.now.last.items root }
-    ensures wanted { IfOk result (λ wanted. AreWanted flat.now schedule.now.last.items table.now output wanted.items) }
+    requires places { ArePlaces flat.now places.now }
+    requires last { AreLastMoments flat.now last.now }
+    requires needed { moment output 0 ≤ slice_index last.now root }
+    ensures wanted { IfOk result (λ wanted. AreWanted flat.now last.now table.now output wanted.items) }
     ensures root { IfOk result (λ wanted. IsSome (reference_of table.now root) ⊎ IsBehind flat.now wanted.items 0 root) }
 {
     let steps = flat.steps();
     let mut wanted = Vec::new(alloc);
     let mut heap = BinaryHeap::new(alloc);
-    open_missing(&mut heap, &schedule.places, table, &Signals::of(&[root]))?;
+    open_missing(&mut heap, places, table, &Signals::of(&[root]))?;
     // All open steps are below it.
     let mut below = steps.len() as u32;
     while let Some(step) = heap.pop() {
         drop_repeats(&mut heap, step);
         wanted.push(step)?;
         let uses = flat.driver(steps[step as usize]).dependencies();
-        open_missing(&mut heap, &schedule.places, table, &uses)?;
+        open_missing(&mut heap, places, table, &uses)?;
         below = step;
     }
     Ok(wanted)

@@ -1,10 +1,11 @@
 ghost use Rattle.std.specs.Prelude.{◌≡◌, true, map, length, IfOk, EachIndex, slice_index, slice_index_or, ◌<◌};
 ghost use Rattle.eqc_check.specs.Verdict.{position_of};
 ghost use Rattle.eqc_check.specs.Matched.{same_names};
-ghost use Rattle.eqc_check.specs.PairOf.{IsPair, IsOrder, variables_in, first_variables, second_variables, second_signals};
+ghost use Rattle.eqc_check.specs.PairOf.{IsPair, IsOrder, ArePlaces, variables_in, first_variables, second_variables, second_signals};
 ghost use Rattle.eqc_flat.specs.Graph.{IsFlat, FollowsDrivers};
 
 use crate::pairing::order::Order;
+use crate::pairing::places::places_of;
 use eqc_flat::Flat;
 use std::alloc::{AllocError, Global};
 use std::marker::Model;
@@ -18,6 +19,8 @@ pub struct Pair<'a> {
     variables: Vec<u16>,
     second_variables: Vec<u16>,
     second_signals: Vec<u32>,
+    first_places: Vec<u32>,
+    second_places: Vec<u32>,
 }
 
 impl<'a> Model for Pair<'a> {
@@ -27,7 +30,7 @@ impl<'a> Model for Pair<'a> {
 
     ghost view = { λ a. record { first = a.first.now; second = a.second.now; order = a.order.items } };
 
-    ghost invariant = { λ a. IsLaidOut (record { first = a.first.now; second = a.second.now; order = a.order.items }) a.variables.items a.second_variables.items a.second_signals.items };
+    ghost invariant = { λ a. IsLaidOut (record { first = a.first.now; second = a.second.now; order = a.order.items }) a.variables.items a.second_variables.items a.second_signals.items a.first_places.items a.second_places.items };
 }
 
 /// What holds of every flat netlist, for a proof of its caller: it does nothing. A netlist's laws are known only
@@ -75,6 +78,8 @@ impl<'a> Pair<'a> {
     {
         let second_variables = pick(alloc, &order.variables, inputs)?;
         let second_signals = pick(alloc, second.output_signals(), outputs)?;
+        let first_places = places_of(alloc, first)?;
+        let second_places = places_of(alloc, second)?;
         let Order {
             positions,
             variables,
@@ -86,6 +91,8 @@ impl<'a> Pair<'a> {
             variables,
             second_variables,
             second_signals,
+            first_places,
+            second_places,
         })
     }
 
@@ -140,5 +147,21 @@ impl<'a> Pair<'a> {
         ensures lawful { IsPair self.now }
     {
         self.second_signals.as_slice()
+    }
+
+    /// The step of each signal of the first netlist, counted from 0.
+    pub(crate) fn first_places(&self) -> &[u32]
+        ensures each { ArePlaces self.now.first result.now }
+        ensures lawful { IsPair self.now }
+    {
+        self.first_places.as_slice()
+    }
+
+    /// The step of each signal of the second netlist.
+    pub(crate) fn second_places(&self) -> &[u32]
+        ensures each { ArePlaces self.now.second result.now }
+        ensures lawful { IsPair self.now }
+    {
+        self.second_places.as_slice()
     }
 }

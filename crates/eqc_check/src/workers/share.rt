@@ -4,7 +4,7 @@ ghost use Rattle.std.specs.Thread.{IsSync, IsSend};
 ghost use Rattle.eqc_check.specs.Turns.{AreKept, AreTurns};
 ghost use Rattle.eqc_check.specs.Verdicts.{DiffersBefore, IsFoundAt, IsShare, IsFresh, AreSeated};
 
-use crate::build::schedule::Schedules;
+use crate::build::moments::Schedules;
 use crate::pairing::matched_pair::Pair;
 use crate::workers::gate::Gate;
 use crate::workers::group::{Group, halves};

@@ -3,4 +3,4 @@ use Rattle.eqc_check.specs.Building.{Moves, reference_of}
 use Rattle.eqc_check.proofs.build.kept.clear.Given as goal
 
 abbrev pub invariant-loop-s : goal.invariant-loop-s
-invariant-loop-s g l = Moves g.D.References.entry (g.D.References.holding l.fn.d) l.fn.kept.table.items (g.D.References.holding l.d) l.kept.table.items × (length l.kept.table.items ≡ length l.fn.kept.table.items) × ((i : ℕ) → i < l.s → reference_of l.kept.table.items i ≡ None)
+invariant-loop-s g l = Moves g.D.References.entry (g.D.References.holding l.fn.d) l.fn.kept.table (g.D.References.holding l.d) l.kept.table × (length l.kept.table ≡ length l.fn.kept.table) × ((i : ℕ) → i < l.s → reference_of l.kept.table i ≡ None)

@@ -4,7 +4,7 @@ use Rattle.eqc_check.proofs.WantedLaws.{AreWantedFrom}
 use Rattle.eqc_check.proofs.build.wanted.wanted.Given as goal
 
 abbrev pub invariant-loop-step : goal.invariant-loop-step
-invariant-loop-step g l = IsHeap nat_cmp (heap_items l.heap) × AreWantedFrom l.flat l.schedule.last.items l.table l.output l.root l.wanted.items (heap_items l.heap) l.below
+invariant-loop-step g l = IsHeap nat_cmp (heap_items l.heap) × AreWantedFrom l.flat l.last l.table l.output l.root l.wanted.items (heap_items l.heap) l.below
 
 abbrev pub decreases-loop-step : goal.decreases-loop-step
 decreases-loop-step g l = l.below

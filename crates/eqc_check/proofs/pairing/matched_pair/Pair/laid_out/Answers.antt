@@ -16,4 +16,6 @@ invariant_of-result c = record {
   variables_are = c.requires.variables;
   seconds_are = variables_picked c.args.order.positions.items c.deref.result.now c.args.inputs.now c.in_ok-second_variables.second_variables.items c.args.first.now.inputs c.args.second.now.inputs (both_ways c.args.first.now.inputs c.args.second.now.inputs c.requires.same_inputs).0 (c.deref.ensures.value ∙ c.requires.variables) c.requires.inputs (c.in_ok-second_variables.ensures 0);
   signals_are = signals_picked c.args.second.now.output_signals c.args.outputs.now c.in_ok-second_signals.second_signals.items c.args.second.now.outputs c.args.first.now.outputs c.requires.outputs (c.in_ok-second_signals.ensures 0 ∙ ap (λ (l : List ℕ). map (λ place. get_or l place 0) c.args.outputs.now) c.output_signals.ensures.signals);
+  first_steps = c.in_ok-first_places.ensures;
+  second_steps = c.in_ok-second_places.ensures;
 }

@@ -1,6 +1,6 @@
 use Rattle.std.proofs.Common.{◌≡◌, length, arith, ap}
 use Rattle.eqc_check.proofs.ScheduleLaws.{places_done}
-use Rattle.eqc_check.proofs.build.schedule.places_of.Goals as goal
+use Rattle.eqc_check.proofs.pairing.places.places_of.Goals as goal
 
 pub returns : goal.returns
 returns c =

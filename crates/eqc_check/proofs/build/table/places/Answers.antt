@@ -1,6 +1,6 @@
 use Rattle.std.proofs.Common.{arith}
 use Rattle.eqc_cover.proofs.MappedLemmas.{none_more}
-use Rattle.eqc_check.proofs.build.table.empty_table.Goals as goal
+use Rattle.eqc_check.proofs.build.table.places.Goals as goal
 
 pub unwrap-requires : goal.unwrap-requires
 unwrap-requires g c = c.push.ensures.succeeds (omega arith)

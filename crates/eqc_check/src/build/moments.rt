@@ -1,0 +1,83 @@
+ghost use Rattle.std.specs.Prelude.{◌≡◌, ◌<◌, length, slice_index};
+ghost use Rattle.eqc_check.specs.Listed.{listed, moment_in, moments_in};
+
+use indexmap::IndexMap;
+use std::marker::Model;
+
+/// The last moment at which each signal of a netlist is used, 0 where no output depends on it. Contracts see a list with a
+/// place for each signal. Members that share the outputs of a pair share it.
+#[derive(Drop)]
+pub(crate) struct Moments {
+    noted: Noted,
+}
+
+/// How they are kept.
+#[derive(Drop)]
+pub(crate) enum Noted {
+    /// A place for each signal.
+    Each(Vec<u64>),
+    /// Those that are used, of so many signals.
+    Few(IndexMap<u32, u64>, usize),
+}
+
+impl Model for Moments {
+    ghost use Rattle.std.specs.Prelude.{ℕ, List};
+    ghost use Rattle.eqc_check.specs.Listed.{moments_in};
+
+    ghost Value = { List ℕ };
+
+    ghost view = { λ m. moments_in m.noted };
+}
+
+/// The moment that a map has for a signal, 0 where it has none.
+pub(crate) fn moment_in(last: &IndexMap<u32, u64>, s: u32) -> u64
+    ensures { result ≡ moment_in last.now s }
+{
+    last.get(&s).copied().unwrap_or(0)
+}
+
+/// The moment that is noted for a signal.
+fn noted_at(noted: &Noted, s: u32) -> u64
+    requires { s < length (moments_in noted.now) }
+    ensures { result ≡ slice_index (moments_in noted.now) s }
+{
+    match noted {
+        Noted::Each(last) => last[s as usize],
+        Noted::Few(last, _) => moment_in(last, s),
+    }
+}
+
+impl Moments {
+    /// A moment for each signal.
+    pub(crate) fn of_each(last: Vec<u64>) -> Moments
+        ensures { result ≡ last.items }
+    {
+        Moments {
+            noted: Noted::Each(last),
+        }
+    }
+
+    /// Moments of some of so many signals.
+    pub(crate) fn of_few(last: IndexMap<u32, u64>, count: usize) -> Moments
+        ensures { result ≡ listed count (moment_in last) }
+    {
+        Moments {
+            noted: Noted::Few(last, count),
+        }
+    }
+
+    /// The last moment at which a signal is used.
+    pub(crate) fn at(&self, s: u32) -> u64
+        requires { s < length self.now }
+        ensures { result ≡ slice_index self.now s }
+    {
+        noted_at(&self.noted, s)
+    }
+}
+
+/// The last moments of both netlists of a pair.
+#[derive(Drop)]
+pub(crate) struct Schedules {
+    pub(crate) first: Moments,
+    pub(crate) second: Moments,
+}
