@@ -19,7 +19,7 @@ holds k [] is = cc
 holds k (c ∷ more) is = one_holds c.0 k c.1 (first_code more) (list_any (λ d. eqb d.0 k && d.1) more) is (holds k more)
 
 -- the condition of a statement's code holds
-condition_holds : (st : After) (kind : Kind) (ws : List (List ℕ)) (row : List ℕ) (k : ℕ) → statement_code st kind ws row ≡ Some k → list_any (λ c. eqb c.0 k && c.1) (statement_conditions st kind ws row) ≡ true
+pub condition_holds : (st : After) (kind : Kind) (ws : List (List ℕ)) (row : List ℕ) (k : ℕ) → statement_code st kind ws row ≡ Some k → list_any (λ c. eqb c.0 k && c.1) (statement_conditions st kind ws row) ≡ true
 condition_holds st kind ws row k is = holds k (statement_conditions st kind ws row) is
 
 -- a condition beside none

@@ -14,5 +14,6 @@ pub mod FitLaws
 pub mod PlainLaws
 pub mod ReadBackLaws
 pub mod CodeLemmas
+pub mod ToldLemmas
 pub mod FindingLemmas
 pub mod BadByteLemmas
