@@ -1,0 +1,14 @@
+pub mod Laid
+pub mod Numbers
+pub mod Learning
+pub mod Stepping
+pub mod Moves
+pub mod Counts
+pub mod Seats
+pub mod Beginning
+pub mod Splitting
+pub mod Joining
+pub mod Filling
+pub mod Sameness
+pub mod Acquiring
+pub mod Sweeping
