@@ -13,7 +13,7 @@ use Rattle.eqc_guard.specs.Acquiring.{IsAt, IsAcquired}
 use Rattle.eqc_guard.specs.Known.{IsHeld, tree_of, tree_in}
 use Rattle.eqc_guard.specs.Standing.{Standing, Steps}
 use Rattle.eqc_guard.specs.Telling.{IsResult, Rechecks, HasFound}
-use Rattle.eqc_guard.proofs.Learning.{held_named}
+use Rattle.eqc_guard.proofs.Learning.{held_named, keeps_on}
 
 set_twice : (ps : List Phase) (p q : Phase) → set (set ps 0 p) 0 q ≡ set ps 0 q
 set_twice [] p q = refl
@@ -25,6 +25,7 @@ starts old new p s = record {
   forest = s.forest;
   core = s.known.core;
   trees = λ x two h. s.known.agrees x two (held_named old.known.core x h) (held_named (with_phase old.known.core 0 p) x h);
+  copy = s.known.copy;
   known = s.known.known;
 }
 
@@ -36,6 +37,7 @@ goes_on old mid new p q a s = record {
   trees = λ x two h.
       let there : 0 < times x mid.known.core.held = subst (λ (v : View). 0 < times x v.held) (sym a.core) h in
       s.known.agrees x two (held_named mid.known.core x there) (held_named (with_phase mid.known.core 0 q) x there) ∙ a.trees x two h;
+  copy = keeps_on old.known mid.known new.known a.copy s.known.copy;
   known = s.known.known;
 }
 
@@ -119,6 +121,7 @@ joins old mid new p q a b = record {
   forest = b.forest ∙ a.forest;
   core = b.core ∙ (ap (λ (v : View). with_phase v 0 q) a.core ∙ ap (λ (ps : List Phase). record old.known.core { phases = ps }) (set_twice old.known.core.phases p q));
   trees = λ x two h. b.trees x two (subst (λ (v : View). 0 < times x v.held) (sym a.core) h) ∙ a.trees x two h;
+  copy = keeps_on old.known mid.known new.known a.copy b.copy;
   known = b.known;
 }
 

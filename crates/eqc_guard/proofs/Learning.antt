@@ -1,5 +1,5 @@
 -- In each lawful state a worker can know the trees of all that it names.
-use Rattle.std.proofs.Common.{◌≡◌, ℕ, zero, suc, ◌+◌, ◌<◌, ◌≤◌, List, [], ◌∷◌, ◌++◌, length, true, Option, Some, None, eq-eqb, ne_eqb, refl, sym, ap, subst, ◌∙◌, arith, inl, inr}
+use Rattle.std.proofs.Common.{◌≡◌, ℕ, zero, suc, ◌+◌, ◌*◌, ◌<◌, ◌≤◌, List, [], ◌∷◌, ◌++◌, length, true, Option, Some, None, eq-eqb, ne_eqb, refl, sym, ap, subst, ◌∙◌, arith, inl, inr}
 use native.Mathlib.Decide.{ℕ_discrete, dec_le}
 use mathlib.Core.Option.{some, some-injective, some-ne-none}
 use lib.ListN.{get_elem?}
@@ -19,7 +19,7 @@ use Rattle.eqc_core.specs.Facts.{AreTabled, HaveTrees}
 use Rattle.eqc_core.proofs.Names.{times-same, times-other, times-append, times-nil}
 use Rattle.eqc_core.proofs.Known.{are_tabled}
 use Rattle.eqc_core.proofs.Trees.{have_trees, is_tree_one}
-use Rattle.eqc_guard.specs.Known.{Known, Knows, kept_tree, tree_in, tree_of, names_of, confirmed_name, confirmed_names, read_names, IsHeld, IsNamed, IsCopy, IsKnown}
+use Rattle.eqc_guard.specs.Known.{Known, Knows, KeepsCopy, kept_tree, tree_in, tree_of, names_of, confirmed_name, confirmed_names, read_names, IsHeld, IsNamed, IsCopy, IsKnown}
 use Rattle.eqc_guard.specs.Telling.{IsResult, IsRightHere}
 use Rattle.eqc_guard.proofs.Numbers.{out_few, out_given}
 
@@ -166,6 +166,8 @@ is_known z w hs vs id k law at on knows copy = record {
   phases = λ j p e. let f = law.views id k.core at on in subst (λ (y : Sizes). IsPlaced y p) (sym f.sizes) (f.named j p e);
   few = subst (λ (y : Sizes). length k.core.out < y.workers) (sym (law.views id k.core at on).sizes) (out_few z w hs vs id k.core law at on);
   given = λ e. subst (λ (y : Sizes). (length k.core.out < k.core.given) × (k.core.given ≤ y.workers)) (sym (law.views id k.core at on).sizes) (out_given z w hs vs id k.core law at on e);
+  retired = let f = law.views id k.core at on in subst (λ (y : Sizes). length k.core.retired ≤ 2 * announced_words y) (sym f.sizes) f.few;
+  read = λ r e. ((law.views id k.core at on).read r e).held_still;
   slots = λ x h. (law.views id k.core at on).slots x (omega arith);
   below = λ x two named. subst (λ (y : Sizes). x < y.names) (sym (law.views id k.core at on).sizes) (law.tables.named x (named_tabled z w hs vs id x k.core law at on two named)).1;
   canonical = λ x named. let t = trees.tree x (name x named) in subst (λ (s : Tree). IsCanonical s) (is_tree_one w.nodes t.0 (tree_of k x) x t.1 (named_tree w.nodes k x knows named)) t.2;
@@ -182,3 +184,7 @@ is_known z w hs vs id k law at on knows copy = record {
         go : Dec (2 ≤ x) → IsName hs vs x
         go (yes two) = inr (named_tabled z w hs vs id x k.core law at on two h)
         go (no n) = inl (omega arith)
+
+-- a copy that two steps keep
+pub keeps_on : (a b c : Known) → KeepsCopy a b → KeepsCopy b c → KeepsCopy a c
+keeps_on a b c first second ws e = let r = first ws e in second r.0 r.1

@@ -12,3 +12,5 @@ pub mod Filling
 pub mod Sameness
 pub mod Acquiring
 pub mod Sweeping
+pub mod Absorbing
+pub mod Closing

@@ -1,5 +1,5 @@
 -- A split and a join keep the rule.
-use Rattle.std.proofs.Common.{◌≡◌, ◌≢◌, ◌⊎◌, ℕ, zero, suc, ◌^◌, ◌<◌, ◌≤◌, List, [], ◌∷◌, ◌++◌, length, set, ltb, true, false, Option, Some, None, eq-eqb, ne_eqb, refl, sym, ap, subst, ◌∙◌, arith, inl, inr, ⊎_elim}
+use Rattle.std.proofs.Common.{◌≡◌, ◌≢◌, ◌⊎◌, ℕ, zero, suc, ◌+◌, ◌*◌, ◌^◌, ◌<◌, ◌≤◌, List, [], ◌∷◌, ◌++◌, length, set, ltb, true, false, Option, Some, None, eq-eqb, ne_eqb, refl, sym, ap, subst, ◌∙◌, arith, inl, inr, ⊎_elim}
 use Rattle.std.specs.HashMap.{HashMap}
 use Rattle.std.proofs.lemmas.Bool.{lt-ltb}
 use Rattle.std.proofs.lemmas.List.{map-set, map-append}
@@ -11,7 +11,7 @@ use Rattle.atomic_table.proofs.Lists.{at_map}
 use Rattle.eqc_tree.specs.Tree.{Tree, False}
 use Rattle.eqc_core.specs.declared.sizes.Sizes.{Sizes}
 use Rattle.eqc_core.specs.View.{View, Read, idle, fresh, spent, unused, view_at}
-use Rattle.eqc_core.specs.Words.{times}
+use Rattle.eqc_core.specs.Words.{announced_words, times}
 use Rattle.eqc_core.specs.Trees.{IsTree}
 use Rattle.eqc_core.specs.Lawful.{Lawful}
 use Rattle.eqc_core.specs.Moves.{IsReady, forget}
@@ -201,8 +201,15 @@ joins_allowed {S} z id other k o on take room s h seat apart there = record {
     number : o.core.number ≡ other
     number = (h.lawful.views other o.core other_at take.2).number
 
+    -- both have the sizes of the table
+    few : length k.core.retired + length o.core.retired ≤ 2 * announced_words k.core.sizes
+    few =
+        let mine = ap announced_words (h.lawful.views id k.core at on).sizes in
+        let others = ap announced_words (h.lawful.views other o.core other_at take.2).sizes in
+        let together = take.4 in omega arith
+
     may : MayJoin k.core o.core.number o.core
-    may = (take.0, (λ e. apart (sym number ∙ e ∙ (h.lawful.views id k.core at on).number)), take.1, take.2, take.3, take.4)
+    may = (take.0, (λ e. apart (sym number ∙ e ∙ (h.lawful.views id k.core at on).number)), take.1, take.2, take.3, few)
 
     law : Lawful z h.words (homes_of s.homes) (join (cores s.views) id k.core o.core.number)
     law = join_keeps z h.words (homes_of s.homes) (cores s.views) id o.core.number k.core o.core h.lawful at on (subst (λ (j : ℕ). get_elem? (cores s.views) j ≡ some o.core) (sym number) other_at) may room

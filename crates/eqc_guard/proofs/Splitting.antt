@@ -36,6 +36,8 @@ split_left_known k known has = record {
   noted = known.noted;
   phases = known.phases;
   slots = known.slots;
+  retired = known.retired;
+  read = known.read;
   few = let g = known.given has.0 in let h = has.1 in omega (arith, length-append k.core.out (k.core.given ∷ []));
   given = λ e. let g = known.given has.0 in let h = has.1 in (omega (arith, length-append k.core.out (k.core.given ∷ []), more k.core.given), omega (arith, more k.core.given));
 }
@@ -56,6 +58,8 @@ split_off_known z k limits same known has =
       noted = omega arith;
       phases = subst (λ (y : Sizes). (j : ℕ) (p : Phase) → get_elem? (idle y.announcements) j ≡ some p → IsPlaced y p) (sym same) all.phases;
       slots = λ x h. absurd (omega (arith, times-nil x));
+      retired = omega arith;
+      read = λ r e. absurd (cc);
       few = has_some;
       given = λ e. absurd (let g = known.given has.0 in omega arith);
     }

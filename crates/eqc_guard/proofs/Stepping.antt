@@ -18,7 +18,7 @@ use Rattle.eqc_core.proofs.Lists.{at_set, at_below, set_again, set_here, set_els
 use Rattle.eqc_core.proofs.Bounds.{nothing_out_is_alone}
 use Rattle.eqc_core.proofs.Trees.{is_tree_one}
 use Rattle.eqc_guard.specs.Known.{flat, Known, Knows, IsExact, IsKnown, Stepped, names_of, tree_of}
-use Rattle.eqc_guard.specs.Telling.{Copied, Copies, Told, Settles, copied}
+use Rattle.eqc_guard.specs.Telling.{Copied, Copies, Told, Nothing, Settles, copied}
 use Rattle.eqc_guard.specs.Rule.{Held, CopyHolds, homes_of, cores}
 use Rattle.eqc_guard.proofs.Learning.{learn, named_tabled, is_known}
 
@@ -30,6 +30,9 @@ back_map f (x ∷ xs) (suc j) u e = back_map f xs j u e
 copy_some : (c : Option (List ℕ)) (i m : ℕ) (ws : List ℕ) → copied c i m ≡ Some ws → (xs : List ℕ) × (c ≡ Some xs) × (ws ≡ set xs i m)
 copy_some None i m ws e = absurd (cc)
 copy_some (Some xs) i m ws e = (xs, refl, (let q : set xs i m ≡ ws = cc in sym q))
+
+copied_some : (c : Option (List ℕ)) (i m : ℕ) (ws : List ℕ) → c ≡ Some ws → (left : List ℕ) × (copied c i m ≡ Some left)
+copied_some c i m ws e = (set ws i m, ap (λ (o : Option (List ℕ)). copied o i m) e)
 
 -- what a step pays where it finds these words, tables and views: v is its new view, and m the number that it leaves
 pub record Pays {S : Type 0} (z : Sizes) (id i : ℕ) (me : Me (HashMap ℕ ℕ S) Known) (m : ℕ) (w : Words) (homes : List (May.Option (HashMap ℕ ℕ S))) (vs : List View) (v : View) (a : Act (HashMap ℕ ℕ S)) (w' : Words) : Type 0 where
@@ -55,7 +58,8 @@ module _ {S : Type 0} (z : Sizes) (slots id i : ℕ) (me : Me (HashMap ℕ ℕ S
       × ((k : Known) → Stepped me.0 v k → Copies me.0 i (get_or (flat w) i 0) (f (get_or (flat w) i 0)) k → Knows w'.nodes k → tells (get_or (flat w) i 0) (k, carried_after me.1 a))
 
   module _ (s : State (HashMap ℕ ℕ S) Known) (h : Held z s) (seat : get_elem? s.views id ≡ some me.0) (m : ℕ) (v : View) (a : Act (HashMap ℕ ℕ S)) (w' : Words) (pays : Pays z id i me m h.words s.homes (cores s.views) v a w') (copy : Option (List ℕ))
-      (copy_is : (ws : List ℕ) → copy ≡ Some ws → (ws ≡ set s.words i m) × ((j : ℕ) (u : Known) → (j ≡ id → ⊥) → get_elem? s.views j ≡ some u → u.core.active ≡ false)) where
+      (copy_is : (ws : List ℕ) → copy ≡ Some ws → (ws ≡ set s.words i m) × ((j : ℕ) (u : Known) → (j ≡ id → ⊥) → get_elem? s.views j ≡ some u → u.core.active ≡ false))
+      (copy_stays : (ws : List ℕ) → me.0.copy ≡ Some ws → (left : List ℕ) × (copy ≡ Some left)) where
     at : get_elem? (cores s.views) id ≡ some me.0.core
     at = at_map (λ (k : Known). k.core) s.views id me.0 seat
 
@@ -135,6 +139,7 @@ module _ {S : Type 0} (z : Sizes) (slots id i : ℕ) (me : Me (HashMap ℕ ℕ S
     stepped : Stepped me.0 v after
     stepped = record {
       core = refl;
+      copy = copy_stays;
       agrees = λ x two was is. is_tree_one w'.nodes (tree_of after x) (tree_of me.0 x) x (learnt.1 x two is)
           (pays.trees (tree_of me.0 x) x (inr (named_tabled z h.words (homes_of s.homes) (cores s.views) id x me.0.core h.lawful at on two was)) (h.knows id me.0 seat on x two was));
       known = known_after;
@@ -157,7 +162,7 @@ module _ {S : Type 0} (z : Sizes) (slots id i : ℕ) (me : Me (HashMap ℕ ℕ S
       let n : ℕ = get_or (flat h.words) i 0 in
       let same : get_or s.words i 0 ≡ get_or (flat h.words) i 0 = ap (λ (l : List ℕ). get_or l i 0) h.laid in
       let o = owes h.words s.homes (cores s.views) h.lawful (at_map (λ (k : Known). k.core) s.views id me.0 seat) (h.knows id me.0 seat on) (subst (λ (n : ℕ). n < 2 ^ 64) same small) in
-      let g = goes s h seat (f (get_or (flat h.words) i 0)) o.0 o.1 o.2 o.3 (copied me.0.copy i (f (get_or (flat h.words) i 0))) (own_copy s h seat (f (get_or (flat h.words) i 0))) in
+      let g = goes s h seat (f (get_or (flat h.words) i 0)) o.0 o.1 o.2 o.3 (copied me.0.copy i (f (get_or (flat h.words) i 0))) (own_copy s h seat (f (get_or (flat h.words) i 0))) (copied_some me.0.copy i (f (get_or (flat h.words) i 0))) in
       let told = o.4 g.after g.stepped (record { copy = g.copy_is; seen = λ ws has. ap (λ (l : List ℕ). get_or l i 0) ((h.copies id me.0 ws seat has).same ∙ h.laid) }) g.knows in (
         g.after,
         o.1,
@@ -180,7 +185,7 @@ module _ {S : Type 0} (z : Sizes) (slots id i : ℕ) (me : Me (HashMap ℕ ℕ S
   pub settle_allows : Allows (Held {S = S} z) slots id me i (λ n. n) (λ n after. Told me i n n me.0.core after (Settles me.0 n))
   settle_allows s h homes seat small =
       let n : ℕ = get_or s.words i 0 in
-      let g = goes s h seat (get_or s.words i 0) me.0.core keeps h.words (stays s h seat) (copied me.0.copy i (get_or s.words i 0)) (own_copy s h seat (get_or s.words i 0)) in
+      let g = goes s h seat (get_or s.words i 0) me.0.core keeps h.words (stays s h seat) (copied me.0.copy i (get_or s.words i 0)) (own_copy s h seat (get_or s.words i 0)) (copied_some me.0.copy i (get_or s.words i 0)) in
       let copies : Copies me.0 i (get_or s.words i 0) (get_or s.words i 0) g.after = record { copy = g.copy_is; seen = λ ws has. ap (λ (l : List ℕ). get_or l i 0) (h.copies id me.0 ws seat has).same } in (
         g.after,
         keeps,
@@ -196,6 +201,10 @@ module _ {S : Type 0} (z : Sizes) (slots id i : ℕ) (me : Me (HashMap ℕ ℕ S
         ),
       )
 
+  -- a load that leaves the view
+  pub read_allows : Allows (Held {S = S} z) slots id me i (λ n. n) (λ n after. Told me i n n me.0.core after (Nothing n))
+  read_allows s h homes seat small = let r = settle_allows s h homes seat small in let t = r.4 in (r.0, r.1, r.2, r.3, (t.0, t.1, t.2, tt))
+
   -- a load by worker 0 while no number is out takes a copy of all words
   pub alone_allows : me.0.core.number ≡ 0 → me.0.core.out ≡ [] → Allows (Held {S = S} z) slots id me i (λ n. n) (λ n after. Copied me after)
   alone_allows first none s h homes seat small =
@@ -203,5 +212,5 @@ module _ {S : Type 0} (z : Sizes) (slots id i : ℕ) (me : Me (HashMap ℕ ℕ S
       let g = goes s h seat (get_or s.words i 0) me.0.core keeps h.words (stays s h seat) (Some s.words) (λ ws e. (
         (let q : s.words ≡ ws = cc in sym q) ∙ sym (set-get_or s.words i 0),
         λ j u apart there. nothing_out_is_alone z h.words (homes_of s.homes) (cores s.views) id me.0.core h.lawful at on j u.core first none (at_map (λ (k : Known). k.core) s.views j u there) apart,
-      )) in
-      (g.after, keeps, tt, g.held, (g.stepped, refl, (s.words, g.copy_is)))
+      )) (λ ws e. (s.words, refl)) in
+      (g.after, keeps, tt, g.held, (g.stepped, refl, (s.words, g.copy_is, λ had e. sym (h.copies id me.0 had seat e).same)))

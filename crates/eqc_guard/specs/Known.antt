@@ -1,5 +1,5 @@
 -- What a worker knows: its view of the machine, the trees of the names that it names, and a copy of the words where nobody else is active.
-use Rattle.std.specs.Prelude.{◌≡◌, ℕ, ◌<◌, ◌≤◌, ◌⊎◌, List, [], ◌∷◌, ◌++◌, length, eqb, if◌then◌else◌, Option, Some, None, false}
+use Rattle.std.specs.Prelude.{◌≡◌, ℕ, ◌*◌, ◌<◌, ◌≤◌, ◌⊎◌, List, [], ◌∷◌, ◌++◌, length, eqb, if◌then◌else◌, Option, Some, None, false}
 use mathlib.Core.Option.{some}
 use lib.ListN.{get_elem?}
 use Rattle.std.specs.Coded.{coded_option}
@@ -101,12 +101,21 @@ pub record IsKnown (k : Known) : Type 0 where
   pub phases : (j : ℕ) (p : Phase) → get_elem? k.core.phases j ≡ some p → IsPlaced k.core.sizes p
   -- constants are not counted, so they are not held
   pub slots : (x : ℕ) → 0 < times x k.core.held → 2 ≤ x
+  -- at most twice as many names are retired as there are announcement words
+  pub retired : length k.core.retired ≤ 2 * announced_words k.core.sizes
+  -- the node last read is held
+  pub read : (r : Read) → k.core.read ≡ Some r → 0 < times r.name k.core.held
   -- fewer numbers are out than there are workers, and of those that worker 0 has given
   pub few : length k.core.out < k.core.sizes.workers
   pub given : k.core.number ≡ 0 → (length k.core.out < k.core.given) × (k.core.given ≤ k.core.sizes.workers)
 
+-- a worker that had a copy of the words has one still
+abbrev pub KeepsCopy : Known → Known → Type 0
+KeepsCopy k after = (ws : List ℕ) → k.copy ≡ Some ws → (left : List ℕ) × (after.copy ≡ Some left)
+
 -- a step: the view of the machine, and the trees of what was named before and after it stay
 pub record Stepped (k : Known) (v : View) (after : Known) : Type 0 where
   pub core : after.core ≡ v
+  pub copy : KeepsCopy k after
   pub agrees : (x : ℕ) → 2 ≤ x → 0 < times x (names_of k.core) → 0 < times x (names_of v) → tree_of after x ≡ tree_of k x
   pub known : IsKnown after

@@ -8,3 +8,4 @@ pub mod Splitting
 pub mod Filling
 pub mod Acquiring
 pub mod Sweeping
+pub mod Closing

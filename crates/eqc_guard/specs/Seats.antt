@@ -1,5 +1,5 @@
 -- A worker is split off, and joined again, as what they know has it.
-use Rattle.std.specs.Prelude.{◌≡◌, ◌+◌, ◌*◌, ◌<◌, ◌≤◌, length, true, ℕ, List, [], ◌∷◌, ◌++◌, if◌then◌else◌, ltb, None}
+use Rattle.std.specs.Prelude.{◌≡◌, ◌+◌, ◌<◌, ◌≤◌, length, true, ℕ, List, [], ◌∷◌, ◌++◌, if◌then◌else◌, ltb, None}
 use Rattle.eqc_tree.specs.Tree.{Tree}
 use Rattle.eqc_core.specs.View.{View, fresh}
 use Rattle.eqc_core.specs.Words.{announced_words, times}
@@ -20,9 +20,9 @@ abbrev pub only : List ℕ → List (ℕ × Tree) → List (ℕ × Tree)
 only xs [] = []
 only xs (p ∷ ps) = if ltb 0 (times p.0 xs) then p ∷ only xs ps else only xs ps
 
--- a worker may take in another than worker 0, that is at rest: together they have few retired names. That they are two follows
+-- a worker may take in another than worker 0, that is at rest: together they have few retired names. That they are two follows, and that their sizes are the same
 abbrev pub MayTake : View → View → Type 0
-MayTake v o = IsReady v × (0 < o.number) × (o.active ≡ true) × IsAtRest o × (length v.retired + length o.retired ≤ 2 * announced_words v.sizes)
+MayTake v o = IsReady v × (0 < o.number) × (o.active ≡ true) × IsAtRest o × (length v.retired + length o.retired ≤ announced_words v.sizes + announced_words o.sizes)
 
 -- one worker has what two had; what the second one read last is forgotten
 abbrev pub both : Known → Known → Known

@@ -26,9 +26,9 @@ pub record Copies (k : Known) (i found left : ℕ) (after : Known) : Type 0 wher
 abbrev pub Told : {T : Type 0} → Known × List T → ℕ → ℕ → ℕ → View → Known × List T → (Known → Type 0) → Type 0
 Told me i n left v after E = Stepped me.0 v after.0 × (after.1 ≡ me.1) × Copies me.0 i n left after.0 × E after.0
 
--- a load that leaves the view, and takes a copy of all words
+-- a load that leaves the view, and takes a copy of all words; a worker that had one has that
 abbrev pub Copied : {T : Type 0} → Known × List T → Known × List T → Type 0
-Copied me after = Stepped me.0 me.0.core after.0 × (after.1 ≡ me.1) × ((ws : List ℕ) × (after.0.copy ≡ Some ws))
+Copied me after = Stepped me.0 me.0.core after.0 × (after.1 ≡ me.1) × ((ws : List ℕ) × (after.0.copy ≡ Some ws) × ((had : List ℕ) → me.0.copy ≡ Some had → ws ≡ had))
 
 -- a store does not tell what it found
 abbrev pub Stored : {T : Type 0} → Known × List T → ℕ → ℕ → View → Known × List T → Type 0

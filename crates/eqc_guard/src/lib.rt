@@ -10,10 +10,10 @@
 //! - `view`, with `specs/Known.antt`: what a worker knows. `IsKnown` holds of it between its steps,
 //!   and `Stepped` says that a step leaves the trees of what is named before and after it
 //! - `worker`, with `specs/Standing.antt`: the step methods, splits and joins, and what callers see;
-//!   `specs/Splitting.antt`, `specs/Acquiring.antt`, `specs/Filling.antt` and `specs/Sweeping.antt`
-//!   have the words of its contracts. `names` has the lists of names of fixed size that it keeps
-//! - `forest`, a new table with its worker 0; `reference`, `filled` and `fault`, what calls take and
-//!   give
+//!   `specs/Splitting.antt`, `specs/Acquiring.antt`, `specs/Filling.antt`, `specs/Sweeping.antt` and
+//!   `specs/Closing.antt` have the words of its contracts. `names` has the lists of names of fixed size that it keeps
+//! - `forest`, a new table with its worker 0; `reference`, `filled`, `fault` and `tally`, what calls
+//!   take and give
 //!
 //! In `proofs`: `Stepping` has the one combinator, by which a step owes its new words, its lawful
 //! state and what it tells (`allows`); trees and copies follow there. `Moves` has what each step
@@ -27,5 +27,6 @@ pub mod forest;
 mod names;
 pub mod reference;
 pub mod rule;
+pub mod tally;
 pub mod view;
 pub mod worker;

@@ -84,6 +84,13 @@ impl Play<Stripe, View> for Settle {
     ghost then = { λ s me n after. Told me s.word n n me.0.core after (Settles me.0 n) };
 }
 
+/// A count word was read.
+pub struct Count;
+
+impl Play<Stripe, View> for Count {
+    ghost then = { λ s me n after. Told me s.word n n me.0.core after (Nothing n) };
+}
+
 /// A worker was split off.
 pub struct SplitOff;
 

@@ -8,9 +8,10 @@ use crate::filled::{self, Filled};
 use crate::names;
 use crate::reference::Ref;
 use crate::rule::{
-    Alone, Announce, Down, JoinUp, Look, Recheck, Rule, ScanOne, Settle, SplitOff, Stripe,
+    Alone, Announce, Count, Down, JoinUp, Look, Recheck, Rule, ScanOne, Settle, SplitOff, Stripe,
     SwapCell, Up,
 };
+use crate::tally::Tally;
 use crate::view::View;
 use arrayvec::ArrayVec;
 use atomic_table::{Seat, Table};
@@ -52,7 +53,7 @@ impl Model for Worker {
 
 impl Worker {
     ghost use Rattle.eqc_tree.specs.Tree.{SameFunction};
-    ghost use Rattle.std.specs.Prelude.{[], false, if◌then◌else◌, List, Some, ◌-◌, ◌^◌, ◌≤◌, ◌↔◌, ◌++◌, length, ℕ, IsTrue, IfSome, None, IfOk, OnOk, OnErr, IfErr};
+    ghost use Rattle.std.specs.Prelude.{[], false, if◌then◌else◌, List, Some, ◌-◌, ◌*◌, ◌^◌, ◌≤◌, ◌↔◌, ◌++◌, length, ℕ, IsTrue, IfSome, None, IfOk, OnOk, OnErr, IfErr};
     ghost use Rattle.eqc_core.specs.View.{phase_at};
     ghost use Rattle.eqc_core.specs.Words.{announced_words, word_at, first_of, second_of};
     ghost use Rattle.eqc_core.specs.Moves.{IsReady};
@@ -64,11 +65,13 @@ impl Worker {
     ghost use Rattle.eqc_guard.specs.Rule.{cells_from};
     ghost use Rattle.eqc_guard.specs.Standing.{Steps};
     ghost use Rattle.eqc_guard.specs.Seats.{MayTake};
-    ghost use Rattle.eqc_guard.specs.Splitting.{IsJoined, HasNumber, WhyNot, IsSplit, IsAlone, outstanding};
+    ghost use Rattle.eqc_core.specs.Seating.{IsAtRest};
+    ghost use Rattle.eqc_guard.specs.Splitting.{IsJoined, IsAbsorbed, HasNumber, WhyNot, IsSplit, IsCopied, IsAlone, outstanding};
+    ghost use Rattle.eqc_guard.specs.Closing.{above_zero, IsTallied};
     ghost use Rattle.eqc_guard.specs.Acquiring.{IsAt, IsAcquired, IsPassed};
     ghost use Rattle.eqc_guard.specs.Filling.{MaySwap, word_of};
-    ghost use Rattle.eqc_guard.specs.Sweeping.{IsSwept};
-    ghost use Rattle.eqc_guard.specs.Telling.{HasFound, Looks, Rechecks, MayFill};
+    ghost use Rattle.eqc_guard.specs.Sweeping.{IsSwept, IsScanned};
+    ghost use Rattle.eqc_guard.specs.Telling.{Copies, HasFound, Looks, Rechecks, MayFill};
 
     // A worker that holds nothing, on a seat of the table.
     pub(crate) fn seated(
@@ -358,6 +361,28 @@ impl Worker {
         drop(table);
     }
 
+    /// Takes another worker of the forest in, after both have scanned: what it held is held here
+    /// then, and its number is out no more.
+    ///
+    /// The other one is not worker 0, both are at rest (nothing is announced, scanned, claimed or
+    /// in hand), and together they hold at most 2^39 names.
+    pub fn absorb(&mut self, other: Worker)
+        requires rest { IsAtRest self.old.known.core }
+        requires other_rest { IsAtRest other.known.core }
+        requires other_number { 0 < other.known.core.number }
+        requires forest { other.forest ≡ self.old.forest }
+        requires room { length self.old.known.core.held + length other.known.core.held ≤ 2 ^ 39 }
+        ensures { IsAbsorbed self.old other self.new }
+    {
+        // A worker has one announcement word.
+        let _phase = self.phase;
+        let _other_phase = other.phase;
+        let mut other = other;
+        self.scan();
+        other.scan();
+        self.take_in(other);
+    }
+
     /// How many workers were split off by this one and have not come back to it, by themselves or
     /// within another.
     pub fn outstanding(&self) -> u32
@@ -373,7 +398,7 @@ impl Worker {
     /// Whether this is worker 0 and no worker is outstanding. Then it has a copy of all words.
     pub fn alone(&mut self) -> bool
         ensures answer { IsTrue result ↔ IsAlone self.old.known.core }
-        ensures copy { IsTrue result → Steps self.old self.old.known.core self.new × ((words : List ℕ) × (self.new.known.copy ≡ Some words)) }
+        ensures copy { IsTrue result → IsCopied self.old self.new }
         ensures still { result ≡ false → self.new ≡ self.old }
     {
         if self.number != 0 || self.out.len() != 0 {
@@ -387,10 +412,48 @@ impl Worker {
     fn copy_words(&mut self)
         requires first { self.old.known.core.number ≡ 0 }
         requires none { self.old.known.core.out ≡ [] }
-        ensures step { Steps self.old self.old.known.core self.new }
-        ensures copy { (words : List ℕ) × (self.new.known.copy ≡ Some words) }
+        ensures { IsCopied self.old self.new }
     {
         self.table.shared.load::<Alone>(&mut self.seat, 0);
+    }
+
+    // Loads a count word.
+    fn load_count(&mut self, name: u32) -> u64
+        requires { name < self.old.known.core.sizes.names }
+        ensures step { Steps self.old self.old.known.core self.new }
+        ensures copies { Copies self.old.known (announced_words self.old.known.core.sizes + name) result result self.new.known }
+    {
+        let word = self.count_word(name);
+        self.table.shared.load::<Count>(&mut self.seat, word)
+    }
+
+    // How many slots have a count above 0, as a copy of the words has them.
+    fn tally(&mut self) -> u32
+        ensures { (ws : List ℕ) → self.old.known.copy ≡ Some ws → result ≡ above_zero ws (announced_words self.old.known.core.sizes + 2) (self.old.known.core.sizes.names - 2) }
+    {
+        let slots = self.sizes.names - 2;
+        let mut counted = 0;
+        for k in 0..slots {
+            if self.load_count(k + 2) > 0 {
+                counted += 1;
+            }
+        }
+        counted
+    }
+
+    /// Closes the forest, and tells how many slots have a count above 0. Each is loaded once.
+    ///
+    /// The error is the worker itself, as it was, where it is not alone.
+    pub fn close(self) -> Result<Tally, Worker>
+        ensures closed { IfOk result (λ tally. IsAlone self.known.core × IsTallied tally.counted self.known) }
+        ensures kept { IfErr result (λ worker. (worker ≡ self) × (IsAlone self.known.core → ⊥)) }
+    {
+        let mut worker = self;
+        if !worker.alone() {
+            return Err(worker);
+        }
+        let counted = worker.tally();
+        Ok(Tally { counted })
     }
 
     /// Looks at a cell, announces its result and looks again. The answer is the word that was found
@@ -444,7 +507,8 @@ impl Worker {
 
     /// The retired names, with repeats.
     pub fn retired_names(&self) -> &[u32]
-        ensures { result.now ≡ self.now.known.core.retired }
+        ensures names { result.now ≡ self.now.known.core.retired }
+        ensures few { length result.now ≤ 2 * announced_words self.now.known.core.sizes }
     {
         self.retired.as_slice()
     }
@@ -491,6 +555,24 @@ impl Worker {
             if let Some(ejected) = self.scan_one() {
                 return ejected;
             }
+        }
+    }
+
+    /// Scans all announcement words, and gives back each name that was retired and is not kept any
+    /// longer. At most as many names are retired then as there are announcement words.
+    ///
+    /// No scan is under way, nothing is announced, and at most 2^39 names are held.
+    pub fn scan(&mut self)
+        requires ready { IsReady self.old.known.core }
+        requires may { MayScan self.old.known.core }
+        requires room { length self.old.known.core.held ≤ 2 ^ 39 }
+        ensures { IsScanned self.old self.new }
+    {
+        // What is known of the view is known of the names held.
+        let _held = self.held;
+        let gone = self.sweep();
+        for x in gone.as_slice() {
+            self.count_down(*x);
         }
     }
 
