@@ -5,6 +5,7 @@ pub mod Stepping
 pub mod Moves
 pub mod Counts
 pub mod Seats
+pub mod Stocking
 pub mod Beginning
 pub mod Splitting
 pub mod Joining

@@ -48,7 +48,7 @@ constant z n x (inr h) = absurd (omega (arith, fresh_none x z n))
 
 pub split_off_known : (z : Sizes) (k : Known) → IsWithinLimits z → k.core.sizes ≡ z → IsKnown k → HasNumber k.core → IsKnown (split_off k)
 split_off_known z k limits same known has =
-    let all = beginner_known z limits in
+    let all = beginner_known z 0 limits (let two = limits.some_names in omega arith) (omega arith) in
     record {
       below = λ x two h. absurd (omega (arith, fresh_none x k.core.sizes k.core.given));
       canonical = λ x named. all.canonical x (inl (constant k.core.sizes k.core.given x named));

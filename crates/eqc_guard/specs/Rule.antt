@@ -1,5 +1,5 @@
 -- The rule of the table: the words are the machine's words in a row, the state is lawful, and what each worker knows is so.
-use Rattle.std.specs.Prelude.{◌≡◌, ℕ, ◌+◌, ◌*◌, ◌<◌, ◌≤◌, List, [], map, Some, None, true, false}
+use Rattle.std.specs.Prelude.{◌≡◌, ℕ, zero, suc, ◌+◌, ◌*◌, ◌<◌, ◌≤◌, List, [], ◌∷◌, map, Some, None, true, false}
 use mathlib.Core.Option.{Option, some, none}
 use lib.ListN.{get_elem?}
 use Rattle.std.specs.HashMap.{HashMap}
@@ -10,7 +10,8 @@ use Rattle.eqc_core.specs.View.{View, fresh}
 use Rattle.eqc_core.specs.Words.{Words, announced_words}
 use Rattle.eqc_core.specs.Tables.{Entries, Homes}
 use Rattle.eqc_core.specs.Lawful.{Lawful}
-use Rattle.eqc_core.specs.State.{IsWithinLimits}
+use Rattle.eqc_tree.specs.Tree.{Tree, False, True, Node}
+use Rattle.eqc_core.specs.State.{IsWithinLimits, slots_from}
 use Rattle.eqc_guard.specs.Known.{flat, Known, Knows, IsExact, IsKnown}
 
 -- the entries of a table at home
@@ -37,17 +38,18 @@ boxes_from z = cells_from z + z.cells
 abbrev pub all_words : Sizes → ℕ
 all_words z = boxes_from z + (16 * z.workers + 16)
 
--- the tables of a new forest
-abbrev pub AreEmpty : {S : Type 0} → List (HashMap ℕ ℕ S) → Type 0
-AreEmpty {S} maps = (i : ℕ) (m : HashMap ℕ ℕ S) → get_elem? maps i ≡ some m → m.entries ≡ []
-
 -- the sizes of a forest, with one announcement word for each worker
 abbrev pub sizes_of : ℕ → ℕ → ℕ → ℕ → Sizes
 sizes_of vars nodes cells workers = record { workers = workers; announcements = 1; names = nodes + 2; cells = cells; variables = vars }
 
--- what worker 0 knows at the beginning: it names nothing, and has no copy of the words
-abbrev pub beginner : Sizes → Known
-beginner z = record { core = record (fresh z 0) { given = 1 }; trees = []; copy = None }
+-- the trees of the literals of n variables, from i on: variable i has the slot 2 + i
+abbrev pub literal_trees : ℕ → ℕ → List (ℕ × Tree)
+literal_trees i zero = []
+literal_trees i (suc n) = (2 + i, Node i False True) ∷ literal_trees (suc i) n
+
+-- what worker 0 knows at the beginning: it holds the literals of n variables, each once, and has no copy of the words
+abbrev pub beginner : Sizes → ℕ → Known
+beginner z n = record { core = record (fresh z 0) { held = slots_from 2 n; given = 1 }; trees = literal_trees 0 n; copy = None }
 
 -- a copy is the words, and nobody else is active
 pub record CopyHolds (words : List ℕ) (views : List Known) (id : ℕ) (ws : List ℕ) : Type 0 where

@@ -12,7 +12,8 @@
 //! - `worker`, with `specs/Standing.antt`: the step methods, splits and joins, and what callers see;
 //!   `specs/Splitting.antt`, `specs/Acquiring.antt`, `specs/Filling.antt`, `specs/Sweeping.antt` and
 //!   `specs/Closing.antt` have the words of its contracts. `names` has the lists of names of fixed size that it keeps
-//! - `forest`, a new table with its worker 0; `reference`, `filled`, `fault` and `tally`, what calls
+//! - `forest`, a new table with its worker 0; `origin`, how it begins, and `stock`, its first words and
+//!   tables; `reference`, `filled`, `fault` and `tally`, what calls
 //!   take and give
 //!
 //! In `proofs`: `Stepping` has the one combinator, by which a step owes its new words, its lawful
@@ -25,8 +26,10 @@ pub mod fault;
 pub mod filled;
 pub mod forest;
 mod names;
+pub mod origin;
 pub mod reference;
 pub mod rule;
+mod stock;
 pub mod tally;
 pub mod view;
 pub mod worker;

@@ -11,9 +11,9 @@ ghost use Rattle.eqc_guard.specs.Seats.{split_left, split_off, both};
 ghost use Rattle.eqc_guard.specs.Telling.{Copied, Told, Stored, Nothing, Looks, Rechecks, Settles};
 ghost use Rattle.eqc_guard.specs.Rule.{Held, beginner, cells_from};
 
+use crate::origin::Origin;
 use crate::view::View;
 use atomic_table::{Join, Play, Split, TableRule};
-use eqc_core::Sizes;
 use indexmap::IndexMap;
 
 /// The unique table of one stripe, from node word to node number.
@@ -22,10 +22,10 @@ pub type Stripe = IndexMap<u64, u32>;
 /// The rule of the one table.
 pub struct Rule;
 
-impl TableRule<Stripe, View, Sizes> for Rule {
-    ghost holds = { Held };
+impl TableRule<Stripe, View, Origin> for Rule {
+    ghost holds = { λ origin. Held origin.sizes };
 
-    ghost first = { beginner };
+    ghost first = { λ origin. beginner origin.sizes origin.literals };
 }
 
 /// A cell was read.

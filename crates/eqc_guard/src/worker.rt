@@ -6,6 +6,7 @@ ghost use Rattle.eqc_guard.specs.Standing.{Standing, standing_coded, IsSeated};
 use crate::fault::SplitFault;
 use crate::filled::{self, Filled};
 use crate::names;
+use crate::origin::Origin;
 use crate::reference::Ref;
 use crate::rule::{
     Alone, Announce, Count, Down, JoinUp, Look, Recheck, Rule, ScanOne, Settle, SplitOff, Stripe,
@@ -24,7 +25,7 @@ use std::sync::Arc;
 /// A worker of a forest.
 #[derive(Drop)]
 pub struct Worker {
-    table: Arc<Table<Stripe, View, Sizes, Rule, Global>>,
+    table: Arc<Table<Stripe, View, Origin, Rule, Global>>,
     seat: Seat<Stripe, View>,
     sizes: Sizes,
     number: u32,
@@ -48,7 +49,7 @@ impl Model for Worker {
 
     ghost view = { λ w. record { forest = w.seat.table_id; known = w.seat.me.0 } };
 
-    ghost invariant = { λ w. IsSeated w.seat.table_id (arc_value w.table).shared.table_id (arc_value w.table).shared.key w.sizes w.seat.me w.number w.held w.phase w.retired.items w.noted.items w.position w.given w.out.items };
+    ghost invariant = { λ w. IsSeated w.seat.table_id (arc_value w.table).shared.table_id (arc_value w.table).shared.key.sizes w.sizes w.seat.me w.number w.held w.phase w.retired.items w.noted.items w.position w.given w.out.items };
 }
 
 impl Worker {
@@ -73,15 +74,16 @@ impl Worker {
     ghost use Rattle.eqc_guard.specs.Sweeping.{IsSwept, IsScanned};
     ghost use Rattle.eqc_guard.specs.Telling.{Copies, HasFound, Looks, Rechecks, MayFill};
 
-    // A worker that holds nothing, on a seat of the table.
+    // A worker at rest that holds so many names, on a seat of the table.
     pub(crate) fn seated(
-        table: Arc<Table<Stripe, View, Sizes, Rule, Global>>,
+        table: Arc<Table<Stripe, View, Origin, Rule, Global>>,
         seat: Seat<Stripe, View>,
         sizes: Sizes,
         number: u32,
+        held: u64,
         given: u32,
     ) -> Worker
-        requires { IsSeated seat.table_id (arc_value table).shared.table_id (arc_value table).shared.key sizes seat.me number 0 Phase.Idle [] [] 0 given [] }
+        requires { IsSeated seat.table_id (arc_value table).shared.table_id (arc_value table).shared.key.sizes sizes seat.me number held Phase.Idle [] [] 0 given [] }
         ensures forest { result.forest ≡ seat.table_id }
         ensures known { result.known ≡ seat.me.0 }
     {
@@ -90,7 +92,7 @@ impl Worker {
             seat,
             sizes,
             number,
-            held: 0,
+            held,
             phase: Phase::Idle,
             retired: ArrayVec::new(),
             noted: ArrayVec::new(),
@@ -295,18 +297,18 @@ impl Worker {
     }
 
     // Splits the next number off.
-    fn split_next(&mut self, table: Arc<Table<Stripe, View, Sizes, Rule, Global>>) -> Worker
+    fn split_next(&mut self, table: Arc<Table<Stripe, View, Origin, Rule, Global>>) -> Worker
         requires ready { IsReady self.old.known.core }
         requires number { HasNumber self.old.known.core }
         requires table { (arc_value table).shared.table_id ≡ self.old.forest }
-        requires key { (arc_value table).shared.key ≡ self.old.known.core.sizes }
+        requires key { (arc_value table).shared.key.sizes ≡ self.old.known.core.sizes }
         ensures { IsSplit self.old self.new result }
     {
         let number = self.given;
         let seat = self.table.shared.split_seat::<SplitOff>(&mut self.seat);
         self.given += 1;
         self.out.push(u64::from(number));
-        Worker::seated(table, seat, self.sizes, number, 0)
+        Worker::seated(table, seat, self.sizes, number, 0, 0)
     }
 
     /// Splits off a worker of the same forest, which holds nothing: it has the next number.

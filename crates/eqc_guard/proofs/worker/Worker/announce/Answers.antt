@@ -14,5 +14,5 @@ store-requires c =
     let may : MayAnnounce me.0.core 0 c.from.result = rw c.from.ensures (subst (λ (s : Standing). MayAnnounce s.known.core 0 c.args.x) v c.requires) in (
       rw c.deref.ensures is.one_table,
       rw (c.deref.ensures, is.worker.words) (let there = own_word_there c.self.inside.sizes me.0.core is.worker.sizes is.worker.limits is.worker.number in omega arith),
-      announce_allows c.deref.result.now.shared.key c.deref.result.now.shared.table_id.slots c.self.inside.seat.id c.announcement_word-word.result me is.worker.active c.from.result at may,
+      announce_allows c.deref.result.now.shared.key.sizes c.deref.result.now.shared.table_id.slots c.self.inside.seat.id c.announcement_word-word.result me is.worker.active c.from.result at may,
     )

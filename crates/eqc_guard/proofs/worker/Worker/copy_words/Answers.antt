@@ -12,5 +12,5 @@ load-requires c =
     let none : me.0.core.out ≡ [] = subst (λ (s : Standing). s.known.core.out ≡ []) v c.requires.none in (
       rw c.deref.ensures is.one_table,
       rw (c.deref.ensures, is.worker.words) (omega arith),
-      alone_allows c.deref.result.now.shared.key c.deref.result.now.shared.table_id.slots c.self.inside.seat.id 0 me is.worker.active first none,
+      alone_allows c.deref.result.now.shared.key.sizes c.deref.result.now.shared.table_id.slots c.self.inside.seat.id 0 me is.worker.active first none,
     )

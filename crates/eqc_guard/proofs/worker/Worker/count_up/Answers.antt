@@ -15,5 +15,5 @@ fetch_add-requires c =
     let may : MayUp me.0.core c.args.x = subst (λ (s : Standing). MayUp s.known.core c.args.x) v c.requires in (
       rw c.deref.ensures is.one_table,
       rw (c.deref.ensures, is.worker.words) (let there = may.2 in let e = ap announced_words is.worker.sizes in let f = ap (λ (z : Sizes). z.names) is.worker.sizes in omega arith),
-      up_allows c.deref.result.now.shared.key c.deref.result.now.shared.table_id.slots c.self.inside.seat.id c.count_word-word.result me is.worker.active c.args.x at may,
+      up_allows c.deref.result.now.shared.key.sizes c.deref.result.now.shared.table_id.slots c.self.inside.seat.id c.count_word-word.result me is.worker.active c.args.x at may,
     )

@@ -14,5 +14,5 @@ load-requires c =
     let there : c.args.name < me.0.core.sizes.names = subst (λ (s : Standing). c.args.name < s.known.core.sizes.names) v c.requires in (
       rw c.deref.ensures is.one_table,
       rw (c.deref.ensures, is.worker.words) (let e = ap announced_words is.worker.sizes in let f = ap (λ (z : Sizes). z.names) is.worker.sizes in omega arith),
-      read_allows c.deref.result.now.shared.key c.deref.result.now.shared.table_id.slots c.self.inside.seat.id c.count_word-word.result me is.worker.active,
+      read_allows c.deref.result.now.shared.key.sizes c.deref.result.now.shared.table_id.slots c.self.inside.seat.id c.count_word-word.result me is.worker.active,
     )

@@ -15,5 +15,5 @@ load-found-requires c =
     let may : MayLook me.0.core 0 c.args.cell = subst (λ (s : Standing). MayLook s.known.core 0 c.args.cell) v c.requires in (
       rw c.deref.ensures is.one_table,
       rw (c.deref.ensures, is.worker.words) (let there = may.2 in let e = ap cells_from is.worker.sizes in let f = ap (λ (z : Sizes). z.cells) is.worker.sizes in omega arith),
-      look_allows c.deref.result.now.shared.key c.deref.result.now.shared.table_id.slots c.self.inside.seat.id c.cell_word-word.result me is.worker.active c.args.cell at may,
+      look_allows c.deref.result.now.shared.key.sizes c.deref.result.now.shared.table_id.slots c.self.inside.seat.id c.cell_word-word.result me is.worker.active c.args.cell at may,
     )

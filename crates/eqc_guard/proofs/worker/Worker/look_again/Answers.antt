@@ -19,7 +19,7 @@ load-found-requires c =
     let there : c.args.cell < me.0.core.sizes.cells = subst (λ (s : Standing). c.args.cell < s.known.core.sizes.cells) v c.requires.there in (
       rw c.deref.ensures is.one_table,
       rw (c.deref.ensures, is.worker.words) (let e = ap cells_from is.worker.sizes in let f = ap (λ (z : Sizes). z.cells) is.worker.sizes in omega arith),
-      again_allows c.deref.result.now.shared.key c.deref.result.now.shared.table_id.slots c.self.inside.seat.id c.cell_word-word.result me is.worker.active c.args.cell at cell there may,
+      again_allows c.deref.result.now.shared.key.sizes c.deref.result.now.shared.table_id.slots c.self.inside.seat.id c.cell_word-word.result me is.worker.active c.args.cell at cell there may,
     )
 
 pub returns-clause-tells : goal.returns-clause-tells

@@ -23,7 +23,7 @@ join_seat-requires c =
       rw c.deref.ensures (same ∙ is.one_table),
       c.other.invariant.carries_none,
       rw (c.deref.ensures, is.worker.words) (omega arith),
-      joins_allowed c.deref.result.now.shared.key w.seat.id o.seat.id w.seat.me.0 o.seat.me.0 is.worker.active may (omega (arith, length-append w.seat.me.0.core.held o.seat.me.0.core.held)),
+      joins_allowed c.deref.result.now.shared.key.sizes w.seat.id o.seat.id w.seat.me.0 o.seat.me.0 is.worker.active may (omega (arith, length-append w.seat.me.0.core.held o.seat.me.0.core.held)),
     )
 
 pub load-requires : goal.load-requires
@@ -32,7 +32,7 @@ load-requires c =
     let on : c.join_seat.new.seat.me.0.core.active ≡ true = (λ i. (c.join_seat.ensures.2 i).0.core.active) ∙ is.worker.active in (
       rw c.deref-2.ensures (c.join_seat.ensures.0 ∙ is.one_table),
       rw (c.deref-2.ensures, is.worker.words) (omega arith),
-      settle_allows c.deref-2.result.now.shared.key c.deref-2.result.now.shared.table_id.slots c.join_seat.new.seat.id 0 c.join_seat.new.seat.me on,
+      settle_allows c.deref-2.result.now.shared.key.sizes c.deref-2.result.now.shared.table_id.slots c.join_seat.new.seat.id 0 c.join_seat.new.seat.me on,
     )
 
 pub returns : goal.returns
