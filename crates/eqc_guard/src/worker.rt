@@ -482,8 +482,9 @@ impl Worker {
         }
     }
 
-    // Announces the result of the word that was seen, and looks again. A miss is withdrawn.
-    fn confirm(&mut self, found: u32) -> bool
+    /// Announces the result of the word that was seen, a node, and looks again: the second half of
+    /// `acquire`. Where the second look finds another word, nothing is announced.
+    pub fn confirm(&mut self, found: u32) -> bool
         requires may { MayAnnounce self.old.known.core 0 found }
         requires slot { 2 ≤ found }
         ensures yes { IsTrue result → (c word : ℕ) → phase_at self.old.known.core 0 ≡ Phase.Seen c word → IsAcquired word self.old self.new }
@@ -495,7 +496,7 @@ impl Worker {
         if self.recheck() {
             return true;
         }
-        self.announce(0);
+        self.release();
         false
     }
 
@@ -583,6 +584,20 @@ impl Worker {
         ensures { result ≡ length self.now.known.core.held }
     {
         self.held
+    }
+
+    /// How many cells the operation cache has.
+    pub fn cells(&self) -> u32
+        ensures { result ≡ self.now.known.core.sizes.cells }
+    {
+        self.sizes.cells
+    }
+
+    /// How many announcement words the workers of the forest have together: a scan reads so many.
+    pub fn announcement_words(&self) -> u32
+        ensures { result ≡ announced_words self.now.known.core.sizes }
+    {
+        self.sizes.workers * self.sizes.announcements
     }
 
     /// The worker's number.

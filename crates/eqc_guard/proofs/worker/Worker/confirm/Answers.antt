@@ -20,4 +20,4 @@ returns-clause-no c = λ t.
     let s = seen_as (phase_at c.args.self.now.known.core 0) c.args.found c.requires.may.2 c.requires.slot in
     let r = c.recheck.ensures in
     withdrawn c.args.self.now c.announce.new.self c.self.inside.phase s.0 s.1 c.args.found one s.2 c.announce.ensures c.recheck.new.self r.0 r.1
-    c.announce-2.new.self (λ h. absurd (let q : false ≡ true = sym c.if-recheck.false ∙ r.3.1 h in cc)) c.announce-2.ensures
+    c.release.new.self (λ h. absurd (let q : false ≡ true = sym c.if-recheck.false ∙ r.3.1 h in cc)) c.release.ensures
