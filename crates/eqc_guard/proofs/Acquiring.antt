@@ -61,13 +61,13 @@ word_in (Announced c word) = word
 word_in (Confirmed y) = 0
 word_in (Missed y) = 0
 
-constant_trees : (ps qs : List (ℕ × Tree)) (x : ℕ) → x < 2 → Dec (x ≡ 0) → Dec (x ≡ 1) → tree_in ps x ≡ tree_in qs x
+pub constant_trees : (ps qs : List (ℕ × Tree)) (x : ℕ) → x < 2 → Dec (x ≡ 0) → Dec (x ≡ 1) → tree_in ps x ≡ tree_in qs x
 constant_trees ps qs x lt (yes e) d = rw (eq-eqb x 0 e) refl
 constant_trees ps qs x lt (no n) (yes e) = rw (ne_eqb x 0 n, eq-eqb x 1 e) refl
 constant_trees ps qs x lt (no n) (no m) = absurd (omega arith)
 
 -- what is held, a constant or a name, has its tree
-held_tree_stays : (p : Phase) (old new : Standing) (x : ℕ) → IsAt p old new → IsHeld old.known.core x → tree_of new.known x ≡ tree_of old.known x
+pub held_tree_stays : (p : Phase) (old new : Standing) (x : ℕ) → IsAt p old new → IsHeld old.known.core x → tree_of new.known x ≡ tree_of old.known x
 held_tree_stays p old new x a (inl lt) = constant_trees new.known.trees old.known.trees x lt (ℕ_discrete x 0) (ℕ_discrete x 1)
 held_tree_stays p old new x a (inr h) = go (dec_le 2 x)
   where
@@ -75,7 +75,7 @@ held_tree_stays p old new x a (inr h) = go (dec_le 2 x)
     go (yes two) = a.trees x two h
     go (no n) = constant_trees new.known.trees old.known.trees x (omega arith) (ℕ_discrete x 0) (ℕ_discrete x 1)
 
-held_stays : (p : Phase) (old new : Standing) (x : ℕ) → IsAt p old new → IsHeld old.known.core x → IsHeld new.known.core x
+pub held_stays : (p : Phase) (old new : Standing) (x : ℕ) → IsAt p old new → IsHeld old.known.core x → IsHeld new.known.core x
 held_stays p old new x a h = subst (λ (v : View). IsHeld v x) (sym a.core) h
 
 -- a result that is right of the trees known before

@@ -1,5 +1,5 @@
 -- What two workers know after a split, and that their fields fit.
-use Rattle.std.proofs.Common.{◌≡◌, ℕ, ◌+◌, ◌<◌, List, [], ◌∷◌, ◌++◌, max, suc, refl, sym, ap, subst, ◌∙◌, arith, inl, inr, length-append}
+use Rattle.std.proofs.Common.{◌≡◌, ℕ, ◌+◌, ◌<◌, List, [], ◌∷◌, ◌++◌, length, max, suc, refl, sym, ap, subst, ◌∙◌, arith, inl, inr, length-append}
 use mathlib.Core.Option.{some}
 use lib.ListN.{get_elem?}
 use Rattle.atomic_table.specs.Seated.{TableId}
@@ -36,6 +36,7 @@ split_left_known k known has = record {
   noted = known.noted;
   phases = known.phases;
   slots = known.slots;
+  word = known.word;
   retired = known.retired;
   read = known.read;
   few = let g = known.given has.0 in let h = has.1 in omega (arith, length-append k.core.out (k.core.given ∷ []));
@@ -58,6 +59,7 @@ split_off_known z k limits same known has =
       noted = omega arith;
       phases = subst (λ (y : Sizes). (j : ℕ) (p : Phase) → get_elem? (idle y.announcements) j ≡ some p → IsPlaced y p) (sym same) all.phases;
       slots = λ x h. absurd (omega (arith, times-nil x));
+      word = subst (λ (y : Sizes). 0 < length (idle y.announcements)) (sym same) all.word;
       retired = omega arith;
       read = λ r e. absurd (cc);
       few = has_some;
