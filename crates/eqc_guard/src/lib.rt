@@ -8,13 +8,14 @@
 //! - `rule`, with `specs/Rule.antt`: what holds of the table between any two steps, and what each
 //!   step tells. Words lie kind by kind: announcements, counts, nodes, cells, boxes, locks
 //! - `view`, with `specs/Known.antt`: what a worker knows. `IsKnown` holds of it between its steps,
-//!   and `Stepped` says that a step leaves the trees of what is named before and after it
+//!   and `Stepped` says that a step leaves the trees of what is named before and after it, and a
+//!   copy of the words where there was one
 //! - `worker`, with `specs/Standing.antt`: the step methods, splits and joins, and what callers see;
 //!   `specs/Splitting.antt`, `specs/Acquiring.antt`, `specs/Filling.antt`, `specs/Sweeping.antt` and
-//!   `specs/Closing.antt` have the words of its contracts. `names` has the lists of names of fixed size that it keeps
-//! - `forest`, a new table with its worker 0; `origin`, how it begins, and `stock`, its first words and
-//!   tables; `reference`, `filled`, `fault` and `tally`, what calls
-//!   take and give
+//!   `specs/Closing.antt` have the words of its contracts. `names` has the lists of names of fixed
+//!   size that it keeps
+//! - `forest`, a new table with its worker 0; `origin`, how it begins, and `stock`, its first words
+//!   and tables; `reference`, `filled`, `fault` and `tally`, what calls take and give
 //!
 //! In `proofs`: `Stepping` has the one combinator, by which a step owes its new words, its lawful
 //! state and what it tells (`allows`); trees and copies follow there. `Moves` has what each step
