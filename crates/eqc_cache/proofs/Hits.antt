@@ -28,15 +28,15 @@ use Rattle.eqc_guard.proofs.Sweeping.{forget_none}
 use Rattle.eqc_cache.specs.Finding.{IsOrdered, IsTaken, IsHit}
 
 -- a worker has a first announcement word, and its phase there is the one that was set
-length_set : (ps : List Phase) (p : Phase) → length (set ps 0 p) ≡ length ps
+pub length_set : (ps : List Phase) (p : Phase) → length (set ps 0 p) ≡ length ps
 length_set [] p = refl
 length_set (q ∷ qs) p = refl
 
-set_twice : (ps : List Phase) (p q : Phase) → set (set ps 0 p) 0 q ≡ set ps 0 q
+pub set_twice : (ps : List Phase) (p q : Phase) → set (set ps 0 p) 0 q ≡ set ps 0 q
 set_twice [] p q = refl
 set_twice (r ∷ rs) p q = refl
 
-first_set : (ps : List Phase) (p : Phase) → 0 < length ps → get_or (set ps 0 p) 0 Idle ≡ p
+pub first_set : (ps : List Phase) (p : Phase) → 0 < length ps → get_or (set ps 0 p) 0 Idle ≡ p
 first_set [] p some_words = absurd (omega arith)
 first_set (q ∷ qs) p some_words = refl
 
@@ -127,24 +127,24 @@ module _ (old s1 : Standing) (x : ℕ) (may : MayAnnounce old.known.core 0 x) (t
         known = gone.known.known;
       }
 
+-- an operation that does not tell its operands apart gives the same both ways
+pub either_way : (o : Op) (a b : Bool) → o ≢ AndNot → operate o a b ≡ operate o b a
+either_way And true true n = refl
+either_way And true false n = refl
+either_way And false true n = refl
+either_way And false false n = refl
+either_way Or true true n = refl
+either_way Or true false n = refl
+either_way Or false true n = refl
+either_way Or false false n = refl
+either_way Xor true true n = refl
+either_way Xor true false n = refl
+either_way Xor false true n = refl
+either_way Xor false false n = refl
+either_way AndNot a b n = absurd (n refl)
+
 -- what a look leaves, and a count after it
 module _ (op : Op) (f g x cell word : ℕ) (old s1 : Standing) (looks : IsAt (Seen cell word) old s1) (tag : operation_of word ≡ tag_of op) (ordered : IsOrdered op f g (first_of word, second_of word)) (f_held : IsHeld old.known.core f) (g_held : IsHeld old.known.core g) where
-  -- an operation that does not tell its operands apart gives the same both ways
-  swapped : (o : Op) (a b : Bool) → o ≢ AndNot → operate o a b ≡ operate o b a
-  swapped And true true n = refl
-  swapped And true false n = refl
-  swapped And false true n = refl
-  swapped And false false n = refl
-  swapped Or true true n = refl
-  swapped Or true false n = refl
-  swapped Or false true n = refl
-  swapped Or false false n = refl
-  swapped Xor true true n = refl
-  swapped Xor true false n = refl
-  swapped Xor false true n = refl
-  swapped Xor false false n = refl
-  swapped AndNot a b n = absurd (n refl)
-
   -- the word's result, told of the operands as they were given
   as_given : (t : Tree) → IsResult old.known word t → (a : ℕ → Bool) → operate op (value (tree_of old.known f) a) (value (tree_of old.known g) a) ≡ value t a
   as_given t is a = ⊎_elim
@@ -157,7 +157,7 @@ module _ (op : Op) (f g x cell word : ℕ) (old s1 : Standing) (looks : IsAt (Se
       let e = r.1 in
       let p : first_of word ≡ g = λ i. (e i).0 in
       let q : second_of word ≡ f = λ i. (e i).1 in
-      swapped op (value (tree_of old.known f) a) (value (tree_of old.known g) a) r.0
+      either_way op (value (tree_of old.known f) a) (value (tree_of old.known g) a) r.0
       ∙ (ap (λ (k : ℕ × ℕ). operate op (value (tree_of old.known k.0) a) (value (tree_of old.known k.1) a)) (sym e)
       ∙ is (subst (λ (k : ℕ). IsHeld old.known.core k) (sym p) g_held) (subst (λ (k : ℕ). IsHeld old.known.core k) (sym q) f_held) op tag a))
       ordered

@@ -5,8 +5,9 @@
 //! still, the result cannot be taken back before it is counted up (Anderson, Blelloch and Wei 2021).
 //! Nothing here is refused, takes memory or waits. Read the modules in this order:
 //!
-//! - `key`, where an operation is kept; `finding`, the lookup
+//! - `key`, where an operation is kept; `finding`, the lookup; `storing`, what the cells keep
 #![tactic(auto)]
 
 pub mod finding;
 mod key;
+pub mod storing;

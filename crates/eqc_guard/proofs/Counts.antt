@@ -74,7 +74,7 @@ module _ {T : Type 0} (seat_table table : TableId) (key sizes : Sizes) (me : Kno
   seated_after seat_table' me' v held' phase' retired' noted' position' given' out' same stepped = seated_with seat_table' me' v held' phase' retired' noted' position' given' out' same stepped.core stepped.known
 
 -- as many names less, where each is there as often as it is taken away
-length-without_all : (xs ys : List ℕ) → ((y : ℕ) → times y xs ≤ times y ys) → length (without_each xs ys) + length xs ≡ length ys
+pub length-without_all : (xs ys : List ℕ) → ((y : ℕ) → times y xs ≤ times y ys) → length (without_each xs ys) + length xs ≡ length ys
 length-without_all [] ys fewer = omega arith
 length-without_all (x ∷ xs) ys fewer =
     let some_x : 0 < times x ys = let f = fewer x in omega (arith, times-same x x xs refl) in

@@ -5,12 +5,12 @@ use Rattle.eqc_tree.specs.Tree.{value}
 use Rattle.eqc_tree.specs.Operation.{operate, tag_of}
 use Rattle.eqc_tree.specs.Word.{cell_word}
 use Rattle.eqc_tree.proofs.WordLemmas.{cell_fields}
-use Rattle.eqc_core.specs.Words.{times, cell_names, operation_of, first_of, second_of, result_of}
+use Rattle.eqc_core.specs.Words.{times, cell_names, operands, slots_of, operation_of, first_of, second_of, result_of}
 use Rattle.eqc_core.specs.Moves.{AreHeld}
 use Rattle.eqc_core.proofs.Names.{times-same, times-other, times-nil, times_more}
 use Rattle.eqc_guard.specs.declared.filled.Filled.{Filled}
 use Rattle.eqc_guard.specs.Known.{Known, IsKnown, tree_of}
-use Rattle.eqc_guard.specs.Filling.{MaySwap, AreSmall, word_of}
+use Rattle.eqc_guard.specs.Filling.{MaySwap, AreSmall, word_of, entry_names}
 use Rattle.eqc_guard.specs.Telling.{MayFill}
 use Rattle.eqc_guard.proofs.Learning.{held_named}
 
@@ -33,6 +33,17 @@ no_names held x two =
     let n : cell_names 0 ≡ 0 ∷ 0 ∷ 0 ∷ [] = λ i. none.result i ∷ none.first i ∷ none.second i ∷ [] in
     let apart : 0 ≢ x = λ e. absurd (omega arith) in
     omega (arith, ap (λ (l : List ℕ). times x l) n, times-other x 0 (0 ∷ 0 ∷ []) apart, times-other x 0 (0 ∷ []) apart, times-other x 0 [] apart, times-nil x)
+
+-- an empty cell gives no operands
+pub no_operands : slots_of (operands 0) ≡ []
+no_operands = λ i. slots_of (none.first i ∷ none.second i ∷ [])
+
+-- the names that the word of an entry takes are the entry's
+pub word_names : (filled : Option Filled) → AreSmall filled → slots_of (cell_names (word_of filled)) ≡ entry_names filled
+word_names None fits = λ i. slots_of (none.result i ∷ none.first i ∷ none.second i ∷ [])
+word_names (Some e) fits =
+    let w = fields (tag_of e.op) e.f.number e.g.number e.r.number fits.0 fits.1 fits.2 in
+    λ i. slots_of (w.result i ∷ w.first i ∷ w.second i ∷ [])
 
 -- a name of an entry is below 2 ^ 20
 small : (k : Known) (names : List ℕ) (x : ℕ) → IsKnown k → k.core.sizes.names ≤ 2 ^ 20 → AreHeld names k.core.held → 0 < times x names → x < 2 ^ 20

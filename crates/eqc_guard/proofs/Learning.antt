@@ -1,5 +1,5 @@
 -- In each lawful state a worker can know the trees of all that it names.
-use Rattle.std.proofs.Common.{◌≡◌, ℕ, zero, suc, ◌+◌, ◌*◌, ◌<◌, ◌≤◌, List, [], ◌∷◌, ◌++◌, length, true, Option, Some, None, eq-eqb, ne_eqb, refl, sym, ap, subst, ◌∙◌, arith, inl, inr}
+use Rattle.std.proofs.Common.{◌≡◌, ℕ, zero, suc, ◌+◌, ◌*◌, ◌^◌, ◌<◌, ◌≤◌, List, [], ◌∷◌, ◌++◌, length, true, Option, Some, None, eq-eqb, ne_eqb, refl, sym, ap, subst, ◌∙◌, arith, inl, inr}
 use native.Mathlib.Decide.{ℕ_discrete, dec_le}
 use mathlib.Core.Option.{some, some-injective, some-ne-none}
 use lib.ListN.{get_elem?}
@@ -170,6 +170,7 @@ is_known z w hs vs id k law at on knows copy = record {
   retired = let f = law.views id k.core at on in subst (λ (y : Sizes). length k.core.retired ≤ 2 * announced_words y) (sym f.sizes) f.few;
   read = λ r e. ((law.views id k.core at on).read r e).held_still;
   slots = λ x h. (law.views id k.core at on).slots x (omega arith);
+  limit = subst (λ (y : Sizes). y.names ≤ 2 ^ 20) (sym (law.views id k.core at on).sizes) law.sized.few_names;
   below = λ x two named. subst (λ (y : Sizes). x < y.names) (sym (law.views id k.core at on).sizes) (law.tables.named x (named_tabled z w hs vs id x k.core law at on two named)).1;
   canonical = λ x named. let t = trees.tree x (name x named) in subst (λ (s : Tree). IsCanonical s) (is_tree_one w.nodes t.0 (tree_of k x) x t.1 (named_tree w.nodes k x knows named)) t.2;
   one = λ x y a b e. trees.one_name x y (tree_of k x) (name x a) (name y b) (named_tree w.nodes k x knows a) (subst (λ (t : Tree). IsTree w.nodes t y) (sym e) (named_tree w.nodes k y knows b));

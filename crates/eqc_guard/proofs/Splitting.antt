@@ -28,6 +28,7 @@ named_before v to x (inr h) = inr (omega (arith, split_names x v to))
 
 pub split_left_known : (k : Known) → IsKnown k → HasNumber k.core → IsKnown (split_left k)
 split_left_known k known has = record {
+  limit = known.limit;
   below = λ x two h. known.below x two (omega (arith, split_names x k.core k.core.given));
   canonical = λ x named. known.canonical x (named_before k.core k.core.given x named);
   one = λ x y a b e. known.one x y (named_before k.core k.core.given x a) (named_before k.core k.core.given y b) e;
@@ -51,6 +52,7 @@ pub split_off_known : (z : Sizes) (k : Known) → IsWithinLimits z → k.core.si
 split_off_known z k limits same known has =
     let all = beginner_known z 0 limits (let two = limits.some_names in omega arith) (omega arith) in
     record {
+      limit = known.limit;
       below = λ x two h. absurd (omega (arith, fresh_none x k.core.sizes k.core.given));
       canonical = λ x named. all.canonical x (inl (constant k.core.sizes k.core.given x named));
       one = λ x y a b e. all.one x y (inl (constant k.core.sizes k.core.given x a)) (inl (constant k.core.sizes k.core.given y b)) e;

@@ -94,7 +94,7 @@ module _ (old mid next : Standing) (name : ℕ) (m : IsScanning old mid) (s : St
       }
 
 -- what is forgotten by fewer names is forgotten
-forget_twice : (a b : List ℕ) (o : Option Read) → ((x : ℕ) → times x b ≤ times x a) → forget b (forget a o) ≡ forget b o
+pub forget_twice : (a b : List ℕ) (o : Option Read) → ((x : ℕ) → times x b ≤ times x a) → forget b (forget a o) ≡ forget b o
 forget_twice a b None fewer = refl
 forget_twice a b (Some r) fewer = elim (some_cases (times r.name a)) [
   | inl t ↦ rw t.0 refl

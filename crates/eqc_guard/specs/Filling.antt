@@ -1,10 +1,10 @@
 -- When a worker may fill a cell, in the words of the entry.
-use Rattle.std.specs.Prelude.{◌≡◌, ℕ, ◌*◌, ◌^◌, ◌<◌, ◌≤◌, [], ◌∷◌, length, Option, Some, None, Bool}
+use Rattle.std.specs.Prelude.{◌≡◌, ℕ, ◌*◌, ◌^◌, ◌<◌, ◌≤◌, List, [], ◌∷◌, length, Option, Some, None, Bool}
 use Rattle.eqc_tree.specs.Tree.{value}
 use Rattle.eqc_tree.specs.Operation.{operate, tag_of}
 use Rattle.eqc_tree.specs.Word.{cell_word}
 use Rattle.eqc_core.specs.View.{phase_at}
-use Rattle.eqc_core.specs.Words.{announced_words}
+use Rattle.eqc_core.specs.Words.{announced_words, slots_of}
 use Rattle.eqc_core.specs.Moves.{IsReady, IsQuiet, AreHeld}
 use Rattle.eqc_guard.specs.declared.filled.Filled.{Filled}
 use Rattle.eqc_guard.specs.Known.{Known, tree_of}
@@ -13,6 +13,11 @@ use Rattle.eqc_guard.specs.Known.{Known, tree_of}
 abbrev pub word_of : Option Filled → ℕ
 word_of None = 0
 word_of (Some e) = cell_word (tag_of e.op) e.f.number e.g.number e.r.number
+
+-- the names that it takes from its worker
+abbrev pub entry_names : Option Filled → List ℕ
+entry_names None = []
+entry_names (Some e) = slots_of (e.r.number ∷ e.f.number ∷ e.g.number ∷ [])
 
 -- its numbers fit their fields
 abbrev pub AreSmall : Option Filled → Type 0

@@ -1,5 +1,5 @@
 -- What a worker knows: its view of the machine, the trees of the names that it names, and a copy of the words where nobody else is active.
-use Rattle.std.specs.Prelude.{◌≡◌, ℕ, ◌*◌, ◌<◌, ◌≤◌, ◌⊎◌, List, [], ◌∷◌, ◌++◌, length, eqb, if◌then◌else◌, Option, Some, None, false}
+use Rattle.std.specs.Prelude.{◌≡◌, ℕ, ◌*◌, ◌^◌, ◌<◌, ◌≤◌, ◌⊎◌, List, [], ◌∷◌, ◌++◌, length, eqb, if◌then◌else◌, Option, Some, None, false}
 use mathlib.Core.Option.{some}
 use lib.ListN.{get_elem?}
 use Rattle.std.specs.Coded.{coded_option}
@@ -91,6 +91,8 @@ pub record IsCopy (k : Known) (ws : List ℕ) : Type 0 where
 -- what holds of what a worker knows between its steps: names are below their number, their trees are ordered and reduced, and two names with one tree are one
 pub record IsKnown (k : Known) : Type 0 where
   pub below : (x : ℕ) → 2 ≤ x → 0 < times x (names_of k.core) → x < k.core.sizes.names
+  -- and so few that each fits its field of a word
+  pub limit : k.core.sizes.names ≤ 2 ^ 20
   pub canonical : (x : ℕ) → IsNamed k.core x → IsCanonical (tree_of k x)
   pub one : (x y : ℕ) → IsNamed k.core x → IsNamed k.core y → tree_of k x ≡ tree_of k y → x ≡ y
   pub state : (ws : List ℕ) → k.copy ≡ Some ws → IsCopy k ws

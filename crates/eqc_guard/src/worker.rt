@@ -62,7 +62,7 @@ impl Worker {
     ghost use Rattle.eqc_core.specs.Counting.{Knows, MayUp, upped, downed};
     ghost use Rattle.eqc_core.specs.Caching.{swapped};
     ghost use Rattle.eqc_core.specs.Scanning.{MayScan, scanned};
-    ghost use Rattle.eqc_guard.specs.Known.{IsHeld, tree_of};
+    ghost use Rattle.eqc_guard.specs.Known.{IsHeld, IsKnown, tree_of};
     ghost use Rattle.eqc_guard.specs.Rule.{cells_from};
     ghost use Rattle.eqc_guard.specs.Standing.{Steps};
     ghost use Rattle.eqc_guard.specs.Seats.{MayTake};
@@ -171,6 +171,7 @@ impl Worker {
         requires known { Knows self.old.known.core x }
         ensures name { IfOk result (λ r. r.number ≡ x) }
         ensures step { OnOk result (Steps self.old (upped self.old.known.core x) self.new) }
+        ensures room { OnOk result (length self.old.known.core.held < 2 ^ 32 - 1) }
         ensures still { OnErr result (self.new ≡ self.old) }
         ensures full { OnErr result (2 ^ 32 - 1 ≤ length self.old.known.core.held) }
         ensures only { IfErr result (λ s. s ≡ Stop.References) }
@@ -586,9 +587,10 @@ impl Worker {
         self.held
     }
 
-    /// How many cells the operation cache has.
+    /// How many cells the operation cache has. What the worker knows is in order.
     pub fn cells(&self) -> u32
-        ensures { result ≡ self.now.known.core.sizes.cells }
+        ensures cells { result ≡ self.now.known.core.sizes.cells }
+        ensures known { IsKnown self.now.known }
     {
         self.sizes.cells
     }
