@@ -54,7 +54,7 @@ impl Model for Worker {
 
 impl Worker {
     ghost use Rattle.eqc_tree.specs.Tree.{SameFunction};
-    ghost use Rattle.std.specs.Prelude.{[], false, if◌then◌else◌, List, Some, ◌-◌, ◌*◌, ◌^◌, ◌≤◌, ◌↔◌, ◌++◌, length, ℕ, IsTrue, IfSome, None, IfOk, OnOk, OnErr, IfErr};
+    ghost use Rattle.std.specs.Prelude.{[], false, if◌then◌else◌, List, Some, ◌-◌, ◌*◌, ◌%◌, ◌^◌, ◌≤◌, ◌↔◌, ◌++◌, length, ℕ, IsTrue, IfSome, None, IfOk, OnOk, OnErr, IfErr};
     ghost use Rattle.eqc_core.specs.View.{phase_at};
     ghost use Rattle.eqc_core.specs.Words.{announced_words, word_at, first_of, second_of};
     ghost use Rattle.eqc_core.specs.Moves.{IsReady};
@@ -72,7 +72,7 @@ impl Worker {
     ghost use Rattle.eqc_guard.specs.Acquiring.{IsAt, IsAcquired, IsPassed};
     ghost use Rattle.eqc_guard.specs.Filling.{MaySwap, word_of};
     ghost use Rattle.eqc_guard.specs.Sweeping.{IsSwept, IsScanned};
-    ghost use Rattle.eqc_guard.specs.Telling.{Copies, HasFound, Looks, Rechecks, MayFill};
+    ghost use Rattle.eqc_guard.specs.Telling.{Copies, copied, HasFound, Looks, Rechecks, MayFill};
 
     // A worker at rest that holds so many names, on a seat of the table.
     pub(crate) fn seated(
@@ -134,6 +134,7 @@ impl Worker {
         requires { MayLook self.old.known.core 0 cell }
         ensures step { Steps self.old (looked self.old.known.core 0 cell result) self.new }
         ensures tells { Looks self.old.known result self.new.known }
+        ensures copies { Copies self.old.known (cells_from self.old.known.core.sizes + cell) result result self.new.known }
     {
         let word = self.cell_word(cell);
         let found = self.table.shared.load::<Look>(&mut self.seat, word);
@@ -144,7 +145,8 @@ impl Worker {
     /// Announces the result of the word that was seen, or, with 0, withdraws it.
     pub fn announce(&mut self, x: u32)
         requires { MayAnnounce self.old.known.core 0 x }
-        ensures { Steps self.old (announced self.old.known.core 0) self.new }
+        ensures step { Steps self.old (announced self.old.known.core 0) self.new }
+        ensures copies { self.new.known.copy ≡ copied self.old.known.copy (word_at self.old.known.core.sizes self.old.known.core.number 0) x }
     {
         let word = self.announcement_word();
         self.table
@@ -156,7 +158,8 @@ impl Worker {
     // Counts a name up that is known to stay, where fewer than 2^32 - 1 names are held.
     fn count_up(&mut self, x: u32)
         requires { MayUp self.old.known.core x }
-        ensures { Steps self.old (upped self.old.known.core x) self.new }
+        ensures step { Steps self.old (upped self.old.known.core x) self.new }
+        ensures copies { (n : ℕ) × Copies self.old.known (announced_words self.old.known.core.sizes + x) n ((n + 1) % 2 ^ 64) self.new.known }
     {
         let word = self.count_word(x);
         self.table.shared.fetch_add::<Up>(&mut self.seat, word, 1);
@@ -171,6 +174,7 @@ impl Worker {
         requires known { Knows self.old.known.core x }
         ensures name { IfOk result (λ r. r.number ≡ x) }
         ensures step { OnOk result (Steps self.old (upped self.old.known.core x) self.new) }
+        ensures copies { OnOk result ((n : ℕ) × Copies self.old.known (announced_words self.old.known.core.sizes + x) n ((n + 1) % 2 ^ 64) self.new.known) }
         ensures room { OnOk result (length self.old.known.core.held < 2 ^ 32 - 1) }
         ensures still { OnErr result (self.new ≡ self.old) }
         ensures full { OnErr result (2 ^ 32 - 1 ≤ length self.old.known.core.held) }
@@ -188,7 +192,8 @@ impl Worker {
         requires ready { IsReady self.old.known.core }
         requires slot { 2 ≤ x }
         requires held { IsHeld self.old.known.core x }
-        ensures { Steps self.old (downed self.old.known.core x) self.new }
+        ensures step { Steps self.old (downed self.old.known.core x) self.new }
+        ensures copies { (n : ℕ) × Copies self.old.known (announced_words self.old.known.core.sizes + x) n ((n + (2 ^ 64 - 1)) % 2 ^ 64) self.new.known }
     {
         let word = self.count_word(x);
         self.table.shared.fetch_sub::<Down>(&mut self.seat, word, 1);
@@ -201,6 +206,7 @@ impl Worker {
         requires held { IsHeld self.old.known.core name.number }
         ensures constant { name.number < 2 → self.new ≡ self.old }
         ensures step { 2 ≤ name.number → Steps self.old (downed self.old.known.core name.number) self.new }
+        ensures copies { 2 ≤ name.number → (n : ℕ) × Copies self.old.known (announced_words self.old.known.core.sizes + name.number) n ((n + (2 ^ 64 - 1)) % 2 ^ 64) self.new.known }
     {
         let Ref { number } = name;
         if number >= 2 {
@@ -211,7 +217,7 @@ impl Worker {
     /// Loads the cell again whose result is announced, and says whether it has the same word.
     pub fn recheck(&mut self) -> bool
         requires { MayRecheck self.old.known.core 0 }
-        ensures { (found : ℕ) × Steps self.old (rechecked self.old.known.core 0 found) self.new × Rechecks self.old.known found self.new.known × (IsTrue result ↔ HasFound (phase_at self.old.known.core 0) found) }
+        ensures { (found : ℕ) × Steps self.old (rechecked self.old.known.core 0 found) self.new × Rechecks self.old.known found self.new.known × (IsTrue result ↔ HasFound (phase_at self.old.known.core 0) found) × Copies self.old.known (cells_from self.old.known.core.sizes + announced_cell (phase_at self.old.known.core 0)) found found self.new.known }
     {
         let phase = self.phase;
         let Phase::Announced(cell, seen) = phase else {
@@ -228,6 +234,7 @@ impl Worker {
         requires there { cell < self.old.known.core.sizes.cells }
         ensures step { Steps self.old (rechecked self.old.known.core 0 result) self.new }
         ensures tells { Rechecks self.old.known result self.new.known }
+        ensures copies { Copies self.old.known (cells_from self.old.known.core.sizes + cell) result result self.new.known }
     {
         let word = self.cell_word(cell);
         let found = self.table.shared.load::<Recheck>(&mut self.seat, word);
@@ -238,7 +245,8 @@ impl Worker {
     // Swaps a cell for a word, or for 0, and gives the word that it had.
     fn swap_word(&mut self, cell: u32, word: u64) -> u64
         requires { MayFill self.old.known cell word }
-        ensures { Steps self.old (swapped self.old.known.core result word) self.new }
+        ensures step { Steps self.old (swapped self.old.known.core result word) self.new }
+        ensures copies { Copies self.old.known (cells_from self.old.known.core.sizes + cell) result word self.new.known }
     {
         let place = self.cell_word(cell);
         let old = self
@@ -257,7 +265,7 @@ impl Worker {
     /// retired: a later scan makes it held.
     pub fn swap_cell(&mut self, cell: u32, filled: Option<Filled>) -> Option<(Ref, Ref)>
         requires { MaySwap self.old.known cell filled }
-        ensures { (found : ℕ) × Steps self.old (swapped self.old.known.core found (word_of filled)) self.new × ((result ≡ None) ↔ (found ≡ 0)) × IfSome result (λ p. (p.0.number ≡ first_of found) × (p.1.number ≡ second_of found)) }
+        ensures { (found : ℕ) × Steps self.old (swapped self.old.known.core found (word_of filled)) self.new × ((result ≡ None) ↔ (found ≡ 0)) × IfSome result (λ p. (p.0.number ≡ first_of found) × (p.1.number ≡ second_of found)) × Copies self.old.known (cells_from self.old.known.core.sizes + cell) found (word_of filled) self.new.known }
     {
         // There are so few names that those of the entry fit its word.
         let _names = self.sizes.names;
@@ -271,7 +279,7 @@ impl Worker {
     pub fn scan_one(&mut self) -> Option<ArrayVec<u32, 128>>
         requires may { MayScan self.old.known.core }
         requires room { length self.old.known.core.held ≤ 2 ^ 39 }
-        ensures step { (name : ℕ) × Steps self.old (scanned self.old.known.core name) self.new }
+        ensures step { (name : ℕ) × Steps self.old (scanned self.old.known.core name) self.new × Copies self.old.known self.old.known.core.position name name self.new.known }
         ensures some { IfSome result (λ ejected. self.new.known.core.held ≡ self.old.known.core.held ++ ejected.items) }
         ensures none { result ≡ None → self.new.known.core.held ≡ self.old.known.core.held }
         ensures goes_on { (result ≡ None) ↔ (self.old.known.core.position + 1 < announced_words self.old.known.core.sizes) }
@@ -504,7 +512,8 @@ impl Worker {
     /// Withdraws what is announced.
     pub fn release(&mut self)
         requires { MayAnnounce self.old.known.core 0 0 }
-        ensures { Steps self.old (announced self.old.known.core 0) self.new }
+        ensures step { Steps self.old (announced self.old.known.core 0) self.new }
+        ensures copies { self.new.known.copy ≡ copied self.old.known.copy (word_at self.old.known.core.sizes self.old.known.core.number 0) 0 }
     {
         self.announce(0);
     }

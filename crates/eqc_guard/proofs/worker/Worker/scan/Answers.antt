@@ -38,7 +38,7 @@ loop-x-preserved c =
     let before : IsLetting c.as_slice-x-items.result.now (slice_index_or c.as_slice-x-items.result.now c.loop-x.x-index 0 ∷ drop (c.loop-x.x-index + 1) c.as_slice-x-items.result.now) c.sweep-gone.new.self c.loop-x.self =
     subst (λ l. IsLetting c.as_slice-x-items.result.now l c.sweep-gone.new.self c.loop-x.self) (drop_more c.as_slice-x-items.result.now c.loop-x.x-index 0 c.loop-x-test.true) c.loop-x.invariant in
     let was : IsSwept c.as_slice-x-items.result.now c.args.self.now c.sweep-gone.new.self = subst (λ l. IsSwept l c.args.self.now c.sweep-gone.new.self) (sym c.as_slice-x-items.ensures.value) c.sweep-gone.ensures in
-    lets_one gone rest x c.sweep-gone.new.self c.loop-x.self c.count_down.new.self before c.count_down.ensures (let_held gone rest x c.args.self.now c.sweep-gone.new.self c.loop-x.self was before)
+    lets_one gone rest x c.sweep-gone.new.self c.loop-x.self c.count_down.new.self before c.count_down.ensures.step (let_held gone rest x c.args.self.now c.sweep-gone.new.self c.loop-x.self was before)
 
 pub returns : goal.returns
 returns c =
