@@ -9,10 +9,12 @@
 //!
 //! In the texts of `pairs` and of what comes after it `;` stands for LF.
 
+mod cached_results;
 mod compared_hierarchies;
 mod costs;
 mod diagrams;
 mod explanations;
+mod forests;
 mod hierarchies;
 mod machine;
 mod messages;
