@@ -17,9 +17,8 @@ fn tell_text<T: Diagnostics>(
     match read(alloc, text) {
         Ok(library) => told.models(side, &library),
         Err(Refusal { line, .. }) => {
-            if let Some(finding) = eqc_blif::explain(alloc, text)? {
-                told.text(side, line, &finding);
-            }
+            let finding = eqc_blif::explain(alloc, text)?;
+            told.text(side, line, finding.as_ref());
         }
     }
     Ok(())

@@ -184,21 +184,29 @@ pub struct Finished {
     pub warnings: Warnings,
 }
 
-/// Tells what is at fault in the texts of a run whose report is a refusal. Where memory is refused for it, less is told.
+/// Tells why a report is a refusal or a stop. Where memory is refused for it, nothing is told.
 fn tell<T: Diagnostics>(
     alloc: Global,
+    report: &Report,
     sources: Option<Sources>,
     names: &ModelNames<'_>,
     told: &mut T,
 ) {
-    if let Some(sources) = sources {
-        let second = bytes_of(&sources.second);
-        let _ = tell_of_texts(alloc, &sources.first, second, names, told);
+    match report {
+        Report::Equivalent | Report::Differs { .. } => {}
+        Report::Stopped(stop) => told.stopped(*stop),
+        Report::Refused(refused) => match sources {
+            None => told.option(refused.code),
+            Some(sources) => {
+                let second = bytes_of(&sources.second);
+                let _ = tell_of_texts(alloc, &sources.first, second, names, told);
+            }
+        },
     }
 }
 
-/// Compares two netlists and writes the report, as `run_models` does. Where the report is a refusal, what is at fault is
-/// told afterwards, if that is wanted.
+/// Compares two netlists and writes the report, as `run_models` does. Why it is a refusal or a stop is told
+/// afterwards, if that is wanted.
 pub fn run_explained<RT: Threads + Wait + Sync, R: Read + Drop, W: Write, T: Diagnostics>(
     rt: &RT,
     alloc: Global,
@@ -228,9 +236,7 @@ pub fn run_explained<RT: Threads + Wait + Sync, R: Read + Drop, W: Write, T: Dia
         Err(_) => return Err(RunFault::Write),
     };
     if let Some(told) = told {
-        if status == Status::Refused {
-            tell(alloc, sources, names, told);
-        }
+        tell(alloc, &report, sources, names, told);
     }
     Ok(Finished {
         status,
