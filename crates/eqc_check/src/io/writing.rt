@@ -42,6 +42,21 @@ fn flush<W: Write>(out: &mut W, stage: &mut Stage) -> Result<(), RunFault>
     }
 }
 
+/// Writes the text whole, and flushes it. The stage tells how it ended.
+fn write_to_end<W: Write>(out: &mut W, stage: &mut Stage, text: &[u8]) -> Result<(), RunFault>
+    requires { stage.old ≡ Stage.Open }
+    ensures whole { OnOk result (Appends (W.contents out.old) (W.contents out.new) text.now) }
+    ensures part { OnErr result (AppendsPrefix (W.contents out.old) (W.contents out.new) text.now) }
+    ensures stage { stage.new ≡ (if is_ok result then Stage.Done else Stage.Failed) }
+    ensures fault { IfErr result (λ fault. fault ≡ RunFault.Write) }
+{
+    let mut done = 0;
+    'writes: while done < text.len() {
+        done += write_some(out, stage, &text[done..])?;
+    }
+    flush(out, stage)
+}
+
 /// Writes the text, in as many writes as it takes, and flushes it. A write that fails or takes nothing, or a
 /// flush that fails, is `Write`, 92; nothing is tried again. No memory is taken.
 pub fn write_text<W: Write>(out: &mut W, text: &[u8]) -> Result<(), RunFault>
@@ -50,9 +65,5 @@ pub fn write_text<W: Write>(out: &mut W, text: &[u8]) -> Result<(), RunFault>
     ensures fault { IfErr result (λ fault. fault ≡ RunFault.Write) }
 {
     let mut stage = Stage::Open;
-    let mut done = 0;
-    'writes: while done < text.len() {
-        done += write_some(out, &mut stage, &text[done..])?;
-    }
-    flush(out, &mut stage)
+    write_to_end(out, &mut stage, text)
 }

@@ -1,6 +1,6 @@
 use Rattle.std.proofs.Common.{arith}
 use Rattle.eqc_check.proofs.KnownBytes.{writes_on}
-use Rattle.eqc_check.proofs.io.writing.write_text.Goals as goal
+use Rattle.eqc_check.proofs.io.writing.write_to_end.Goals as goal
 
 pub writes-preserved : goal.writes-preserved
 writes-preserved g c = record {

@@ -1,7 +1,7 @@
 use Rattle.std.proofs.Common.{◌≡◌, length, take, ◌-◌, ◌≤◌}
 use Rattle.std.specs.Io.KnownBytes.{Appends}
 use Rattle.eqc_check.specs.declared.io.Stage.TheVariants.{Open}
-use Rattle.eqc_check.proofs.io.writing.write_text.Given as goal
+use Rattle.eqc_check.proofs.io.writing.write_to_end.Given as goal
 
 abbrev pub invariant-writes : goal.invariant-writes
 invariant-writes g l = record {
