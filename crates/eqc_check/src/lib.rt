@@ -46,8 +46,11 @@ pub use laws::{
 };
 pub use least::least_assignment;
 pub use options::{Options, options_fault};
+pub use pairing::explanation::explain_pair;
+pub use pairing::finding::Finding;
 pub use pairing::matched_pair::Pair;
 pub use pairing::pair;
+pub use pairing::unmatched::Unmatched;
 pub use report::text::write_report;
 pub use report::{Refused, Report, Side, Status};
 pub use rule::{OPTION_RULES, PAIR_RULES, Rule};
