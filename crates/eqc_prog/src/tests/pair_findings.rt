@@ -4,6 +4,7 @@ use super::hierarchies::flat_of;
 use super::{EQUAL, lines};
 use eqc_blif::{Library, read};
 use eqc_check::{Finding, Unmatched, explain_pair};
+use eqc_flat::Flat;
 use std::alloc::{AllocError, Global};
 use std::process::Abort;
 
@@ -63,16 +64,26 @@ fn shown(alloc: Global, finding: &Finding<'_>) -> Result<String, AllocError> {
     }
 }
 
-/// What is at fault in the first two models of a library, on one line, or `-` where nothing is.
+/// What is at fault in two flat netlists, on one line, or `-` where nothing is.
+fn flat_finding(
+    alloc: Global,
+    first: &Flat<'_>,
+    second: &Flat<'_>,
+    order: Option<&[u8]>,
+) -> Result<String, AllocError> {
+    match explain_pair(alloc, first, second, order)? {
+        Some(finding) => shown(alloc, &finding),
+        None => String::from_str(alloc, "-"),
+    }
+}
+
+/// What is at fault in the first two models of a library.
 fn found_in(alloc: Global, library: &Library, order: Option<&[u8]>) -> Result<String, AllocError> {
     let (Some(first), Some(second)) = (flat_of(alloc, library, 0), flat_of(alloc, library, 1))
     else {
         return String::from_str(alloc, "no two models");
     };
-    match explain_pair(alloc, &first, &second, order)? {
-        Some(finding) => shown(alloc, &finding),
-        None => String::from_str(alloc, "-"),
-    }
+    flat_finding(alloc, &first, &second, order)
 }
 
 /// What is at fault in the first two models of a text.
