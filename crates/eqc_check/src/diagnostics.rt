@@ -1,5 +1,6 @@
 //! What is told of a refusal, beside its report.
 
+use crate::pairing::finding::Finding;
 use crate::report::Side;
 use eqc_blif::Library;
 use eqc_tree::Stop;
@@ -14,6 +15,9 @@ pub trait Diagnostics {
 
     /// The hierarchy of this side was refused.
     fn hierarchy(&mut self, side: Side, library: &Library, finding: &eqc_flat::Finding<'_>);
+
+    /// The two netlists make no pair, or the order text is refused.
+    fn pair(&mut self, finding: &Finding<'_>);
 
     /// An option was refused by this code, 81 to 84.
     fn option(&mut self, code: u8);
@@ -32,6 +36,8 @@ impl Diagnostics for NoDiagnostics {
     fn models(&mut self, _side: Side, _library: &Library) {}
 
     fn hierarchy(&mut self, _side: Side, _library: &Library, _finding: &eqc_flat::Finding<'_>) {}
+
+    fn pair(&mut self, _finding: &Finding<'_>) {}
 
     fn option(&mut self, _code: u8) {}
 

@@ -3,8 +3,10 @@ ghost use Rattle.std.specs.Prelude.{◌<◌, length, IfOk, IfSome};
 
 use crate::choice::{Main, ModelNames, choose, read_main};
 use crate::diagnostics::Diagnostics;
+use crate::pairing::explanation::explain_pair;
 use crate::report::Side;
 use eqc_blif::{Library, Refusal, read};
+use eqc_flat::{Flat, flatten};
 use std::alloc::{AllocError, Global};
 
 /// Tells of a text that is refused, or in which a model isn't there. Fails where memory is refused.
@@ -64,11 +66,26 @@ fn tell_hierarchy<T: Diagnostics>(
     }
 }
 
+/// Tells of two netlists that make no pair with an order text. Fails where memory is refused.
+fn tell_pair<T: Diagnostics>(
+    alloc: Global,
+    first: &Flat<'_>,
+    second: &Flat<'_>,
+    order: Option<&[u8]>,
+    told: &mut T,
+) -> Result<(), AllocError> {
+    if let Some(finding) = explain_pair(alloc, first, second, order)? {
+        told.pair(&finding);
+    }
+    Ok(())
+}
+
 /// Tells of two models whose comparison is refused. Fails where memory is refused.
 fn tell_models<T: Diagnostics>(
     alloc: Global,
     first: (&Library, usize),
     second: (&Library, usize),
+    order: Option<&[u8]>,
     told: &mut T,
 ) -> Result<(), AllocError>
     requires m { first.1 < length first.0.now }
@@ -77,8 +94,16 @@ fn tell_models<T: Diagnostics>(
     if tell_hierarchy(alloc, Side::First, first, told)? {
         return Ok(());
     }
-    tell_hierarchy(alloc, Side::Second, second, told)?;
-    Ok(())
+    if tell_hierarchy(alloc, Side::Second, second, told)? {
+        return Ok(());
+    }
+    let (Ok(f), Ok(g)) = (
+        flatten(alloc, first.0, first.1),
+        flatten(alloc, second.0, second.1),
+    ) else {
+        return Ok(());
+    };
+    tell_pair(alloc, &f, &g, order, told)
 }
 
 /// Tells of a text of which two models are compared. Fails where memory is refused.
@@ -86,6 +111,7 @@ fn tell_of_one<T: Diagnostics>(
     alloc: Global,
     text: &[u8],
     names: &ModelNames<'_>,
+    order: Option<&[u8]>,
     told: &mut T,
 ) -> Result<(), AllocError> {
     let Some(Main { library, model }) = main_or_told(alloc, Side::First, text, names.first, told)?
@@ -93,7 +119,7 @@ fn tell_of_one<T: Diagnostics>(
         return Ok(());
     };
     match choose(alloc, &library, names.second, 1) {
-        Ok(other) => tell_models(alloc, (&library, model), (&library, other), told),
+        Ok(other) => tell_models(alloc, (&library, model), (&library, other), order, told),
         Err(refusal) => {
             if refusal.is_memory() {
                 return Err(AllocError);
@@ -110,6 +136,7 @@ fn tell_of_two<T: Diagnostics>(
     first: &[u8],
     second: &[u8],
     names: &ModelNames<'_>,
+    order: Option<&[u8]>,
     told: &mut T,
 ) -> Result<(), AllocError> {
     let Some(f) = main_or_told(alloc, Side::First, first, names.first, told)? else {
@@ -118,7 +145,13 @@ fn tell_of_two<T: Diagnostics>(
     let Some(g) = main_or_told(alloc, Side::Second, second, names.second, told)? else {
         return Ok(());
     };
-    tell_models(alloc, (&f.library, f.model), (&g.library, g.model), told)
+    tell_models(
+        alloc,
+        (&f.library, f.model),
+        (&g.library, g.model),
+        order,
+        told,
+    )
 }
 
 /// Tells what is at fault in texts whose report is a refusal. Fails where memory is refused.
@@ -127,10 +160,11 @@ pub(crate) fn tell_of_texts<T: Diagnostics>(
     first: &[u8],
     second: Option<&[u8]>,
     names: &ModelNames<'_>,
+    order: Option<&[u8]>,
     told: &mut T,
 ) -> Result<(), AllocError> {
     match second {
-        None => tell_of_one(alloc, first, names, told),
-        Some(second) => tell_of_two(alloc, first, second, names, told),
+        None => tell_of_one(alloc, first, names, order, told),
+        Some(second) => tell_of_two(alloc, first, second, names, order, told),
     }
 }

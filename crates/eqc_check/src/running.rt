@@ -199,7 +199,8 @@ fn tell<T: Diagnostics>(
             None => told.option(refused.code),
             Some(sources) => {
                 let second = bytes_of(&sources.second);
-                let _ = tell_of_texts(alloc, &sources.first, second, names, told);
+                let order_text = bytes_of(&sources.order);
+                let _ = tell_of_texts(alloc, &sources.first, second, names, order_text, told);
             }
         },
     }
