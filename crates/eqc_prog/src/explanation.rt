@@ -6,7 +6,7 @@
 use crate::command_line::Request;
 use crate::warning::{first_source, second_source};
 use eqc_blif::{Finding as TextFinding, Library};
-use eqc_check::{Diagnostics, Options, Side};
+use eqc_check::{Diagnostics, Finding as PairFinding, Options, Side, Unmatched};
 use eqc_flat::{Circle, Finding, FoundFormal, FoundInstance, HierarchicalName};
 use eqc_tree::Stop;
 use std::alloc::{AllocError, Global};
@@ -314,6 +314,73 @@ fn push_finding(
     }
 }
 
+/// The first names of a list, and how many there are.
+fn push_unmatched(
+    alloc: Global,
+    line: &mut Vec<u8>,
+    names: &Unmatched<'_>,
+) -> Result<(), AllocError> {
+    let said = format!(in alloc; "{} of them:", names.count())?;
+    push_text(line, said.as_str())?;
+    for name in names.names() {
+        line.push(b' ')?;
+        push_name(alloc, line, name)?;
+    }
+    if names.count() > names.names().len() {
+        push_text(line, " ..")?;
+    }
+    Ok(())
+}
+
+/// What is said of names that only one of two netlists has.
+fn push_sides(
+    alloc: Global,
+    line: &mut Vec<u8>,
+    kind: &str,
+    first: &Unmatched<'_>,
+    second: &Unmatched<'_>,
+) -> Result<(), AllocError> {
+    push_text(line, kind)?;
+    push_text(line, " of the first netlist alone, ")?;
+    push_unmatched(alloc, line, first)?;
+    push_text(line, "; of the second alone, ")?;
+    push_unmatched(alloc, line, second)
+}
+
+/// What is said of two netlists that make no pair, or of an order text.
+fn push_pair_finding(
+    alloc: Global,
+    line: &mut Vec<u8>,
+    finding: &PairFinding<'_>,
+) -> Result<(), AllocError> {
+    match finding {
+        PairFinding::OtherInputs { first, second } => {
+            push_sides(alloc, line, "(41) inputs", first, second)
+        }
+        PairFinding::OtherOutputs { first, second } => {
+            push_sides(alloc, line, "(42) outputs", first, second)
+        }
+        PairFinding::OrderTooLong { bytes, limit } => {
+            let said = format!(in alloc;
+                "the order text has more than {limit} bytes: {bytes} or more (2)"
+            )?;
+            push_text(line, said.as_str())
+        }
+        PairFinding::UnknownWords(words) => {
+            push_text(line, "(51) words of the order text that are no inputs, ")?;
+            push_unmatched(alloc, line, words)
+        }
+        PairFinding::WordTwice(word) => {
+            push_name(alloc, line, word)?;
+            push_text(line, " stands twice in the order text (52)")
+        }
+        PairFinding::InputsLeftOut(names) => {
+            push_text(line, "(53) inputs that the order text leaves out, ")?;
+            push_unmatched(alloc, line, names)
+        }
+    }
+}
+
 /// The models of a text.
 fn push_models(alloc: Global, line: &mut Vec<u8>, library: &Library) -> Result<(), AllocError> {
     let said = format!(in alloc;
@@ -407,6 +474,13 @@ impl<'a> Explanation<'a> {
         self.end(line)
     }
 
+    fn tell_pair(&mut self, finding: &PairFinding<'_>) -> Result<(), AllocError> {
+        let mut line = Vec::new(self.alloc);
+        push_text(&mut line, "eqc: ")?;
+        push_pair_finding(self.alloc, &mut line, finding)?;
+        self.end(line)
+    }
+
     fn tell_option(&mut self, code: u8) -> Result<(), AllocError> {
         let Options {
             workers,
@@ -468,6 +542,10 @@ impl<'a> Diagnostics for Explanation<'a> {
 
     fn hierarchy(&mut self, side: Side, library: &Library, finding: &Finding<'_>) {
         let _ = self.tell_hierarchy(side, library, finding);
+    }
+
+    fn pair(&mut self, finding: &PairFinding<'_>) {
+        let _ = self.tell_pair(finding);
     }
 
     fn option(&mut self, code: u8) {
