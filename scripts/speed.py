@@ -7,7 +7,6 @@ For each case it prints the processor time of eqc on the text (the least of REPE
 memory, the time of `berkeley-abc -q "read_blif TEXT"`, the ratio of the two, and the rate of eqc. The netlists have no
 outputs, and the second model is small, so that almost all of the time goes into reading and flattening.
 """
-import os
 import resource
 import subprocess
 import sys
@@ -76,10 +75,18 @@ def timed(words, text):
     return after.ru_utime + after.ru_stime - before.ru_utime - before.ru_stime
 
 
+# What a process has at most counts from before its program starts, so one that is small has to start it.
+STARTER = """
+import resource, subprocess, sys
+subprocess.run(sys.argv[1:], stdout=subprocess.DEVNULL)
+print(resource.getrusage(resource.RUSAGE_CHILDREN).ru_maxrss)
+"""
+
+
 def peak(words, text):
     with open(text, "rb") as source:
-        child = subprocess.Popen(words, stdin=source, stdout=subprocess.DEVNULL)
-        return os.wait4(child.pid, 0)[2].ru_maxrss
+        asked = subprocess.run([sys.executable, "-c", STARTER, *words], stdin=source, stdout=subprocess.PIPE, check=True)
+    return int(asked.stdout)
 
 
 def main():
