@@ -12,6 +12,7 @@ pub mod OptionsLemmas
 pub mod KnownBytes
 pub mod ReportLemmas
 pub mod NameLemmas
+pub mod FindingLemmas
 pub mod OrderLemmas
 pub mod PlaceLemmas
 pub mod OrderedLemmas

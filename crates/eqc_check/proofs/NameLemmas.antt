@@ -6,10 +6,11 @@ use Rattle.std.proofs.lemmas.List.{map-append, take_more, take_all, get_or-map, 
 use Rattle.std.proofs.lemmas.List.Folds.{list_all-append, list_all_at}
 use Rattle.std.proofs.lemmas.Bool.{true≢false, false≢true, lt-ltb}
 use Rattle.eqc_blif.specs.Names.{is_named, has_twice}
+use Rattle.eqc_blif.specs.Finding.{StandsTwice}
 use Rattle.eqc_check.specs.Verdict.{position_of}
 use Rattle.eqc_check.specs.Matched.{has_all}
 use Rattle.eqc_flat.specs.NameSets.{with_name}
-use Rattle.eqc_blif.proofs.NameLemmas.{once_more, twice_there}
+use Rattle.eqc_blif.proofs.NameLemmas.{once_more, twice_there, twice_at}
 use Rattle.eqc_flat.proofs.NameSetLaws.{first_mapped, ltb-suc, bytes_in}
 
 -- ---- where a name stands
@@ -48,18 +49,31 @@ named_missing names name e = by (nat_lt (position_of names name) (length names))
 
 -- ---- the set of names so far
 
--- a name that the set has stands twice
-pub seen_twice : (set : List (List ℕ)) (names : List (Bor (List ℕ))) (i : ℕ) (d : Bor (List ℕ)) (fresh : Bool) → i < length names → set ≡ bytes_in (take i names)
-    → fresh ≡ not (is_named set (get_or names i d).now) → fresh ≡ false → has_twice (bytes_in names) ≡ true
-seen_twice set names i d fresh inside e f stale =
-    let name = (get_or names i d).now in
-    let seen : is_named (bytes_in (take i names)) name ≡ true = sym (ap (λ l. is_named l name) e) ∙ by (is_named set name) (sym f ∙ stale) in
-    let split : bytes_in names ≡ bytes_in (take i names) ++ name ∷ bytes_in (drop (suc i) names) = ap bytes_in (split_at names i d inside) ∙ map-append (λ (name : Bor (List ℕ)). name.now) (take i names) (get_or names i d ∷ drop (suc i) names) in
-    ap has_twice split ∙ twice_there (bytes_in (take i names)) (bytes_in (drop (suc i) names)) name seen
+-- a name that the set has is among those before it
+seen_before : (set : List (List ℕ)) (names : List (Bor (List ℕ))) (i : ℕ) (name : List ℕ) (fresh : Bool) → set ≡ bytes_in (take i names) → fresh ≡ not (is_named set name) → fresh ≡ false → is_named (bytes_in (take i names)) name ≡ true
+seen_before set names i name fresh e f stale = sym (ap (λ l. is_named l name) e) ∙ by (is_named set name) (sym f ∙ stale)
   where
     by : (b : Bool) → not b ≡ false → b ≡ true
     by true h = refl
     by false h = absurd (true≢false h)
+
+-- the names before one, that one and those behind it
+names_cut : (names : List (Bor (List ℕ))) (i : ℕ) (d : Bor (List ℕ)) → i < length names → bytes_in names ≡ bytes_in (take i names) ++ (get_or names i d).now ∷ bytes_in (drop (suc i) names)
+names_cut names i d inside = ap bytes_in (split_at names i d inside) ∙ map-append (λ (name : Bor (List ℕ)). name.now) (take i names) (get_or names i d ∷ drop (suc i) names)
+
+-- a name that the set has stands twice
+pub seen_twice : (set : List (List ℕ)) (names : List (Bor (List ℕ))) (i : ℕ) (d : Bor (List ℕ)) (fresh : Bool) → i < length names → set ≡ bytes_in (take i names)
+    → fresh ≡ not (is_named set (get_or names i d).now) → fresh ≡ false → has_twice (bytes_in names) ≡ true
+seen_twice set names i d fresh inside e f stale =
+    ap has_twice (names_cut names i d inside) ∙ twice_there (bytes_in (take i names)) (bytes_in (drop (suc i) names)) (get_or names i d).now (seen_before set names i (get_or names i d).now fresh e f stale)
+
+-- and where it stands
+pub seen_at : (set : List (List ℕ)) (names : List (Bor (List ℕ))) (i : ℕ) (d : Bor (List ℕ)) (fresh : Bool) → i < length names → set ≡ bytes_in (take i names)
+    → fresh ≡ not (is_named set (get_or names i d).now) → fresh ≡ false → StandsTwice (bytes_in names) (get_or names i d).now
+seen_at set names i d fresh inside e f stale =
+    let name = (get_or names i d).now in
+    let behind = bytes_in (drop (suc i) names) in
+    twice_at (bytes_in (take i names)) (name ∷ behind) behind (bytes_in names) name name (sym (names_cut names i d inside)) refl refl (seen_before set names i name fresh e f stale)
 
 -- a name that the set didn't have
 pub seen_more : (set new : List (List ℕ)) (names : List (Bor (List ℕ))) (i : ℕ) (d : Bor (List ℕ)) (fresh : Bool) → i < length names → set ≡ bytes_in (take i names) → has_twice (bytes_in (take i names)) ≡ false

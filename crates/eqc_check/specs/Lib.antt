@@ -4,6 +4,7 @@ pub mod Verdict
 pub mod VerdictLaws
 pub mod Matched
 pub mod PairOf
+pub mod Finding
 pub mod Report
 pub mod Rule
 pub mod ReportView

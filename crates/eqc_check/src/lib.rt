@@ -5,6 +5,7 @@
 //! order, the way of the data:
 //!
 //! - `running`, texts in and a report out, over `io`, readers and writers; `decide`, which refusal or comparison it is;
+//!   `explaining`, what is at fault in texts that are refused, told to `diagnostics`;
 //!   `choice`, which models are compared; `warning`, models that are contained in others
 //! - `pairing`, two netlists as a pair; `options` and `rule`, what is asked for and what is refused
 //! - `build`, the diagrams of signals; `least`, the least assignment of a pair's inputs
@@ -17,6 +18,8 @@ mod checking;
 mod choice;
 mod compare;
 mod decide;
+mod diagnostics;
+mod explaining;
 mod io;
 mod laws;
 mod least;
@@ -31,6 +34,7 @@ mod workers;
 pub use checking::check_plain;
 pub use choice::ModelNames;
 pub use compare::compare_output;
+pub use diagnostics::{Diagnostics, NoDiagnostics};
 pub use io::fault::RunFault;
 pub use io::writing::write_text;
 pub use laws::{
@@ -42,12 +46,15 @@ pub use laws::{
 };
 pub use least::least_assignment;
 pub use options::{Options, options_fault};
+pub use pairing::explanation::explain_pair;
+pub use pairing::finding::Finding;
 pub use pairing::matched_pair::Pair;
 pub use pairing::pair;
+pub use pairing::unmatched::Unmatched;
 pub use report::text::write_report;
 pub use report::{Refused, Report, Side, Status};
 pub use rule::{OPTION_RULES, PAIR_RULES, Rule};
-pub use running::{Finished, Texts, run, run_models};
+pub use running::{Finished, Texts, run, run_explained, run_models};
 pub use warning::{Contained, Warnings};
 pub use workers::gate::{Gate, NoGate};
 pub use workers::{check, check_with};

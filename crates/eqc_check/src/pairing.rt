@@ -5,10 +5,13 @@ ghost use Rattle.eqc_check.specs.Verdict.{position_of};
 ghost use Rattle.eqc_check.specs.Matched.{same_names};
 ghost use Rattle.eqc_check.specs.PairOf.{AreMatched, order_for, names_refusal, pair_refusal, pair_refused, no_memory};
 
+pub(crate) mod explanation;
+pub(crate) mod finding;
 pub(crate) mod matched_pair;
 mod name_index;
 pub(crate) mod order;
 mod places;
+pub(crate) mod unmatched;
 
 use crate::pairing::matched_pair::{Pair, recall_laws};
 use crate::pairing::name_index::{bytes_of, places_among};

@@ -11,6 +11,8 @@ ghost use Rattle.eqc_check.specs.Warning.{IsWarned, WarnsOfKnown};
 
 use crate::choice::ModelNames;
 use crate::decide::{Told, texts_report};
+use crate::diagnostics::{Diagnostics, NoDiagnostics};
+use crate::explaining::tell_of_texts;
 use crate::io::fault::RunFault;
 use crate::io::reading::read_text;
 use crate::options::{Options, options_fault};
@@ -83,6 +85,13 @@ fn bytes_of(text: &Option<Vec<u8>>) -> Option<&[u8]>
     }
 }
 
+/// What a run reports, and the texts that were read for it.
+#[derive(Drop)]
+struct Reported {
+    told: Told,
+    sources: Option<Sources>,
+}
+
 /// The report of a run whose options are in their ranges, with the warnings where it is a comparison.
 fn read_report<RT: Threads + Wait + Sync, R: Read + Drop>(
     alloc: Global,
@@ -91,20 +100,29 @@ fn read_report<RT: Threads + Wait + Sync, R: Read + Drop>(
     names: &ModelNames<'_>,
     order: Option<R>,
     options: &Options,
-) -> Result<Told, RunFault>
+) -> Result<Reported, RunFault>
     requires options { options_code options.now ≡ None }
-    ensures report { IfOk result (λ told. IsReport names.now R.remaining texts order (report_of told.report)) }
-    ensures warned { IfOk result (λ told. WarnsOfKnown names.now R.remaining texts (report_of told.report) told.warnings) }
+    ensures report { IfOk result (λ reported. IsReport names.now R.remaining texts order (report_of reported.told.report)) }
+    ensures warned { IfOk result (λ reported. WarnsOfKnown names.now R.remaining texts (report_of reported.told.report) reported.told.warnings) }
     ensures fault { IfErr result (λ fault. fault ≡ RunFault.Read) }
 {
     let sources = match read_sources(alloc, texts, order) {
         Ok(sources) => sources,
         Err(RunFault::Read) => return Err(RunFault::Read),
-        Err(_) => return Ok(Told::alone(Report::Stopped(Stop::Memory))),
+        Err(_) => {
+            return Ok(Reported {
+                told: Told::alone(Report::Stopped(Stop::Memory)),
+                sources: None,
+            });
+        }
     };
     let second = bytes_of(&sources.second);
     let order = bytes_of(&sources.order);
-    Ok(texts_report(alloc, rt, &sources.first, second, names, order, options))
+    let told = texts_report(alloc, rt, &sources.first, second, names, order, options);
+    Ok(Reported {
+        told,
+        sources: Some(sources),
+    })
 }
 
 /// Writes `stopped 72`, which takes no memory.
@@ -141,17 +159,20 @@ fn report_for<RT: Threads + Wait + Sync, R: Read + Drop>(
     names: &ModelNames<'_>,
     order: Option<R>,
     options: &Options,
-) -> Result<Told, RunFault>
-    ensures report { IfOk result (λ told. IsReportFor (options_code options.now) names.now R.remaining texts order (report_of told.report)) }
-    ensures warned { IfOk result (λ told. WarnsOfKnown names.now R.remaining texts (report_of told.report) told.warnings) }
+) -> Result<Reported, RunFault>
+    ensures report { IfOk result (λ reported. IsReportFor (options_code options.now) names.now R.remaining texts order (report_of reported.told.report)) }
+    ensures warned { IfOk result (λ reported. WarnsOfKnown names.now R.remaining texts (report_of reported.told.report) reported.told.warnings) }
     ensures fault { IfErr result (λ fault. (fault ≡ RunFault.Read) × (options_code options.now ≡ None)) }
 {
     match options_fault(options) {
-        Some(code) => Ok(Told::alone(Report::Refused(Refused {
-            side: Side::Options,
-            line: 0,
-            code,
-        }))),
+        Some(code) => Ok(Reported {
+            told: Told::alone(Report::Refused(Refused {
+                side: Side::Options,
+                line: 0,
+                code,
+            })),
+            sources: None,
+        }),
         None => read_report(alloc, rt, texts, names, order, options),
     }
 }
@@ -161,6 +182,67 @@ fn report_for<RT: Threads + Wait + Sync, R: Read + Drop>(
 pub struct Finished {
     pub status: Status,
     pub warnings: Warnings,
+}
+
+/// Tells why a report is a refusal or a stop. Where memory is refused for it, nothing is told.
+fn tell<T: Diagnostics>(
+    alloc: Global,
+    report: &Report,
+    sources: Option<Sources>,
+    names: &ModelNames<'_>,
+    told: &mut T,
+) {
+    match report {
+        Report::Equivalent | Report::Differs { .. } => {}
+        Report::Stopped(stop) => told.stopped(*stop),
+        Report::Refused(refused) => match sources {
+            None => told.option(refused.code),
+            Some(sources) => {
+                let second = bytes_of(&sources.second);
+                let order_text = bytes_of(&sources.order);
+                let _ = tell_of_texts(alloc, &sources.first, second, names, order_text, told);
+            }
+        },
+    }
+}
+
+/// Compares two netlists and writes the report, as `run_models` does. Why it is a refusal or a stop is told
+/// afterwards, if that is wanted.
+pub fn run_explained<RT: Threads + Wait + Sync, R: Read + Drop, W: Write, T: Diagnostics>(
+    rt: &RT,
+    alloc: Global,
+    texts: Texts<R>,
+    names: &ModelNames<'_>,
+    order: Option<R>,
+    options: &Options,
+    out: &mut W,
+    told: Option<&mut T>,
+) -> Result<Finished, RunFault>
+    ensures answered { IfOk result (λ finished. IsAnswered names.now R.remaining texts order options.now (W.contents out.old) (W.contents out.new) finished.status) }
+    ensures warned { IfOk result (λ finished. IsWarned names.now R.remaining texts finished.status finished.warnings) }
+    ensures write { result ≡ Err RunFault.Write → IsCutOff names.now R.remaining texts order options.now (W.contents out.old) (W.contents out.new) }
+    ensures read { result ≡ Err RunFault.Read → (options_code options.now ≡ None) × (out.new ≡ out.old) }
+    ensures memory { IfErr result (λ fault. fault ≢ RunFault.Memory) }
+{
+    let reported = match report_for(alloc, rt, texts, names, order, options) {
+        Ok(reported) => reported,
+        Err(_) => return Err(RunFault::Read),
+    };
+    let Reported {
+        told: Told { report, warnings },
+        sources,
+    } = reported;
+    let status = match write_or_stop(alloc, &report, out) {
+        Ok(status) => status,
+        Err(_) => return Err(RunFault::Write),
+    };
+    if let Some(told) = told {
+        tell(alloc, &report, sources, names, told);
+    }
+    Ok(Finished {
+        status,
+        warnings: warnings.at(status),
+    })
 }
 
 /// Compares two netlists and writes the report, as `run` does, and chooses the models by their names where these are
@@ -187,17 +269,7 @@ pub fn run_models<RT: Threads + Wait + Sync, R: Read + Drop, W: Write>(
     ensures read { result ≡ Err RunFault.Read → (options_code options.now ≡ None) × (out.new ≡ out.old) }
     ensures memory { IfErr result (λ fault. fault ≢ RunFault.Memory) }
 {
-    let Told { report, warnings } = match report_for(alloc, rt, texts, names, order, options) {
-        Ok(told) => told,
-        Err(_) => return Err(RunFault::Read),
-    };
-    match write_or_stop(alloc, &report, out) {
-        Ok(status) => Ok(Finished {
-            status,
-            warnings: warnings.at(status),
-        }),
-        Err(_) => Err(RunFault::Write),
-    }
+    run_explained::<RT, R, W, NoDiagnostics>(rt, alloc, texts, names, order, options, out, None)
 }
 
 /// Compares two netlists and writes the report: the first two models of one text, or the main models of two, over

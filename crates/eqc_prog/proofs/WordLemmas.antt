@@ -1,5 +1,5 @@
 -- From a parse of the command line to what its words ask for.
-use Rattle.std.proofs.Common.{◌≡◌, ◌∙◌, ap, ap₂, sym, subst, refl, true, false, ℕ, List, [], Option, Some, None, option_map}
+use Rattle.std.proofs.Common.{◌≡◌, ◌∙◌, ap, ap₂, sym, subst, refl, true, false, Bool, codes, ℕ, List, [], Option, Some, None, option_map}
 use Rattle.std.specs.Prelude.{Result, Ok, IfSome}
 use Rattle.std.specs.Str.Parse.{ParsesUnsigned, digits_value, without_leading_plus}
 use Rattle.clap.specs.Faults.{fault_of, is_simple_and_free}
@@ -8,14 +8,14 @@ use Rattle.clap.specs.Kinds.{HasKind}
 use Rattle.clap.specs.declared.error.Error.{Error}
 use Rattle.clap.specs.Matches.{found_of, one_text, ReadsOne}
 use Rattle.clap.specs.Simple.{App, HasMatchesOf, app_of, is_simple, matches_of, with_rule}
-use Rattle.clap.specs.Walk.{Rule, Text, rows_of, rule_of}
+use Rattle.clap.specs.Walk.{Rule, Text, rows_of, rule_of, one_of}
 use Rattle.clap.specs.declared.builder.arg.Arg.{Arg}
 use Rattle.clap.specs.declared.builder.command.Command.{Command}
 use Rattle.clap.specs.declared.parser.matches.ArgMatches.{ArgMatches}
 use Rattle.clap.specs.declared.parser.matches.Found.{Found}
 use Rattle.clap.proofs.OnLiterals.{clap_on_literals}
 use Rattle.clap.proofs.WalkLemmas.{one_text-rows}
-use Rattle.eqc_prog.specs.CommandLine.{eqc_app, number_of, rows_asked, IsAsked}
+use Rattle.eqc_prog.specs.CommandLine.{eqc_app, number_of, rows_asked, IsAsked, IsFlag}
 use Rattle.eqc_prog.specs.declared.command_line.Request.{Request}
 
 -- clap's definitions say what the command line's matches are
@@ -67,3 +67,13 @@ number_read {E} G f name r none value only = go (one_text f name) refl r none va
     go (Some t) e (Some n) absent given =
         ap (option_map (λ s. digits_value 10 (without_leading_plus s))) (sym (one_text-rows f name) ∙ e)
         ∙ ap Some (sym ((only t (Ok n) (given t refl)).1))
+
+-- a flag that was read is given where its words say so
+pub flag_read : (f : Found) (name : List ℕ) (given : Bool) → (one_text f name ≡ None → given ≡ false)
+    → (one_text f name ≡ Some (codes "true") → given ≡ true) → (one_text f name ≡ Some (codes "false") → given ≡ false)
+    → IsFlag (one_of name (rows_of f)) given
+flag_read f name given none true_is false_is = subst (λ (o : Option Text). IsFlag o given) (one_text-rows f name) (go (one_text f name) refl)
+  where
+    go : (o : Option Text) → one_text f name ≡ o → IsFlag o given
+    go None e = none e
+    go (Some t) e = (λ is. true_is (e ∙ ap Some is), λ is. false_is (e ∙ ap Some is))

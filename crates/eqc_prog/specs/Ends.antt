@@ -1,5 +1,5 @@
 -- How the program ends, by its words and its input, and what it has written.
-use Rattle.std.specs.Prelude.{◌≡◌, ◌⊎◌, ℕ, List, [], ◌++◌, ◌∷◌, codes, Option, option_map}
+use Rattle.std.specs.Prelude.{◌≡◌, ◌⊎◌, ℕ, Bool, true, false, List, [], ◌++◌, ◌∷◌, codes, Option, option_map}
 use Rattle.std.specs.Fmt.{decimal}
 use Rattle.std.specs.Io.KnownBytes.{Appends}
 use Rattle.clap.specs.Walk.{Text}
@@ -64,12 +64,19 @@ pub record IsRunOn {R F : Type 0} (request : Request) (input : R) (Writes : Text
 abbrev pub names_of : Request → NamesOf
 names_of request = record { first = option_map (λ s. s.now) request.first_model; second = option_map (λ s. s.now) request.second_model }
 
--- a run wrote its report, and standard error got its warnings
+-- standard error got some text, where an explanation is asked for
+abbrev pub MayBeExplained : Bool → Option (List ℕ) → Option (List ℕ) → Type 0
+MayBeExplained false old new = new ≡ old
+MayBeExplained true old new = Grows old new
+
+-- a run wrote its report, and standard error got its warnings, and behind them what is explained
 pub record IsReported {R : Type 0} (remaining : R → Option (List ℕ)) (request : Request) (texts : Texts R) (order : Option R) (options : Options) (old new err_old err_new : Option (List ℕ)) (status : Status) : Type 0 where
   pub answered : IsAnswered (names_of request) remaining texts order options old new status
   pub warnings : Warnings
   pub warned : IsWarned (names_of request) remaining texts status warnings
-  pub told : IsToldOf (warnings_text request warnings) err_old err_new
+  pub err : Option (List ℕ)
+  pub told : IsToldOf (warnings_text request warnings) err_old err
+  pub explained : MayBeExplained request.explain err err_new
 
 -- an end of a run: nothing is written where a file can't be opened or a read fails, and a part of the report where
 -- a write fails

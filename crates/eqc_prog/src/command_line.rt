@@ -5,11 +5,11 @@ ghost use Rattle.clap.specs.Kinds.{HasKind};
 ghost use Rattle.clap.specs.Matches.{found_of};
 ghost use Rattle.clap.specs.Simple.{app_of};
 ghost use Rattle.clap.specs.Walk.{rows_of, rule_of};
-ghost use Rattle.eqc_prog.specs.CommandLine.{eqc_app, number_rule, text_rule, path_rule, number_of, rows_asked, IsAsked};
+ghost use Rattle.eqc_prog.specs.CommandLine.{eqc_app, number_rule, text_rule, flag_rule, path_rule, number_of, rows_asked, IsAsked};
 
 use crate::help::{ABOUT, USAGE};
 use crate::version::VERSION;
-use clap::{Arg, ArgMatches, Command, Error, value_parser};
+use clap::{Arg, ArgAction, ArgMatches, Command, Error, value_parser};
 use eqc_check::Options;
 use std::alloc::{AllocError, Global};
 
@@ -17,6 +17,8 @@ use std::alloc::{AllocError, Global};
 #[derive(Drop)]
 pub struct Request<'a> {
     pub options: Options,
+    /// Whether a refusal or a stop is to be explained.
+    pub explain: bool,
     /// The path of the order text.
     pub order: Option<&'a str>,
     /// The name of the first model that is compared; without it, the place decides.
@@ -58,6 +60,17 @@ fn text<'a>(alloc: Global, name: &'a str, shown: &'a str, help: &'a str) -> Arg<
     Arg::new(alloc, name)
         .long(name)
         .value_name(shown)
+        .help(help)
+}
+
+/// An option without a value.
+fn flag<'a>(alloc: Global, name: &'a str, help: &'a str) -> Arg<'a>
+    ensures rule { rule_of result ≡ flag_rule name.now }
+    ensures own { result.global ≡ false }
+{
+    Arg::new(alloc, name)
+        .long(name)
+        .action(ArgAction::SetTrue)
         .help(help)
 }
 
@@ -112,6 +125,11 @@ fn command<'a>(alloc: Global, answers: &'a str) -> Result<Command<'a>, AllocErro
             "NAME",
             "Compares the model of this name of the second netlist's text",
         ))?
+        .arg(flag(
+            alloc,
+            "explain",
+            "Tells on standard error why a run was refused or stopped",
+        ))?
         .arg(path(alloc, "first", "The first netlist, or both"))?
         .arg(path(alloc, "second", "The second netlist"))
 }
@@ -134,6 +152,7 @@ fn request_of<'a>(matches: &ArgMatches<'a>) -> Option<Request<'a>>
             cells: number_given(matches, "cells")?,
             forks: number_given(matches, "forks")?,
         },
+        explain: matches.get_flag("explain"),
         order: matches.get_str("order"),
         first_model: matches.get_str("first-model"),
         second_model: matches.get_str("second-model"),

@@ -3,6 +3,7 @@
 
 mod command_line;
 mod ending;
+mod explanation;
 mod help;
 mod source;
 mod start;

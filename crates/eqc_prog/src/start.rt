@@ -2,16 +2,17 @@
 ghost use Rattle.std.specs.Prelude.{◌≡◌, ◌↔◌, IsTrue, map, string_bytes};
 ghost use Rattle.std.specs.Option.{option_copied, option_map};
 ghost use Rattle.clap.specs.Values.{kind_of};
-ghost use Rattle.eqc_prog.specs.Ends.{names_of, IsRunEnd, IsShowing, IsHelpEnd, IsEnd, IsDone};
+ghost use Rattle.eqc_prog.specs.Ends.{names_of, IsRunEnd, MayBeExplained, IsShowing, IsHelpEnd, IsEnd, IsDone};
 
 use crate::command_line::{Request, read_words};
 use crate::ending::{End, tell};
+use crate::explanation::{Explanation, explanation_for};
 use crate::help::answers;
 use crate::source::open;
 use crate::warning::warn;
 use clap::Error;
 use clap::error::ErrorKind;
-use eqc_check::{ModelNames, RunFault, run_models, write_text};
+use eqc_check::{ModelNames, RunFault, run_explained, write_text};
 use std::alloc::{AllocError, Global};
 use std::io::{Read, Write};
 use std::rt::Files;
@@ -59,6 +60,31 @@ fn names_of<'a>(request: &Request<'a>) -> ModelNames<'a>
     }
 }
 
+/// Writes an explanation, where one is asked for. Where a write fails, a part of it is lost.
+fn explain<E: Write>(request: &Request<'_>, explanation: &Explanation<'_>, err: &mut E)
+    ensures { MayBeExplained request.now.explain (E.contents err.old) (E.contents err.new) }
+{
+    if !request.explain {
+        return;
+    }
+    let bytes = explanation.as_bytes();
+    if !bytes.is_empty() {
+        let _ = write_text(err, bytes);
+    }
+}
+
+/// What an explanation is told to, where one is asked for.
+fn if_asked<'x, 'a>(
+    request: &Request<'_>,
+    explanation: &'x mut Explanation<'a>,
+) -> Option<&'x mut Explanation<'a>> {
+    if request.explain {
+        Some(explanation)
+    } else {
+        None
+    }
+}
+
 /// Opens the files, runs the comparison, and warns of what it is.
 fn compare<RT: Files + AllocGlobal + Threads + Wait + Sync, R: Read + Drop, W: Write, E: Write>(
     rt: &RT,
@@ -72,7 +98,8 @@ fn compare<RT: Files + AllocGlobal + Threads + Wait + Sync, R: Read + Drop, W: W
     let Ok(sources) = open(rt, request, input) else {
         return End::Failed(RunFault::Read);
     };
-    match run_models(
+    let mut explanation = explanation_for(rt.alloc(), request);
+    let finished = run_explained(
         rt,
         rt.alloc(),
         sources.texts,
@@ -80,9 +107,12 @@ fn compare<RT: Files + AllocGlobal + Threads + Wait + Sync, R: Read + Drop, W: W
         sources.order,
         &request.options,
         out,
-    ) {
+        if_asked(request, &mut explanation),
+    );
+    match finished {
         Ok(finished) => {
             warn(rt.alloc(), request, &finished.warnings, err);
+            explain(request, &explanation, err);
             End::Reported(finished.status)
         }
         Err(fault) => End::Failed(fault),

@@ -39,7 +39,7 @@ fn push_warning(
 }
 
 /// What the first text is called.
-fn first_source<'a>(request: &Request<'a>) -> &'a str
+pub fn first_source<'a>(request: &Request<'a>) -> &'a str
     ensures { result.now ≡ first_source request.now }
 {
     match request.first {
@@ -49,7 +49,7 @@ fn first_source<'a>(request: &Request<'a>) -> &'a str
 }
 
 /// What the text with the second model is called: where there is no second text, as the first.
-fn second_source<'a>(request: &Request<'a>) -> &'a str
+pub fn second_source<'a>(request: &Request<'a>) -> &'a str
     ensures { result.now ≡ second_source request.now }
 {
     match request.second {

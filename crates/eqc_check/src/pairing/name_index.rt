@@ -1,5 +1,6 @@
 ghost use Rattle.std.specs.Prelude.{◌≡◌, map, true, false, IfOk, MatchOption};
 ghost use Rattle.eqc_blif.specs.Names.{has_twice};
+ghost use Rattle.eqc_blif.specs.Finding.{StandsTwice};
 ghost use Rattle.eqc_check.specs.Matched.{ArePlaces};
 
 use eqc_blif::Name;
@@ -7,7 +8,10 @@ use eqc_flat::NameSet;
 use std::alloc::{AllocError, Global};
 
 /// The set of these names, in their order, or none where one stands twice. Fails where memory is refused.
-fn index_of<'a>(alloc: Global, names: &[&'a [u8]]) -> Result<Option<NameSet<'a>>, AllocError>
+pub(crate) fn index_of<'a>(
+    alloc: Global,
+    names: &[&'a [u8]],
+) -> Result<Option<NameSet<'a>>, AllocError>
     ensures { IfOk result (λ found. MatchOption found
         (has_twice (map (λ name. name.now) names.now) ≡ true)
         (λ index. (has_twice (map (λ name. name.now) names.now) ≡ false) × (index ≡ map (λ name. name.now) names.now))) }
@@ -19,6 +23,25 @@ fn index_of<'a>(alloc: Global, names: &[&'a [u8]]) -> Result<Option<NameSet<'a>>
         }
     }
     Ok(Some(set))
+}
+
+/// The first of these names that stands among those before it, or none where no name stands twice. Fails where memory
+/// is refused.
+pub(crate) fn first_twice<'a>(
+    alloc: Global,
+    names: &[&'a [u8]],
+) -> Result<Option<&'a [u8]>, AllocError>
+    ensures { IfOk result (λ found. MatchOption found
+        (has_twice (map (λ name. name.now) names.now) ≡ false)
+        (λ name. (has_twice (map (λ name. name.now) names.now) ≡ true) × StandsTwice (map (λ name. name.now) names.now) name.now)) }
+{
+    let mut set = NameSet::new(alloc);
+    'names: for name in names {
+        if !set.insert_bytes(name)? {
+            return Ok(Some(*name));
+        }
+    }
+    Ok(None)
 }
 
 /// Where each of these names stands in a set, or none where one of them isn't there. Fails where memory is refused.
@@ -57,7 +80,7 @@ pub(crate) fn places_among(
 pub(crate) fn has_twice(alloc: Global, names: &[&[u8]]) -> Result<bool, AllocError>
     ensures { IfOk result (λ twice. twice ≡ has_twice (map (λ name. name.now) names.now)) }
 {
-    Ok(index_of(alloc, names)?.is_none())
+    Ok(first_twice(alloc, names)?.is_some())
 }
 
 /// The bytes of each of these names. Fails where memory is refused.

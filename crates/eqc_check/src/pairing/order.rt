@@ -96,7 +96,7 @@ pub(crate) fn order_words<'t>(alloc: Global, text: &'t [u8]) -> Result<Vec<&'t [
 }
 
 /// The longest order text, in bytes.
-const MAX_TEXT: usize = 16_777_216;
+pub(crate) const MAX_TEXT: usize = 16_777_216;
 
 /// An order of a netlist's inputs.
 #[derive(Drop)]

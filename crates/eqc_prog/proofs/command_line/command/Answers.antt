@@ -15,5 +15,6 @@ returns c =
     let order = arg_added _ _ _ _ _ c.in_ok-arg-5.ensures c.text.ensures.own forks c.text.ensures.rule in
     let first_model = arg_added _ _ _ _ _ c.in_ok-arg-6.ensures c.text-2.ensures.own order c.text-2.ensures.rule in
     let second_model = arg_added _ _ _ _ _ c.in_ok-arg-7.ensures c.text-3.ensures.own first_model c.text-3.ensures.rule in
-    let first = arg_added _ _ _ _ _ c.in_ok-arg-8.ensures c.path.ensures.own second_model c.path.ensures.rule in
-    IfOk-weaker c.arg-9.result _ _ (λ r adds. arg_added _ _ _ _ _ adds c.path-2.ensures.own first c.path-2.ensures.rule) c.arg-9.ensures
+    let explain = arg_added _ _ _ _ _ c.in_ok-arg-8.ensures c.flag.ensures.own second_model c.flag.ensures.rule in
+    let first = arg_added _ _ _ _ _ c.in_ok-arg-9.ensures c.path.ensures.own explain c.path.ensures.rule in
+    IfOk-weaker c.arg-10.result _ _ (λ r adds. arg_added _ _ _ _ _ adds c.path-2.ensures.own first c.path-2.ensures.rule) c.arg-10.ensures

@@ -1,0 +1,45 @@
+//! What is told of a refusal, beside its report.
+
+use crate::pairing::finding::Finding;
+use crate::report::Side;
+use eqc_blif::Library;
+use eqc_tree::Stop;
+
+/// Is told why a report is a refusal or a stop, once and after the report was written.
+pub trait Diagnostics {
+    /// The text of this side was refused, at a line that counts from 1, or at none (0). There is no finding for a latch.
+    fn text(&mut self, side: Side, line: u32, finding: Option<&eqc_blif::Finding>);
+
+    /// The text of this side has these models, and none of the name, or at the place, that is wanted.
+    fn models(&mut self, side: Side, library: &Library);
+
+    /// The hierarchy of this side was refused.
+    fn hierarchy(&mut self, side: Side, library: &Library, finding: &eqc_flat::Finding<'_>);
+
+    /// The two netlists make no pair, or the order text is refused.
+    fn pair(&mut self, finding: &Finding<'_>);
+
+    /// An option was refused by this code, 81 to 84.
+    fn option(&mut self, code: u8);
+
+    /// The run was stopped.
+    fn stopped(&mut self, stop: Stop);
+}
+
+/// Is told nothing.
+#[derive(Drop)]
+pub struct NoDiagnostics;
+
+impl Diagnostics for NoDiagnostics {
+    fn text(&mut self, _side: Side, _line: u32, _finding: Option<&eqc_blif::Finding>) {}
+
+    fn models(&mut self, _side: Side, _library: &Library) {}
+
+    fn hierarchy(&mut self, _side: Side, _library: &Library, _finding: &eqc_flat::Finding<'_>) {}
+
+    fn pair(&mut self, _finding: &Finding<'_>) {}
+
+    fn option(&mut self, _code: u8) {}
+
+    fn stopped(&mut self, _stop: Stop) {}
+}

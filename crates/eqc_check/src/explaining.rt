@@ -1,0 +1,170 @@
+//! What is at fault in texts that are refused: the checks are made once more, in their order, up to the first that fails.
+ghost use Rattle.std.specs.Prelude.{◌<◌, length, IfOk, IfSome};
+
+use crate::choice::{Main, ModelNames, choose, read_main};
+use crate::diagnostics::Diagnostics;
+use crate::pairing::explanation::explain_pair;
+use crate::report::Side;
+use eqc_blif::{Library, Refusal, read};
+use eqc_flat::{Flat, flatten};
+use std::alloc::{AllocError, Global};
+
+/// Tells of a text that is refused, or in which a model isn't there. Fails where memory is refused.
+fn tell_text<T: Diagnostics>(
+    alloc: Global,
+    side: Side,
+    text: &[u8],
+    told: &mut T,
+) -> Result<(), AllocError> {
+    match read(alloc, text) {
+        Ok(library) => told.models(side, &library),
+        Err(Refusal { line, .. }) => {
+            let finding = eqc_blif::explain(alloc, text)?;
+            told.text(side, line, finding.as_ref());
+        }
+    }
+    Ok(())
+}
+
+/// The main model of a text, or none where the text was told of. Fails where memory is refused.
+fn main_or_told<T: Diagnostics>(
+    alloc: Global,
+    side: Side,
+    text: &[u8],
+    name: Option<&[u8]>,
+    told: &mut T,
+) -> Result<Option<Main>, AllocError>
+    ensures { IfOk result (λ found. IfSome found (λ main. main.model < length main.library)) }
+{
+    match read_main(alloc, text, name, 0) {
+        Ok(main) => Ok(Some(main)),
+        Err(refusal) => {
+            if refusal.is_memory() {
+                return Err(AllocError);
+            }
+            tell_text(alloc, side, text, told)?;
+            Ok(None)
+        }
+    }
+}
+
+/// Tells of the hierarchy below a model, if it is refused, and answers whether it did. Fails where memory is refused.
+fn tell_hierarchy<T: Diagnostics>(
+    alloc: Global,
+    side: Side,
+    main: (&Library, usize),
+    told: &mut T,
+) -> Result<bool, AllocError>
+    requires { main.1 < length main.0.now }
+{
+    match eqc_flat::explain(alloc, main.0, main.1)? {
+        Some(finding) => {
+            told.hierarchy(side, main.0, &finding);
+            Ok(true)
+        }
+        None => Ok(false),
+    }
+}
+
+/// Tells of two netlists that make no pair with an order text. Fails where memory is refused.
+fn tell_pair<T: Diagnostics>(
+    alloc: Global,
+    first: &Flat<'_>,
+    second: &Flat<'_>,
+    order: Option<&[u8]>,
+    told: &mut T,
+) -> Result<(), AllocError> {
+    if let Some(finding) = explain_pair(alloc, first, second, order)? {
+        told.pair(&finding);
+    }
+    Ok(())
+}
+
+/// Tells of two models whose comparison is refused. Fails where memory is refused.
+fn tell_models<T: Diagnostics>(
+    alloc: Global,
+    first: (&Library, usize),
+    second: (&Library, usize),
+    order: Option<&[u8]>,
+    told: &mut T,
+) -> Result<(), AllocError>
+    requires m { first.1 < length first.0.now }
+    requires n { second.1 < length second.0.now }
+{
+    if tell_hierarchy(alloc, Side::First, first, told)? {
+        return Ok(());
+    }
+    if tell_hierarchy(alloc, Side::Second, second, told)? {
+        return Ok(());
+    }
+    let (Ok(f), Ok(g)) = (
+        flatten(alloc, first.0, first.1),
+        flatten(alloc, second.0, second.1),
+    ) else {
+        return Ok(());
+    };
+    tell_pair(alloc, &f, &g, order, told)
+}
+
+/// Tells of a text of which two models are compared. Fails where memory is refused.
+fn tell_of_one<T: Diagnostics>(
+    alloc: Global,
+    text: &[u8],
+    names: &ModelNames<'_>,
+    order: Option<&[u8]>,
+    told: &mut T,
+) -> Result<(), AllocError> {
+    let Some(Main { library, model }) = main_or_told(alloc, Side::First, text, names.first, told)?
+    else {
+        return Ok(());
+    };
+    match choose(alloc, &library, names.second, 1) {
+        Ok(other) => tell_models(alloc, (&library, model), (&library, other), order, told),
+        Err(refusal) => {
+            if refusal.is_memory() {
+                return Err(AllocError);
+            }
+            told.models(Side::Second, &library);
+            Ok(())
+        }
+    }
+}
+
+/// Tells of two texts. Fails where memory is refused.
+fn tell_of_two<T: Diagnostics>(
+    alloc: Global,
+    first: &[u8],
+    second: &[u8],
+    names: &ModelNames<'_>,
+    order: Option<&[u8]>,
+    told: &mut T,
+) -> Result<(), AllocError> {
+    let Some(f) = main_or_told(alloc, Side::First, first, names.first, told)? else {
+        return Ok(());
+    };
+    let Some(g) = main_or_told(alloc, Side::Second, second, names.second, told)? else {
+        return Ok(());
+    };
+    tell_models(
+        alloc,
+        (&f.library, f.model),
+        (&g.library, g.model),
+        order,
+        told,
+    )
+}
+
+/// Tells what is at fault in texts whose report is a refusal. Fails where memory is refused.
+pub(crate) fn tell_of_texts<T: Diagnostics>(
+    alloc: Global,
+    first: &[u8],
+    second: Option<&[u8]>,
+    names: &ModelNames<'_>,
+    order: Option<&[u8]>,
+    told: &mut T,
+) -> Result<(), AllocError> {
+    match second {
+        None => tell_of_one(alloc, first, names, order, told),
+        Some(second) => tell_of_two(alloc, first, second, names, order, told),
+    }
+}
