@@ -1,11 +1,12 @@
-//! What is told of a refusal, beside its report.
+//! What is told of a run that gave no verdict, beside its report.
 
 use crate::pairing::finding::Finding;
 use crate::report::Side;
 use eqc_blif::Library;
 use eqc_tree::Stop;
+use std::io;
 
-/// Is told why a report is a refusal or a stop, once and after the report was written.
+/// Is told why a run gave no verdict, once and after its report was written, if it has one.
 pub trait Diagnostics {
     /// The text of this side was refused, at a line that counts from 1, or at none (0). There is no finding for a latch.
     fn text(&mut self, side: Side, line: u32, finding: Option<&eqc_blif::Finding>);
@@ -24,6 +25,12 @@ pub trait Diagnostics {
 
     /// The run was stopped.
     fn stopped(&mut self, stop: Stop);
+
+    /// The text of this side could not be read.
+    fn unread(&mut self, side: Side, error: &io::Error);
+
+    /// The report could not be written whole.
+    fn unwritten(&mut self, error: &io::Error);
 }
 
 /// Is told nothing.
@@ -42,4 +49,8 @@ impl Diagnostics for NoDiagnostics {
     fn option(&mut self, _code: u8) {}
 
     fn stopped(&mut self, _stop: Stop) {}
+
+    fn unread(&mut self, _side: Side, _error: &io::Error) {}
+
+    fn unwritten(&mut self, _error: &io::Error) {}
 }

@@ -1,6 +1,6 @@
 ghost use Rattle.std.specs.Prelude.{◌≡◌, ◌≢◌, ◌≤◌, IfOk, IfErr, OnErr, Err, None};
 ghost use Rattle.std.specs.Option.{option_map, option_copied};
-ghost use Rattle.eqc_check.specs.Sources.{MayBeRead, AreRead};
+ghost use Rattle.eqc_check.specs.Sources.{IsRead, MayBeRead, AreRead};
 ghost use Rattle.eqc_check.specs.ReportView.{report_of};
 ghost use Rattle.eqc_check.specs.Ends.{AppendsPrefix};
 ghost use Rattle.eqc_check.specs.Report.{text, stopped};
@@ -13,14 +13,16 @@ use crate::choice::ModelNames;
 use crate::decide::{Told, texts_report};
 use crate::diagnostics::{Diagnostics, NoDiagnostics};
 use crate::explaining::tell_of_texts;
-use crate::io::fault::RunFault;
+use crate::io::fault::{RunFault, StreamFault};
 use crate::io::reading::read_text;
+use crate::io::writing::write_whole;
 use crate::options::{Options, options_fault};
-use crate::report::text::write_report;
+use crate::report::text::{put_report, stopped_text};
 use crate::report::{Refused, Report, Side, Status};
 use crate::warning::Warnings;
 use eqc_tree::Stop;
 use std::alloc::Global;
+use std::io;
 use std::io::{Read, Write};
 use std::sync::Wait;
 use std::thread::Threads;
@@ -41,14 +43,34 @@ struct Sources {
     order: Option<Vec<u8>>,
 }
 
+/// A text that was not read, and why.
+#[derive(Drop)]
+struct Unread {
+    side: Side,
+    fault: StreamFault,
+}
+
+/// Reads the text of a side.
+fn read_side<R: Read>(alloc: Global, side: Side, text: &mut R) -> Result<Vec<u8>, Unread>
+    ensures { IfOk result (λ read. IsRead (R.remaining text.old) read.items) }
+{
+    match read_text(alloc, text) {
+        Ok(read) => Ok(read),
+        Err(fault) => Err(Unread { side, fault }),
+    }
+}
+
 /// A text that may be missing.
-fn read_some<R: Read + Drop>(alloc: Global, text: Option<R>) -> Result<Option<Vec<u8>>, RunFault>
-    ensures some { IfOk result (λ read. MayBeRead R.remaining text (option_map (λ v. v.items) read)) }
-    ensures fault { IfErr result (λ fault. fault ≢ RunFault.Write) }
+fn read_some<R: Read + Drop>(
+    alloc: Global,
+    side: Side,
+    text: Option<R>,
+) -> Result<Option<Vec<u8>>, Unread>
+    ensures { IfOk result (λ read. MayBeRead R.remaining text (option_map (λ v. v.items) read)) }
 {
     match text {
         None => Ok(None),
-        Some(mut text) => Ok(Some(read_text(alloc, &mut text)?)),
+        Some(mut text) => Ok(Some(read_side(alloc, side, &mut text)?)),
     }
 }
 
@@ -57,17 +79,16 @@ fn read_sources<R: Read + Drop>(
     alloc: Global,
     texts: Texts<R>,
     order: Option<R>,
-) -> Result<Sources, RunFault>
-    ensures read { IfOk result (λ sources. AreRead R.remaining texts order sources.first.items (option_map (λ v. v.items) sources.second) (option_map (λ v. v.items) sources.order)) }
-    ensures fault { IfErr result (λ fault. fault ≢ RunFault.Write) }
+) -> Result<Sources, Unread>
+    ensures { IfOk result (λ sources. AreRead R.remaining texts order sources.first.items (option_map (λ v. v.items) sources.second) (option_map (λ v. v.items) sources.order)) }
 {
     let (mut first, second) = match texts {
         Texts::One(text) => (text, None),
         Texts::Two(first, second) => (first, Some(second)),
     };
-    let first = read_text(alloc, &mut first)?;
-    let second = read_some(alloc, second)?;
-    let order = read_some(alloc, order)?;
+    let first = read_side(alloc, Side::First, &mut first)?;
+    let second = read_some(alloc, Side::Second, second)?;
+    let order = read_some(alloc, Side::Order, order)?;
     Ok(Sources {
         first,
         second,
@@ -85,6 +106,13 @@ fn bytes_of(text: &Option<Vec<u8>>) -> Option<&[u8]>
     }
 }
 
+/// Why a text could not be read.
+#[derive(Drop)]
+struct FailedRead {
+    side: Side,
+    error: io::Error,
+}
+
 /// What a run reports, and the texts that were read for it.
 #[derive(Drop)]
 struct Reported {
@@ -100,15 +128,17 @@ fn read_report<RT: Threads + Wait + Sync, R: Read + Drop>(
     names: &ModelNames<'_>,
     order: Option<R>,
     options: &Options,
-) -> Result<Reported, RunFault>
+) -> Result<Reported, FailedRead>
     requires options { options_code options.now ≡ None }
     ensures report { IfOk result (λ reported. IsReport names.now R.remaining texts order (report_of reported.told.report)) }
     ensures warned { IfOk result (λ reported. WarnsOfKnown names.now R.remaining texts (report_of reported.told.report) reported.told.warnings) }
-    ensures fault { IfErr result (λ fault. fault ≡ RunFault.Read) }
 {
     let sources = match read_sources(alloc, texts, order) {
         Ok(sources) => sources,
-        Err(RunFault::Read) => return Err(RunFault::Read),
+        Err(Unread {
+            side,
+            fault: StreamFault::Failed(error),
+        }) => return Err(FailedRead { side, error }),
         Err(_) => {
             return Ok(Reported {
                 told: Told::alone(Report::Stopped(Stop::Memory)),
@@ -126,28 +156,23 @@ fn read_report<RT: Threads + Wait + Sync, R: Read + Drop>(
 }
 
 /// Writes `stopped 72`, which takes no memory.
-fn write_stopped<W: Write>(alloc: Global, out: &mut W) -> Result<Status, RunFault>
+fn write_stopped<W: Write>(out: &mut W) -> io::Result<Status>
     ensures written { IfOk result (λ status. IsShown (stopped 72) (W.contents out.old) (W.contents out.new) status) }
     ensures part { OnErr result (AppendsPrefix (W.contents out.old) (W.contents out.new) (text (stopped 72))) }
-    ensures fault { IfErr result (λ fault. fault ≡ RunFault.Write) }
 {
-    let report = Report::Stopped(Stop::Memory);
-    match write_report(alloc, &report, out) {
-        Ok(()) => Ok(Status::Stopped),
-        Err(_) => Err(RunFault::Write),
-    }
+    write_whole(out, &stopped_text(Stop::Memory))?;
+    Ok(Status::Stopped)
 }
 
 /// Writes a report, or `stopped 72` where its text takes memory that is refused, and answers its kind.
-fn write_or_stop<W: Write>(alloc: Global, report: &Report, out: &mut W) -> Result<Status, RunFault>
+fn write_or_stop<W: Write>(alloc: Global, report: &Report, out: &mut W) -> io::Result<Status>
     ensures written { IfOk result (λ status. IsWritten (report_of report.now) (W.contents out.old) (W.contents out.new) status) }
     ensures part { OnErr result (IsCutShort (report_of report.now) (W.contents out.old) (W.contents out.new)) }
-    ensures fault { IfErr result (λ fault. fault ≡ RunFault.Write) }
 {
-    match write_report(alloc, report, out) {
+    match put_report(alloc, report, out) {
         Ok(()) => Ok(report.status()),
-        Err(RunFault::Memory) => write_stopped(alloc, out),
-        Err(_) => Err(RunFault::Write),
+        Err(StreamFault::Refused) => write_stopped(out),
+        Err(StreamFault::Failed(error)) => Err(error),
     }
 }
 
@@ -159,10 +184,10 @@ fn report_for<RT: Threads + Wait + Sync, R: Read + Drop>(
     names: &ModelNames<'_>,
     order: Option<R>,
     options: &Options,
-) -> Result<Reported, RunFault>
+) -> Result<Reported, FailedRead>
     ensures report { IfOk result (λ reported. IsReportFor (options_code options.now) names.now R.remaining texts order (report_of reported.told.report)) }
     ensures warned { IfOk result (λ reported. WarnsOfKnown names.now R.remaining texts (report_of reported.told.report) reported.told.warnings) }
-    ensures fault { IfErr result (λ fault. (fault ≡ RunFault.Read) × (options_code options.now ≡ None)) }
+    ensures read { OnErr result (options_code options.now ≡ None) }
 {
     match options_fault(options) {
         Some(code) => Ok(Reported {
@@ -206,8 +231,28 @@ fn tell<T: Diagnostics>(
     }
 }
 
-/// Compares two netlists and writes the report, as `run_models` does. Why it is a refusal or a stop is told
-/// afterwards, if that is wanted.
+/// Tells of a text that could not be read, if that is wanted.
+fn tell_unread<T: Diagnostics>(failed: &FailedRead, told: Option<&mut T>) -> RunFault
+    ensures { result ≡ RunFault.Read }
+{
+    if let Some(told) = told {
+        told.unread(failed.side, &failed.error);
+    }
+    RunFault::Read
+}
+
+/// Tells of a report that could not be written whole, if that is wanted.
+fn tell_unwritten<T: Diagnostics>(error: &io::Error, told: Option<&mut T>) -> RunFault
+    ensures { result ≡ RunFault.Write }
+{
+    if let Some(told) = told {
+        told.unwritten(error);
+    }
+    RunFault::Write
+}
+
+/// Compares two netlists and writes the report, as `run_models` does. Why it is a refusal or a stop, or could not be made
+/// or written, is told afterwards, if that is wanted.
 pub fn run_explained<RT: Threads + Wait + Sync, R: Read + Drop, W: Write, T: Diagnostics>(
     rt: &RT,
     alloc: Global,
@@ -226,7 +271,7 @@ pub fn run_explained<RT: Threads + Wait + Sync, R: Read + Drop, W: Write, T: Dia
 {
     let reported = match report_for(alloc, rt, texts, names, order, options) {
         Ok(reported) => reported,
-        Err(_) => return Err(RunFault::Read),
+        Err(failed) => return Err(tell_unread(&failed, told)),
     };
     let Reported {
         told: Told { report, warnings },
@@ -234,7 +279,7 @@ pub fn run_explained<RT: Threads + Wait + Sync, R: Read + Drop, W: Write, T: Dia
     } = reported;
     let status = match write_or_stop(alloc, &report, out) {
         Ok(status) => status,
-        Err(_) => return Err(RunFault::Write),
+        Err(error) => return Err(tell_unwritten(&error, told)),
     };
     if let Some(told) = told {
         tell(alloc, &report, sources, names, told);

@@ -235,6 +235,23 @@ told_by ((true, n) ∷ cs) code e = rw (eq-eqb n code (inside e)) refl
     inside e = cc
 told_by ((false, n) ∷ cs) code e = or_right ((n == code) && false) (list_any (λ c. (c.1 == code) && c.0) cs) (told_by cs code e)
 
+-- a number is the code of none of these conditions
+abbrev pub IsNoCodeOf : List (Bool × ℕ) → ℕ → Type 0
+IsNoCodeOf [] code = Unit {0}
+IsNoCodeOf (c ∷ cs) code = (code ≡ c.1 → ⊥) × IsNoCodeOf cs code
+
+told_by_none : (cs : List (Bool × ℕ)) (code : ℕ) → first_code cs ≡ Some code → IsNoCodeOf cs code → ⊥
+told_by_none [] code e none = none_some code e
+told_by_none ((true, n) ∷ cs) code e none = none.0 (inside e)
+  where
+    inside : Some n ≡ Some code → code ≡ n
+    inside e = cc
+told_by_none ((false, n) ∷ cs) code e none = told_by_none cs code e none.1
+
+-- a code that is told is that of a condition
+pub no_other_code : (library : List ModelOf) (top code : ℕ) → flat_code library top ≡ Some code → IsNoCodeOf (conditions library top) code → ⊥
+no_other_code library top code e none = told_by_none (conditions library top) code (sym (code_first library top) ∙ e) none
+
 or_false : (b : Bool) → (b || false) ≡ true → b ≡ true
 or_false true e = refl
 or_false false e = e
@@ -265,6 +282,10 @@ input_missing library top e = or_false (has_missing_formal library top) (told_co
 pub inputs_many : (library : List ModelOf) (top : ℕ) → flat_code library top ≡ Some 30 → 2048 < length (model library top).inputs
 unfolding has_many_inputs
 inputs_many library top e = ltb-true 2048 (length (model library top).inputs) (or_false (has_many_inputs library top) (told_code library top 30 e))
+
+pub size_large : (library : List ModelOf) (top : ℕ) → flat_code library top ≡ Some 29 → 1048576 < length (signals library top) + (length (paths library top) - 1)
+unfolding is_too_large
+size_large library top e = ltb-true 1048576 (length (signals library top) + (length (paths library top) - 1)) (or_false (is_too_large library top) (told_code library top 29 e))
 
 -- what stands somewhere has a first place
 pub place_known : {X : Type 0} (p : X → Bool) (xs : List X) → list_any p xs ≡ true → is_some (position p xs) ≡ true

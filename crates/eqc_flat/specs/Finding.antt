@@ -1,9 +1,9 @@
 -- What is at fault in a hierarchy that is refused, named so that it can be found in the text.
-use Rattle.std.specs.Prelude.{◌≡◌, ℕ, ◌<◌, Bool, true, false, List, [], ◌∷◌, ◌++◌, length, map, take, slice_index_or, Option, Some, None}
+use Rattle.std.specs.Prelude.{◌≡◌, ℕ, ◌<◌, ◌+◌, ◌-◌, true, false, List, [], ◌∷◌, ◌++◌, length, map, take, slice_index_or, Option, Some, None}
 use Rattle.eqc_blif.specs.Netlist.{ModelOf, InstanceOf}
 use Rattle.eqc_blif.specs.Names.{is_named}
 use Rattle.eqc_flat.specs.Graph.{among}
-use Rattle.eqc_flat.specs.Hierarchy.{model, model_number, callees, model_at, reached}
+use Rattle.eqc_flat.specs.Hierarchy.{model, model_number, callees, model_at, reached, paths}
 use Rattle.eqc_flat.specs.Walks.{IsWalk, WalksBack}
 use Rattle.eqc_flat.specs.HierarchyLaws.{needed}
 use Rattle.eqc_flat.specs.Reaching.{no_instance}
@@ -12,7 +12,7 @@ use Rattle.eqc_flat.specs.Codes.{formals, flat_code}
 use Rattle.eqc_flat.specs.Flattened.{signal_at}
 use Rattle.eqc_flat.specs.declared.hierarchical_name.Step.{Step}
 use Rattle.eqc_flat.specs.declared.finding.Finding.{Finding}
-use Rattle.eqc_flat.specs.declared.finding.Finding.TheVariants.{NoSuchModel, Recursion, UnknownFormal, FormalTwice, MissingInput, DrivenTwice, Undriven, Circular, ManyInputs}
+use Rattle.eqc_flat.specs.declared.finding.Finding.TheVariants.{NoSuchModel, Recursion, UnknownFormal, FormalTwice, MissingInput, DrivenTwice, Undriven, Circular, TooLarge, ManyInputs}
 
 -- the instances from one up to the main model, the innermost first, each with its position in the model around it and
 -- with its own model
@@ -78,14 +78,10 @@ IsAtFault library top (MissingInput found) = (flat_code library top ≡ Some 25)
 IsAtFault library top (DrivenTwice name) = (flat_code library top ≡ Some 26) × NamesDrivenTwice library top name
 IsAtFault library top (Undriven name) = (flat_code library top ≡ Some 27) × NamesUndriven library top name
 IsAtFault library top (Circular circle) = (flat_code library top ≡ Some 28) × IsCircle library top circle
+IsAtFault library top (TooLarge limit) = (flat_code library top ≡ Some 29) × (limit ≡ 1048576) × (limit < length (signals library top) + (length (paths library top) - 1))
 IsAtFault library top (ManyInputs inputs limit) = (flat_code library top ≡ Some 30) × (inputs ≡ length (model library top).inputs) × (limit ≡ 2048) × (limit < inputs)
 
--- whether a refusal is one of those of which something is named
-abbrev pub has_finding : Option ℕ → Bool
-has_finding None = false
-has_finding (Some code) = among (21 ∷ 22 ∷ 23 ∷ 24 ∷ 25 ∷ 26 ∷ 27 ∷ 28 ∷ 30 ∷ []) code
-
--- what is at fault, or none where nothing is refused for what is named here
+-- what is at fault, or none where nothing is refused
 abbrev pub IsExplained : List ModelOf → ℕ → Option Finding → Type 0
-IsExplained library top None = has_finding (flat_code library top) ≡ false
+IsExplained library top None = flat_code library top ≡ None
 IsExplained library top (Some finding) = IsAtFault library top finding

@@ -7,6 +7,7 @@ use crate::driver_findings::{driven_twice, undriven};
 use crate::finding::Finding;
 use crate::flattening::{MAX_INPUTS, flatten};
 use crate::instance_findings::{formal_twice, missing_input, missing_model, unknown_formal};
+use crate::instances::LIMIT;
 use crate::recursion::recursive_chain;
 use crate::rule::Rule;
 use eqc_blif::Library;
@@ -72,6 +73,9 @@ fn finding(
         let circle = circle_below(alloc, library, top)?;
         return Ok(Some(Finding::Circular(circle)));
     }
+    if code == Rule::TooLarge.code() {
+        return Ok(Some(Finding::TooLarge { limit: LIMIT }));
+    }
     if code == Rule::ManyInputs.code() {
         let inputs = library.inputs(top).len();
         let limit = MAX_INPUTS;
@@ -82,8 +86,7 @@ fn finding(
 
 /// What is at fault in the hierarchy below model `top` of a library, which is below the number of models, for a reader of
 /// a refusal: it flattens once more, and then goes through the hierarchy for what the code is about. None where
-/// flattening accepts the hierarchy, and where it is refused by a code of which nothing is named. Fails where memory is
-/// refused.
+/// flattening accepts the hierarchy. Fails where memory is refused.
 pub fn explain(
     alloc: Global,
     library: &Library,

@@ -8,7 +8,7 @@ use crate::naming::Naming;
 use std::alloc::{AllocError, Global};
 
 /// How many flat signals and instances there may be together, where the main model is no instance.
-const LIMIT: usize = 1_048_576;
+pub(crate) const LIMIT: usize = 1_048_576;
 
 /// The instances of a main model, numbered in the order in which they are found: the main model is the first, and
 /// those right below an instance come after those right below the instances before it.

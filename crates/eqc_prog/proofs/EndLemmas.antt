@@ -15,7 +15,7 @@ use Rattle.eqc_prog.specs.Sources.{source_remaining, AreAskedFor}
 use Rattle.eqc_prog.specs.declared.command_line.Request.{Request}
 use Rattle.eqc_prog.specs.declared.ending.End.TheVariants.{Failed}
 use Rattle.eqc_prog.specs.declared.source.Sources.{Sources}
-use Rattle.eqc_prog.specs.Ends.{Grows, names_of, IsRunEnd, IsShowing, fault_text}
+use Rattle.eqc_prog.specs.Ends.{Grows, names_of, MayBeExplained, IsRunEnd, IsShowing, fault_text}
 use Rattle.eqc_prog.specs.Warnings.{warning_line, IsToldOf}
 use Rattle.eqc_check.specs.declared.warning.Contained.{Contained}
 use Rattle.eqc_check.proofs.ReportLemmas.{two_digits}
@@ -62,11 +62,11 @@ write_line = sym (ap (λ ds. codes "fault " ++ ds ++ 10 ∷ []) (two_digits 92 (
 pub run_failed : {R F : Type 0} (input_remaining : R → Option (List ℕ)) (file_remaining : F → Option (List ℕ)) (request : Request) (input : R)
     (old new err_old err_new : Option (List ℕ)) (fault : RunFault) (sources : Sources R F) → AreAskedFor request input sources
     → (fault ≡ Write → IsCutOff (names_of request) (source_remaining input_remaining file_remaining) sources.texts sources.order request.options old new)
-    → (fault ≡ Read → new ≡ old) → fault ≢ Memory → err_new ≡ err_old → IsRunEnd input_remaining file_remaining request input old new err_old err_new (Failed fault)
-run_failed input_remaining file_remaining request input old new err_old err_new Memory sources opened cut kept never same = absurd (never refl)
-run_failed input_remaining file_remaining request input old new err_old err_new Read sources opened cut kept never same = (kept refl, same)
-run_failed input_remaining file_remaining request input old new err_old err_new Write sources opened cut kept never same =
-    (record { sources = sources; opened = opened; writes = cut refl }, same)
+    → (fault ≡ Read → new ≡ old) → fault ≢ Memory → MayBeExplained request.explain err_old err_new → IsRunEnd input_remaining file_remaining request input old new err_old err_new (Failed fault)
+run_failed input_remaining file_remaining request input old new err_old err_new Memory sources opened cut kept never explained = absurd (never refl)
+run_failed input_remaining file_remaining request input old new err_old err_new Read sources opened cut kept never explained = (kept refl, explained)
+run_failed input_remaining file_remaining request input old new err_old err_new Write sources opened cut kept never explained =
+    (record { sources = sources; opened = opened; writes = cut refl }, explained)
 
 -- nothing is told of nothing
 pub nothing_told : (text : List ℕ) (old new : Option (List ℕ)) → new ≡ old → IsToldOf text old new

@@ -78,16 +78,16 @@ pub record IsReported {R : Type 0} (remaining : R → Option (List ℕ)) (reques
   pub told : IsToldOf (warnings_text request warnings) err_old err
   pub explained : MayBeExplained request.explain err err_new
 
--- an end of a run: nothing is written where a file can't be opened or a read fails, and a part of the report where
--- a write fails
+-- an end of a run: no report is written where a file can't be opened or a read fails, and a part of it where a write
+-- fails
 abbrev pub IsRunEnd : {R F : Type 0} → (R → Option (List ℕ)) → (F → Option (List ℕ)) → Request → R → Option (List ℕ) → Option (List ℕ) → Option (List ℕ) → Option (List ℕ) → End → Type 0
 IsRunEnd input_remaining file_remaining request input old new err_old err_new (Reported status) =
     IsRunOn request input (λ texts order options. IsReported (source_remaining input_remaining file_remaining) request texts order options old new err_old err_new status)
 IsRunEnd input_remaining file_remaining request input old new err_old err_new Helped = ⊥
 IsRunEnd input_remaining file_remaining request input old new err_old err_new (Failed run_fault.Memory) = ⊥
-IsRunEnd input_remaining file_remaining request input old new err_old err_new (Failed run_fault.Read) = (new ≡ old) × (err_new ≡ err_old)
+IsRunEnd input_remaining file_remaining request input old new err_old err_new (Failed run_fault.Read) = (new ≡ old) × MayBeExplained request.explain err_old err_new
 IsRunEnd input_remaining file_remaining request input old new err_old err_new (Failed run_fault.Write) =
-    IsRunOn request input (λ texts order options. IsCutOff (names_of request) (source_remaining input_remaining file_remaining) texts order options old new) × (err_new ≡ err_old)
+    IsRunOn request input (λ texts order options. IsCutOff (names_of request) (source_remaining input_remaining file_remaining) texts order options old new) × MayBeExplained request.explain err_old err_new
 IsRunEnd input_remaining file_remaining request input old new err_old err_new (BadWords error) = ⊥
 
 -- a request for help or for the version

@@ -6,10 +6,11 @@
 use crate::command_line::Request;
 use crate::warning::{first_source, second_source};
 use eqc_blif::{Finding as TextFinding, Library};
-use eqc_check::{Diagnostics, Finding as PairFinding, Options, Side, Unmatched};
+use eqc_check::{Diagnostics, Finding as PairFinding, Options, RunFault, Side, Unmatched};
 use eqc_flat::{Circle, Finding, FoundFormal, FoundInstance, HierarchicalName};
 use eqc_tree::Stop;
 use std::alloc::{AllocError, Global};
+use std::io;
 
 /// How many bytes of a name or a row are shown.
 const SHOWN: usize = 60;
@@ -23,6 +24,8 @@ pub struct Explanation<'a> {
     alloc: Global,
     first: &'a str,
     second: &'a str,
+    /// Empty where there is no order text.
+    order: &'a str,
     options: Options,
     lines: Vec<u8>,
 }
@@ -305,6 +308,12 @@ fn push_finding(
             )
         }
         Finding::Circular(circle) => push_circle(alloc, line, library, circle),
+        Finding::TooLarge { limit } => {
+            let said = format!(in alloc;
+                "below the main model are more than {limit} signals and instances (29)"
+            )?;
+            push_text(line, said.as_str())
+        }
         Finding::ManyInputs { inputs, limit } => {
             let said = format!(in alloc;
                 "the main model has {inputs} inputs, and may have {limit} (30)"
@@ -404,17 +413,25 @@ pub fn explanation_for<'a>(alloc: Global, request: &Request<'a>) -> Explanation<
         alloc,
         first_source(request),
         second_source(request),
+        request.order.unwrap_or(""),
         request.options,
     )
 }
 
 impl<'a> Explanation<'a> {
     /// No line yet, for texts that are called so.
-    fn new(alloc: Global, first: &'a str, second: &'a str, options: Options) -> Explanation<'a> {
+    fn new(
+        alloc: Global,
+        first: &'a str,
+        second: &'a str,
+        order: &'a str,
+        options: Options,
+    ) -> Explanation<'a> {
         Explanation {
             alloc,
             first,
             second,
+            order,
             options,
             lines: Vec::new(alloc),
         }
@@ -425,17 +442,20 @@ impl<'a> Explanation<'a> {
         self.lines.as_slice()
     }
 
+    /// What the text of a side is called.
+    fn name(&self, side: Side) -> &'a str {
+        match side {
+            Side::Second => self.second,
+            Side::Order => self.order,
+            _ => self.first,
+        }
+    }
+
     /// The beginning of a line on the text of a side.
     fn begun(&self, side: Side) -> Result<Vec<u8>, AllocError> {
         let mut line = Vec::new(self.alloc);
         push_text(&mut line, "eqc: ")?;
-        push_text(
-            &mut line,
-            match side {
-                Side::Second => self.second,
-                _ => self.first,
-            },
-        )?;
+        push_text(&mut line, self.name(side))?;
         push_text(&mut line, ": ")?;
         Ok(line)
     }
@@ -511,6 +531,22 @@ impl<'a> Explanation<'a> {
         self.tell_line(said.as_str())
     }
 
+    /// Tells of a file that can't be opened or read, or of a report that can't be written, and why.
+    fn tell_failed(
+        &mut self,
+        name: &str,
+        error: &io::Error,
+        fault: RunFault,
+    ) -> Result<(), AllocError> {
+        let said = format!(in self.alloc; "{name}: {error} ({})", fault.code())?;
+        self.tell_line(said.as_str())
+    }
+
+    /// Tells of a file that could not be opened.
+    pub fn unopened(&mut self, path: &str, error: &io::Error) {
+        let _ = self.tell_failed(path, error, RunFault::Read);
+    }
+
     /// Puts a line on no text behind the others.
     fn tell_line(&mut self, said: &str) -> Result<(), AllocError> {
         let mut line = Vec::new(self.alloc);
@@ -554,5 +590,14 @@ impl<'a> Diagnostics for Explanation<'a> {
 
     fn stopped(&mut self, stop: Stop) {
         let _ = self.tell_stop(stop);
+    }
+
+    fn unread(&mut self, side: Side, error: &io::Error) {
+        let name = self.name(side);
+        let _ = self.tell_failed(name, error, RunFault::Read);
+    }
+
+    fn unwritten(&mut self, error: &io::Error) {
+        let _ = self.tell_failed("standard output", error, RunFault::Write);
     }
 }

@@ -34,19 +34,31 @@ pub struct Sources<'a, R, F> {
     pub order: Option<Source<'a, R, F>>,
 }
 
+/// A file that could not be opened.
+#[derive(Drop)]
+pub struct Unopened<'a> {
+    pub path: &'a str,
+    pub error: io::Error,
+}
+
 /// Opens a file to be read.
-fn open_file<'a, RT: Files, R>(rt: &RT, path: &'a str) -> io::Result<Source<'a, R, RT::File>>
+fn open_file<'a, RT: Files, R>(
+    rt: &RT,
+    path: &'a str,
+) -> Result<Source<'a, R, RT::File>, Unopened<'a>>
     ensures { IfOk result (IsFileOf path.entry) }
 {
-    let file = File::open(rt, path)?;
-    Ok(Source::File(path, file))
+    match File::open(rt, path) {
+        Ok(file) => Ok(Source::File(path, file)),
+        Err(error) => Err(Unopened { path, error }),
+    }
 }
 
 /// Opens a file that may not be wanted.
 fn open_some<'a, RT: Files, R>(
     rt: &RT,
     path: Option<&'a str>,
-) -> io::Result<Option<Source<'a, R, RT::File>>>
+) -> Result<Option<Source<'a, R, RT::File>>, Unopened<'a>>
     ensures { IfOk result (MayBeFileOf path.entry) }
 {
     match path {
@@ -60,7 +72,7 @@ fn open_texts<'a, RT: Files, R: Drop>(
     rt: &RT,
     first: &'a str,
     second: Option<&'a str>,
-) -> io::Result<Texts<Source<'a, R, RT::File>>>
+) -> Result<Texts<Source<'a, R, RT::File>>, Unopened<'a>>
     ensures { IfOk result (AreFilesOf first.entry second.entry) }
 {
     let first = open_file(rt, first)?;
@@ -76,7 +88,7 @@ pub fn open<'a, RT: Files, R: Drop>(
     rt: &RT,
     request: &Request<'a>,
     input: R,
-) -> io::Result<Sources<'a, R, RT::File>>
+) -> Result<Sources<'a, R, RT::File>, Unopened<'a>>
     ensures { IfOk result (AreAskedFor request.now input) }
 {
     let texts = match request.first {

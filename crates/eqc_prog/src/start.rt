@@ -8,7 +8,7 @@ use crate::command_line::{Request, read_words};
 use crate::ending::{End, tell};
 use crate::explanation::{Explanation, explanation_for};
 use crate::help::answers;
-use crate::source::open;
+use crate::source::{Unopened, open};
 use crate::warning::warn;
 use clap::Error;
 use clap::error::ErrorKind;
@@ -95,10 +95,15 @@ fn compare<RT: Files + AllocGlobal + Threads + Wait + Sync, R: Read + Drop, W: W
 ) -> End
     ensures { IsRunEnd R.remaining RT.File.remaining request.now input (W.contents out.old) (W.contents out.new) (E.contents err.old) (E.contents err.new) result }
 {
-    let Ok(sources) = open(rt, request, input) else {
-        return End::Failed(RunFault::Read);
-    };
     let mut explanation = explanation_for(rt.alloc(), request);
+    let sources = match open(rt, request, input) {
+        Ok(sources) => sources,
+        Err(Unopened { path, error }) => {
+            explanation.unopened(path, &error);
+            explain(request, &explanation, err);
+            return End::Failed(RunFault::Read);
+        }
+    };
     let finished = run_explained(
         rt,
         rt.alloc(),
@@ -115,7 +120,10 @@ fn compare<RT: Files + AllocGlobal + Threads + Wait + Sync, R: Read + Drop, W: W
             explain(request, &explanation, err);
             End::Reported(finished.status)
         }
-        Err(fault) => End::Failed(fault),
+        Err(fault) => {
+            explain(request, &explanation, err);
+            End::Failed(fault)
+        }
     }
 }
 

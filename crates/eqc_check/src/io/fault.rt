@@ -2,6 +2,7 @@ ghost use Rattle.std.specs.Prelude.{◌≡◌};
 ghost use Rattle.eqc_check.specs.Ends.{fault_code};
 
 use std::alloc::AllocError;
+use std::io;
 use thiserror::Error;
 
 /// Why a run ended without its report.
@@ -35,5 +36,32 @@ impl From<AllocError> for RunFault {
 
     fn from(_error: AllocError) -> RunFault {
         RunFault::Memory
+    }
+}
+
+/// Why a text was not read whole, or not written whole.
+#[derive(Clone, Copy)]
+pub(crate) enum StreamFault {
+    /// Memory was refused.
+    Refused,
+    /// A read, a write or a flush failed, for this reason.
+    Failed(io::Error),
+}
+
+ghost use Rattle.eqc_check.specs.declared.io.fault.StreamFault.TheVariants.{Refused, Failed};
+
+impl From<AllocError> for StreamFault {
+    ghost from_gives = { λ _ fault. fault ≡ Refused };
+
+    fn from(_error: AllocError) -> StreamFault {
+        StreamFault::Refused
+    }
+}
+
+impl From<io::Error> for StreamFault {
+    ghost from_gives = { λ error fault. fault ≡ Failed error };
+
+    fn from(error: io::Error) -> StreamFault {
+        StreamFault::Failed(error)
     }
 }

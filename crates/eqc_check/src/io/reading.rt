@@ -1,9 +1,9 @@
-ghost use Rattle.std.specs.Prelude.{◌≡◌, ◌≢◌, ◌<◌, ◌≤◌, length, IfOk, IfErr, if◌then◌else◌, IfSome, IsTrue, false, vec_len};
+ghost use Rattle.std.specs.Prelude.{◌≡◌, ◌<◌, ◌≤◌, length, IfOk, if◌then◌else◌, IfSome, IsTrue, false, vec_len};
 ghost use Rattle.std.specs.Io.KnownBytes.{Consumes, IsAtEnd};
 ghost use Rattle.eqc_check.specs.Ends.{Gives, bytes_read};
 
 use crate::io::Stage;
-use crate::io::fault::RunFault;
+use crate::io::fault::StreamFault;
 use std::alloc::{AllocError, Global};
 use std::io::Read;
 
@@ -19,7 +19,7 @@ fn read_more<R: Read>(
     stage: &mut Stage,
     block: &mut [u8],
     text: &mut Vec<u8>,
-) -> Result<bool, RunFault>
+) -> Result<bool, StreamFault>
     requires open { stage.old ≡ Stage.Open }
     requires room { 0 < length block.old }
     requires short { vec_len text.old < 16777217 }
@@ -28,7 +28,6 @@ fn read_more<R: Read>(
     ensures most { vec_len text.new ≤ 16777217 }
     ensures end { IfOk result (λ more. more ≡ false → IsAtEnd (R.remaining reader.new)) }
     ensures stage { IfOk result (λ more. stage.new ≡ (if more then Stage.Open else Stage.Done)) }
-    ensures fault { IfErr result (λ fault. fault ≢ RunFault.Write) }
 {
     let room = block.len().min(MOST_READ - text.len());
     let part = &mut block[..room];
@@ -41,9 +40,9 @@ fn read_more<R: Read>(
             text.extend_from_slice(&part[..n])?;
             Ok(true)
         }
-        Err(_) => {
+        Err(error) => {
             *stage = Stage::Failed;
-            Err(RunFault::Read)
+            Err(StreamFault::Failed(error))
         }
     }
 }
@@ -54,13 +53,11 @@ fn new_block(alloc: Global) -> Result<Vec<u8>, AllocError>
     vec![in alloc; 0; BLOCK]
 }
 
-/// Reads a text until its end or its 16,777,217th byte, in blocks. A read that fails is `Read`, and isn't
-/// tried again; a refused allocation is `Memory`.
-pub(crate) fn read_text<R: Read>(alloc: Global, reader: &mut R) -> Result<Vec<u8>, RunFault>
+/// Reads a text until its end or its 16,777,217th byte, in blocks. A read that fails isn't tried again.
+pub(crate) fn read_text<R: Read>(alloc: Global, reader: &mut R) -> Result<Vec<u8>, StreamFault>
     ensures text { IfOk result (λ text. IfSome (R.remaining reader.old) (λ bytes. text.items ≡ bytes_read bytes)) }
     ensures rest { IfOk result (λ text. Consumes (R.remaining reader.old) (R.remaining reader.new) text.items) }
     ensures most { IfOk result (λ text. vec_len text ≤ 16777217) }
-    ensures fault { IfErr result (λ fault. fault ≢ RunFault.Write) }
 {
     let mut stage = Stage::Open;
     let mut block = new_block(alloc)?;

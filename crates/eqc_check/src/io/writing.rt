@@ -4,57 +4,68 @@ ghost use Rattle.eqc_check.specs.Ends.{AppendsPrefix};
 
 use crate::io::Stage;
 use crate::io::fault::RunFault;
-use std::io::Write;
+use std::io;
+use std::io::{ErrorKind, Write};
 
-/// Writes some of these bytes, and says how many: one at least.
-fn write_some<W: Write>(out: &mut W, stage: &mut Stage, bytes: &[u8]) -> Result<usize, RunFault>
+/// Writes some of these bytes, and says how many: one at least. A write that takes nothing has failed.
+fn write_some<W: Write>(out: &mut W, stage: &mut Stage, bytes: &[u8]) -> io::Result<usize>
     requires { stage.old ≡ Stage.Open }
     ensures some { IfOk result (λ n. (0 < n) × (n ≤ length bytes.now)) }
     ensures written { IfOk result (λ n. Appends (W.contents out.old) (W.contents out.new) (take n bytes.now)) }
     ensures kept { OnErr result (Appends (W.contents out.old) (W.contents out.new) []) }
     ensures stage { stage.new ≡ (if is_ok result then Stage.Open else Stage.Failed) }
-    ensures fault { IfErr result (λ fault. fault ≡ RunFault.Write) }
 {
     match out.write(bytes) {
-        Ok(n) if n > 0 => Ok(n),
-        _ => {
+        Ok(0) => {
             *stage = Stage::Failed;
-            Err(RunFault::Write)
+            Err(io::Error::from(ErrorKind::WriteZero))
+        }
+        Ok(n) => Ok(n),
+        Err(error) => {
+            *stage = Stage::Failed;
+            Err(error)
         }
     }
 }
 
-fn flush<W: Write>(out: &mut W, stage: &mut Stage) -> Result<(), RunFault>
+fn flush<W: Write>(out: &mut W, stage: &mut Stage) -> io::Result<()>
     requires { stage.old ≡ Stage.Open }
     ensures kept { Keeps (W.contents out.old) (W.contents out.new) }
     ensures stage { stage.new ≡ (if is_ok result then Stage.Done else Stage.Failed) }
-    ensures fault { IfErr result (λ fault. fault ≡ RunFault.Write) }
 {
     match out.flush() {
         Ok(()) => {
             *stage = Stage::Done;
             Ok(())
         }
-        Err(_) => {
+        Err(error) => {
             *stage = Stage::Failed;
-            Err(RunFault::Write)
+            Err(error)
         }
     }
 }
 
 /// Writes the text whole, and flushes it. The stage tells how it ended.
-fn write_to_end<W: Write>(out: &mut W, stage: &mut Stage, text: &[u8]) -> Result<(), RunFault>
+fn write_to_end<W: Write>(out: &mut W, stage: &mut Stage, text: &[u8]) -> io::Result<()>
     requires { stage.old ≡ Stage.Open }
     ensures whole { OnOk result (Appends (W.contents out.old) (W.contents out.new) text.now) }
     ensures part { OnErr result (AppendsPrefix (W.contents out.old) (W.contents out.new) text.now) }
     ensures stage { stage.new ≡ (if is_ok result then Stage.Done else Stage.Failed) }
-    ensures fault { IfErr result (λ fault. fault ≡ RunFault.Write) }
 {
     let mut done = 0;
     'writes: while done < text.len() {
         done += write_some(out, stage, &text[done..])?;
     }
     flush(out, stage)
+}
+
+/// Writes the text, in as many writes as it takes, and flushes it. Nothing is tried again. No memory is taken.
+pub(crate) fn write_whole<W: Write>(out: &mut W, text: &[u8]) -> io::Result<()>
+    ensures whole { OnOk result (Appends (W.contents out.old) (W.contents out.new) text.now) }
+    ensures part { OnErr result (AppendsPrefix (W.contents out.old) (W.contents out.new) text.now) }
+{
+    let mut stage = Stage::Open;
+    write_to_end(out, &mut stage, text)
 }
 
 /// Writes the text, in as many writes as it takes, and flushes it. A write that fails or takes nothing, or a
@@ -64,6 +75,8 @@ pub fn write_text<W: Write>(out: &mut W, text: &[u8]) -> Result<(), RunFault>
     ensures part { OnErr result (AppendsPrefix (W.contents out.old) (W.contents out.new) text.now) }
     ensures fault { IfErr result (λ fault. fault ≡ RunFault.Write) }
 {
-    let mut stage = Stage::Open;
-    write_to_end(out, &mut stage, text)
+    match write_whole(out, text) {
+        Ok(()) => Ok(()),
+        Err(_) => Err(RunFault::Write),
+    }
 }

@@ -6,8 +6,8 @@ ghost use Rattle.eqc_check.specs.Ends.{AppendsPrefix};
 ghost use Rattle.eqc_check.specs.Report.{text, value_line, stopped, refused, differs};
 ghost use Rattle.eqc_check.specs.ReportView.{report_of, IsAnswer};
 
-use crate::io::fault::RunFault;
-use crate::io::writing::write_text;
+use crate::io::fault::{RunFault, StreamFault};
+use crate::io::writing::write_whole;
 use crate::report::{Refused, Report};
 use eqc_blif::Name;
 use eqc_tree::Stop;
@@ -15,7 +15,7 @@ use std::alloc::{AllocError, Global};
 use std::io::Write;
 
 /// `stopped CODE` with its LF. It takes no memory.
-fn stopped_text(stop: Stop) -> [u8; 11]
+pub(crate) fn stopped_text(stop: Stop) -> [u8; 11]
     ensures { result ≡ text (stopped (code_of stop)) }
 {
     let code = stop.code();
@@ -62,6 +62,38 @@ fn differs_text(
     Ok(text)
 }
 
+/// Writes the report's bytes and flushes the writer. Memory is refused before the first byte, and never for a report that
+/// stopped. Nothing is tried again.
+pub(crate) fn put_report<W: Write>(
+    alloc: Global,
+    report: &Report,
+    out: &mut W,
+) -> Result<(), StreamFault>
+    ensures written { OnOk result (Appends (W.contents out.old) (W.contents out.new) (text (report_of report.now))) }
+    ensures part { OnErr result (AppendsPrefix (W.contents out.old) (W.contents out.new) (text (report_of report.now))) }
+    ensures memory { IfErr result (λ fault. fault ≡ StreamFault.Refused → Keeps (W.contents out.old) (W.contents out.new)) }
+    ensures answers { IfErr result (λ fault. fault ≡ StreamFault.Refused → IsAnswer (report_of report.now)) }
+{
+    match report {
+        Report::Equivalent => write_whole(out, b"equivalent\n")?,
+        Report::Differs {
+            name,
+            inputs,
+            first,
+            second,
+        } => {
+            let text = differs_text(alloc, name, inputs, *first, *second)?;
+            write_whole(out, &text)?
+        }
+        Report::Refused(refusal) => {
+            let text = refused_text(alloc, *refusal)?;
+            write_whole(out, text.as_bytes())?
+        }
+        Report::Stopped(stop) => write_whole(out, &stopped_text(*stop))?,
+    }
+    Ok(())
+}
+
 /// Writes the report's bytes and flushes the writer. `Memory` comes before the first byte, and never for a
 /// report that stopped; a write that fails or takes nothing, or a flush that fails, is `Write`, and nothing
 /// is tried again.
@@ -72,21 +104,9 @@ pub fn write_report<W: Write>(alloc: Global, report: &Report, out: &mut W) -> Re
     ensures answers { IfErr result (λ fault. fault ≡ RunFault.Memory → IsAnswer (report_of report.now)) }
     ensures read { IfErr result (λ fault. fault ≢ RunFault.Read) }
 {
-    match report {
-        Report::Equivalent => write_text(out, b"equivalent\n"),
-        Report::Differs {
-            name,
-            inputs,
-            first,
-            second,
-        } => {
-            let text = differs_text(alloc, name, inputs, *first, *second)?;
-            write_text(out, &text)
-        }
-        Report::Refused(refusal) => {
-            let text = refused_text(alloc, *refusal)?;
-            write_text(out, text.as_bytes())
-        }
-        Report::Stopped(stop) => write_text(out, &stopped_text(*stop)),
+    match put_report(alloc, report, out) {
+        Ok(()) => Ok(()),
+        Err(StreamFault::Refused) => Err(RunFault::Memory),
+        Err(StreamFault::Failed(_)) => Err(RunFault::Write),
     }
 }
