@@ -1,6 +1,5 @@
 -- Runs over readers and a writer whose bytes are known.
 use Rattle.std.proofs.Common.{◌≡◌, ◌⊎◌, inl, inr, ℕ, true, List, length, take, refl, ◌∙◌, sym, ap, arith, subst, Option, Some, None, Ok, Err, IfSome, Result, IfOk, OnErr}
-use Rattle.eqc_check.specs.declared.io.fault.RunFault.{RunFault}
 use Rattle.std.proofs.lemmas.Bool.{cases_lt, lt-ltb}
 use Rattle.std.proofs.lemmas.List.{take_all, length-take-le}
 use Rattle.std.specs.Io.KnownBytes.{Appends, Keeps}
@@ -156,10 +155,10 @@ shown_instead report old mid new status k s = record { shown = stopped 72; one_o
 pub cut_instead : (report : ReportOf) (old mid new : Option (List ℕ)) → Keeps old mid → AppendsPrefix mid new (text (stopped 72)) → IsCutShort report old new
 cut_instead report old mid new k p = record { shown = stopped 72; one_of = inr refl; written = (p.0, p.1, kept_appends old mid new (take p.0 (text (stopped 72))) k p.2) }
 
-pub written_instead : (result : Result Status RunFault) (report : ReportOf) (old mid new : Option (List ℕ)) → Keeps old mid → IfOk result (λ status. IsShown (stopped 72) mid new status) → IfOk result (λ status. IsWritten report old new status)
+pub written_instead : {E : Type 0} (result : Result Status E) (report : ReportOf) (old mid new : Option (List ℕ)) → Keeps old mid → IfOk result (λ status. IsShown (stopped 72) mid new status) → IfOk result (λ status. IsWritten report old new status)
 written_instead (Ok status) report old mid new k s = shown_instead report old mid new status k s
 written_instead (Err fault) report old mid new k s = tt
 
-pub part_instead : (result : Result Status RunFault) (report : ReportOf) (old mid new : Option (List ℕ)) → Keeps old mid → OnErr result (AppendsPrefix mid new (text (stopped 72))) → OnErr result (IsCutShort report old new)
+pub part_instead : {E : Type 0} (result : Result Status E) (report : ReportOf) (old mid new : Option (List ℕ)) → Keeps old mid → OnErr result (AppendsPrefix mid new (text (stopped 72))) → OnErr result (IsCutShort report old new)
 part_instead (Ok status) report old mid new k p = tt
 part_instead (Err fault) report old mid new k p = cut_instead report old mid new k p
