@@ -10,9 +10,8 @@ use eqc_check::{Diagnostics, Finding as PairFinding, Options, RunFault, Side, Un
 use eqc_flat::{Circle, Finding, FoundFormal, FoundInstance, HierarchicalName};
 use eqc_tree::Stop;
 use std::alloc::{AllocError, Global};
-use std::fmt;
 use std::fmt::{Display, Formatter};
-use std::io;
+use std::{fmt, io};
 
 /// How many bytes of a name or a row are shown.
 const SHOWN: usize = 60;
@@ -154,20 +153,26 @@ fn text_said(alloc: Global, finding: &TextFinding) -> Result<String, AllocError>
             "the text has {bytes} bytes at least, and may have {limit} (2)"
         ),
         TextFinding::UnknownCommand(word) => format!(in alloc;
-            "'{}' is no command that is known (3)", Shown(word.as_bytes())
+            "'{}' is no command that is known (3)",
+            Shown(word.as_bytes())
         ),
         TextFinding::BehindEnd(word) => format!(in alloc;
-            "'{}' stands behind .end, where only .model may (5)", Shown(word.as_bytes())
+            "'{}' stands behind .end, where only .model may (5)",
+            Shown(word.as_bytes())
         ),
         TextFinding::RowOutsideCover(row) => format!(in alloc;
-            "the row '{}' follows no .names (6)", Shown(row.as_bytes())
+            "the row '{}' follows no .names (6)",
+            Shown(row.as_bytes())
         ),
         TextFinding::RowShape { row, columns } => format!(in alloc;
             "the row '{}' has {} characters; its cover wants 0, 1 or - for each of {columns} columns, and 0 or 1 for the output (7)",
-            Shown(row.as_bytes()), row.as_bytes().len()
+            Shown(row.as_bytes()),
+            row.as_bytes().len()
         ),
         TextFinding::RowOutput { output, first } => format!(in alloc;
-            "the row ends in '{}', and the first row of its cover in '{}' (8)", Shown(&[*output]), Shown(&[*first])
+            "the row ends in '{}', and the first row of its cover in '{}' (8)",
+            Shown(&[*output]),
+            Shown(&[*first])
         ),
         _ => name_said(alloc, finding),
     }
@@ -177,19 +182,24 @@ fn text_said(alloc: Global, finding: &TextFinding) -> Result<String, AllocError>
 fn name_said(alloc: Global, finding: &TextFinding) -> Result<String, AllocError> {
     match finding {
         TextFinding::NoPair(word) => format!(in alloc;
-            "'{}' is no pair of a formal and an actual, as a=b (9)", Shown(word.as_bytes())
+            "'{}' is no pair of a formal and an actual, as a=b (9)",
+            Shown(word.as_bytes())
         ),
         TextFinding::NoWord(command) => format!(in alloc;
-            "'{}' has no word behind it (10)", Shown(command.as_bytes())
+            "'{}' has no word behind it (10)",
+            Shown(command.as_bytes())
         ),
         TextFinding::ModelTwice(name) => format!(in alloc;
-            "a model '{}' stands before (11)", Shown(name.as_bytes())
+            "a model '{}' stands before (11)",
+            Shown(name.as_bytes())
         ),
         TextFinding::InputTwice(name) => format!(in alloc;
-            "'{}' stands twice in the inputs of its model (12)", Shown(name.as_bytes())
+            "'{}' stands twice in the inputs of its model (12)",
+            Shown(name.as_bytes())
         ),
         TextFinding::OutputTwice(name) => format!(in alloc;
-            "'{}' stands twice in the outputs of its model (12)", Shown(name.as_bytes())
+            "'{}' stands twice in the outputs of its model (12)",
+            Shown(name.as_bytes())
         ),
         _ => String::from_str(alloc, "no line is a statement (13)"),
     }
@@ -230,7 +240,8 @@ fn circle_said(
     circle: &Circle<'_>,
 ) -> Result<String, AllocError> {
     let mut said = format!(in alloc;
-        "each of {} signals depends on the next one, and the last on the first (28)", circle.count()
+        "each of {} signals depends on the next one, and the last on the first (28)",
+        circle.count()
     )?;
     let mut cut = ":";
     for name in circle.signals() {
@@ -252,7 +263,8 @@ fn hierarchy_said(
 ) -> Result<String, AllocError> {
     match finding {
         Finding::NoSuchModel(found) => format!(in alloc;
-            "{}: the text has no such model (21)", Place { library, found }
+            "{}: the text has no such model (21)",
+            Place { library, found }
         ),
         Finding::Recursion(models) => chain_said(alloc, library, models),
         Finding::UnknownFormal(found) => formal_said(
@@ -261,15 +273,27 @@ fn hierarchy_said(
             found,
             "is neither input nor output of that model (23)",
         ),
-        Finding::FormalTwice(found) => formal_said(alloc, library, found, "stands in two pairs (24)"),
+        Finding::FormalTwice(found) => formal_said(
+            alloc,
+            library,
+            found,
+            "stands in two pairs (24)",
+        ),
         Finding::MissingInput(found) => {
-            formal_said(alloc, library, found, "is an input of that model, and has no pair (25)")
+            formal_said(
+                alloc,
+                library,
+                found,
+                "is an input of that model, and has no pair (25)",
+            )
         }
         Finding::DrivenTwice(name) => format!(in alloc;
-            "signal {} is driven twice (26)", Signal { library, name }
+            "signal {} is driven twice (26)",
+            Signal { library, name }
         ),
         Finding::Undriven(name) => format!(in alloc;
-            "signal {} has no driver (27)", Signal { library, name }
+            "signal {} has no driver (27)",
+            Signal { library, name }
         ),
         Finding::Circular(circle) => circle_said(alloc, library, circle),
         Finding::TooLarge { limit } => format!(in alloc;
@@ -285,22 +309,29 @@ fn hierarchy_said(
 fn pair_said(alloc: Global, finding: &PairFinding<'_>) -> Result<String, AllocError> {
     match finding {
         PairFinding::OtherInputs { first, second } => format!(in alloc;
-            "inputs of the first netlist alone, {}; of the second alone, {} (41)", Names(first), Names(second)
+            "inputs of the first netlist alone, {}; of the second alone, {} (41)",
+            Names(first),
+            Names(second)
         ),
         PairFinding::OtherOutputs { first, second } => format!(in alloc;
-            "outputs of the first netlist alone, {}; of the second alone, {} (42)", Names(first), Names(second)
+            "outputs of the first netlist alone, {}; of the second alone, {} (42)",
+            Names(first),
+            Names(second)
         ),
         PairFinding::OrderTooLong { bytes, limit } => format!(in alloc;
             "the order text has {bytes} bytes at least, and may have {limit} (2)"
         ),
         PairFinding::UnknownWords(words) => format!(in alloc;
-            "words of the order text that are no inputs, {} (51)", Names(words)
+            "words of the order text that are no inputs, {} (51)",
+            Names(words)
         ),
         PairFinding::WordTwice(word) => format!(in alloc;
-            "'{}' stands twice in the order text (52)", Shown(word)
+            "'{}' stands twice in the order text (52)",
+            Shown(word)
         ),
         PairFinding::InputsLeftOut(names) => format!(in alloc;
-            "inputs that the order text leaves out, {} (53)", Names(names)
+            "inputs that the order text leaves out, {} (53)",
+            Names(names)
         ),
     }
 }
@@ -322,22 +353,23 @@ fn models_said(alloc: Global, library: &Library) -> Result<String, AllocError> {
 }
 
 /// What is said of an option that is refused by a code.
-fn option_said(alloc: Global, options: &Options, code: u8) -> Result<String, AllocError> {
+fn option_said(alloc: Global, options: Options, code: u8) -> Result<String, AllocError> {
     match code {
         81 => format!(in alloc; "--workers {}: 1 to 64 are allowed (81)", options.workers),
         82 => format!(in alloc; "--nodes {}: 1 to 1048574 are allowed (82)", options.nodes),
         83 => format!(in alloc;
-            "--cells {}: a power of two up to 1048576 is wanted (83)", options.cells
+            "--cells {}: a power of two up to 1048576 is wanted (83)",
+            options.cells
         ),
         _ => format!(in alloc; "--forks {}: 0 to 16 are allowed (84)", options.forks),
     }
 }
 
 /// What is said of a comparison that was given up.
-fn stop_said(alloc: Global, options: &Options, stop: Stop) -> Result<String, AllocError> {
+fn stop_said(alloc: Global, options: Options, stop: Stop) -> Result<String, AllocError> {
     if stop == Stop::NodeLimit {
         return format!(in alloc;
-            "{} nodes are not enough (71); try a larger --nodes, up to 1048574, or another --order, as scripts/order makes",
+            "the diagrams want more than --nodes {} (71); try a larger number, up to 1048574, or another --order, as scripts/order makes",
             options.nodes
         );
     }
@@ -399,7 +431,10 @@ impl<'a> Explanation<'a> {
     ) -> Result<(), AllocError> {
         let said = match finding {
             Some(finding) => text_said(self.alloc, finding)?,
-            None => String::from_str(self.alloc, "a latch; cut registers into inputs and outputs (4)")?,
+            None => String::from_str(
+                self.alloc,
+                "a latch; cut registers into inputs and outputs (4)",
+            )?,
         };
         let name = self.name(side);
         if number == 0 {
@@ -419,7 +454,10 @@ impl<'a> Explanation<'a> {
         library: &Library,
         finding: &Finding<'_>,
     ) -> Result<(), AllocError> {
-        self.tell_of(self.name(side), hierarchy_said(self.alloc, library, finding))?;
+        self.tell_of(
+            self.name(side),
+            hierarchy_said(self.alloc, library, finding),
+        )?;
         match finding {
             Finding::Undriven(_) => self.hint(UNDRIVEN_HINT),
             _ => Ok(()),
@@ -456,11 +494,11 @@ impl<'a> Diagnostics for Explanation<'a> {
     }
 
     fn option(&mut self, code: u8) {
-        let _ = self.tell(option_said(self.alloc, &self.options, code));
+        let _ = self.tell(option_said(self.alloc, self.options, code));
     }
 
     fn stopped(&mut self, stop: Stop) {
-        let _ = self.tell(stop_said(self.alloc, &self.options, stop));
+        let _ = self.tell(stop_said(self.alloc, self.options, stop));
     }
 
     fn unread(&mut self, side: Side, error: &io::Error) {
