@@ -128,7 +128,7 @@ fn command<'a>(alloc: Global, answers: &'a str) -> Result<Command<'a>, AllocErro
         .arg(flag(
             alloc,
             "explain",
-            "Tells on standard error why a run was refused or stopped",
+            "Tells on standard error why there is no verdict",
         ))?
         .arg(path(alloc, "first", "The first netlist, or both"))?
         .arg(path(alloc, "second", "The second netlist"))

@@ -9,14 +9,15 @@ pub const ABOUT: &str =
 
 pub const USAGE: &str = "\
 eqc [--workers N] [--nodes N] [--cells N] [--forks N] [--order FILE]
-           [--first-model NAME] [--second-model NAME] [FILE [FILE]]";
+           [--first-model NAME] [--second-model NAME] [--explain] [FILE [FILE]]";
 
 /// The texts that are compared, and the reports with their statuses.
 const REPORTS: &str = "\
 Without a FILE the first two models of standard input are compared, with one FILE its first two models,
 with two the first model of each. --first-model and --second-model choose a model by its name instead; with one
 text both choose from it. A warning on standard error says that a model was compared which another model of its
-text contains, as where a tool wrote a part of a design first. `--` ends the options. Numbers go from 0 to 4294967295.
+text contains, as where a tool wrote a part of a design first. --explain names what is at fault where there is no
+verdict. `--` ends the options. Numbers go from 0 to 4294967295.
 Each worker has a thread and diagrams of its own. So far --cells and --forks are checked, and change nothing else.
 
 Statuses and reports:

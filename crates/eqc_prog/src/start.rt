@@ -160,8 +160,10 @@ fn perform<RT: Files + AllocGlobal + Threads + Wait + Sync, R: Read + Drop, W: W
 ///
 /// The words are those of the command line, the program's name first; `input`, `out` and `err` are standard input,
 /// output and error. The options are `--workers N`, `--nodes N`, `--cells N`, `--forks N` and `--order FILE`,
-/// `--first-model NAME` and `--second-model NAME`, and up to two files are compared. All files are opened before one is read. The report is written to `out`. Where
-/// it is a verdict on a model that a model of its text contains which isn't compared, `err` gets a warning on it.
+/// `--first-model NAME`, `--second-model NAME` and `--explain`, and up to two files are compared. All files are opened
+/// before one is read. The report is written to `out`. Where it is a verdict on a model that a model of its text contains
+/// which isn't compared, `err` gets a warning on it. Where there is no verdict and `--explain` is given, `err` gets lines
+/// on what is at fault.
 ///
 /// The status is 0 where the netlists are equivalent, 1 where they differ, 2 where the input is refused and 3 where
 /// the comparison was stopped. It is 4 where a read or a write failed, and then `err` gets `fault 91` for a read, or

@@ -18,37 +18,112 @@ type Row = (&'static str, &'static str, &'static str, &'static str);
 
 /// Texts that are no netlists.
 static READING: [Row; 15] = [
-    ("", ".model f;\u{1};", "refused first 2 1;", "eqc: standard input: line 2: the byte 1 in column 1 is no part of a text (1)\n"),
+    (
+        "",
+        ".model f;\u{1};",
+        "refused first 2 1;",
+        "eqc: standard input: line 2: the byte 1 in column 1 is no part of a text (1)\n",
+    ),
     (
         "",
         ".model f;.gate and2 a=b;.end;",
         "refused first 2 3;",
         "eqc: standard input: line 2: '.gate' is no command that is known (3)\neqc: these are mapped cells; abc writes covers in their place after 'strash' or 'unmap'\n",
     ),
-    ("", ".model f;.conn a b;", "refused first 2 3;", "eqc: standard input: line 2: '.conn' is no command that is known (3)\neqc: yosys writes it with 'write_blif -conn'; leave that option out\n"),
-    ("", ".model f;.latch a z 0;", "refused first 2 4;", "eqc: standard input: line 2: a latch; cut registers into inputs and outputs (4)\n"),
-    ("", ".model f;.end;.names z;", "refused first 3 5;", "eqc: standard input: line 3: '.names' stands behind .end, where only .model may (5)\n"),
-    ("", ".model f;11 1;", "refused first 2 6;", "eqc: standard input: line 2: the row '111' follows no .names (6)\n"),
+    (
+        "",
+        ".model f;.conn a b;",
+        "refused first 2 3;",
+        "eqc: standard input: line 2: '.conn' is no command that is known (3)\neqc: yosys writes it with 'write_blif -conn'; leave that option out\n",
+    ),
+    (
+        "",
+        ".model f;.latch a z 0;",
+        "refused first 2 4;",
+        "eqc: standard input: line 2: a latch; cut registers into inputs and outputs (4)\n",
+    ),
+    (
+        "",
+        ".model f;.end;.names z;",
+        "refused first 3 5;",
+        "eqc: standard input: line 3: '.names' stands behind .end, where only .model may (5)\n",
+    ),
+    (
+        "",
+        ".model f;11 1;",
+        "refused first 2 6;",
+        "eqc: standard input: line 2: the row '111' follows no .names (6)\n",
+    ),
     (
         "",
         ".model f;.names a b z;1 1;",
         "refused first 3 7;",
         "eqc: standard input: line 3: the row '11' has 2 characters; its cover wants 0, 1 or - for each of 2 columns, and 0 or 1 for the output (7)\n",
     ),
-    ("", ".model f;.names a z;1 1;0 0;", "refused first 4 8;", "eqc: standard input: line 4: the row ends in '0', and the first row of its cover in '1' (8)\n"),
-    ("", ".model f;.subckt g a;", "refused first 2 9;", "eqc: standard input: line 2: 'a' is no pair of a formal and an actual, as a=b (9)\n"),
-    ("", ".model f;.names;", "refused first 2 10;", "eqc: standard input: line 2: '.names' has no word behind it (10)\n"),
-    ("", ".model f;.end;.model f;", "refused first 3 11;", "eqc: standard input: line 3: a model 'f' stands before (11)\n"),
-    ("", ".model f;.inputs a a;", "refused first 2 12;", "eqc: standard input: line 2: 'a' stands twice in the inputs of its model (12)\n"),
-    ("", ".model f;.outputs a a;", "refused first 2 12;", "eqc: standard input: line 2: 'a' stands twice in the outputs of its model (12)\n"),
-    ("", "", "refused first 0 13;", "eqc: standard input: no line is a statement (13)\n"),
-    ("", ".model f;.end;", "refused second 0 13;", "eqc: standard input: of the 1 models none has the name or the place that is wanted (13): 'f'\n"),
+    (
+        "",
+        ".model f;.names a z;1 1;0 0;",
+        "refused first 4 8;",
+        "eqc: standard input: line 4: the row ends in '0', and the first row of its cover in '1' (8)\n",
+    ),
+    (
+        "",
+        ".model f;.subckt g a;",
+        "refused first 2 9;",
+        "eqc: standard input: line 2: 'a' is no pair of a formal and an actual, as a=b (9)\n",
+    ),
+    (
+        "",
+        ".model f;.names;",
+        "refused first 2 10;",
+        "eqc: standard input: line 2: '.names' has no word behind it (10)\n",
+    ),
+    (
+        "",
+        ".model f;.end;.model f;",
+        "refused first 3 11;",
+        "eqc: standard input: line 3: a model 'f' stands before (11)\n",
+    ),
+    (
+        "",
+        ".model f;.inputs a a;",
+        "refused first 2 12;",
+        "eqc: standard input: line 2: 'a' stands twice in the inputs of its model (12)\n",
+    ),
+    (
+        "",
+        ".model f;.outputs a a;",
+        "refused first 2 12;",
+        "eqc: standard input: line 2: 'a' stands twice in the outputs of its model (12)\n",
+    ),
+    (
+        "",
+        "",
+        "refused first 0 13;",
+        "eqc: standard input: no line is a statement (13)\n",
+    ),
+    (
+        "",
+        ".model f;.end;",
+        "refused second 0 13;",
+        "eqc: standard input: of the 1 models none has the name or the place that is wanted (13): 'f'\n",
+    ),
 ];
 
 /// Hierarchies that are no netlists.
 static FLATTENING: [Row; 9] = [
-    ("", ".model f;.subckt g a=b;.end;.model h;", "refused first 0 21;", "eqc: standard input: .subckt 1 of model 'f', a 'g': the text has no such model (21)\n"),
-    ("", ".model f;.subckt g;.end;.model g;.subckt f;.end;", "refused first 0 22;", "eqc: standard input: a model contains itself (22): 'f' > 'g' > 'f'\n"),
+    (
+        "",
+        ".model f;.subckt g a=b;.end;.model h;",
+        "refused first 0 21;",
+        "eqc: standard input: .subckt 1 of model 'f', a 'g': the text has no such model (21)\n",
+    ),
+    (
+        "",
+        ".model f;.subckt g;.end;.model g;.subckt f;.end;",
+        "refused first 0 22;",
+        "eqc: standard input: a model contains itself (22): 'f' > 'g' > 'f'\n",
+    ),
     (
         "",
         ".model f;.inputs a;.subckt g b=a;.end;.model g;.end;",
@@ -67,7 +142,12 @@ static FLATTENING: [Row; 9] = [
         "refused first 0 25;",
         "eqc: standard input: .subckt 1 of model 'f', a 'g': 'b' is an input of that model, and has no pair (25)\n",
     ),
-    ("", ".model f;.inputs a;.names a;.end;.model g;.end;", "refused first 0 26;", "eqc: standard input: signal 'a' is driven twice (26)\n"),
+    (
+        "",
+        ".model f;.inputs a;.names a;.end;.model g;.end;",
+        "refused first 0 26;",
+        "eqc: standard input: signal 'a' is driven twice (26)\n",
+    ),
     (
         "",
         ".model f;.outputs z;.subckt g z=y;.subckt g z=z;.end;.model g;.outputs z;.subckt h n=z;.end;.model h;.outputs n;.names m n;1 1;",
@@ -90,30 +170,85 @@ static FLATTENING: [Row; 9] = [
 
 /// Netlists that make no pair, order texts, options, and files that can't be read.
 static COMPARING: [Row; 14] = [
-    ("", LEAF_FIRST, "refused pair 0 41;", "eqc: inputs of the first netlist alone, 0; of the second alone, 1: 'b' (41)\n"),
+    (
+        "",
+        LEAF_FIRST,
+        "refused pair 0 41;",
+        "eqc: inputs of the first netlist alone, 0; of the second alone, 1: 'b' (41)\n",
+    ),
     (
         "",
         ".model f;.outputs y;.names y;.end;.model g;.outputs z;.names z;.end;",
         "refused pair 0 42;",
         "eqc: outputs of the first netlist alone, 1: 'y'; of the second alone, 1: 'z' (42)\n",
     ),
-    ("--order ada", PERMUTED, "refused order 0 51;", "eqc: words of the order text that are no inputs, 1: 'd' (51)\n"),
-    ("--order aba", PERMUTED, "refused order 0 52;", "eqc: 'a' stands twice in the order text (52)\n"),
-    ("--order a", PERMUTED, "refused order 0 53;", "eqc: inputs that the order text leaves out, 1: 'b' (53)\n"),
+    (
+        "--order ada",
+        PERMUTED,
+        "refused order 0 51;",
+        "eqc: words of the order text that are no inputs, 1: 'd' (51)\n",
+    ),
+    (
+        "--order aba",
+        PERMUTED,
+        "refused order 0 52;",
+        "eqc: 'a' stands twice in the order text (52)\n",
+    ),
+    (
+        "--order a",
+        PERMUTED,
+        "refused order 0 53;",
+        "eqc: inputs that the order text leaves out, 1: 'b' (53)\n",
+    ),
     (
         "--nodes 1",
         UNEQUAL,
         "stopped 71;",
         "eqc: the diagrams want more than --nodes 1 (71); try a larger number, up to 1048574, or another --order, as scripts/order makes\n",
     ),
-    ("--workers 65", UNEQUAL, "refused options 0 81;", "eqc: --workers 65: 1 to 64 are allowed (81)\n"),
-    ("--nodes 0", UNEQUAL, "refused options 0 82;", "eqc: --nodes 0: 1 to 1048574 are allowed (82)\n"),
-    ("--cells 3", UNEQUAL, "refused options 0 83;", "eqc: --cells 3: a power of two up to 1048576 is wanted (83)\n"),
-    ("--forks 17", UNEQUAL, "refused options 0 84;", "eqc: --forks 17: 0 to 16 are allowed (84)\n"),
+    (
+        "--workers 65",
+        UNEQUAL,
+        "refused options 0 81;",
+        "eqc: --workers 65: 1 to 64 are allowed (81)\n",
+    ),
+    (
+        "--nodes 0",
+        UNEQUAL,
+        "refused options 0 82;",
+        "eqc: --nodes 0: 1 to 1048574 are allowed (82)\n",
+    ),
+    (
+        "--cells 3",
+        UNEQUAL,
+        "refused options 0 83;",
+        "eqc: --cells 3: a power of two up to 1048576 is wanted (83)\n",
+    ),
+    (
+        "--forks 17",
+        UNEQUAL,
+        "refused options 0 84;",
+        "eqc: --forks 17: 0 to 16 are allowed (84)\n",
+    ),
     ("and nofile", "", "", "eqc: nofile: entity not found (91)\n"),
-    ("and or --order nofile", "", "", "eqc: nofile: entity not found (91)\n"),
-    ("and broken!", "", "", "eqc: broken!: operation interrupted (91)\n"),
-    ("and or --order broken!", "", "", "eqc: broken!: operation interrupted (91)\n"),
+    (
+        "and or --order nofile",
+        "",
+        "",
+        "eqc: nofile: entity not found (91)\n",
+    ),
+    (
+        "and broken!",
+        "",
+        "",
+        "eqc: broken!: operation interrupted (91)\n",
+    ),
+    (
+        "and or --order broken!",
+        "",
+        "",
+        "eqc: broken!: operation interrupted (91)\n",
+    ),
 ];
 
 /// A row is reported as ever, with the lines of its explanation where `--explain` asks for them, and with none where it
@@ -131,7 +266,10 @@ fn check_row(
     assert!(rt; is_text(&told.out, report), "{options}: {text}");
     assert_eq!(rt; told.status, plain.status, "{options}: {text}");
     let fault = if report.is_empty() { "fault 91\n" } else { "" };
-    assert!(rt; plain.err.as_slice() == fault.as_bytes(), "{options}: {text}");
+    assert!(rt;
+        plain.err.as_slice() == fault.as_bytes(),
+        "{options}: {text}"
+    );
     let both = format!(in rt.alloc(); "{said}{fault}")?;
     assert!(rt; told.err.as_slice() == both.as_bytes(), "{options}: {text}");
     Ok(())
@@ -177,13 +315,19 @@ fn too_many_inputs_and_bytes_are_explained(rt: HostRuntime) -> Result<(), AllocE
     let text = many_inputs(rt.alloc(), 2049)?;
     let told = written_by(&rt, "eqc --explain", Feed::whole(&text))?;
     assert!(rt; is_text(&told.out, "refused first 0 30;"));
-    assert!(rt; told.err.as_slice() == b"eqc: standard input: the main model has 2049 inputs, and may have 2048 (30)\n".as_slice());
+    assert!(rt;
+        told.err.as_slice()
+            == b"eqc: standard input: the main model has 2049 inputs, and may have 2048 (30)\n".as_slice()
+    );
     let words = words_of(rt.alloc(), "eqc --explain")?;
     let mut out = Vec::new(rt.alloc());
     let mut err = Vec::new(rt.alloc());
     program(&rt, &words, Endless::new(), &mut out, &mut err);
     assert!(rt; is_text(&out, "refused first 0 2;"));
-    assert!(rt; err.as_slice() == b"eqc: standard input: the text has 16777217 bytes at least, and may have 16777216 (2)\n".as_slice());
+    assert!(rt;
+        err.as_slice()
+            == b"eqc: standard input: the text has 16777217 bytes at least, and may have 16777216 (2)\n".as_slice()
+    );
     Ok(())
 }
 
@@ -199,7 +343,13 @@ fn a_failed_write_is_explained(rt: HostRuntime) -> Result<(), AllocError> {
         let words = words_of(rt.alloc(), line)?;
         let mut out = Drain::new(Vec::new(rt.alloc()), 4, 1, true);
         let mut err = Vec::new(rt.alloc());
-        let status = program(&rt, &words, Feed::new(UNEQUAL, NEVER, NEVER), &mut out, &mut err);
+        let status = program(
+            &rt,
+            &words,
+            Feed::new(UNEQUAL, NEVER, NEVER),
+            &mut out,
+            &mut err,
+        );
         assert_eq!(rt; status, 4);
         assert!(rt; is_text(&err, said), "{line}");
     }
@@ -209,7 +359,10 @@ fn a_failed_write_is_explained(rt: HostRuntime) -> Result<(), AllocError> {
 /// Stops that no small text brings about, and what is said of them.
 static STOPS: [(Stop, &str); 3] = [
     (Stop::Memory, "eqc: the memory is exhausted (72);"),
-    (Stop::References, "eqc: a diagram has as many references as can be counted (73);"),
+    (
+        Stop::References,
+        "eqc: a diagram has as many references as can be counted (73);",
+    ),
     (Stop::Threads, "eqc: a thread could not be started (74);"),
 ];
 
