@@ -7,15 +7,17 @@ use Rattle.eqc_tree.proofs.HoldingLemmas.{counts_itself}
 use Rattle.eqc_flat.specs.Graph.{value_of}
 use Rattle.eqc_check.specs.Building.{AreBuilt, OwnsBoth, OwnsTable, Moves, MovesBoth, inputs_under, reference_of}
 use Rattle.eqc_tree.specs.Assigned.{assigned, DependsOnlyOn, assignments}
-use Rattle.eqc_check.specs.Verdict.{position_of, values_for, first_value, second_value, least_difference}
-use Rattle.eqc_check.specs.PairOf.{PairOf, IsPair, first_variables, second_variables, second_signals}
+use Rattle.eqc_pair.specs.Matched.{position_of}
+use Rattle.eqc_check.specs.Verdict.{values_for, first_value, second_value, least_difference}
+use Rattle.eqc_pair.specs.PairOf.{PairOf, IsPair, first_variables, second_variables, second_signals}
 use Rattle.eqc_check.specs.Comparing.{netlist_of, differs_at, SaysDifference}
 use Rattle.eqc_check.specs.Turns.{MovesKept}
 use Rattle.eqc_check.specs.declared.build.kept.Tables.{Tables}
-use Rattle.eqc_check.proofs.MatchedLemmas.{place_of_name, assigned_value, IsDifference, least_of_difference, none_of_difference}
+use Rattle.eqc_check.proofs.MatchedLemmas.{assigned_value, IsDifference, least_of_difference, none_of_difference}
 use Rattle.eqc_check.proofs.TableLaws.{tally_none}
 use Rattle.eqc_check.proofs.CompareLaws.{value_agrees, xor_differs}
 use Rattle.eqc_check.proofs.PairLaws.{AreMatched, pair_matched}
+use Rattle.eqc_pair.proofs.PlaceLemmas.{place_itself}
 
 -- two diagrams that say an output's values differ where it does
 pub xor_says : {X : Type 0} (entry : X → Entry) (p : PairOf) (o : ℕ) (first second : List (Option X)) (x y : X) (a : ℕ → Bool) → AreBuilt entry p first second → reference_of first (get_or p.first.output_signals o 0) ≡ Some x → reference_of second (get_or (second_signals p) o 0) ≡ Some y → operate Xor (says (entry x) a) (says (entry y) a) ≡ differs_at p o a
@@ -27,7 +29,7 @@ xor_says entry p o first second x y a b ix iy =
 -- an output of the first netlist under an assignment
 first_value_is : (p : PairOf) (o : ℕ) (a : List Bool) → IsPair p → o < length p.first.outputs → value_of p.first (inputs_under (first_variables p) (assigned (first_variables p) a)) (get_or p.first.output_signals o 0) ≡ first_value (netlist_of p.first) (get_or p.first.outputs o []) a
 first_value_is p o a h inside =
-    sym (ap (λ k. value_of p.first (values_for p.first.inputs a p.first.inputs) (get_or p.first.output_signals k 0)) (place_of_name p.first.outputs o h.first_flat.outputs_differ inside)
+    sym (ap (λ k. value_of p.first (values_for p.first.inputs a p.first.inputs) (get_or p.first.output_signals k 0)) (place_itself p.first.outputs o h.first_flat.outputs_differ inside)
     ∙ value_agrees p.first (values_for p.first.inputs a p.first.inputs) (inputs_under (first_variables p) (assigned (first_variables p) a)) (get_or p.first.output_signals o 0) h.first_flat (λ i within. sym (own i within)) (h.first_flat.outputs_within o inside))
   where
     m : AreMatched p
@@ -35,7 +37,7 @@ first_value_is p o a h inside =
 
     own : (i : ℕ) → i < length p.first.inputs → assigned (first_variables p) a (get_or (first_variables p) i 0) ≡ values_for p.first.inputs a p.first.inputs i
     own i within =
-        let place : position_of p.first.inputs (get_or p.first.inputs i []) ≡ i = place_of_name p.first.inputs i h.first_flat.inputs_differ within in
+        let place : position_of p.first.inputs (get_or p.first.inputs i []) ≡ i = place_itself p.first.inputs i h.first_flat.inputs_differ within in
         let P : ℕ → Type 0 = λ k. k < length (first_variables p) → assigned (first_variables p) a (get_or (first_variables p) k 0) ≡ values_for p.first.inputs a p.first.inputs i in
         subst P place (assigned_value (first_variables p) p.first.inputs p.first.inputs a i m.distinct) (omega (arith, m.first.size))
 

@@ -6,7 +6,7 @@ use Rattle.std.proofs.lemmas.List.{map-append}
 use Rattle.eqc_check.specs.declared.workers.verdict.Finding.{Finding}
 use Rattle.eqc_check.specs.declared.workers.verdict.Verdict.{Verdict}
 use Rattle.eqc_check.specs.Verdict.{NetlistOf, least_difference, first_difference}
-use Rattle.eqc_check.specs.PairOf.{PairOf}
+use Rattle.eqc_pair.specs.PairOf.{PairOf}
 use Rattle.eqc_check.specs.Comparing.{netlist_of, found_at}
 use Rattle.eqc_check.specs.Ticket.{times, once_below}
 use Rattle.eqc_check.specs.Verdicts.{difference_at, IsFoundAt, IsRight, named, Stands}

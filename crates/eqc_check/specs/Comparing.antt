@@ -4,8 +4,9 @@ use Rattle.std.specs.declared.alloc.Global.{Global}
 use Rattle.std.specs.Option.{option_map}
 use Rattle.eqc_flat.specs.Graph.{FlatOf, value_of}
 use Rattle.eqc_check.specs.Building.{inputs_under}
-use Rattle.eqc_check.specs.PairOf.{PairOf, first_variables, second_variables, second_signals}
-use Rattle.eqc_check.specs.Verdict.{NetlistOf, position_of, is_different}
+use Rattle.eqc_pair.specs.PairOf.{PairOf, first_variables, second_variables, second_signals}
+use Rattle.eqc_pair.specs.Matched.{position_of}
+use Rattle.eqc_check.specs.Verdict.{NetlistOf, is_different}
 
 -- a flat netlist as its user sees it
 abbrev pub netlist_of : FlatOf → NetlistOf

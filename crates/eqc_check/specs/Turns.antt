@@ -2,7 +2,7 @@
 use Rattle.std.specs.Prelude.{ℕ, ◌+◌, ◌<◌, ◌≤◌, IsSome, length, slice_index}
 use Rattle.eqc_tree.specs.Holding.{Entry, Holding}
 use Rattle.eqc_check.specs.Building.{AreBuilt, OwnsBoth, MovesBoth, reference_of}
-use Rattle.eqc_check.specs.PairOf.{PairOf, second_signals}
+use Rattle.eqc_pair.specs.PairOf.{PairOf, second_signals}
 use Rattle.eqc_check.specs.Schedule.{moment, AreLastMoments}
 use Rattle.eqc_check.specs.declared.build.kept.Tables.{Tables}
 use Rattle.eqc_check.specs.declared.build.moments.Schedules.{Schedules}

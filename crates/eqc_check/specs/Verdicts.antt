@@ -10,7 +10,7 @@ use Rattle.eqc_check.specs.declared.workers.verdict.Finding.{Finding}
 use Rattle.eqc_check.specs.declared.workers.verdict.Finding.TheVariants.{Equal, Differs, Behind}
 use Rattle.eqc_check.specs.declared.workers.verdict.Verdict.{Verdict}
 use Rattle.eqc_check.specs.Verdict.{least_difference}
-use Rattle.eqc_check.specs.PairOf.{PairOf}
+use Rattle.eqc_pair.specs.PairOf.{PairOf}
 use Rattle.eqc_check.specs.Comparing.{netlist_of}
 use Rattle.eqc_check.specs.Ticket.{IsSeat, strangers, times, once_below}
 

@@ -3,7 +3,7 @@ ghost use Rattle.eqc_tree.specs.Holding.{Keeps};
 ghost use Rattle.eqc_flat.specs.Graph.{driver_at, dependencies, value_of};
 ghost use Rattle.eqc_cover.specs.Making.{Makes};
 ghost use Rattle.eqc_check.specs.Building.{OwnsTable, IsBuilt, AreReady, AreVariables, Adds, Advances, Moves, inputs_under, reference_of};
-ghost use Rattle.eqc_check.specs.PairOf.{ArePlaces};
+ghost use Rattle.eqc_pair.specs.PairOf.{ArePlaces};
 ghost use Rattle.eqc_check.specs.Schedule.{moment, uses_at, AreLastMoments};
 
 pub(crate) mod cone;
@@ -18,7 +18,7 @@ use crate::build::moments::Moments;
 use crate::build::schedule::moment;
 use crate::build::table::{Table, put, reference_at, release};
 use crate::build::wanted::wanted;
-use crate::pairing::matched_pair::recall_laws;
+use eqc_pair::recall_laws;
 use eqc_cover::cover_diagram;
 use eqc_flat::{Driver, Flat, Signals};
 use eqc_tree::{Diagrams, References, Stop};

@@ -2,7 +2,7 @@ ghost use Rattle.std.specs.Prelude.{◌≡◌, ◌≢◌, ℕ, ◌+◌, ◌<◌,
 ghost use Rattle.std.specs.Option.{option_map};
 ghost use Rattle.eqc_tree.specs.Holding.{Holding, IsHeld, says, Keeps, Gains, Loses};
 ghost use Rattle.eqc_check.specs.Verdict.{least_difference, first_difference};
-ghost use Rattle.eqc_check.specs.PairOf.{second_signals};
+ghost use Rattle.eqc_pair.specs.PairOf.{second_signals};
 ghost use Rattle.eqc_check.specs.Building.{AreBuilt, OwnsBoth, MovesBoth, KeepsLater};
 ghost use Rattle.eqc_check.specs.Schedule.{moment};
 ghost use Rattle.eqc_check.specs.Turns.{AreScheduled, IsTurn, AreTurns, AreKept, MovesKept, HasOutput};
@@ -16,7 +16,7 @@ use crate::build::kept::{
 use crate::build::moments::Schedules;
 use crate::build::schedule::{moment, moments_of};
 use crate::build::table::reference_at;
-use crate::pairing::matched_pair::Pair;
+use eqc_pair::Pair;
 use eqc_cover::{is_false, least_over};
 use eqc_tree::{Diagrams, Op, References, Stop};
 use std::alloc::{AllocError, Global};

@@ -6,11 +6,10 @@ ghost use Rattle.eqc_check.specs.Options.{options_code};
 ghost use Rattle.eqc_check.specs.Answer.{one_text, two_texts, models_answer, read_texts, texts_answer, Answers, MayStop};
 ghost use Rattle.eqc_check.specs.Telling.{IsToldRefusal, IsToldWith, Tells, WarnsOf};
 
+use eqc_pair::{Refused, Side, pair, recall_laws};
 use crate::choice::{Main, ModelNames, choose, read_main};
 use crate::options::Options;
-use crate::pairing::matched_pair::recall_laws;
-use crate::pairing::pair;
-use crate::report::{Refused, Report, Side};
+use crate::report::Report;
 use crate::warning::{Warnings, warnings_in_one, warnings_in_two};
 use crate::workers::check;
 use crate::workers::gate::NoGate;

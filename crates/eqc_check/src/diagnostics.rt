@@ -1,7 +1,6 @@
 //! What is told of a refusal, beside its report.
 
-use crate::pairing::finding::Finding;
-use crate::report::Side;
+use eqc_pair::{Finding, Side};
 use eqc_blif::Library;
 use eqc_tree::Stop;
 

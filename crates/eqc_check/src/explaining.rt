@@ -1,10 +1,9 @@
 //! What is at fault in texts that are refused: the checks are made once more, in their order, up to the first that fails.
 ghost use Rattle.std.specs.Prelude.{◌<◌, length, IfOk, IfSome};
 
+use eqc_pair::{Side, explain_pair};
 use crate::choice::{Main, ModelNames, choose, read_main};
 use crate::diagnostics::Diagnostics;
-use crate::pairing::explanation::explain_pair;
-use crate::report::Side;
 use eqc_blif::{Library, Refusal, read};
 use eqc_flat::{Flat, flatten};
 use std::alloc::{AllocError, Global};

@@ -23,7 +23,7 @@ mod verdict;
 use crate::checking::found_report;
 use crate::compare::schedules_of;
 use crate::options::Options;
-use crate::pairing::matched_pair::Pair;
+use eqc_pair::Pair;
 use crate::report::Report;
 use crate::workers::gate::Gate;
 use crate::workers::group::Group;

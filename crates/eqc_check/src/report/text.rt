@@ -8,7 +8,8 @@ ghost use Rattle.eqc_check.specs.ReportView.{report_of, IsAnswer};
 
 use crate::io::fault::RunFault;
 use crate::io::writing::write_text;
-use crate::report::{Refused, Report};
+use crate::report::Report;
+use eqc_pair::Refused;
 use eqc_blif::Name;
 use eqc_tree::Stop;
 use std::alloc::{AllocError, Global};

@@ -2,7 +2,7 @@
 ghost use Rattle.std.specs.Prelude.{◌≡◌, ◌+◌, ◌≤◌, vec_len, IfOk};
 ghost use Rattle.eqc_check.specs.Verdicts.{AreSeated};
 
-use crate::pairing::matched_pair::Pair;
+use eqc_pair::Pair;
 use crate::workers::ticket::{Drawer, Words, halve};
 use eqc_tree::{References, Stop};
 

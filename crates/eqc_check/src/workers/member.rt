@@ -7,7 +7,7 @@ ghost use Rattle.eqc_check.specs.Verdicts.{difference_at};
 use crate::build::kept::Tables;
 use crate::build::moments::Schedules;
 use crate::compare::{compare_kept, give_back_both, no_tables};
-use crate::pairing::matched_pair::Pair;
+use eqc_pair::Pair;
 use eqc_tree::{Diagrams, References, Stop};
 use std::alloc::Global;
 

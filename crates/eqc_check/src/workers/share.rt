@@ -5,7 +5,7 @@ ghost use Rattle.eqc_check.specs.Turns.{AreKept, AreTurns};
 ghost use Rattle.eqc_check.specs.Verdicts.{DiffersBefore, IsFoundAt, IsShare, IsFresh, AreSeated};
 
 use crate::build::moments::Schedules;
-use crate::pairing::matched_pair::Pair;
+use eqc_pair::Pair;
 use crate::workers::gate::Gate;
 use crate::workers::group::{Group, halves};
 use crate::workers::member::{self, Member};
