@@ -30,6 +30,13 @@ pub record AreKept {X : Type 0} (entry : X → Entry) (p : PairOf) (d : Holding)
   pub built : AreBuilt entry p tables.first.table tables.second.table
   pub owned : OwnsBoth entry d tables.first.table tables.second.table
 
+-- an output may be compared in its turn, with what is kept
+pub record IsComparable {X : Type 0} (entry : X → Entry) (p : PairOf) (s : Schedules) (d : Holding) (tables : Tables X) (o n : ℕ) : Type 0 where
+  pub output : o < length p.first.outputs
+  pub scheduled : AreScheduled p s
+  pub turn : IsTurn p s o n
+  pub kept : AreKept entry p d tables
+
 -- what is kept becomes other references of such signals: what the tables gain the object gains
 pub record MovesKept {X : Type 0} (entry : X → Entry) (p : PairOf) (old : Holding) (old_tables : Tables X) (new : Holding) (new_tables : Tables X) : Type 0 where
   pub moves : MovesBoth entry old old_tables.first.table old_tables.second.table new new_tables.first.table new_tables.second.table

@@ -6,7 +6,6 @@ ghost use Rattle.eqc_check.specs.Options.{options_code};
 ghost use Rattle.eqc_check.specs.Answer.{one_text, two_texts, models_answer, read_texts, texts_answer, Answers, MayStop};
 ghost use Rattle.eqc_check.specs.Telling.{IsToldRefusal, IsToldWith, Tells, WarnsOf};
 
-use eqc_pair::{Refused, Side, pair, recall_laws};
 use crate::choice::{Main, ModelNames, choose, read_main};
 use crate::options::Options;
 use crate::report::Report;
@@ -15,6 +14,7 @@ use crate::workers::check;
 use crate::workers::gate::NoGate;
 use eqc_blif::{Library, Refusal};
 use eqc_flat::{Fault, Flat, flatten};
+use eqc_pair::{Refused, Side, pair, recall_laws};
 use eqc_tree::Stop;
 use std::alloc::{AllocError, Global};
 use std::sync::Wait;

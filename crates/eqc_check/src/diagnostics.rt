@@ -1,7 +1,7 @@
 //! What is told of a refusal, beside its report.
 
-use eqc_pair::{Finding, Side};
 use eqc_blif::Library;
+use eqc_pair::{Finding, Side};
 use eqc_tree::Stop;
 
 /// Is told why a report is a refusal or a stop, once and after the report was written.

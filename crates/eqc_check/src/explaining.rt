@@ -1,11 +1,11 @@
 //! What is at fault in texts that are refused: the checks are made once more, in their order, up to the first that fails.
 ghost use Rattle.std.specs.Prelude.{◌<◌, length, IfOk, IfSome};
 
-use eqc_pair::{Side, explain_pair};
 use crate::choice::{Main, ModelNames, choose, read_main};
 use crate::diagnostics::Diagnostics;
 use eqc_blif::{Library, Refusal, read};
 use eqc_flat::{Flat, flatten};
+use eqc_pair::{Side, explain_pair};
 use std::alloc::{AllocError, Global};
 
 /// Tells of a text that is refused, or in which a model isn't there. Fails where memory is refused.

@@ -5,8 +5,8 @@ ghost use Rattle.eqc_check.specs.Assigned.{DependsBelow};
 ghost use Rattle.eqc_pair.specs.PairOf.{input_values};
 ghost use Rattle.eqc_check.specs.VerdictLaws.{IsLeast};
 
-use eqc_pair::Pair;
 use eqc_cover::least_over;
+use eqc_pair::Pair;
 use eqc_tree::{Diagrams, References, Stop};
 use std::alloc::Global;
 
