@@ -4,7 +4,7 @@ use Rattle.std.specs.Str.{bytes_eq}
 use Rattle.std.proofs.Math.Seq.{split_at}
 use Rattle.std.proofs.lemmas.List.{map-append, take_more, take_all, get_or-map, length-map}
 use Rattle.std.proofs.lemmas.List.Folds.{list_all-append, list_all_at}
-use Rattle.std.proofs.lemmas.Bool.{true≢false, false≢true, lt-ltb}
+use Rattle.std.proofs.lemmas.Bool.{true≢false, false≢true, false_from_ne_true, lt-ltb}
 use Rattle.eqc_blif.specs.Names.{is_named, has_twice}
 use Rattle.eqc_blif.specs.Finding.{StandsTwice}
 use Rattle.eqc_pair.specs.Matched.{position_of, has_all}
@@ -91,6 +91,14 @@ seen_more set new names i d fresh inside e once f is n =
     by : (b : Bool) → not b ≡ true → b ≡ false
     by true h = absurd (false≢true h)
     by false h = refl
+
+-- one more name of a list in which none stands twice
+pub once_added : (set new : List (List ℕ)) (names : List (Bor (List ℕ))) (i : ℕ) (d : Bor (List ℕ)) → i < length names → has_twice (bytes_in names) ≡ false → set ≡ bytes_in (take i names)
+    → new ≡ with_name set (get_or names i d).now → new ≡ bytes_in (take (i + 1) names)
+once_added set new names i d inside once e n =
+    let name = (get_or names i d).now in
+    let absent : is_named set name ≡ false = false_from_ne_true (is_named set name) (λ there. true≢false (sym (seen_twice set names i d (not (is_named set name)) inside e refl (ap not there)) ∙ once)) in
+    n ∙ (ap (λ b. if b then set else set ++ name ∷ []) absent ∙ (ap (λ l. l ++ name ∷ []) e ∙ sym (bytes_more names i d inside)))
 
 -- ---- the places of names among others
 

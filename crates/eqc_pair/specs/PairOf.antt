@@ -92,13 +92,6 @@ order_refusal inputs order = option_map_or (λ text. option_map order_refused (o
 abbrev pub pair_refused : ℕ → Refused
 pair_refused code = record { side = Pair; line = 0; code = code }
 
--- the refusal of two netlists whose names differ
-abbrev pub names_refusal : FlatOf → FlatOf → Option Refused
-names_refusal f g =
-    if not (same_names f.inputs g.inputs) then Some (pair_refused 41)
-    else if not (same_names f.outputs g.outputs) then Some (pair_refused 42)
-    else None
-
 -- where the names of two netlists with the same ones stand: the second's inputs among those of the first, and the
 -- first's outputs among those of the second
 pub record AreMatched (f g : FlatOf) (inputs outputs : List ℕ) : Type 0 where

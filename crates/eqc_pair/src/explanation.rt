@@ -6,7 +6,7 @@ ghost use Rattle.eqc_pair.specs.Finding.{AreUnmatched, IsExplained, IsOrderExpla
 
 use crate::finding::Finding;
 use crate::matched_pair::recall_laws;
-use crate::name_index::{bytes_of, first_twice, index_of};
+use crate::name_index::{bytes_of, first_twice, set_of};
 use crate::order::{MAX_TEXT, order_words};
 use crate::unmatched::Unmatched;
 use eqc_blif::Name;
@@ -23,7 +23,7 @@ fn unmatched<'a>(
     ensures names { IfOk result (AreUnmatched (map (λ name. name.now) others.now) (map (λ name. name.now) names.now)) }
     ensures none { IfOk result (λ found. has_all (map (λ name. name.now) others.now) (map (λ name. name.now) names.now) ≡ (found.1 == 0)) }
 {
-    let set = index_of(alloc, others)?.unwrap();
+    let set = set_of(alloc, others)?;
     Unmatched::among(alloc, &set, names)
 }
 

@@ -7,22 +7,16 @@ use eqc_blif::Name;
 use eqc_flat::NameSet;
 use std::alloc::{AllocError, Global};
 
-/// The set of these names, in their order, or none where one stands twice. Fails where memory is refused.
-pub(crate) fn index_of<'a>(
-    alloc: Global,
-    names: &[&'a [u8]],
-) -> Result<Option<NameSet<'a>>, AllocError>
-    ensures { IfOk result (λ found. MatchOption found
-        (has_twice (map (λ name. name.now) names.now) ≡ true)
-        (λ index. (has_twice (map (λ name. name.now) names.now) ≡ false) × (index ≡ map (λ name. name.now) names.now))) }
+/// The set of these names, in their order, of which none may stand twice. Fails where memory is refused.
+pub(crate) fn set_of<'a>(alloc: Global, names: &[&'a [u8]]) -> Result<NameSet<'a>, AllocError>
+    requires once { has_twice (map (λ name. name.now) names.now) ≡ false }
+    ensures { IfOk result (λ set. set ≡ map (λ name. name.now) names.now) }
 {
     let mut set = NameSet::new(alloc);
     'names: for name in names {
-        if !set.insert_bytes(name)? {
-            return Ok(None);
-        }
+        set.insert_bytes(name)?;
     }
-    Ok(Some(set))
+    Ok(set)
 }
 
 /// The first of these names that stands among those before it, or none where no name stands twice. Fails where memory
@@ -47,14 +41,14 @@ pub(crate) fn first_twice<'a>(
 /// Where each of these names stands in a set, or none where one of them isn't there. Fails where memory is refused.
 fn positions(
     alloc: Global,
-    index: &NameSet<'_>,
+    set: &NameSet<'_>,
     names: &[&[u8]],
 ) -> Result<Option<Vec<usize>>, AllocError>
-    ensures { IfOk result (ArePlaces index.now (map (λ name. name.now) names.now)) }
+    ensures { IfOk result (ArePlaces set.now (map (λ name. name.now) names.now)) }
 {
     let mut all = Vec::with_capacity(alloc, names.len())?;
     'names: for name in names {
-        match index.position(name) {
+        match set.position(name) {
             Some(position) => all.push(position)?,
             None => return Ok(None),
         }
@@ -72,8 +66,8 @@ pub(crate) fn places_among(
     requires once { has_twice (map (λ name. name.now) names.now) ≡ false }
     ensures { IfOk result (ArePlaces (map (λ name. name.now) names.now) (map (λ name. name.now) others.now)) }
 {
-    let index = index_of(alloc, names)?.unwrap();
-    positions(alloc, &index, others)
+    let set = set_of(alloc, names)?;
+    positions(alloc, &set, others)
 }
 
 /// Whether one of these names stands twice. Fails where memory is refused.

@@ -2,7 +2,7 @@ ghost use Rattle.std.specs.Prelude.{◌≡◌, ◌⊎◌, Some, None, true, fals
 ghost use Rattle.std.specs.Option.{option_copied};
 ghost use Rattle.eqc_blif.specs.Names.{has_twice};
 ghost use Rattle.eqc_pair.specs.Matched.{position_of, same_names};
-ghost use Rattle.eqc_pair.specs.PairOf.{AreMatched, order_for, names_refusal, pair_refusal, pair_refused, no_memory};
+ghost use Rattle.eqc_pair.specs.PairOf.{AreMatched, order_for, pair_refusal, pair_refused, no_memory};
 
 use crate::matched_pair::{Pair, recall_laws};
 use crate::name_index::{bytes_of, places_among};
@@ -60,11 +60,11 @@ struct Matches {
     outputs: Vec<usize>,
 }
 
-/// Where the names of two netlists stand, or their refusal: two sets of input names that differ (41) or of output
-/// names (42); or no memory.
+/// Where the names of two netlists stand, or their refusal, as without an order text: two sets of input names that
+/// differ (41) or of output names (42); or no memory.
 fn matches_of(alloc: Global, first: &Flat<'_>, second: &Flat<'_>) -> Result<Matches, Refused>
     ensures matched { IfOk result (λ m. AreMatched first.now second.now m.inputs.items m.outputs.items) }
-    ensures refused { IfErr result (λ refused. (refused ≡ no_memory) ⊎ (names_refusal first.now second.now ≡ Some refused)) }
+    ensures refused { IfErr result (λ refused. (refused ≡ no_memory) ⊎ (pair_refusal first.now second.now None ≡ Some refused)) }
 {
     let Some(inputs) = matched(alloc, first.inputs(), second.inputs())? else {
         return Err(refusal(Rule::OtherInputs.code()));

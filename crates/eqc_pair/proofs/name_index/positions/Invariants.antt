@@ -5,6 +5,6 @@ use Rattle.eqc_flat.proofs.NameSetLaws.{bytes_in}
 
 abbrev pub invariant-names : goal.invariant-names
 invariant-names l = record {
-  each : has_all l.index (bytes_in (take l.name-index l.names)) ≡ true;
-  found : l.all.items ≡ map (position_of l.index) (bytes_in (take l.name-index l.names));
+  each : has_all l.set (bytes_in (take l.name-index l.names)) ≡ true;
+  found : l.all.items ≡ map (position_of l.set) (bytes_in (take l.name-index l.names));
 }
