@@ -9,16 +9,15 @@ use Rattle.std.proofs.lemmas.List.Sums.{list_all-from_AllPass}
 use Rattle.std.proofs.lemmas.List.FromFn.{length-range_with_len, get_or-range_with_len}
 use Rattle.eqc_blif.specs.Names.{is_named}
 use Rattle.eqc_check.specs.declared.options.Options.{Options}
-use Rattle.eqc_check.specs.declared.report.Refused.{Refused}
-use Rattle.eqc_check.specs.declared.report.Side.{Side}
-use Rattle.eqc_check.specs.declared.report.Side.TheVariants as side
+use Rattle.eqc_pair.specs.declared.refused.Refused.{Refused}
+use Rattle.eqc_pair.specs.declared.refused.Side.{Side}
+use Rattle.eqc_pair.specs.declared.refused.Side.TheVariants as side
 use Rattle.eqc_check.specs.Options.{is_between, is_cell_count}
-use Rattle.eqc_check.specs.Matched.{has_all, same_names, order_words}
-use Rattle.eqc_check.specs.Verdict.{position_of}
+use Rattle.eqc_pair.specs.Matched.{position_of, has_all, same_names, order_words}
 use Rattle.eqc_check.specs.Answer.{TextsOf, MainOf, first_found, second_found, inputs_of}
 use Rattle.eqc_check.specs.AnswerLaws.{first_main, AreInRange, IsFound, HaveSameNames, IsOrderOf, IsAccepted, refused_if, refused_by_code, refused_by_fault, option_checks, text_checks, order_checks, checks}
-use Rattle.eqc_check.proofs.PlaceLemmas.{place_below, name_at, named_index, all_named}
-use Rattle.eqc_check.proofs.OrderedLemmas.{both_ways}
+use Rattle.eqc_pair.proofs.PlaceLemmas.{place_below, name_at, named_index, all_named}
+use Rattle.eqc_pair.proofs.OrderedLemmas.{both_ways}
 use Rattle.eqc_check.proofs.CheckLemmas.{PassAll, pass_none, pass_more, pass_each, pass_both}
 use Rattle.eqc_flat.proofs.Members.{same_test}
 

@@ -9,7 +9,7 @@ use Rattle.eqc_check.specs.Answer.{NamesOf, TextsOf, inputs_of, outputs_of, netl
 use Rattle.eqc_check.specs.Options.{options_code}
 use Rattle.eqc_check.specs.Running.{known_texts, known_order, IsReport, IsReportFor}
 use Rattle.eqc_check.specs.declared.running.Texts.{Texts}
-use Rattle.eqc_check.specs.declared.report.Side.TheVariants as side
+use Rattle.eqc_pair.specs.declared.refused.Side.TheVariants as side
 use Rattle.eqc_check.specs.AnswerLaws.{first_main, second_main, AreInRange, HaveSameNames, IsAccepted, FitsInputs, IsAlwaysEqual, IsFirstToDiffer, option_checks, text_checks, order_checks, checks, AnswerIsOne, AnswerIsEquivalent, AnswerDiffers, AnswerIsFirstRefusal, AnswerCompares, ChecksAccept, AnswerIsNoStop, IsAnswerOfRuns}
 use Rattle.eqc_check.proofs.VerdictLemmas.{found_is_first, first_is_found, none_ever_differs, none_is_found}
 use Rattle.eqc_check.proofs.CheckLemmas.{verdict, PassAll, pass_both, pass_or_refuse, passed_before, passed_behind, all_passed, refused_first, first_refused, compared_passed, never_stopped, compared, is_comparison, answer_checked}

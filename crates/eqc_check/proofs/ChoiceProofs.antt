@@ -9,10 +9,10 @@ use Rattle.eqc_blif.specs.Netlist.{ModelOf, no_model}
 use Rattle.eqc_blif.specs.Reading.{outcome}
 use Rattle.eqc_blif.proofs.TwiceLaws.{libraries_have_no_name_twice}
 use Rattle.eqc_flat.specs.Hierarchy.{model, model_number}
-use Rattle.eqc_check.specs.Verdict.{position_of}
+use Rattle.eqc_pair.specs.Matched.{position_of}
 use Rattle.eqc_check.specs.Answer.{MainOf, chosen_number, chosen, main_of}
 use Rattle.eqc_check.specs.AnswerLaws.{main_or_none, IsChoice, ModelIsChosen}
-use Rattle.eqc_check.proofs.PlaceLemmas.{same_bytes, place_itself}
+use Rattle.eqc_pair.proofs.PlaceLemmas.{same_bytes, place_itself}
 
 -- a model is chosen where its number is below the number of models
 chosen_there : (models : List ModelOf) (name : Option (List ℕ)) (place : ℕ) (m : MainOf) → chosen models name place ≡ Ok m → (m.0 ≡ models) × (m.1 < length models) × (m.1 ≡ chosen_number models name place)

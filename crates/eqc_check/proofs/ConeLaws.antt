@@ -7,7 +7,7 @@ use Rattle.std.proofs.lemmas.Bool.{cases_eq}
 use Rattle.eqc_flat.specs.Graph.{FlatOf, IsFlat}
 use Rattle.eqc_flat.proofs.EvaluationLaws.{dep_before}
 use Rattle.eqc_check.specs.Listed.{listed, moment_in}
-use Rattle.eqc_check.specs.PairOf.{ArePlaces}
+use Rattle.eqc_pair.specs.PairOf.{ArePlaces}
 use Rattle.eqc_check.specs.Schedule.{moment, uses_at, AreLastMoments, AreNoted, IsOpen}
 use Rattle.eqc_check.proofs.ListedLaws.{listed_size, listed_at}
 use Rattle.eqc_check.proofs.WantedLaws.{open_none, open_here, open_kept, open_popped, open_pushed, open_top, use_within}

@@ -1,5 +1,5 @@
 -- The diagram of where an output of a pair differs: what it says, and its least assignment.
-use Rattle.std.proofs.Common.{◌≡◌, ℕ, ◌<◌, Bool, false, List, [], length, find, get_or, refl, sym, ◌∙◌, ap, arith, Option, Some, None, subst}
+use Rattle.std.proofs.Common.{◌≡◌, ℕ, ◌+◌, ◌<◌, Bool, false, List, [], length, find, get_or, refl, sym, ◌∙◌, ap, arith, Option, Some, None, subst}
 use Rattle.eqc_tree.specs.Holding.{Entry, Holding, IsHeld, says, Keeps, Gains, Loses}
 use Rattle.eqc_tree.specs.Operation.{operate}
 use Rattle.eqc_tree.specs.declared.operation.Op.TheVariants.{Xor}
@@ -7,15 +7,18 @@ use Rattle.eqc_tree.proofs.HoldingLemmas.{counts_itself}
 use Rattle.eqc_flat.specs.Graph.{value_of}
 use Rattle.eqc_check.specs.Building.{AreBuilt, OwnsBoth, OwnsTable, Moves, MovesBoth, inputs_under, reference_of}
 use Rattle.eqc_tree.specs.Assigned.{assigned, DependsOnlyOn, assignments}
-use Rattle.eqc_check.specs.Verdict.{position_of, values_for, first_value, second_value, least_difference}
-use Rattle.eqc_check.specs.PairOf.{PairOf, IsPair, first_variables, second_variables, second_signals}
+use Rattle.eqc_pair.specs.Matched.{position_of}
+use Rattle.eqc_check.specs.Verdict.{values_for, first_value, second_value, least_difference}
+use Rattle.eqc_pair.specs.PairOf.{PairOf, IsPair, first_variables, second_variables, second_signals}
 use Rattle.eqc_check.specs.Comparing.{netlist_of, differs_at, SaysDifference}
-use Rattle.eqc_check.specs.Turns.{MovesKept}
+use Rattle.eqc_check.specs.Turns.{AreTurns, AreKept, IsComparable, MovesKept}
+use Rattle.eqc_check.specs.declared.build.moments.Schedules.{Schedules}
 use Rattle.eqc_check.specs.declared.build.kept.Tables.{Tables}
-use Rattle.eqc_check.proofs.MatchedLemmas.{place_of_name, assigned_value, IsDifference, least_of_difference, none_of_difference}
+use Rattle.eqc_check.proofs.MatchedLemmas.{assigned_value, IsDifference, least_of_difference, none_of_difference}
 use Rattle.eqc_check.proofs.TableLaws.{tally_none}
 use Rattle.eqc_check.proofs.CompareLaws.{value_agrees, xor_differs}
 use Rattle.eqc_check.proofs.PairLaws.{AreMatched, pair_matched}
+use Rattle.eqc_pair.proofs.PlaceLemmas.{place_itself}
 
 -- two diagrams that say an output's values differ where it does
 pub xor_says : {X : Type 0} (entry : X → Entry) (p : PairOf) (o : ℕ) (first second : List (Option X)) (x y : X) (a : ℕ → Bool) → AreBuilt entry p first second → reference_of first (get_or p.first.output_signals o 0) ≡ Some x → reference_of second (get_or (second_signals p) o 0) ≡ Some y → operate Xor (says (entry x) a) (says (entry y) a) ≡ differs_at p o a
@@ -27,7 +30,7 @@ xor_says entry p o first second x y a b ix iy =
 -- an output of the first netlist under an assignment
 first_value_is : (p : PairOf) (o : ℕ) (a : List Bool) → IsPair p → o < length p.first.outputs → value_of p.first (inputs_under (first_variables p) (assigned (first_variables p) a)) (get_or p.first.output_signals o 0) ≡ first_value (netlist_of p.first) (get_or p.first.outputs o []) a
 first_value_is p o a h inside =
-    sym (ap (λ k. value_of p.first (values_for p.first.inputs a p.first.inputs) (get_or p.first.output_signals k 0)) (place_of_name p.first.outputs o h.first_flat.outputs_differ inside)
+    sym (ap (λ k. value_of p.first (values_for p.first.inputs a p.first.inputs) (get_or p.first.output_signals k 0)) (place_itself p.first.outputs o h.first_flat.outputs_differ inside)
     ∙ value_agrees p.first (values_for p.first.inputs a p.first.inputs) (inputs_under (first_variables p) (assigned (first_variables p) a)) (get_or p.first.output_signals o 0) h.first_flat (λ i within. sym (own i within)) (h.first_flat.outputs_within o inside))
   where
     m : AreMatched p
@@ -35,7 +38,7 @@ first_value_is p o a h inside =
 
     own : (i : ℕ) → i < length p.first.inputs → assigned (first_variables p) a (get_or (first_variables p) i 0) ≡ values_for p.first.inputs a p.first.inputs i
     own i within =
-        let place : position_of p.first.inputs (get_or p.first.inputs i []) ≡ i = place_of_name p.first.inputs i h.first_flat.inputs_differ within in
+        let place : position_of p.first.inputs (get_or p.first.inputs i []) ≡ i = place_itself p.first.inputs i h.first_flat.inputs_differ within in
         let P : ℕ → Type 0 = λ k. k < length (first_variables p) → assigned (first_variables p) a (get_or (first_variables p) k 0) ≡ values_for p.first.inputs a p.first.inputs i in
         subst P place (assigned_value (first_variables p) p.first.inputs p.first.inputs a i m.distinct) (omega (arith, m.first.size))
 
@@ -101,12 +104,27 @@ kept_twice entry p d0 d1 d2 t0 t1 t2 m n = record {
   built = n.built;
 }
 
+pub moved_owned : {X : Type 0} (entry : X → Entry) (d0 d1 : Holding) (f0 f1 s0 s1 : List (Option X)) → OwnsBoth entry d0 f0 s0 → MovesBoth entry d0 f0 s0 d1 f1 s1 → OwnsBoth entry d1 f1 s1
+moved_owned entry d0 d1 f0 f1 s0 s1 o m = record { held = λ e. omega (arith, o.held e, m.held e) }
+
+-- what was moved is kept as before
+pub moved_kept : {X : Type 0} (entry : X → Entry) (p : PairOf) (d0 d1 : Holding) (t0 t1 : Tables X) → AreKept entry p d0 t0 → MovesKept entry p d0 t0 d1 t1 → AreKept entry p d1 t1
+moved_kept entry p d0 d1 t0 t1 k m = record {
+  variables = omega (arith, k.variables, m.moves.variables);
+  built = m.built;
+  owned = moved_owned entry d0 d1 t0.first.table t1.first.table t0.second.table t1.second.table k.owned m.moves;
+}
+
+-- an output may be compared once more, and each output in its turn
+pub comparable_again : {X : Type 0} (entry : X → Entry) (p : PairOf) (s : Schedules) (d0 d1 : Holding) (t0 t1 : Tables X) (o n : ℕ) → IsComparable entry p s d0 t0 o n → MovesKept entry p d0 t0 d1 t1 → IsComparable entry p s d1 t1 o n
+comparable_again entry p s d0 d1 t0 t1 o n h m = record { output = h.output; scheduled = h.scheduled; turn = h.turn; kept = moved_kept entry p d0 d1 t0 t1 h.kept m }
+
+pub comparable_next : {X : Type 0} (entry : X → Entry) (p : PairOf) (s : Schedules) (d : Holding) (tables : Tables X) (o : ℕ) → o < length p.first.outputs → AreTurns p s → AreKept entry p d tables → IsComparable entry p s d tables o (o + 1)
+comparable_next entry p s d tables o inside turns kept = record { output = inside; scheduled = turns.scheduled; turn = turns.each o inside; kept = kept }
+
 -- a call that keeps what is held moves nothing
 pub both_still : {X : Type 0} (entry : X → Entry) (d0 d1 d2 : Holding) (f0 f1 s0 s1 : List (Option X)) → MovesBoth entry d0 f0 s0 d1 f1 s1 → Keeps d1 d2 → MovesBoth entry d0 f0 s0 d2 f1 s1
 both_still entry d0 d1 d2 f0 f1 s0 s1 m k = record { variables = k.variables ∙ m.variables; held = λ e. omega (arith, m.held e, k.held e) }
-
-pub moved_owned : {X : Type 0} (entry : X → Entry) (d0 d1 : Holding) (f0 f1 s0 s1 : List (Option X)) → OwnsBoth entry d0 f0 s0 → MovesBoth entry d0 f0 s0 d1 f1 s1 → OwnsBoth entry d1 f1 s1
-moved_owned entry d0 d1 f0 f1 s0 s1 o m = record { held = λ e. omega (arith, o.held e, m.held e) }
 
 -- two tables that came from nothing are owned, and where nothing is left of them all is as before
 pub new_owned : {X : Type 0} (entry : X → Entry) (d0 d1 : Holding) (first second : List (Option X)) → MovesBoth entry d0 [] [] d1 first second → OwnsBoth entry d1 first second

@@ -4,7 +4,7 @@ use Rattle.std.specs.List.{All}
 use Rattle.std.proofs.lemmas.List.FromFn.{length-map-range_with_len}
 use Rattle.eqc_tree.specs.Assigned.{assigned, DependsOnlyOn, assignments}
 use Rattle.eqc_check.specs.Assigned.{DependsBelow}
-use Rattle.eqc_check.specs.PairOf.{PairOf, IsPair, variable_in, first_variables, input_values}
+use Rattle.eqc_pair.specs.PairOf.{PairOf, IsPair, variable_in, first_variables, input_values}
 use Rattle.eqc_check.specs.VerdictLaws.{IsLeast}
 use Rattle.eqc_tree.proofs.AssignedLemmas.{assigned_at}
 use Rattle.eqc_check.proofs.CompareLaws.{below_all}

@@ -11,12 +11,6 @@ pub mod CompareLaws
 pub mod OptionsLemmas
 pub mod KnownBytes
 pub mod ReportLemmas
-pub mod NameLemmas
-pub mod FindingLemmas
-pub mod OrderLemmas
-pub mod PlaceLemmas
-pub mod OrderedLemmas
-pub mod PickLemmas
 pub mod PairLaws
 pub mod DifferenceLaws
 pub mod InputLemmas

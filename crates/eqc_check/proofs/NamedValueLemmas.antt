@@ -11,12 +11,12 @@ use Rattle.eqc_blif.proofs.TwiceLaws.{libraries_have_no_name_twice}
 use Rattle.eqc_flat.specs.Hierarchy.{model}
 use Rattle.eqc_flat.specs.Signals.{signals, output_value}
 use Rattle.eqc_flat.proofs.InputLaws.{values_depend_on_inputs_alone}
-use Rattle.eqc_check.specs.Verdict.{is_different, position_of, values_for, first_value, second_value}
+use Rattle.eqc_pair.specs.Matched.{position_of}
+use Rattle.eqc_check.specs.Verdict.{is_different, values_for, first_value, second_value}
 use Rattle.eqc_check.specs.VerdictLaws.{NeverDiffers}
 use Rattle.eqc_check.specs.Answer.{TextsOf, one_text, two_texts, MainOf, chosen_number, chosen, main_of, inputs_of, netlist_of_model}
 use Rattle.eqc_check.specs.AnswerLaws.{main_or_none, first_main, HaveSameNames, value_under}
-use Rattle.eqc_check.proofs.MatchedLemmas.{place_of_name}
-use Rattle.eqc_check.proofs.PlaceLemmas.{place_below, name_at, named_index}
+use Rattle.eqc_pair.proofs.PlaceLemmas.{place_itself, place_below, name_at, named_index}
 
 -- no input of a model stands twice
 once_at : (models : List ModelOf) (m : ℕ) → lists_are_distinct models ≡ true → has_twice (model models m).inputs ≡ false
@@ -69,7 +69,7 @@ positions_back inputs a once long =
     (λ k d inside.
     let within : k < length inputs = omega (arith, length-map inputs (by_position inputs a)) in
     get_or-map (by_position inputs a) inputs k [] d within
-    ∙ ap (λ p. get_or a p false) (place_of_name inputs k once within)
+    ∙ ap (λ p. get_or a p false) (place_itself inputs k once within)
     ∙ get_or_default a k false d (omega (arith, within, long)))
 
 pub zip_assigned : (inputs : List (List ℕ)) (assigned : List ℕ → Bool) → map (λ name. (name, assigned name)) inputs ≡ zip inputs (map assigned inputs)

@@ -4,21 +4,21 @@ use Rattle.std.specs.List.{zip}
 use Rattle.std.proofs.lemmas.List.{get_or-map, length-map}
 use Rattle.std.proofs.lemmas.List.FromFn.{length-map-range_with_len, get_or-map-range_with_len}
 use Rattle.eqc_flat.specs.Graph.{FlatOf, IsFlat, value_of}
-use Rattle.eqc_check.specs.Verdict.{position_of, values_for, is_different, first_value, second_value, first_difference}
+use Rattle.eqc_pair.specs.Matched.{position_of}
+use Rattle.eqc_check.specs.Verdict.{values_for, is_different, first_value, second_value, first_difference}
 use Rattle.eqc_check.specs.Report.{ReportOf, differs, difference_report, comparison}
 use Rattle.eqc_tree.specs.Assigned.{AreDistinct}
 use Rattle.eqc_flat.specs.Evaluating.{values_of}
-use Rattle.eqc_check.proofs.MatchedLemmas.{place_of_name}
 use Rattle.eqc_check.proofs.CompareLaws.{value_agrees}
 use Rattle.eqc_check.proofs.VerdictLemmas.{found_is_first}
 use Rattle.eqc_check.specs.Schedule.{EndsAtRoots}
 use Rattle.eqc_check.specs.Turns.{AreScheduled, AreTurns}
 use Rattle.eqc_check.specs.declared.build.moments.Schedules.{Schedules}
-use Rattle.eqc_check.specs.PairOf.{PairOf, IsPair, variable_in, variables_in, first_variables, second_variables, second_signals, output_signal}
+use Rattle.eqc_pair.specs.PairOf.{PairOf, IsPair, variable_in, variables_in, first_variables, second_variables, second_signals, output_signal}
 use Rattle.eqc_check.specs.Building.{AreVariables, AreSignals}
 use Rattle.eqc_check.specs.Comparing.{netlist_of}
-use Rattle.eqc_check.proofs.PlaceLemmas.{place_below, all_named}
-use Rattle.eqc_check.proofs.OrderedLemmas.{both_ways}
+use Rattle.eqc_pair.proofs.PlaceLemmas.{place_itself, place_below, all_named}
+use Rattle.eqc_pair.proofs.OrderedLemmas.{both_ways}
 
 pub variables_at : (n i : ℕ) (order : List ℕ) → i < n → get_or (variables_in n order) i 0 ≡ variable_in order i
 variables_at n i order h = get_or-map-range_with_len (variable_in order) 0 n i i 0 h (omega arith)
@@ -107,8 +107,8 @@ pairs_more xs ys i x name old new h k is same o n = rw (n, o, same, is) (sym (zi
 -- an output's value under values of the inputs in their order
 pub own_value : (f : FlatOf) (a : List Bool) (o : ℕ) → IsFlat f → o < length f.outputs → first_value (netlist_of f) (get_or f.outputs o []) a ≡ value_of f (values_of a) (get_or f.output_signals o 0)
 own_value f a o h inside =
-    ap (λ k. value_of f (values_for f.inputs a f.inputs) (get_or f.output_signals k 0)) (place_of_name f.outputs o h.outputs_differ inside)
-    ∙ value_agrees f (values_for f.inputs a f.inputs) (values_of a) (get_or f.output_signals o 0) h (λ p within. ap (λ k. get_or a k false) (place_of_name f.inputs p h.inputs_differ within)) (h.outputs_within o inside)
+    ap (λ k. value_of f (values_for f.inputs a f.inputs) (get_or f.output_signals k 0)) (place_itself f.outputs o h.outputs_differ inside)
+    ∙ value_agrees f (values_for f.inputs a f.inputs) (values_of a) (get_or f.output_signals o 0) h (λ p within. ap (λ k. get_or a k false) (place_itself f.inputs p h.inputs_differ within)) (h.outputs_within o inside)
 
 opposite : (x y : Bool) → is_different x y ≡ true → not x ≡ y
 opposite true true e = absurd (true≢false (sym e))

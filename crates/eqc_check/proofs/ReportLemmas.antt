@@ -7,8 +7,9 @@ use Rattle.std.proofs.lemmas.Grind.{flat_map-append}
 use Rattle.eqc_tree.specs.Stopping.{code_of}
 use Rattle.eqc_tree.specs.declared.stopping.Stop.{Stop}
 use Rattle.eqc_tree.specs.declared.stopping.Stop.TheVariants.{NodeLimit, Memory, References, Threads}
-use Rattle.eqc_check.specs.Report.{text, stopped, refused, side_word, line, value_line}
-use Rattle.eqc_check.specs.declared.report.Side.{Side}
+use Rattle.eqc_check.specs.Report.{text, stopped, refused, line, value_line}
+use Rattle.eqc_pair.specs.Side.{side_word}
+use Rattle.eqc_pair.specs.declared.refused.Side.{Side}
 
 -- a number from 10 to 99 is its two digits
 pub two_digits : (n : ℕ) → 10 ≤ n → n < 100 → decimal n ≡ (48 + n / 10) ∷ (48 + n % 10) ∷ []

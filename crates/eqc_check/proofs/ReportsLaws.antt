@@ -11,20 +11,19 @@ use Rattle.eqc_flat.specs.Signals.{output_value}
 use Rattle.eqc_flat.specs.Codes.{flat_code}
 use Rattle.eqc_flat.specs.Flattened.{IsFlatOf}
 use Rattle.eqc_check.specs.declared.report.Report.{Report}
-use Rattle.eqc_check.specs.declared.report.Side.{Side}
-use Rattle.eqc_check.specs.declared.report.Side.TheVariants as side
-use Rattle.eqc_check.specs.declared.report.Refused.{Refused}
-use Rattle.eqc_check.specs.Verdict.{NetlistOf, position_of, values_for, first_value, second_value, first_difference}
+use Rattle.eqc_pair.specs.declared.refused.Side.{Side}
+use Rattle.eqc_pair.specs.declared.refused.Side.TheVariants as side
+use Rattle.eqc_pair.specs.declared.refused.Refused.{Refused}
+use Rattle.eqc_check.specs.Verdict.{NetlistOf, values_for, first_value, second_value, first_difference}
 use Rattle.eqc_check.specs.Report.{ReportOf, refused, difference_report, comparison}
 use Rattle.eqc_check.specs.ReportView.{report_of}
-use Rattle.eqc_check.specs.Matched.{same_names, order_code}
-use Rattle.eqc_check.specs.PairOf.{pair_refusal, order_refused, no_memory}
+use Rattle.eqc_pair.specs.Matched.{position_of, same_names, order_code}
+use Rattle.eqc_pair.specs.PairOf.{pair_refusal, order_refused, no_memory}
 use Rattle.eqc_check.specs.Refusing.{IsRefused, refusal_report, flat_answer}
 use Rattle.eqc_check.specs.Answer.{MainOf, inputs_of, outputs_of, netlist_of_model, order_answer, code_of_order, pair_answer, models_answer, IsComparison, MayStop, Answers, as_wanted}
 use Rattle.eqc_check.specs.Comparing.{netlist_of}
-use Rattle.eqc_check.proofs.PlaceLemmas.{place_below, all_named, name_at}
-use Rattle.eqc_check.proofs.OrderedLemmas.{both_ways}
-use Rattle.eqc_check.proofs.MatchedLemmas.{place_of_name}
+use Rattle.eqc_pair.proofs.PlaceLemmas.{place_itself, place_below, all_named, name_at}
+use Rattle.eqc_pair.proofs.OrderedLemmas.{both_ways}
 use Rattle.eqc_check.proofs.VerdictLemmas.{DiffersAlike, first_agrees, found_is_first}
 
 -- a refusal of a pair
@@ -42,7 +41,7 @@ flat_compared f g pf pg order report none ef eg e =
 -- an output of a model's flat netlist has its value
 flat_value : (m : MainOf) (f : FlatOf) (output : List ℕ) (o : ℕ) (a : ℕ → Bool) → IsFlat f → IsFlatOf m.0 m.1 f → o < length f.outputs → get_or f.outputs o [] ≡ output → (netlist_of f).value output a ≡ output_value m.0 m.1 a output
 flat_value m f output o a h is inside at =
-    let place : position_of f.outputs output ≡ o = ap (position_of f.outputs) (sym at) ∙ place_of_name f.outputs o h.outputs_differ inside in
+    let place : position_of f.outputs output ≡ o = ap (position_of f.outputs) (sym at) ∙ place_itself f.outputs o h.outputs_differ inside in
     ap (λ k. value_of f a (get_or f.output_signals k 0)) place
     ∙ (is.values a o inside ∙ ap (output_value m.0 m.1 a) at)
 

@@ -11,7 +11,7 @@ use Rattle.eqc_check.specs.declared.report.Status.{Status}
 use Rattle.eqc_check.specs.declared.running.Texts.{Texts}
 use Rattle.eqc_check.specs.declared.running.Texts.TheVariants.{One, Two}
 use Rattle.eqc_check.specs.Ends.{bytes_read, AppendsPrefix}
-use Rattle.eqc_check.specs.Matched.{order_code}
+use Rattle.eqc_pair.specs.Matched.{order_code}
 use Rattle.eqc_check.specs.Report.{ReportOf, text, equivalent, differs, refused, stopped}
 use Rattle.eqc_check.specs.Answer.{NamesOf, MainOf, inputs_of, TextsOf, one_text, two_texts, first_found, second_found, code_of_order, models_answer, found_answer, texts_answer, read_texts, IsComparison, Answers, was_stopped}
 use Rattle.eqc_check.specs.Telling.{WarnsOf}

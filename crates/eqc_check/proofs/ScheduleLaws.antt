@@ -4,9 +4,8 @@ use Rattle.std.proofs.lemmas.List.{get_or-set_same, get_or-set_other}
 use Rattle.std.proofs.lemmas.Bool.{cases_eq}
 use Rattle.std.proofs.Math.ListN.{length-set}
 use Rattle.eqc_flat.specs.Graph.{FlatOf, IsFlat}
-use Rattle.eqc_check.specs.PairOf.{ArePlaces}
 use Rattle.eqc_check.specs.Schedule.{moment, uses_at, AreLastMoments, EndsAtRoots, IsRaised}
-use Rattle.eqc_flat.proofs.EvaluationLaws.{dep_before, step_of}
+use Rattle.eqc_flat.proofs.EvaluationLaws.{dep_before}
 
 pub raised_none : (old signals : List ℕ) (at : ℕ) → IsRaised old old signals 0 at
 raised_none old signals at = record {
@@ -105,11 +104,3 @@ moments_done f roots last m = record {
 
 pub moments_of_roots : (f : FlatOf) (roots last : List ℕ) → AreMomentsFrom f roots last 0 → EndsAtRoots f roots last
 moments_of_roots f roots last m = record { each = m.of_roots }
-
--- the steps of all signals, from the steps of those of an order
-pub places_done : (f : FlatOf) (places : List ℕ) → IsFlat f → length places ≡ length f.drivers → ((i : ℕ) → i < length f.steps → get_or places (get_or f.steps i 0) 0 ≡ i) → ArePlaces f places
-places_done f places h size is = record {
-  size = size;
-  within = λ s inside. (let w = step_of f s h inside in omega (arith, w.1, is w.0 w.1, ap (λ t. get_or places t 0) w.2));
-  at = λ s inside. (let w = step_of f s h inside in ap (λ i. get_or f.steps i 0) (sym (ap (λ t. get_or places t 0) w.2) ∙ is w.0 w.1) ∙ w.2);
-}

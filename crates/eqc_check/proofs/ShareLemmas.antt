@@ -11,9 +11,10 @@ use Rattle.eqc_check.specs.declared.workers.ticket.View.{View}
 use Rattle.eqc_check.specs.declared.workers.verdict.Finding.{Finding}
 use Rattle.eqc_check.specs.declared.workers.verdict.Finding.TheVariants.{Equal, Differs, Behind}
 use Rattle.eqc_check.specs.declared.workers.verdict.Verdict.{Verdict}
-use Rattle.eqc_check.specs.PairOf.{PairOf}
+use Rattle.eqc_pair.specs.PairOf.{PairOf}
 use Rattle.eqc_check.specs.Ticket.{drew, both, IsSeat, IsAbove, strangers, times, once_below}
-use Rattle.eqc_check.specs.Verdicts.{difference_at, DiffersBefore, IsFoundAt, tells_difference, insiders, IsRight, IsShare, IsWork}
+use Rattle.eqc_check.specs.Comparing.{difference_at}
+use Rattle.eqc_check.specs.Verdicts.{DiffersBefore, IsFoundAt, tells_difference, insiders, IsRight, IsShare, IsWork}
 use Rattle.eqc_check.proofs.TicketCounts.{times-append, strangers-append}
 
 pub insiders-append : (m : ℕ) (xs ys : List ℕ) → insiders m (xs ++ ys) ≡ insiders m xs ++ insiders m ys

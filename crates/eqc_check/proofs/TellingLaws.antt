@@ -6,8 +6,8 @@ use Rattle.eqc_blif.specs.declared.refusal.Refusal.{Refusal}
 use Rattle.eqc_check.specs.declared.decide.Told.{Told}
 use Rattle.eqc_check.specs.declared.report.Report.{Report}
 use Rattle.eqc_check.specs.declared.report.Report.TheVariants as kind
-use Rattle.eqc_check.specs.declared.report.Side.{Side}
-use Rattle.eqc_check.specs.declared.report.Side.TheVariants as side
+use Rattle.eqc_pair.specs.declared.refused.Side.{Side}
+use Rattle.eqc_pair.specs.declared.refused.Side.TheVariants as side
 use Rattle.eqc_check.specs.declared.warning.Warnings.{Warnings}
 use Rattle.eqc_check.specs.Report.{ReportOf, refused}
 use Rattle.eqc_check.specs.ReportView.{report_of}

@@ -6,10 +6,10 @@ use Rattle.std.proofs.lemmas.List.{map-append}
 use Rattle.eqc_check.specs.declared.workers.verdict.Finding.{Finding}
 use Rattle.eqc_check.specs.declared.workers.verdict.Verdict.{Verdict}
 use Rattle.eqc_check.specs.Verdict.{NetlistOf, least_difference, first_difference}
-use Rattle.eqc_check.specs.PairOf.{PairOf}
-use Rattle.eqc_check.specs.Comparing.{netlist_of, found_at}
+use Rattle.eqc_pair.specs.PairOf.{PairOf}
+use Rattle.eqc_check.specs.Comparing.{difference_at, netlist_of, found_at}
 use Rattle.eqc_check.specs.Ticket.{times, once_below}
-use Rattle.eqc_check.specs.Verdicts.{difference_at, IsFoundAt, IsRight, named, Stands}
+use Rattle.eqc_check.specs.Verdicts.{IsFoundAt, IsRight, named, Stands}
 use Rattle.eqc_check.proofs.TicketCounts.{times-append}
 
 none_there : (n o : ℕ) → get_or (replicate {A = Option Finding} n None) o None ≡ None

@@ -16,7 +16,7 @@ use Rattle.std.proofs.lemmas.List.{get_or_default}
 use Rattle.eqc_flat.specs.Graph.{FlatOf, IsFlat}
 use Rattle.eqc_flat.proofs.EvaluationLaws.{dep_before}
 use Rattle.eqc_check.specs.Building.{reference_of}
-use Rattle.eqc_check.specs.PairOf.{ArePlaces}
+use Rattle.eqc_pair.specs.PairOf.{ArePlaces}
 use Rattle.eqc_check.specs.Schedule.{moment, uses_at, AreLastMoments, AreWanted, AreOpened, IsBehind, IsOpen}
 
 pub open_none : (x : ℕ) → IsOpen [] x → ⊥

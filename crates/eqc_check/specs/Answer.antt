@@ -8,10 +8,10 @@ use Rattle.eqc_flat.specs.Hierarchy.{model, model_number}
 use Rattle.eqc_flat.specs.Signals.{output_value}
 use Rattle.eqc_flat.specs.Codes.{flat_code}
 use Rattle.eqc_check.specs.declared.options.Options.{Options}
-use Rattle.eqc_check.specs.declared.report.Side.{Side}
-use Rattle.eqc_check.specs.declared.report.Side.TheVariants as side
+use Rattle.eqc_pair.specs.declared.refused.Side.{Side}
+use Rattle.eqc_pair.specs.declared.refused.Side.TheVariants as side
 use Rattle.eqc_check.specs.Options.{options_code}
-use Rattle.eqc_check.specs.Matched.{same_names, order_code}
+use Rattle.eqc_pair.specs.Matched.{same_names, order_code}
 use Rattle.eqc_check.specs.Verdict.{NetlistOf}
 use Rattle.eqc_check.specs.Report.{ReportOf, equivalent, differs, refused, stopped, comparison}
 use Rattle.eqc_tree.specs.Stopping.{code_of}

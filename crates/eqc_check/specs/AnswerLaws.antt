@@ -6,11 +6,11 @@ use Rattle.eqc_blif.specs.Names.{is_named, has_twice}
 use Rattle.eqc_flat.specs.Signals.{output_value}
 use Rattle.eqc_flat.specs.Codes.{flat_code}
 use Rattle.eqc_check.specs.declared.options.Options.{Options}
-use Rattle.eqc_check.specs.declared.report.Refused.{Refused}
-use Rattle.eqc_check.specs.declared.report.Side.{Side}
-use Rattle.eqc_check.specs.declared.report.Side.TheVariants as side
+use Rattle.eqc_pair.specs.declared.refused.Refused.{Refused}
+use Rattle.eqc_pair.specs.declared.refused.Side.{Side}
+use Rattle.eqc_pair.specs.declared.refused.Side.TheVariants as side
 use Rattle.eqc_check.specs.Options.{is_between, is_cell_count, options_code}
-use Rattle.eqc_check.specs.Matched.{has_all, same_names, order_words}
+use Rattle.eqc_pair.specs.Matched.{has_all, same_names, order_words}
 use Rattle.eqc_check.specs.VerdictLaws.{IsBelow}
 use Rattle.eqc_check.specs.Report.{ReportOf, equivalent, differs, refused, stopped}
 use Rattle.eqc_blif.specs.Netlist.{ModelOf}

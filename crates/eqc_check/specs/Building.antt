@@ -2,7 +2,7 @@
 use Rattle.std.specs.Prelude.{◌≡◌, ℕ, ◌+◌, ◌<◌, ◌≤◌, Bool, List, length, Option, Some, None, slice_index, slice_index_or, sum_by, IsSome, slice_set}
 use Rattle.eqc_tree.specs.Holding.{Entry, Holding, copies, weight, says}
 use Rattle.eqc_flat.specs.Graph.{FlatOf, value_of}
-use Rattle.eqc_check.specs.PairOf.{PairOf, first_variables, second_variables}
+use Rattle.eqc_pair.specs.PairOf.{PairOf, first_variables, second_variables}
 
 -- the values of the inputs, where an input at a position has the value of its variable
 abbrev pub inputs_under : List ℕ → (ℕ → Bool) → ℕ → Bool

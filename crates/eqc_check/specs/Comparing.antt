@@ -4,8 +4,9 @@ use Rattle.std.specs.declared.alloc.Global.{Global}
 use Rattle.std.specs.Option.{option_map}
 use Rattle.eqc_flat.specs.Graph.{FlatOf, value_of}
 use Rattle.eqc_check.specs.Building.{inputs_under}
-use Rattle.eqc_check.specs.PairOf.{PairOf, first_variables, second_variables, second_signals}
-use Rattle.eqc_check.specs.Verdict.{NetlistOf, position_of, is_different}
+use Rattle.eqc_pair.specs.PairOf.{PairOf, first_variables, second_variables, second_signals}
+use Rattle.eqc_pair.specs.Matched.{position_of}
+use Rattle.eqc_check.specs.Verdict.{NetlistOf, is_different, least_difference}
 
 -- a flat netlist as its user sees it
 abbrev pub netlist_of : FlatOf → NetlistOf
@@ -25,6 +26,14 @@ differs_at p output a =
 -- a function is true where an output differs
 pub record SaysDifference (p : PairOf) (output : ℕ) (f : (ℕ → Bool) → Bool) : Type 0 where
   pub each : (a : ℕ → Bool) → f a ≡ differs_at p output a
+
+-- the least assignment under which the output at a position differs
+abbrev pub difference_at : PairOf → ℕ → Option (List Bool)
+difference_at p output = least_difference (netlist_of p.first) (netlist_of p.second) (slice_index_or p.first.outputs output [])
+
+-- that assignment is found, or none where there is none
+abbrev pub IsDifferenceAt : PairOf → ℕ → Option (Vec Bool Global) → Type 0
+IsDifferenceAt p output found = option_map (λ v. v.items) found ≡ difference_at p output
 
 -- an output by its position with an assignment, as an output by its name
 abbrev pub found_at : FlatOf → Option (ℕ × Vec Bool Global) → Option (List ℕ × List Bool)

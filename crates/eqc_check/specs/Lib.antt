@@ -2,11 +2,7 @@ pub mod Options
 pub mod Ends
 pub mod Verdict
 pub mod VerdictLaws
-pub mod Matched
-pub mod PairOf
-pub mod Finding
 pub mod Report
-pub mod Rule
 pub mod ReportView
 pub mod Building
 pub mod Schedule

@@ -4,10 +4,10 @@ use Rattle.eqc_flat.specs.Graph.{FlatOf}
 use Rattle.eqc_blif.specs.declared.refusal.Refusal.{Refusal}
 use Rattle.eqc_check.specs.declared.report.Report.{Report}
 use Rattle.eqc_check.specs.declared.report.Report.TheVariants as report
-use Rattle.eqc_check.specs.declared.report.Refused.{Refused}
-use Rattle.eqc_check.specs.declared.report.Side.{Side}
+use Rattle.eqc_pair.specs.declared.refused.Refused.{Refused}
+use Rattle.eqc_pair.specs.declared.refused.Side.{Side}
 use Rattle.eqc_check.specs.Report.{ReportOf, refused, comparison}
-use Rattle.eqc_check.specs.PairOf.{pair_refusal}
+use Rattle.eqc_pair.specs.PairOf.{pair_refusal}
 use Rattle.eqc_check.specs.Comparing.{netlist_of}
 use Rattle.eqc_tree.specs.declared.stopping.Stop.{Stop}
 use Rattle.eqc_tree.specs.declared.stopping.Stop.TheVariants.{Memory}

@@ -3,8 +3,8 @@ use Rattle.std.specs.Prelude.{ℕ, Bool, true, false, List, [], ◌∷◌, ◌++
 use Rattle.std.specs.List.{flat_map, zip}
 use Rattle.std.specs.Fmt.{decimal}
 use Rattle.std.specs.Prelude.{Option, Some, None}
-use Rattle.eqc_check.specs.declared.report.Side.{Side}
-use Rattle.eqc_check.specs.declared.report.Side.TheVariants.{First, Second, Pair, Order, Options}
+use Rattle.eqc_pair.specs.declared.refused.Side.{Side}
+use Rattle.eqc_pair.specs.Side.{side_word}
 use Rattle.eqc_check.specs.Verdict.{NetlistOf, first_value, second_value, first_difference}
 
 -- equivalent; the first differing output with the inputs' values and its value in the two netlists; a refusal
@@ -25,13 +25,6 @@ digit false = 48 ∷ []
 -- `NAME=V`
 abbrev pub value_line : List ℕ × Bool → List ℕ
 value_line p = line (p.0 ++ 61 ∷ digit p.1)
-
-abbrev pub side_word : Side → List ℕ
-side_word First = codes "first"
-side_word Second = codes "second"
-side_word Pair = codes "pair"
-side_word Order = codes "order"
-side_word Options = codes "options"
 
 abbrev pub text : ReportOf → List ℕ
 text equivalent = line (codes "equivalent")

@@ -9,7 +9,7 @@ use Rattle.eqc_check.specs.Ends.{AppendsPrefix}
 use Rattle.eqc_check.specs.Report.{ReportOf, text, stopped, refused}
 use Rattle.eqc_check.specs.Options.{options_code}
 use Rattle.eqc_check.specs.declared.options.Options.{Options}
-use Rattle.eqc_check.specs.declared.report.Side.TheVariants as side
+use Rattle.eqc_pair.specs.declared.refused.Side.TheVariants as side
 use Rattle.eqc_check.specs.ReportView.{status_of}
 use Rattle.eqc_check.specs.Answer.{NamesOf, TextsOf, one_text, two_texts, texts_answer, Answers}
 

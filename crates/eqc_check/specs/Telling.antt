@@ -3,7 +3,7 @@ use Rattle.std.specs.Prelude.{◌≡◌, ℕ, List, Option, Result, Ok, Err}
 use Rattle.eqc_blif.specs.declared.refusal.Refusal.{Refusal}
 use Rattle.eqc_check.specs.declared.decide.Told.{Told}
 use Rattle.eqc_check.specs.declared.report.Report.{Report}
-use Rattle.eqc_check.specs.declared.report.Side.{Side}
+use Rattle.eqc_pair.specs.declared.refused.Side.{Side}
 use Rattle.eqc_check.specs.declared.warning.Warnings.{Warnings}
 use Rattle.eqc_check.specs.Answer.{TextsOf, texts_answer, IsComparison, MayStop}
 use Rattle.eqc_check.specs.Refusing.{IsRefused}

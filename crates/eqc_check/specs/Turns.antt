@@ -2,7 +2,7 @@
 use Rattle.std.specs.Prelude.{ℕ, ◌+◌, ◌<◌, ◌≤◌, IsSome, length, slice_index}
 use Rattle.eqc_tree.specs.Holding.{Entry, Holding}
 use Rattle.eqc_check.specs.Building.{AreBuilt, OwnsBoth, MovesBoth, reference_of}
-use Rattle.eqc_check.specs.PairOf.{PairOf, second_signals}
+use Rattle.eqc_pair.specs.PairOf.{PairOf, second_signals}
 use Rattle.eqc_check.specs.Schedule.{moment, AreLastMoments}
 use Rattle.eqc_check.specs.declared.build.kept.Tables.{Tables}
 use Rattle.eqc_check.specs.declared.build.moments.Schedules.{Schedules}
@@ -29,6 +29,13 @@ pub record AreKept {X : Type 0} (entry : X → Entry) (p : PairOf) (d : Holding)
   pub variables : length p.first.inputs ≤ d.variables
   pub built : AreBuilt entry p tables.first.table tables.second.table
   pub owned : OwnsBoth entry d tables.first.table tables.second.table
+
+-- an output may be compared in its turn, with what is kept
+pub record IsComparable {X : Type 0} (entry : X → Entry) (p : PairOf) (s : Schedules) (d : Holding) (tables : Tables X) (o n : ℕ) : Type 0 where
+  pub output : o < length p.first.outputs
+  pub scheduled : AreScheduled p s
+  pub turn : IsTurn p s o n
+  pub kept : AreKept entry p d tables
 
 -- what is kept becomes other references of such signals: what the tables gain the object gains
 pub record MovesKept {X : Type 0} (entry : X → Entry) (p : PairOf) (old : Holding) (old_tables : Tables X) (new : Holding) (new_tables : Tables X) : Type 0 where

@@ -3,10 +3,9 @@
 -- netlist that differs under some assignment, with the least such assignment in lexicographic order over the
 -- inputs as the first netlist declares them, 0 before 1. The order of variables plays no part.
 use Rattle.std.specs.Prelude.{ℕ, Bool, true, false, not, List, [], ◌∷◌, length, find, Option, None, slice_index_or}
-use Rattle.std.specs.List.{position_or_len}
 use Rattle.std.specs.Option.{option_map, option_or}
-use Rattle.std.specs.Str.{bytes_eq}
 use Rattle.eqc_tree.specs.Assigned.{assignments}
+use Rattle.eqc_pair.specs.Matched.{position_of}
 
 -- a netlist as its user sees it: its inputs, its outputs, and the value of the output of a name under values
 -- of the inputs by position
@@ -14,10 +13,6 @@ pub record NetlistOf : Type 0 where
   pub inputs : List (List ℕ)
   pub outputs : List (List ℕ)
   pub value : List ℕ → (ℕ → Bool) → Bool
-
--- where a name first stands in a list, or its length
-abbrev pub position_of : List (List ℕ) → List ℕ → ℕ
-position_of names name = position_or_len (λ other. bytes_eq name other) names
 
 -- an assignment of declared inputs as values of inputs with these names, by their position
 abbrev pub values_for : List (List ℕ) → List Bool → List (List ℕ) → ℕ → Bool

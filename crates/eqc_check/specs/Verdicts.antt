@@ -9,14 +9,9 @@ use Rattle.eqc_check.specs.declared.workers.ticket.View.{View}
 use Rattle.eqc_check.specs.declared.workers.verdict.Finding.{Finding}
 use Rattle.eqc_check.specs.declared.workers.verdict.Finding.TheVariants.{Equal, Differs, Behind}
 use Rattle.eqc_check.specs.declared.workers.verdict.Verdict.{Verdict}
-use Rattle.eqc_check.specs.Verdict.{least_difference}
-use Rattle.eqc_check.specs.PairOf.{PairOf}
-use Rattle.eqc_check.specs.Comparing.{netlist_of}
+use Rattle.eqc_pair.specs.PairOf.{PairOf}
+use Rattle.eqc_check.specs.Comparing.{difference_at}
 use Rattle.eqc_check.specs.Ticket.{IsSeat, strangers, times, once_below}
-
--- the least assignment under which the output at a position differs
-abbrev pub difference_at : PairOf → ℕ → Option (List Bool)
-difference_at p output = least_difference (netlist_of p.first) (netlist_of p.second) (slice_index_or p.first.outputs output [])
 
 -- an output before this position differs
 abbrev pub DiffersBefore : PairOf → ℕ → Type 0

@@ -6,10 +6,10 @@ ghost use Rattle.eqc_check.specs.ReportView.{report_of};
 ghost use Rattle.eqc_check.specs.Comparing.{netlist_of, found_at};
 
 use crate::compare::compare_outputs;
-use crate::pairing::matched_pair::{Pair, recall_laws};
 use crate::report::Report;
 use eqc_blif::Name;
 use eqc_flat::{Flat, eval};
+use eqc_pair::{Pair, recall_laws};
 use eqc_plain::Plain;
 use eqc_tree::Stop;
 use std::alloc::{AllocError, Global};

@@ -2,11 +2,11 @@ ghost use Rattle.std.specs.Prelude.{◌≡◌, ◌≢◌, ℕ, ◌+◌, ◌<◌,
 ghost use Rattle.std.specs.Option.{option_map};
 ghost use Rattle.eqc_tree.specs.Holding.{Holding, IsHeld, says, Keeps, Gains, Loses};
 ghost use Rattle.eqc_check.specs.Verdict.{least_difference, first_difference};
-ghost use Rattle.eqc_check.specs.PairOf.{second_signals};
+ghost use Rattle.eqc_pair.specs.PairOf.{second_signals};
 ghost use Rattle.eqc_check.specs.Building.{AreBuilt, OwnsBoth, MovesBoth, KeepsLater};
 ghost use Rattle.eqc_check.specs.Schedule.{moment};
-ghost use Rattle.eqc_check.specs.Turns.{AreScheduled, IsTurn, AreTurns, AreKept, MovesKept, HasOutput};
-ghost use Rattle.eqc_check.specs.Comparing.{netlist_of, differs_at, SaysDifference, found_at};
+ghost use Rattle.eqc_check.specs.Turns.{AreScheduled, AreTurns, AreKept, IsComparable, MovesKept, HasOutput};
+ghost use Rattle.eqc_check.specs.Comparing.{netlist_of, differs_at, SaysDifference, IsDifferenceAt, found_at};
 
 use crate::build::complete;
 use crate::build::cone::moments_below;
@@ -16,8 +16,8 @@ use crate::build::kept::{
 use crate::build::moments::Schedules;
 use crate::build::schedule::{moment, moments_of};
 use crate::build::table::reference_at;
-use crate::pairing::matched_pair::Pair;
 use eqc_cover::{is_false, least_over};
+use eqc_pair::Pair;
 use eqc_tree::{Diagrams, Op, References, Stop};
 use std::alloc::{AllocError, Global};
 
@@ -61,7 +61,7 @@ fn least_of_difference<R, D: Diagrams<R>>(
     requires output { output < length pair.now.first.outputs }
     requires held { IsHeld (D.holding d.old) (D.entry difference) }
     requires function { SaysDifference pair.now output (says (D.entry difference)) }
-    ensures found { IfOk result (λ found. option_map (λ v. v.items) found ≡ least_difference (netlist_of pair.now.first) (netlist_of pair.now.second) (slice_index_or pair.now.first.outputs output [])) }
+    ensures found { IfOk result (IsDifferenceAt pair.now output) }
     ensures lost { Loses (D.holding d.old) (D.holding d.new) (D.entry difference) }
     ensures only { IfErr result (λ s. s ≢ Stop.Threads) }
 {
@@ -87,7 +87,7 @@ fn difference<R, D: Diagrams<R>>(
     requires output { output < length pair.now.first.outputs }
     requires kept { AreKept D.entry pair.now (D.holding d.old) tables.now }
     requires ready { HasOutput pair.now tables.now output }
-    ensures found { IfOk result (λ found. option_map (λ v. v.items) found ≡ least_difference (netlist_of pair.now.first) (netlist_of pair.now.second) (slice_index_or pair.now.first.outputs output [])) }
+    ensures found { IfOk result (IsDifferenceAt pair.now output) }
     ensures kept { Keeps (D.holding d.old) (D.holding d.new) }
     ensures only { IfErr result (λ s. s ≢ Stop.Threads) }
 {
@@ -106,10 +106,7 @@ fn complete_both<R, D: Diagrams<R>>(
     output: usize,
     turn: u32,
 ) -> Result<(), Stop>
-    requires output { output < length pair.now.first.outputs }
-    requires scheduled { AreScheduled pair.now schedules.now }
-    requires turn { IsTurn pair.now schedules.now output turn }
-    requires kept { AreKept D.entry pair.now (D.holding d.old) tables.old }
+    requires { IsComparable D.entry pair.now schedules.now (D.holding d.old) tables.old output turn }
     ensures moves { MovesKept D.entry pair.now (D.holding d.old) tables.old (D.holding d.new) tables.new }
     ensures ready { OnOk result (HasOutput pair.now tables.new output) }
     ensures only { IfErr result (λ s. s ≢ Stop.Threads) }
@@ -176,11 +173,8 @@ fn compare_turn<R, D: Diagrams<R>>(
     output: usize,
     turn: u32,
 ) -> Result<Option<Vec<bool>>, Stop>
-    requires output { output < length pair.now.first.outputs }
-    requires scheduled { AreScheduled pair.now schedules.now }
-    requires turn { IsTurn pair.now schedules.now output turn }
-    requires kept { AreKept D.entry pair.now (D.holding d.old) tables.old }
-    ensures found { IfOk result (λ found. option_map (λ v. v.items) found ≡ least_difference (netlist_of pair.now.first) (netlist_of pair.now.second) (slice_index_or pair.now.first.outputs output [])) }
+    requires { IsComparable D.entry pair.now schedules.now (D.holding d.old) tables.old output turn }
+    ensures found { IfOk result (IsDifferenceAt pair.now output) }
     ensures moves { MovesKept D.entry pair.now (D.holding d.old) tables.old (D.holding d.new) tables.new }
     ensures only { IfErr result (λ s. s ≢ Stop.Threads) }
 {
@@ -211,11 +205,8 @@ pub(crate) fn compare_kept<R, D: Diagrams<R>>(
     output: usize,
     turn: u32,
 ) -> Result<Option<Vec<bool>>, Stop>
-    requires output { output < length pair.now.first.outputs }
-    requires scheduled { AreScheduled pair.now schedules.now }
-    requires turn { IsTurn pair.now schedules.now output turn }
-    requires kept { AreKept D.entry pair.now (D.holding d.old) tables.old }
-    ensures found { IfOk result (λ found. option_map (λ v. v.items) found ≡ least_difference (netlist_of pair.now.first) (netlist_of pair.now.second) (slice_index_or pair.now.first.outputs output [])) }
+    requires { IsComparable D.entry pair.now schedules.now (D.holding d.old) tables.old output turn }
+    ensures found { IfOk result (IsDifferenceAt pair.now output) }
     ensures moves { MovesKept D.entry pair.now (D.holding d.old) tables.old (D.holding d.new) tables.new }
     ensures only { IfErr result (λ s. s ≢ Stop.Threads) }
 {

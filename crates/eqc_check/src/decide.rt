@@ -8,14 +8,13 @@ ghost use Rattle.eqc_check.specs.Telling.{IsToldRefusal, IsToldWith, Tells, Warn
 
 use crate::choice::{Main, ModelNames, choose, read_main};
 use crate::options::Options;
-use crate::pairing::matched_pair::recall_laws;
-use crate::pairing::pair;
-use crate::report::{Refused, Report, Side};
+use crate::report::Report;
 use crate::warning::{Warnings, warnings_in_one, warnings_in_two};
 use crate::workers::check;
 use crate::workers::gate::NoGate;
 use eqc_blif::{Library, Refusal};
 use eqc_flat::{Fault, Flat, flatten};
+use eqc_pair::{Refused, Side, pair, recall_laws};
 use eqc_tree::Stop;
 use std::alloc::{AllocError, Global};
 use std::sync::Wait;

@@ -1,8 +1,7 @@
 //! What is told of a run that gave no verdict, beside its report.
 
-use crate::pairing::finding::Finding;
-use crate::report::Side;
 use eqc_blif::Library;
+use eqc_pair::{Finding, Side};
 use eqc_tree::Stop;
 use std::io;
 

@@ -3,10 +3,9 @@ ghost use Rattle.std.specs.Prelude.{◌<◌, length, IfOk, IfSome};
 
 use crate::choice::{Main, ModelNames, choose, read_main};
 use crate::diagnostics::Diagnostics;
-use crate::pairing::explanation::explain_pair;
-use crate::report::Side;
 use eqc_blif::{Library, Refusal, read};
 use eqc_flat::{Flat, flatten};
+use eqc_pair::{Side, explain_pair};
 use std::alloc::{AllocError, Global};
 
 /// Tells of a text that is refused, or in which a model isn't there. Fails where memory is refused.

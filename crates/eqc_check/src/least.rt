@@ -2,11 +2,11 @@ ghost use Rattle.std.specs.Prelude.{◌≡◌, ◌≢◌, ℕ, ◌<◌, ◌≤�
 ghost use Rattle.eqc_tree.specs.Holding.{IsHeld, says, Keeps};
 ghost use Rattle.eqc_tree.specs.Assigned.{IsSatisfiable};
 ghost use Rattle.eqc_check.specs.Assigned.{DependsBelow};
-ghost use Rattle.eqc_check.specs.PairOf.{input_values};
+ghost use Rattle.eqc_pair.specs.PairOf.{input_values};
 ghost use Rattle.eqc_check.specs.VerdictLaws.{IsLeast};
 
-use crate::pairing::matched_pair::Pair;
 use eqc_cover::least_over;
+use eqc_pair::Pair;
 use eqc_tree::{Diagrams, References, Stop};
 use std::alloc::Global;
 

@@ -1,5 +1,5 @@
-//! Compares two netlists and reports: pairs of flat netlists matched by name, the diagrams of their outputs over any
-//! `Diagrams`, the first differing output with its least assignment, and the report's bytes.
+//! Compares two netlists and reports: the diagrams of a pair's outputs over any `Diagrams`, the first differing output with its
+//! least assignment, and the report's bytes. What makes a pair stands in `eqc_pair`, whose calls are offered here too.
 //!
 //! What the report has to be is said in `specs/Answer.antt`, `specs/Verdict.antt` and `specs/Report.antt`. Read the modules in this
 //! order, the way of the data:
@@ -7,7 +7,7 @@
 //! - `running`, texts in and a report out, over `io`, readers and writers; `decide`, which refusal or comparison it is;
 //!   `explaining`, what is at fault in texts that are refused, told to `diagnostics`;
 //!   `choice`, which models are compared; `warning`, models that are contained in others
-//! - `pairing`, two netlists as a pair; `options` and `rule`, what is asked for and what is refused
+//! - `options`, what is asked for
 //! - `build`, the diagrams of signals; `least`, the least assignment of a pair's inputs
 //! - `compare`, one output; `checking`, all outputs on one thread; `workers`, on several
 //! - `report`, reports and their bytes; `laws`, facts about the definitions, as functions without a body
@@ -24,9 +24,7 @@ mod io;
 mod laws;
 mod least;
 mod options;
-mod pairing;
 mod report;
-mod rule;
 mod running;
 mod warning;
 mod workers;
@@ -35,6 +33,9 @@ pub use checking::check_plain;
 pub use choice::ModelNames;
 pub use compare::compare_output;
 pub use diagnostics::{Diagnostics, NoDiagnostics};
+pub use eqc_pair::{
+    Finding, OPTION_RULES, PAIR_RULES, Pair, Refused, Rule, Side, Unmatched, explain_pair, pair,
+};
 pub use io::fault::RunFault;
 pub use io::writing::write_text;
 pub use laws::{
@@ -46,14 +47,8 @@ pub use laws::{
 };
 pub use least::least_assignment;
 pub use options::{Options, options_fault};
-pub use pairing::explanation::explain_pair;
-pub use pairing::finding::Finding;
-pub use pairing::matched_pair::Pair;
-pub use pairing::pair;
-pub use pairing::unmatched::Unmatched;
 pub use report::text::write_report;
-pub use report::{Refused, Report, Side, Status};
-pub use rule::{OPTION_RULES, PAIR_RULES, Rule};
+pub use report::{Report, Status};
 pub use running::{Finished, Texts, run, run_explained, run_models};
 pub use warning::{Contained, Warnings};
 pub use workers::gate::{Gate, NoGate};

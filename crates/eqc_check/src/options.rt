@@ -1,7 +1,7 @@
 ghost use Rattle.std.specs.Prelude.{◌≡◌};
 ghost use Rattle.eqc_check.specs.Options.{options_code, is_cell_count};
 
-use crate::rule::Rule;
+use eqc_pair::Rule;
 
 const MAX_WORKERS: u32 = 64;
 

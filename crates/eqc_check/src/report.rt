@@ -1,32 +1,11 @@
 ghost use Rattle.std.specs.Prelude.{◌≡◌};
-ghost use Rattle.eqc_check.specs.Report.{side_word};
 ghost use Rattle.eqc_check.specs.ReportView.{report_of, status_of};
 
 pub(crate) mod text;
 
-use crate::rule::reason_of;
 use eqc_blif::Name;
+use eqc_pair::Refused;
 use eqc_tree::Stop;
-use thiserror::Error;
-
-/// Which text, or what else of a run, was refused.
-#[derive(Clone, Copy, Debug, PartialEq, Eq)]
-pub enum Side {
-    First,
-    Second,
-    Pair,
-    Order,
-    Options,
-}
-
-/// A refusal: the line of the text, 0 where there is none, and the number of the rule.
-#[derive(Clone, Copy, Debug, PartialEq, Eq, Error)]
-#[error("{}: {} (line {line}, code {code})", .side.word(), reason_of(.code))]
-pub struct Refused {
-    pub side: Side,
-    pub line: u32,
-    pub code: u8,
-}
 
 /// The answer of a run.
 #[derive(Drop)]
@@ -42,21 +21,6 @@ pub enum Report {
     },
     Refused(Refused),
     Stopped(Stop),
-}
-
-impl Side {
-    /// The word of a report.
-    pub(crate) fn word(self) -> &'static str
-        ensures { result.now ≡ side_word self }
-    {
-        match self {
-            Side::First => "first",
-            Side::Second => "second",
-            Side::Pair => "pair",
-            Side::Order => "order",
-            Side::Options => "options",
-        }
-    }
 }
 
 /// The kind of a report, which a program's status shows.

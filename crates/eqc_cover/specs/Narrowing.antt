@@ -1,8 +1,20 @@
--- One step of the search for the least assignment: values for some variables, and what is left of a function.
-use Rattle.std.specs.Prelude.{◌≡◌, ℕ, ◌+◌, ◌*◌, ◌<◌, ◌≤◌, Bool, true, false, not, ◌&&◌, List, [], ◌∷◌, replicate, ◌==◌, if◌then◌else◌}
-use Rattle.std.specs.List.{list_any}
-use Rattle.eqc_tree.specs.Holding.{Entry, Holding, copies, weight}
-use Rattle.eqc_tree.specs.Assigned.{IsSatisfiable}
+-- The search for the least assignment, and one step of it: values for some variables, and what is left of a function.
+use Rattle.std.specs.Prelude.{◌≡◌, ℕ, ◌+◌, ◌*◌, ◌<◌, ◌≤◌, Bool, true, false, not, ◌&&◌, List, [], ◌∷◌, length, replicate, ◌==◌, Some, if◌then◌else◌}
+use Rattle.std.specs.List.{All, find, list_any}
+use Rattle.eqc_tree.specs.Holding.{Entry, Holding, IsHeld, copies, weight, says}
+use Rattle.eqc_tree.specs.Assigned.{assigned, AreDistinct, DependsOnlyOn, IsSatisfiable, assignments}
+
+-- a function that is held has a least assignment of these variables: it is true under some, and depends on no others
+pub record HasLeast (d : Holding) (variables : List ℕ) (f : Entry) : Type 0 where
+  pub held : IsHeld d f
+  pub within : All (λ v. v < d.variables) variables
+  pub distinct : AreDistinct variables
+  pub satisfiable : IsSatisfiable (says f)
+  pub depends : DependsOnlyOn variables (says f)
+
+-- these values are its least assignment
+abbrev pub IsLeastOf : List ℕ → ((ℕ → Bool) → Bool) → List Bool → Type 0
+IsLeastOf variables f least = Some least ≡ find (λ values. f (assigned variables values)) (assignments (length variables))
 
 -- one reference in place of another
 pub record Replaces (old new : Holding) (gone come : Entry) : Type 0 where

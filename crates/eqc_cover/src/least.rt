@@ -3,7 +3,7 @@ ghost use Rattle.std.specs.List.{All, find, list_any};
 ghost use Rattle.eqc_tree.specs.Holding.{IsHeld, says, Keeps, Loses};
 ghost use Rattle.eqc_tree.specs.Assigned.{assigned, AreDistinct, DependsOnlyOn, IsSatisfiable, assignments};
 ghost use Rattle.eqc_cover.specs.Making.{Makes};
-ghost use Rattle.eqc_cover.specs.Narrowing.{Replaces, IsNarrowed, decided, IsNextLength};
+ghost use Rattle.eqc_cover.specs.Narrowing.{HasLeast, IsLeastOf, Replaces, IsNarrowed, decided, IsNextLength};
 
 use crate::making::joined;
 use eqc_tree::{Diagrams, Op, References, Stop};
@@ -130,12 +130,8 @@ fn by_blocks<R, D: Diagrams<R>>(
     variables: &[u16],
     f: &D::Ref,
 ) -> Result<Vec<bool>, Stop>
-    requires held { IsHeld (D.holding d.old) (D.entry f.now) }
-    requires within { All (λ v. v < (D.holding d.old).variables) variables.now }
-    requires distinct { AreDistinct variables.now }
-    requires satisfiable { IsSatisfiable (says (D.entry f.now)) }
-    requires depends { DependsOnlyOn variables.now (says (D.entry f.now)) }
-    ensures least { IfOk result (λ least. Some least.items ≡ find (λ values. says (D.entry f.now) (assigned variables.now values)) (assignments (length variables.now))) }
+    requires { HasLeast (D.holding d.old) variables.now (D.entry f.now) }
+    ensures least { IfOk result (λ least. IsLeastOf variables.now (says (D.entry f.now)) least.items) }
     ensures kept { Keeps (D.holding d.old) (D.holding d.new) }
     ensures only { IfErr result (λ s. s ≢ Stop.Threads) }
 {

@@ -2,7 +2,7 @@ ghost use Rattle.std.specs.Prelude.{◌≡◌, ℕ, ◌+◌, ◌<◌, ◌≤◌,
 ghost use Rattle.std.specs.Ordering.{nat_cmp};
 ghost use Rattle.std.specs.BinaryHeap.{heap_items, IsHeap};
 ghost use Rattle.eqc_check.specs.Listed.{moment_in};
-ghost use Rattle.eqc_check.specs.PairOf.{ArePlaces};
+ghost use Rattle.eqc_pair.specs.PairOf.{ArePlaces};
 ghost use Rattle.eqc_check.specs.Schedule.{moment, AreLastMoments, AreNoted};
 
 use crate::build::moments::{Moments, moment_in};

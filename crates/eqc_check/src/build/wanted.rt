@@ -2,7 +2,7 @@ ghost use Rattle.std.specs.Prelude.{◌≡◌, ℕ, ◌+◌, ◌<◌, ◌≤◌,
 ghost use Rattle.std.specs.Ordering.{nat_cmp};
 ghost use Rattle.std.specs.BinaryHeap.{heap_items, IsHeap};
 ghost use Rattle.eqc_check.specs.Building.{reference_of, AreSignals};
-ghost use Rattle.eqc_check.specs.PairOf.{ArePlaces};
+ghost use Rattle.eqc_pair.specs.PairOf.{ArePlaces};
 ghost use Rattle.eqc_check.specs.Schedule.{moment, AreLastMoments, AreWanted, AreOpened, IsBehind, IsOpen};
 
 use crate::build::moments::Moments;

@@ -8,8 +8,9 @@ ghost use Rattle.eqc_check.specs.ReportView.{report_of, IsAnswer};
 
 use crate::io::fault::{RunFault, StreamFault};
 use crate::io::writing::write_whole;
-use crate::report::{Refused, Report};
+use crate::report::Report;
 use eqc_blif::Name;
+use eqc_pair::Refused;
 use eqc_tree::Stop;
 use std::alloc::{AllocError, Global};
 use std::io::Write;

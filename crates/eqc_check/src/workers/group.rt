@@ -2,8 +2,8 @@
 ghost use Rattle.std.specs.Prelude.{◌≡◌, ◌+◌, ◌≤◌, vec_len, IfOk};
 ghost use Rattle.eqc_check.specs.Verdicts.{AreSeated};
 
-use crate::pairing::matched_pair::Pair;
 use crate::workers::ticket::{Drawer, Words, halve};
+use eqc_pair::Pair;
 use eqc_tree::{References, Stop};
 
 /// Members with one seat, by the number of the first and their diagrams.

@@ -1,13 +1,12 @@
 //! What a member compares with.
 ghost use Rattle.std.specs.Prelude.{◌≡◌, ◌≢◌, ◌<◌, ◌≤◌, ◌^◌, length, IfOk, IfErr};
-ghost use Rattle.std.specs.Option.{option_map};
 ghost use Rattle.eqc_check.specs.Turns.{AreKept, AreTurns};
-ghost use Rattle.eqc_check.specs.Verdicts.{difference_at};
+ghost use Rattle.eqc_check.specs.Comparing.{IsDifferenceAt};
 
 use crate::build::kept::Tables;
 use crate::build::moments::Schedules;
 use crate::compare::{compare_kept, give_back_both, no_tables};
-use crate::pairing::matched_pair::Pair;
+use eqc_pair::Pair;
 use eqc_tree::{Diagrams, References, Stop};
 use std::alloc::Global;
 
@@ -44,7 +43,7 @@ pub(crate) fn compare<R, D: Diagrams<R>>(
     requires kept { AreKept D.entry pair.now (D.holding member.old.diagrams) member.old.tables }
     requires turns { AreTurns pair.now schedules.now }
     requires output { output < length pair.now.first.outputs }
-    ensures least { IfOk result (λ found. option_map (λ v. v.items) found ≡ difference_at pair.now output) }
+    ensures least { IfOk result (IsDifferenceAt pair.now output) }
     ensures kept { AreKept D.entry pair.now (D.holding member.new.diagrams) member.new.tables }
     ensures only { IfErr result (λ s. s ≢ Stop.Threads) }
 {

@@ -5,12 +5,12 @@ ghost use Rattle.eqc_check.specs.Turns.{AreKept, AreTurns};
 ghost use Rattle.eqc_check.specs.Verdicts.{DiffersBefore, IsFoundAt, IsShare, IsFresh, AreSeated};
 
 use crate::build::moments::Schedules;
-use crate::pairing::matched_pair::Pair;
 use crate::workers::gate::Gate;
 use crate::workers::group::{Group, halves};
 use crate::workers::member::{self, Member};
 use crate::workers::ticket::{Drawer, Words, draw, take_in};
 use crate::workers::verdict::{Finding, Verdict};
+use eqc_pair::Pair;
 use eqc_tree::{Diagrams, References, Stop};
 use std::alloc::Global;
 use std::snapshot::Snapshot;

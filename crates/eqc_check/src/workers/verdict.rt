@@ -5,7 +5,7 @@ ghost use Rattle.eqc_check.specs.Verdict.{first_difference};
 ghost use Rattle.eqc_check.specs.Comparing.{netlist_of, found_at};
 ghost use Rattle.eqc_check.specs.Verdicts.{tells_difference, AreOnce, IsRight, Stands};
 
-use crate::pairing::matched_pair::Pair;
+use eqc_pair::Pair;
 use std::alloc::{AllocError, Global};
 
 /// What is found at an output.

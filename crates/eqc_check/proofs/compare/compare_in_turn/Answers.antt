@@ -2,7 +2,7 @@ use Rattle.std.proofs.Common.{arith, ap, sym, ◌∙◌, length, ◌<◌, Bool, 
 use Rattle.std.specs.Option.{option_map}
 use Rattle.eqc_check.specs.Comparing.{netlist_of}
 use Rattle.eqc_check.proofs.CompareLaws.{none_more, found_first}
-use Rattle.eqc_check.proofs.DifferenceLaws.{kept_twice}
+use Rattle.eqc_check.proofs.DifferenceLaws.{kept_twice, moved_kept, comparable_next}
 use Rattle.eqc_check.proofs.compare.compare_in_turn.Goals as goal
 
 pub returns-in-Some-clause-found : goal.returns-in-Some-clause-found
@@ -18,3 +18,8 @@ loop-o-preserved g c =
       none_more (netlist_of c.args.pair.now.first) (netlist_of c.args.pair.now.second) c.args.pair.now.first.outputs c.loop-o.o c.in_ok-values.field-0 inside c.in-None.is c.in_ok-values.ensures.found c.loop-o.invariant.0,
       kept_twice g.D.References.entry c.args.pair.now _ _ _ _ _ _ c.loop-o.invariant.1 c.compare_kept.ensures.moves,
     )
+
+pub compare_kept-requires : goal.compare_kept-requires
+compare_kept-requires g c =
+    let outputs = rw c.first.ensures at c.outputs-o-end.ensures in
+    comparable_next g.D.References.entry c.args.pair.now c.args.schedules.now _ _ c.loop-o.o (omega (arith, ap length outputs)) c.requires.turns (moved_kept g.D.References.entry c.args.pair.now _ _ _ _ c.requires.kept c.loop-o.invariant.1)

@@ -9,11 +9,20 @@ bounds-second_signals-output g c = rw c.second_signals.ensures.each (omega (arit
 pub one_turn-requires-clause-t : goal.one_turn-requires-clause-t
 one_turn-requires-clause-t g c = rw c.second_signals.ensures.each ((pair_matched c.args.pair.now c.recall_laws.ensures).within c.args.output c.requires.output)
 
-pub compare_turn-found-requires-clause-kept : goal.compare_turn-found-requires-clause-kept
-compare_turn-found-requires-clause-kept g c = record {
-  variables = c.requires.variables;
-  built = c.few_tables-tables.ensures.built;
-  owned = new_owned g.D.References.entry _ _ c.few_tables-tables.result.first.table c.few_tables-tables.result.second.table (c.few_tables-tables.ensures.owned (g.D.References.holding c.args.d.now));
+pub compare_turn-found-requires : goal.compare_turn-found-requires
+compare_turn-found-requires g c = record {
+  output = c.requires.output;
+  scheduled = c.in-Ok.ensures.scheduled;
+  turn = record {
+    some = omega arith;
+    first_end = rw (c.output_signals.ensures.signals, c.first.ensures) at c.in-Ok.ensures.first;
+    second_end = rw c.second_signals.ensures.each at c.in-Ok.ensures.second;
+  };
+  kept = record {
+    variables = c.requires.variables;
+    built = c.few_tables-tables.ensures.built;
+    owned = new_owned g.D.References.entry _ _ c.few_tables-tables.result.first.table c.few_tables-tables.result.second.table (c.few_tables-tables.ensures.owned (g.D.References.holding c.args.d.now));
+  };
 }
 
 pub give_back_both-requires : goal.give_back_both-requires

@@ -1,5 +1,5 @@
 use Rattle.std.specs.Option.{option_copied}
-use Rattle.eqc_check.specs.declared.report.Side.TheVariants as side
+use Rattle.eqc_pair.specs.declared.refused.Side.TheVariants as side
 use Rattle.eqc_check.proofs.ReportsLaws.{reported, stop_alike, flat_models, first_fault, second_fault, refused_stop}
 use Rattle.eqc_check.proofs.decide.models_report.Goals as goal
 

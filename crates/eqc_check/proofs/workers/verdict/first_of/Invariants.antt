@@ -1,5 +1,5 @@
 use Rattle.std.proofs.Common.{◌≡◌, ◌<◌, ◌≤◌, ◌-◌, ℕ, None, vec_len, slice_index_or}
-use Rattle.eqc_check.specs.Verdicts.{difference_at}
+use Rattle.eqc_check.specs.Comparing.{difference_at}
 use Rattle.eqc_check.proofs.workers.verdict.first_of.Given as goal
 
 abbrev pub invariant-loop-output : goal.invariant-loop-output

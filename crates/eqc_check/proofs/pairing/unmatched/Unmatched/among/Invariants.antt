@@ -1,7 +1,0 @@
-use Rattle.std.proofs.Common.{take}
-use Rattle.eqc_check.specs.Finding.{AreUnmatched}
-use Rattle.eqc_check.proofs.pairing.unmatched.Unmatched.among.Given as goal
-use Rattle.eqc_flat.proofs.NameSetLaws.{bytes_in}
-
-abbrev pub invariant-names : goal.invariant-names
-invariant-names l = AreUnmatched l.others (bytes_in (take l.name-index l.names)) l.found

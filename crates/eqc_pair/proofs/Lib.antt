@@ -1,0 +1,7 @@
+pub mod NameLemmas
+pub mod FindingLemmas
+pub mod OrderLemmas
+pub mod PlaceLemmas
+pub mod OrderedLemmas
+pub mod PickLemmas
+pub mod StepLemmas

@@ -1,0 +1,5 @@
+pub mod Rule
+pub mod Side
+pub mod Matched
+pub mod PairOf
+pub mod Finding

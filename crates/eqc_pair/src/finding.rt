@@ -1,0 +1,27 @@
+use crate::unmatched::Unmatched;
+
+/// What is at fault in two netlists that make no pair, or in the order text that is given for them.
+#[derive(Drop)]
+pub enum Finding<'a> {
+    /// 41: the inputs of the first netlist that the second lacks, and those of the second that the first lacks.
+    OtherInputs {
+        first: Unmatched<'a>,
+        second: Unmatched<'a>,
+    },
+    /// 42: the outputs of the first netlist that the second lacks, and those of the second that the first lacks.
+    OtherOutputs {
+        first: Unmatched<'a>,
+        second: Unmatched<'a>,
+    },
+    /// 2: how many bytes the order text has, and how many it may have.
+    OrderTooLong {
+        bytes: usize,
+        limit: usize,
+    },
+    /// 51: the words that are no inputs.
+    UnknownWords(Unmatched<'a>),
+    /// 52: a word that stands twice.
+    WordTwice(&'a [u8]),
+    /// 53: the inputs that the order text leaves out.
+    InputsLeftOut(Unmatched<'a>),
+}

@@ -1,0 +1,96 @@
+//! The rules of a pair, of an order text and of options, with their codes and their words.
+ghost use Rattle.std.specs.Prelude.{◌≡◌};
+ghost use Rattle.eqc_pair.specs.Rule.{rule_code};
+
+use thiserror::Error;
+
+/// What two netlists are refused for as a pair, what an order text is, or what options are (`docs/report.md`).
+#[derive(Clone, Copy, Debug, PartialEq, Eq, Error)]
+pub enum Rule {
+    #[error("the two netlists have different inputs")]
+    OtherInputs,
+    #[error("the two netlists have different outputs")]
+    OtherOutputs,
+    #[error("a word of the order text that is no input")]
+    UnknownWord,
+    #[error("a word twice in the order text")]
+    WordTwice,
+    #[error("an input that the order text leaves out")]
+    InputLeftOut,
+    #[error("workers are from 1 to 64")]
+    Workers,
+    #[error("nodes are from 1 to 1048574")]
+    Nodes,
+    #[error("cells are a power of two from 1 to 1048576")]
+    Cells,
+    #[error("forks are from 0 to 16")]
+    Forks,
+}
+
+/// The rules of a pair and of an order text, in the order of their codes.
+pub const PAIR_RULES: [Rule; 5] = [
+    Rule::OtherInputs,
+    Rule::OtherOutputs,
+    Rule::UnknownWord,
+    Rule::WordTwice,
+    Rule::InputLeftOut,
+];
+
+/// The rules of options, in the order of their codes.
+pub const OPTION_RULES: [Rule; 4] = [Rule::Workers, Rule::Nodes, Rule::Cells, Rule::Forks];
+
+impl Rule {
+    /// The number that a report shows: 41 and 42 for the pair, 51 to 53 for the order text, 81 to 84 for the options, in
+    /// the order of the variants.
+    pub fn code(self) -> u8
+        ensures { result ≡ rule_code self }
+    {
+        match self {
+            Rule::OtherInputs => 41,
+            Rule::OtherOutputs => 42,
+            Rule::UnknownWord => 51,
+            Rule::WordTwice => 52,
+            Rule::InputLeftOut => 53,
+            Rule::Workers => 81,
+            Rule::Nodes => 82,
+            Rule::Cells => 83,
+            Rule::Forks => 84,
+        }
+    }
+}
+
+/// What a refusal is for: a text, a hierarchy, or what is asked of both together.
+#[derive(Clone, Copy, Debug, PartialEq, Eq, Error)]
+pub(crate) enum Reason {
+    #[error(transparent)]
+    Text(eqc_blif::Rule),
+    #[error(transparent)]
+    Hierarchy(eqc_flat::Rule),
+    #[error(transparent)]
+    Both(Rule),
+}
+
+/// The reason of a code of a refusal.
+pub(crate) fn reason_of(code: &u8) -> Reason {
+    for rule in &eqc_blif::RULES {
+        if rule.code() == *code {
+            return Reason::Text(*rule);
+        }
+    }
+    for rule in &eqc_flat::RULES {
+        if rule.code() == *code {
+            return Reason::Hierarchy(*rule);
+        }
+    }
+    for rule in &PAIR_RULES {
+        if rule.code() == *code {
+            return Reason::Both(*rule);
+        }
+    }
+    for rule in &OPTION_RULES {
+        if rule.code() == *code {
+            return Reason::Both(*rule);
+        }
+    }
+    Reason::Text(eqc_blif::Rule::Memory)
+}
