@@ -61,7 +61,8 @@ def narrow_rows():
 
 
 def one_name():
-    return two(["a"], ".names " + "a " * 1_000_000 + "z\n")
+    # With a row, without which abc refuses the text.
+    return two(["a"], ".names " + "a " * 1_000_000 + "z\n" + "1" * 1_000_000 + " 1\n")
 
 
 CASES = [empty_lines, flat_covers, chain, most_signals, instances, deep, wide_rows, narrow_rows, one_name]

@@ -132,13 +132,13 @@ impl<'a> Display for Names<'a> {
 /// What flows write that is no command here, and what to do about it.
 fn command_hint(command: &[u8]) -> &'static str {
     match command {
-        b".gate" | b".mlatch" => {
-            "these are mapped cells; abc writes covers in their place after 'strash' or 'unmap'"
+        b".gate" => {
+            "a mapped cell; leave out '-gates' of yosys, or let abc write covers after 'unmap'"
         }
-        b".conn" => "yosys writes it with 'write_blif -conn'; leave that option out",
-        b".param" | b".attr" | b".cname" => {
-            "yosys writes it with '-param', '-attr' or '-cname' of 'write_blif'; leave these options out"
-        }
+        b".mlatch" => "a mapped latch; cut registers into inputs and outputs",
+        b".conn" => "leave out '-conn' of yosys's 'write_blif'",
+        b".param" => "leave out '-param' of yosys's 'write_blif'",
+        b".blackbox" => "leave out '-blackbox' of yosys's 'write_blif'",
         _ => "",
     }
 }

@@ -28,13 +28,13 @@ static READING: [Row; 15] = [
         "",
         ".model f;.gate and2 a=b;.end;",
         "refused first 2 3;",
-        "eqc: standard input: line 2: '.gate' is no command that is known (3)\neqc: these are mapped cells; abc writes covers in their place after 'strash' or 'unmap'\n",
+        "eqc: standard input: line 2: '.gate' is no command that is known (3)\neqc: a mapped cell; leave out '-gates' of yosys, or let abc write covers after 'unmap'\n",
     ),
     (
         "",
         ".model f;.conn a b;",
         "refused first 2 3;",
-        "eqc: standard input: line 2: '.conn' is no command that is known (3)\neqc: yosys writes it with 'write_blif -conn'; leave that option out\n",
+        "eqc: standard input: line 2: '.conn' is no command that is known (3)\neqc: leave out '-conn' of yosys's 'write_blif'\n",
     ),
     (
         "",
