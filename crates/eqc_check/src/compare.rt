@@ -5,7 +5,7 @@ ghost use Rattle.eqc_check.specs.Verdict.{least_difference, first_difference};
 ghost use Rattle.eqc_pair.specs.PairOf.{second_signals};
 ghost use Rattle.eqc_check.specs.Building.{AreBuilt, OwnsBoth, MovesBoth, KeepsLater};
 ghost use Rattle.eqc_check.specs.Schedule.{moment};
-ghost use Rattle.eqc_check.specs.Turns.{AreScheduled, AreTurns, AreKept, IsComparable, MovesKept, HasOutput};
+ghost use Rattle.eqc_check.specs.Turns.{AreScheduled, IsTurn, AreTurns, AreKept, IsComparable, MovesKept, HasOutput};
 ghost use Rattle.eqc_check.specs.Comparing.{netlist_of, differs_at, SaysDifference, IsDifferenceAt, found_at};
 
 use crate::build::complete;
@@ -323,6 +323,27 @@ fn compare_in_turn<R, D: Diagrams<R>>(
     Ok(None)
 }
 
+/// The first output that differs, with its least assignment, from no references to none.
+fn compare_scheduled<R, D: Diagrams<R>>(
+    alloc: Global,
+    rt: &R,
+    d: &mut D,
+    pair: &Pair<'_>,
+    schedules: &Schedules,
+) -> Result<Option<(usize, Vec<bool>)>, Stop>
+    requires variables { length pair.now.first.inputs ≤ (D.holding d.old).variables }
+    requires turns { AreTurns pair.now schedules.now }
+    ensures found { IfOk result (λ found. found_at pair.now.first found ≡ first_difference (netlist_of pair.now.first) (netlist_of pair.now.second) pair.now.first.outputs) }
+    ensures within { IfOk result (λ found. IfSome found (λ p. p.0 < length pair.now.first.outputs)) }
+    ensures kept { Keeps (D.holding d.old) (D.holding d.new) }
+    ensures only { IfErr result (λ s. s ≢ Stop.Threads) }
+{
+    let mut tables = no_tables(alloc, d, pair)?;
+    let found = compare_in_turn(alloc, rt, d, pair, schedules, &mut tables);
+    give_back_both(d, tables);
+    found
+}
+
 /// The first output that differs, by its position in the first netlist, and the least assignment under which it does:
 /// what lies behind it isn't looked at. Each signal that an output depends on is built once for each netlist, unless the
 /// store is full. All references are given back.
@@ -338,11 +359,31 @@ pub(crate) fn compare_outputs<R, D: Diagrams<R>>(
     ensures kept { Keeps (D.holding d.old) (D.holding d.new) }
     ensures only { IfErr result (λ s. s ≢ Stop.Threads) }
 {
-    let Ok(schedules) = schedules_of(alloc, pair) else {
-        return Err(Stop::Memory);
-    };
-    let mut tables = no_tables(alloc, d, pair)?;
-    let found = compare_in_turn(alloc, rt, d, pair, &schedules, &mut tables);
+    match schedules_of(alloc, pair) {
+        Ok(schedules) => compare_scheduled(alloc, rt, d, pair, &schedules),
+        Err(_) => Err(Stop::Memory),
+    }
+}
+
+/// Compares one output in the only turn, from no references to none.
+fn compare_once<R, D: Diagrams<R>>(
+    alloc: Global,
+    rt: &R,
+    d: &mut D,
+    pair: &Pair<'_>,
+    schedules: &Schedules,
+    output: usize,
+) -> Result<Option<Vec<bool>>, Stop>
+    requires variables { length pair.now.first.inputs ≤ (D.holding d.old).variables }
+    requires output { output < length pair.now.first.outputs }
+    requires scheduled { AreScheduled pair.now schedules.now }
+    requires turn { IsTurn pair.now schedules.now output 1 }
+    ensures found { IfOk result (IsDifferenceAt pair.now output) }
+    ensures kept { Keeps (D.holding d.old) (D.holding d.new) }
+    ensures only { IfErr result (λ s. s ≢ Stop.Threads) }
+{
+    let mut tables = few_tables::<D>(alloc, pair);
+    let found = compare_turn(alloc, rt, d, pair, schedules, &mut tables, output, 1);
     give_back_both(d, tables);
     found
 }
@@ -371,11 +412,8 @@ pub fn compare_output<R, D: Diagrams<R>>(
     pair.recall_laws();
     let s = pair.first().output_signals()[output];
     let t = pair.second_signals()[output];
-    let Ok(schedules) = one_turn(alloc, pair, s, t) else {
-        return Err(Stop::Memory);
-    };
-    let mut tables = few_tables::<D>(alloc, pair);
-    let found = compare_turn(alloc, rt, d, pair, &schedules, &mut tables, output, 1);
-    give_back_both(d, tables);
-    found
+    match one_turn(alloc, pair, s, t) {
+        Ok(schedules) => compare_once(alloc, rt, d, pair, &schedules, output),
+        Err(_) => Err(Stop::Memory),
+    }
 }

@@ -1,9 +1,11 @@
 ghost use Rattle.std.specs.Prelude.{◌≡◌, ◌<◌, ◌⊎◌, length, None, IfOk, IfErr, Ok, MatchResult};
 ghost use Rattle.std.specs.Option.{option_copied};
+ghost use Rattle.eqc_flat.specs.Codes.{flat_code};
+ghost use Rattle.eqc_flat.specs.Flattened.{IsFlatOf};
 ghost use Rattle.eqc_check.specs.Refusing.{IsRefused, flat_answer};
 ghost use Rattle.eqc_check.specs.ReportView.{report_of};
 ghost use Rattle.eqc_check.specs.Options.{options_code};
-ghost use Rattle.eqc_check.specs.Answer.{one_text, two_texts, models_answer, read_texts, texts_answer, Answers, MayStop};
+ghost use Rattle.eqc_check.specs.Answer.{MainOf, one_text, two_texts, models_answer, read_texts, texts_answer, Answers, MayStop};
 ghost use Rattle.eqc_check.specs.Telling.{IsToldRefusal, IsToldWith, Tells, WarnsOf};
 
 use crate::choice::{Main, ModelNames, choose, read_main};
@@ -50,6 +52,30 @@ fn flat_report<R: Threads + Wait + Sync>(
     }
 }
 
+/// The report on a flat netlist, whatever model it is of, and a model of a library.
+fn second_report<R: Threads + Wait + Sync>(
+    alloc: Global,
+    rt: &R,
+    first: &Flat<'_>,
+    second: (&Library, usize),
+    order: Option<&[u8]>,
+    options: &Options,
+) -> Result<Report, Stop>
+    requires options { options_code options.now ≡ None }
+    requires n { second.1 < length second.0.now }
+    ensures report { (m : MainOf) → flat_code m.0 m.1 ≡ None → IsFlatOf m.0 m.1 first.now → IfOk result (λ report. report_of report ≡ models_answer m (second.entry.0.now, second.entry.1) (option_copied order.entry)) }
+    ensures stop { (m : MainOf) → flat_code m.0 m.1 ≡ None → IsFlatOf m.0 m.1 first.now → IfErr result (MayStop (models_answer m (second.entry.0.now, second.entry.1) (option_copied order.entry))) }
+{
+    recall_laws(first);
+    match flatten(alloc, second.0, second.1) {
+        Ok(g) => {
+            recall_laws(&g);
+            flat_report(alloc, rt, first, &g, order, options)
+        }
+        Err(Fault { code }) => refused(Side::Second, Refusal { line: 0, code }),
+    }
+}
+
 /// The report on model `m` of one library and model `n` of another.
 fn models_report<R: Threads + Wait + Sync>(
     alloc: Global,
@@ -65,17 +91,10 @@ fn models_report<R: Threads + Wait + Sync>(
     ensures report { IfOk result (λ report. report_of report ≡ models_answer (first.entry.0.now, first.entry.1) (second.entry.0.now, second.entry.1) (option_copied order.entry)) }
     ensures stop { IfErr result (MayStop (models_answer (first.entry.0.now, first.entry.1) (second.entry.0.now, second.entry.1) (option_copied order.entry))) }
 {
-    let f = match flatten(alloc, first.0, first.1) {
-        Ok(f) => f,
-        Err(Fault { code }) => return refused(Side::First, Refusal { line: 0, code }),
-    };
-    let g = match flatten(alloc, second.0, second.1) {
-        Ok(g) => g,
-        Err(Fault { code }) => return refused(Side::Second, Refusal { line: 0, code }),
-    };
-    recall_laws(&f);
-    recall_laws(&g);
-    flat_report(alloc, rt, &f, &g, order, options)
+    match flatten(alloc, first.0, first.1) {
+        Ok(f) => second_report(alloc, rt, &f, second, order, options),
+        Err(Fault { code }) => refused(Side::First, Refusal { line: 0, code }),
+    }
 }
 
 /// A report, and the warnings on the models that were compared for it.

@@ -11,6 +11,7 @@ ghost use Rattle.eqc_check.specs.Report.{comparison};
 ghost use Rattle.eqc_check.specs.ReportView.{report_of};
 ghost use Rattle.eqc_check.specs.Options.{options_code};
 ghost use Rattle.eqc_check.specs.Comparing.{netlist_of, found_at};
+ghost use Rattle.eqc_check.specs.Turns.{AreTurns};
 ghost use Rattle.eqc_check.specs.Verdicts.{AreOnce, IsRight, IsShare};
 
 pub(crate) mod gate;
@@ -20,6 +21,7 @@ mod share;
 mod ticket;
 mod verdict;
 
+use crate::build::moments::Schedules;
 use crate::checking::found_report;
 use crate::compare::schedules_of;
 use crate::options::Options;
@@ -49,6 +51,77 @@ fn verdicts_of(table: TicketTable, pair: &Pair<'_>, share: Share) -> Vec<Verdict
     verdicts
 }
 
+/// The verdicts of all outputs, by these members, where it is known when each signal is used.
+fn all_verdicts<R: Threads + Wait + Sync, D: Diagrams<R> + Send + Drop, G: Gate<R> + Sync>(
+    rt: &R,
+    alloc: Global,
+    pair: &Pair<'_>,
+    schedules: &Schedules,
+    members: Vec<D>,
+    gate: &G,
+) -> Result<Vec<Verdict>, Stop>
+    requires outputs { length pair.now.first.outputs < 2 ^ 32 }
+    requires some { 1 ≤ vec_len members }
+    requires numbers { vec_len members < 2 ^ 32 }
+    requires variables { All (λ d. length pair.now.first.inputs ≤ (D.holding d).variables) members.items }
+    requires turns { AreTurns pair.now schedules.now }
+    ensures once { IfOk result (λ verdicts. AreOnce (length pair.now.first.outputs) verdicts.items) }
+    ensures right { IfOk result (λ verdicts. All (IsRight pair.now) verdicts.items) }
+{
+    let key = Key {
+        outputs: pair.first().outputs().len() as u32,
+        seats: members.len() as u32,
+    };
+    let Ok((table, seat)) = open(alloc, key) else {
+        return Err(Stop::Memory);
+    };
+    let group = Group {
+        worker: 0,
+        seat,
+        members,
+    };
+    let share = work_together(rt, alloc, pair, schedules, &table.shared, gate, group)?;
+    Ok(verdicts_of(table, pair, share))
+}
+
+/// The verdicts of all outputs, by these members.
+fn scheduled_verdicts<R: Threads + Wait + Sync, D: Diagrams<R> + Send + Drop, G: Gate<R> + Sync>(
+    rt: &R,
+    alloc: Global,
+    pair: &Pair<'_>,
+    members: Vec<D>,
+    gate: &G,
+) -> Result<Vec<Verdict>, Stop>
+    requires outputs { length pair.now.first.outputs < 2 ^ 32 }
+    requires some { 1 ≤ vec_len members }
+    requires numbers { vec_len members < 2 ^ 32 }
+    requires variables { All (λ d. length pair.now.first.inputs ≤ (D.holding d).variables) members.items }
+    ensures once { IfOk result (λ verdicts. AreOnce (length pair.now.first.outputs) verdicts.items) }
+    ensures right { IfOk result (λ verdicts. All (IsRight pair.now) verdicts.items) }
+{
+    match schedules_of(alloc, pair) {
+        Ok(schedules) => all_verdicts(rt, alloc, pair, &schedules, members, gate),
+        Err(_) => Err(Stop::Memory),
+    }
+}
+
+/// The first output that differs, by its position, with its least assignment, as verdicts of all outputs tell it.
+fn first_by(
+    alloc: Global,
+    pair: &Pair<'_>,
+    verdicts: Vec<Verdict>,
+) -> Result<Option<(usize, Vec<bool>)>, Stop>
+    requires once { AreOnce (length pair.now.first.outputs) verdicts.items }
+    requires right { All (IsRight pair.now) verdicts.items }
+    ensures found { IfOk result (λ found. found_at pair.now.first found ≡ first_difference (netlist_of pair.now.first) (netlist_of pair.now.second) pair.now.first.outputs) }
+    ensures within { IfOk result (λ found. IfSome found (λ p. p.0 < length pair.now.first.outputs)) }
+{
+    match in_order(alloc, pair, verdicts) {
+        Ok(row) => Ok(first_of(pair, row)),
+        Err(_) => Err(Stop::Memory),
+    }
+}
+
 /// The first output that differs, by its position, with its least assignment.
 fn first_found<R: Threads + Wait + Sync, D: Diagrams<R> + Send + Drop, G: Gate<R> + Sync>(
     rt: &R,
@@ -64,27 +137,8 @@ fn first_found<R: Threads + Wait + Sync, D: Diagrams<R> + Send + Drop, G: Gate<R
     ensures found { IfOk result (λ found. found_at pair.now.first found ≡ first_difference (netlist_of pair.now.first) (netlist_of pair.now.second) pair.now.first.outputs) }
     ensures within { IfOk result (λ found. IfSome found (λ p. p.0 < length pair.now.first.outputs)) }
 {
-    let key = Key {
-        outputs: pair.first().outputs().len() as u32,
-        seats: members.len() as u32,
-    };
-    let Ok(schedules) = schedules_of(alloc, pair) else {
-        return Err(Stop::Memory);
-    };
-    let Ok((table, seat)) = open(alloc, key) else {
-        return Err(Stop::Memory);
-    };
-    let group = Group {
-        worker: 0,
-        seat,
-        members,
-    };
-    let share = work_together(rt, alloc, pair, &schedules, &table.shared, gate, group)?;
-    let verdicts = verdicts_of(table, pair, share);
-    let Ok(row) = in_order(alloc, pair, verdicts) else {
-        return Err(Stop::Memory);
-    };
-    Ok(first_of(pair, row))
+    let verdicts = scheduled_verdicts(rt, alloc, pair, members, gate)?;
+    first_by(alloc, pair, verdicts)
 }
 
 /// Compares a pair by these members, of which each runs in a thread of its own: the report, or why it stopped.

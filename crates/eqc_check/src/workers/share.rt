@@ -188,6 +188,21 @@ struct Kept<'f> {
     members: u64,
 }
 
+impl<'f> Kept<'f> {
+    /// The promise of a thread of so many members.
+    fn of(pair: &Pair<'f>, words: &Words, members: usize) -> Kept<'f>
+        ensures pair { result.pair.value ≡ pair.now }
+        ensures words { result.words.value ≡ words.now }
+        ensures members { result.members ≡ members }
+    {
+        Kept {
+            pair: Snapshot::of(pair),
+            words: Snapshot::of(words),
+            members: members as u64,
+        }
+    }
+}
+
 impl<'f> Promise<Result<Share, Stop>> for Kept<'f> {
     ghost kept_by = { λ p r. IfOk r (λ s. IsShare p.pair.value p.words.value.table_id p.members s.seat s.verdicts.items) };
 }
@@ -219,11 +234,7 @@ fn work<
         return work_only(rt, alloc, pair, schedules, words, gate, group);
     }
     let (mine, theirs) = halves(words, pair, group)?;
-    let kept = Kept {
-        pair: Snapshot::of(pair),
-        words: Snapshot::of(words),
-        members: theirs.members.len() as u64,
-    };
+    let kept = Kept::of(pair, words, theirs.members.len());
     let there = move || -> Result<Share, Stop>
         requires { IsSync R.row × IsSync G.row × IsSend D.row × AreTurns pair.now schedules.now
             × AreSeated D.holding pair.now words.now.table_id words.now.key theirs.seat theirs.worker theirs.members }
