@@ -125,6 +125,7 @@ impl<'a> Lines<'a> {
     }
 
     /// The next physical line, with its number.
+    #[inline(always)]
     pub(crate) fn next_physical(&mut self) -> Option<(u32, &'a [u8])>
         ensures { TakesFirst self.old (option_map (λ p. (p.0, p.1.now)) result) self.new }
     {
@@ -162,6 +163,7 @@ impl<'a> Lines<'a> {
 
     /// The number of the next logical line, with its bytes where it stands in one physical line; one that was joined is
     /// written into `joined`.
+    #[inline(always)]
     pub(crate) fn next_logical(
         &mut self,
         joined: &mut Vec<u8>,

@@ -162,6 +162,9 @@ impl Reader {
     }
 
     /// Takes a logical line, and answers its code where it has one.
+    // What each line goes through stays within the loop of `read`, though the search for a line at fault calls it too: as a
+    // call it made short lines half as slow again.
+    #[inline(always)]
     pub(crate) fn take_line(&mut self, alloc: Global, line: &[u8]) -> Result<Option<u8>, AllocError>
         ensures { IfOk result (λ code. TakesLine self.old line.now code self.new) }
     {

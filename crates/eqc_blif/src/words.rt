@@ -131,6 +131,7 @@ fn append_words(bytes: &mut Vec<u8>, line: &[u8])
 }
 
 /// Puts the bytes of a line that are no spaces and tabs behind others. Where memory is refused, none are put there.
+#[inline(always)]
 pub(crate) fn append_without_blanks(bytes: &mut Vec<u8>, line: &[u8]) -> Result<(), AllocError>
     ensures { bytes.new.items ≡ (if is_ok result then bytes.old.items ++ without_blanks line.now else bytes.old.items) }
 {

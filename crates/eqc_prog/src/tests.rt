@@ -3,7 +3,7 @@
 //!
 //! - `words`, `operations`, of `eqc_tree`; `diagrams`, of `eqc_plain`; `machine`, of `eqc_core`
 //! - `reading` and `text_findings`, of `eqc_blif`; `hierarchies`, `random_hierarchies` and `explanations`, of `eqc_flat`
-//! - `pairs`, `pair_findings`, `workers`, `reports`, `runs`, of `eqc_check`
+//! - `pair_findings`, of `eqc_pair`; `pairs`, `workers`, `reports`, `runs`, of `eqc_check`
 //! - `program`, `program_ends`, `models`, `explained_runs`, `compared_hierarchies`, `costs`, of this crate
 //! - `messages`, of the errors of all crates; `streams`, the readers, writers and files that fail
 //!
