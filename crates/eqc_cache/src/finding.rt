@@ -1,0 +1,60 @@
+//! The lookup.
+ghost use Rattle.std.specs.Prelude.{◌≡◌, ◌≤◌, None, IfSome};
+ghost use Rattle.eqc_core.specs.declared.phase.Phase.TheVariants.{Idle};
+ghost use Rattle.eqc_core.specs.Announcing.{MayLook, MayAnnounce};
+ghost use Rattle.eqc_guard.specs.Known.{IsHeld};
+ghost use Rattle.eqc_guard.specs.Acquiring.{IsAt, IsPassed};
+ghost use Rattle.eqc_cache.specs.Finding.{IsTaken, IsHit};
+
+use crate::key;
+use eqc_guard::reference::Ref;
+use eqc_guard::worker::Worker;
+use eqc_tree::{Op, unpack_cell};
+
+// Counts the result of the word that was seen up, where a second look finds the word again and the
+// limit of references allows it.
+fn take(worker: &mut Worker, found: u32) -> Option<Ref>
+    requires may { MayAnnounce worker.old.known.core 0 found }
+    requires slot { 2 ≤ found }
+    ensures name { IfSome result (λ r. r.number ≡ found) }
+    ensures hit { IfSome result (λ r. IsTaken found worker.old worker.new) }
+    ensures miss { result ≡ None → IsAt Idle worker.old worker.new }
+{
+    if !worker.confirm(found) {
+        return None;
+    }
+    match worker.up(found) {
+        Ok(reference) => {
+            worker.release();
+            Some(reference)
+        }
+        Err(_) => {
+            worker.release();
+            None
+        }
+    }
+}
+
+/// The result of an operation, where the cache has it: it is then held once more.
+///
+/// Both operands are held or constants, the worker is at rest, and there is a cell. Without a hit
+/// the same names are held as before. So it is at 2^32 - 1 names held.
+pub fn lookup(worker: &mut Worker, op: Op, f: &Ref, g: &Ref) -> Option<Ref>
+    requires may { MayLook worker.old.known.core 0 0 }
+    requires first { IsHeld worker.old.known.core f.now.number }
+    requires second { IsHeld worker.old.known.core g.now.number }
+    ensures hit { IfSome result (λ r. IsHit op f.now.number g.now.number r.number worker.old worker.new) }
+    ensures miss { result ≡ None → IsPassed worker.old worker.new }
+{
+    let (first, second) = key::ordered(op, f.number(), g.number());
+    let cell = key::place(worker.cells(), op, first, second);
+    let word = worker.look(cell);
+    let (tag, kept_first, kept_second, found) = unpack_cell(word);
+    if tag != op.tag() || kept_first != first || kept_second != second {
+        return None;
+    }
+    if found < 2 {
+        return Some(worker.constant(found == 1));
+    }
+    take(worker, found)
+}

@@ -1,0 +1,17 @@
+pub mod Laid
+pub mod Numbers
+pub mod Learning
+pub mod Stepping
+pub mod Moves
+pub mod Counts
+pub mod Seats
+pub mod Stocking
+pub mod Beginning
+pub mod Splitting
+pub mod Joining
+pub mod Filling
+pub mod Sameness
+pub mod Acquiring
+pub mod Sweeping
+pub mod Absorbing
+pub mod Closing
