@@ -2,7 +2,7 @@
 //! what was meant. They stand here alone, since a crate with tests is proved twice.
 //!
 //! - `words`, `operations`, of `eqc_tree`; `diagrams`, of `eqc_plain`; `machine`, of `eqc_core`
-//! - `forests`, of `eqc_guard`; `cached_results`, of `eqc_cache`
+//! - `forests`, of `eqc_guard`; `cached_results`, of `eqc_cache`; `random_steps`, of both; `drivers`, what takes their steps
 //! - `reading` and `text_findings`, of `eqc_blif`; `hierarchies`, `random_hierarchies` and `explanations`, of `eqc_flat`
 //! - `pairs`, `workers`, `reports`, `runs`, of `eqc_check`
 //! - `program`, `program_ends`, `models`, `compared_hierarchies`, `costs`, of this crate
@@ -14,6 +14,7 @@ mod cached_results;
 mod compared_hierarchies;
 mod costs;
 mod diagrams;
+mod drivers;
 mod explanations;
 mod forests;
 mod hierarchies;
@@ -25,6 +26,7 @@ mod pairs;
 mod program;
 mod program_ends;
 mod random_hierarchies;
+mod random_steps;
 mod reading;
 mod reports;
 mod runs;
