@@ -22,6 +22,7 @@ use Rattle.eqc_guard.proofs.Filling.{are_small, may_fill, word_names, no_operand
 use Rattle.eqc_guard.proofs.Acquiring.{constant_trees}
 use Rattle.eqc_guard.proofs.Counts.{length-without_all}
 use Rattle.eqc_guard.proofs.Learning.{held_named, keeps_on}
+use Rattle.eqc_guard.proofs.Copying.{keeps_copy}
 use Rattle.eqc_guard.proofs.Sweeping.{forget_none, forget_twice}
 use Rattle.eqc_cache.specs.Finding.{IsOrdered}
 use Rattle.eqc_cache.specs.Storing.{Trades, IsAsBefore, IsRight, MayReplace}
@@ -83,7 +84,7 @@ scanned old new known ready quiet s = record {
   names = λ x. omega (arith, s.same x);
   lengths = omega (arith, s.lengths);
   trees = λ x two h. s.trees x two (omega (arith, times-nil x));
-  copy = s.copy;
+  copy = keeps_copy old.known new.known s.copy;
   known = s.known;
 }
   where

@@ -1,11 +1,13 @@
 //! What the cells keep: a result is stored, and all are given up.
-ghost use Rattle.std.specs.Prelude.{◌≡◌, ◌*◌, ◌<◌, ◌≤◌, ◌^◌, [], ◌∷◌, length, Some, None, IfSome};
+ghost use Rattle.std.specs.Prelude.{◌≡◌, ◌-◌, ◌*◌, ◌<◌, ◌≤◌, ◌^◌, [], ◌∷◌, length, Some, None, IfSome};
 ghost use Rattle.eqc_core.specs.View.{phase_at};
 ghost use Rattle.eqc_core.specs.Words.{announced_words, slots_of};
 ghost use Rattle.eqc_core.specs.Moves.{IsReady, IsQuiet};
 ghost use Rattle.eqc_core.specs.Announcing.{MayLook};
 ghost use Rattle.eqc_guard.specs.Known.{IsHeld, IsKnown};
-ghost use Rattle.eqc_guard.specs.Filling.{HasEntry, entry_names};
+ghost use Rattle.eqc_guard.specs.Filling.{HasEntry, entry_names, word_of};
+ghost use Rattle.eqc_guard.specs.Copying.{KeepsCells, SetsCell};
+ghost use Rattle.eqc_cache.specs.Placing.{IsStored, AreEmpty, entry_of};
 ghost use Rattle.eqc_cache.specs.Storing.{IsRight, MayReplace, Trades, IsAsBefore};
 
 use crate::key;
@@ -25,6 +27,8 @@ fn copy(worker: &mut Worker, x: u32) -> Option<Ref>
     ensures copied { IfSome result (λ r. Trades [] (slots_of (r.number ∷ [])) worker.old worker.new) }
     ensures room { IfSome result (λ r. length worker.old.known.core.held ≤ 2 ^ 39 → length worker.new.known.core.held ≤ 2 ^ 39) }
     ensures none { result ≡ None → worker.new ≡ worker.old }
+    ensures full { result ≡ None → 2 ^ 32 - 1 ≤ length worker.old.known.core.held }
+    ensures cells { KeepsCells worker.old.known worker.new.known }
 {
     if x < 2 {
         return Some(worker.constant(x == 1));
@@ -48,6 +52,9 @@ fn entry(worker: &mut Worker, op: Op, first: u32, second: u32, found: u32) -> Op
     ensures entry { IfSome result (λ e. HasEntry worker.new.known (Some e)) }
     ensures room { IfSome result (λ e. length worker.new.known.core.held ≤ 2 ^ 39) }
     ensures none { result ≡ None → Trades [] [] worker.old worker.new }
+    ensures word { IfSome result (λ e. word_of (Some e) ≡ entry_of op (first, second) found) }
+    ensures full { result ≡ None → 2 ^ 32 - 3 ≤ length worker.old.known.core.held }
+    ensures cells { KeepsCells worker.old.known worker.new.known }
 {
     let f = copy(worker, first)?;
     let Some(g) = copy(worker, second) else {
@@ -70,6 +77,7 @@ fn make_room(worker: &mut Worker)
     requires room { length worker.old.known.core.held ≤ 2 ^ 39 }
     ensures same { Trades [] [] worker.old worker.new }
     ensures few { length worker.new.known.core.retired < 2 * announced_words worker.new.known.core.sizes }
+    ensures cells { KeepsCells worker.old.known worker.new.known }
 {
     let retired = worker.retired_names().len();
     if retired >= 2 * worker.announcement_words() as usize {
@@ -81,7 +89,8 @@ fn make_room(worker: &mut Worker)
 // once no worker has announced it.
 fn replace(worker: &mut Worker, cell: u32, filled: Option<Filled>)
     requires { MayReplace worker.old.known cell filled }
-    ensures { Trades (entry_names filled) [] worker.old worker.new }
+    ensures trades { Trades (entry_names filled) [] worker.old worker.new }
+    ensures sets { SetsCell cell (word_of filled) worker.old.known worker.new.known }
 {
     make_room(worker);
     if let Some((f, g)) = worker.swap_cell(cell, filled) {
@@ -94,7 +103,8 @@ fn replace(worker: &mut Worker, cell: u32, filled: Option<Filled>)
 ///
 /// The operands and the result are held or constants, the result is right, the worker is at rest,
 /// there is a cell, and at most 2^39 names are held. The worker holds what it held: what the cache
-/// keeps is counted by itself. At 2^32 - 1 names held nothing is stored.
+/// keeps is counted by itself. A worker that is alone finds the entry in the cell of its operands
+/// then. At the limit of references, from 2^32 - 3 names held on, it may be that nothing is stored.
 pub fn store(worker: &mut Worker, op: Op, f: &Ref, g: &Ref, r: &Ref)
     requires may { MayLook worker.old.known.core 0 0 }
     requires first { IsHeld worker.old.known.core f.now.number }
@@ -102,7 +112,8 @@ pub fn store(worker: &mut Worker, op: Op, f: &Ref, g: &Ref, r: &Ref)
     requires result { IsHeld worker.old.known.core r.now.number }
     requires right { IsRight worker.old.known op f.now.number g.now.number r.now.number }
     requires room { length worker.old.known.core.held ≤ 2 ^ 39 }
-    ensures { IsAsBefore worker.old worker.new }
+    ensures before { IsAsBefore worker.old worker.new }
+    ensures stored { IsStored op f.now.number g.now.number r.now.number worker.old.known worker.new.known }
 {
     let (first, second) = key::ordered(op, f.number(), g.number());
     let cell = key::place(worker.cells(), op, first, second);
@@ -113,11 +124,13 @@ pub fn store(worker: &mut Worker, op: Op, f: &Ref, g: &Ref, r: &Ref)
 
 /// Empties all cells, one after the other.
 ///
-/// The worker is at rest, and at most 2^39 names are held. It holds what it held.
+/// The worker is at rest, and at most 2^39 names are held. It holds what it held. A worker that is
+/// alone finds each cell empty then.
 pub fn clear(worker: &mut Worker)
     requires may { MayLook worker.old.known.core 0 0 }
     requires room { length worker.old.known.core.held ≤ 2 ^ 39 }
-    ensures { IsAsBefore worker.old worker.new }
+    ensures before { IsAsBefore worker.old worker.new }
+    ensures empty { AreEmpty worker.old.known.core.sizes.cells worker.old.known worker.new.known }
 {
     for cell in 0..worker.cells() {
         replace(worker, cell, None);

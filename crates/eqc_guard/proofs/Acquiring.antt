@@ -1,5 +1,5 @@
 -- The steps of a counted load, one after the other.
-use Rattle.std.proofs.Common.{◌≡◌, ◌≢◌, ℕ, ◌<◌, ◌≤◌, List, [], ◌∷◌, inl, inr, set, get_or, eq-eqb, ne_eqb, refl, sym, ap, subst, ◌∙◌, arith}
+use Rattle.std.proofs.Common.{◌≡◌, ◌≢◌, ℕ, ◌<◌, ◌≤◌, List, [], ◌∷◌, inl, inr, set, get_or, eq-eqb, ne_eqb, Some, ◌+◌, refl, sym, ap, subst, ◌∙◌, arith}
 use native.Mathlib.Decide.{ℕ_discrete, dec_le}
 use Rattle.eqc_tree.specs.Tree.{Tree, value}
 use Rattle.eqc_tree.specs.Operation.{operate}
@@ -8,11 +8,13 @@ use Rattle.eqc_core.specs.declared.phase.Phase.TheVariants.{Idle, Seen, Announce
 use Rattle.eqc_core.specs.View.{View, phase_at}
 use Rattle.eqc_core.specs.Words.{times, first_of, second_of, result_of}
 use Rattle.eqc_core.specs.Moves.{with_phase}
-use Rattle.eqc_core.specs.Announcing.{LetsAnnounce, announced, announced_phase, rechecked, rechecked_phase}
+use Rattle.eqc_core.specs.Announcing.{announced_cell, LetsAnnounce, announced, announced_phase, rechecked, rechecked_phase}
 use Rattle.eqc_guard.specs.Acquiring.{IsAt, IsAcquired}
 use Rattle.eqc_guard.specs.Known.{IsHeld, tree_of, tree_in}
 use Rattle.eqc_guard.specs.Standing.{Standing, Steps}
-use Rattle.eqc_guard.specs.Telling.{IsResult, Rechecks, HasFound}
+use Rattle.eqc_guard.specs.Telling.{IsResult, Rechecks, HasFound, Copies}
+use Rattle.eqc_guard.specs.Rule.{cells_from}
+use Rattle.eqc_guard.specs.Copying.{cell_in, KeepsCells}
 use Rattle.eqc_guard.proofs.Learning.{held_named, keeps_on}
 
 set_twice : (ps : List Phase) (p q : Phase) → set (set ps 0 p) 0 q ≡ set ps 0 q
@@ -89,7 +91,7 @@ module _ (old s1 : Standing) (q : Phase) (c word x : ℕ) (one : old.known.core.
   announces_it : IsAt (Announced c word) old s1
   announces_it = starts old s1 (Announced c word) (subst (λ (p : Phase). Steps old (with_phase old.known.core 0 (announced_phase p)) s1) seen says)
 
-  phase_then : phase_at s1.known.core 0 ≡ Announced c word
+  pub phase_then : phase_at s1.known.core 0 ≡ Announced c word
   phase_then = phase_is old s1 q (Announced c word) one announces_it
 
   module _ (s2 : Standing) (found : ℕ) (looks : Steps s1 (rechecked s1.known.core 0 found) s2) where
@@ -108,6 +110,16 @@ module _ (old s1 : Standing) (q : Phase) (c word x : ℕ) (one : old.known.core.
 
     has_found : found ≡ word → HasFound (phase_at s1.known.core 0) found
     has_found e d text is = e ∙ ap word_in (sym phase_then ∙ is)
+
+    -- a worker that is alone finds the word that its copy has
+    pub found_alone : KeepsCells old.known s1.known → Copies s1.known (cells_from s1.known.core.sizes + announced_cell (phase_at s1.known.core 0)) found found s2.known
+        → (ws : List ℕ) → old.known.copy ≡ Some ws → cell_in old.known ws c ≡ word → HasFound (phase_at s1.known.core 0) found
+    found_alone keeps copies ws e is =
+        let t = keeps ws e in
+        let sizes : s1.known.core.sizes ≡ old.known.core.sizes = ap (λ (v : View). v.sizes) says.known.core in
+        let here : announced_cell (phase_at s1.known.core 0) ≡ c = ap {B = ℕ} announced_cell phase_then in
+        let place : cells_from s1.known.core.sizes + announced_cell (phase_at s1.known.core 0) ≡ cells_from old.known.core.sizes + c = λ i. cells_from (sizes i) + here i in
+        has_found (sym (copies.seen t.0 t.1) ∙ (ap (λ (n : ℕ). get_or t.0 n 0) place ∙ (t.2 c ∙ is)))
 
     pub withdrawn : (s3 : Standing) → (HasFound (phase_at s1.known.core 0) found → ⊥) → Steps s2 (announced s2.known.core 0) s3 → IsAt Idle old s3
     withdrawn s3 other says' =

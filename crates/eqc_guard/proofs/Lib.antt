@@ -15,3 +15,4 @@ pub mod Acquiring
 pub mod Sweeping
 pub mod Absorbing
 pub mod Closing
+pub mod Copying

@@ -12,7 +12,10 @@ use native.Mathlib.Decide.{ℕ_discrete}
 use Rattle.eqc_guard.specs.Known.{IsKnown, names_of, tree_of}
 use Rattle.eqc_guard.specs.Standing.{Standing, Steps}
 use Rattle.eqc_guard.specs.Sweeping.{scanning, IsScanning, IsSwept, IsLetting, IsScanned}
-use Rattle.eqc_guard.proofs.Learning.{held_named, keeps_on}
+use Rattle.eqc_guard.proofs.Learning.{held_named}
+use Rattle.eqc_guard.specs.Copying.{KeepsCells}
+use Rattle.eqc_guard.specs.Telling.{Copies}
+use Rattle.eqc_guard.proofs.Copying.{cells_stay, cells_on, load_keeps}
 
 -- what was read last stays while its name is held
 pub forget_none : (held : List ℕ) (o : Option Read) → ((r : Read) → o ≡ Some r → 0 < times r.name held) → forget held o ≡ o
@@ -20,9 +23,9 @@ forget_none held None is = refl
 forget_none held (Some r) is = rw (lt-ltb 0 (times r.name held) (is r refl)) refl
 
 pub begins : (s : Standing) → IsKnown s.known → IsScanning s s
-begins s known = record { forest = refl; position = s.known.core.position; noted = s.known.core.noted; core = refl; trees = λ x two h. refl; copy = λ ws e. (ws, e); known = known }
+begins s known = record { forest = refl; position = s.known.core.position; noted = s.known.core.noted; core = refl; trees = λ x two h. refl; copy = cells_stay s.known; known = known }
 
-module _ (old mid next : Standing) (name : ℕ) (m : IsScanning old mid) (s : Steps mid (scanned mid.known.core name) next) where
+module _ (old mid next : Standing) (name : ℕ) (m : IsScanning old mid) (s : Steps mid (scanned mid.known.core name) next) (copies : Copies mid.known mid.known.core.position name name next.known) where
   there : (x : ℕ) → 0 < times x old.known.core.held → 0 < times x mid.known.core.held
   there x h = subst (λ (v : View). 0 < times x v.held) (sym m.core) h
 
@@ -37,7 +40,7 @@ module _ (old mid next : Standing) (name : ℕ) (m : IsScanning old mid) (s : St
       noted = note name m.noted;
       core = s.known.core ∙ (on ∙ ap (λ (v : View). scan_on v name) m.core);
       trees = λ x two h. s.known.agrees x two (held_named mid.known.core x (there x h)) (subst (λ (v : View). 0 < times x (names_of v)) (sym on) (held_named (scan_on mid.known.core name) x (there x h))) ∙ m.trees x two h;
-      copy = keeps_on old.known mid.known next.known m.copy s.known.copy;
+      copy = cells_on old.known mid.known next.known (ap (λ (v : View). v.sizes) m.core) m.copy (load_keeps mid.known next.known mid.known.core.position name copies);
       known = s.known.known;
     }
 
@@ -61,7 +64,7 @@ cancel : (a b c : List ℕ) → a ++ b ≡ a ++ c → b ≡ c
 cancel [] b c e = e
 cancel (x ∷ a) b c e = cancel a b c (ap tail e)
 
-module _ (old mid next : Standing) (name : ℕ) (m : IsScanning old mid) (s : Steps mid (scanned mid.known.core name) next) (end : announced_words mid.known.core.sizes ≤ mid.known.core.position + 1) where
+module _ (old mid next : Standing) (name : ℕ) (m : IsScanning old mid) (s : Steps mid (scanned mid.known.core name) next) (copies : Copies mid.known mid.known.core.position name name next.known) (end : announced_words mid.known.core.sizes ≤ mid.known.core.position + 1) where
   off : scanned mid.known.core name ≡ scan_end mid.known.core name
   off = ap (λ (b : Bool). if b then scan_on mid.known.core name else scan_end mid.known.core name) (le-ltb (mid.known.core.position + 1) (announced_words mid.known.core.sizes) end)
 
@@ -89,7 +92,7 @@ module _ (old mid next : Standing) (name : ℕ) (m : IsScanning old mid) (s : St
             let was : 0 < times x mid.known.core.held = subst (λ (v : View). 0 < times x v.held) (sym m.core) h in
             let is : 0 < times x (scan_end mid.known.core name).held = omega (arith, times-append x mid.known.core.held (ejected (note name mid.known.core.noted) mid.known.core.retired)) in
             s.known.agrees x two (held_named mid.known.core x was) (subst (λ (v : View). 0 < times x (names_of v)) (sym off) (held_named (scan_end mid.known.core name) x is)) ∙ m.trees x two h;
-        copy = keeps_on old.known mid.known next.known m.copy s.known.copy;
+        copy = cells_on old.known mid.known next.known (ap (λ (v : View). v.sizes) m.core) m.copy (load_keeps mid.known next.known mid.known.core.position name copies);
         known = s.known.known;
       }
 
@@ -110,11 +113,11 @@ lets_all gone s known = record {
   names = λ x. refl;
   lengths = refl;
   trees = λ x two h. refl;
-  copy = λ ws e. (ws, e);
+  copy = cells_stay s.known;
   known = known;
 }
 
-module _ (gone rest : List ℕ) (x : ℕ) (swept mid next : Standing) (m : IsLetting gone (x ∷ rest) swept mid) (s : Steps mid (downed mid.known.core x) next) (there : 0 < times x m.held) where
+module _ (gone rest : List ℕ) (x : ℕ) (swept mid next : Standing) (m : IsLetting gone (x ∷ rest) swept mid) (s : Steps mid (downed mid.known.core x) next) (there : 0 < times x m.held) (keeps : KeepsCells mid.known next.known) where
   mine : mid.known.core.held ≡ m.held
   mine = ap (λ (v : View). v.held) m.core
 
@@ -142,7 +145,7 @@ module _ (gone rest : List ℕ) (x : ℕ) (swept mid next : Standing) (m : IsLet
     names = λ y. left y (ℕ_discrete x y);
     lengths = omega (arith, m.lengths, length-without_one x m.held there);
     trees = let_tree;
-    copy = keeps_on swept.known mid.known next.known m.copy s.known.copy;
+    copy = cells_on swept.known mid.known next.known (ap (λ (v : View). v.sizes) m.core) m.copy keeps;
     known = s.known.known;
   }
 
@@ -177,6 +180,6 @@ scans gone old swept new known w m =
       names = λ x. omega (arith, w.names x);
       few = w.few;
       trees = λ x two h. m.trees x two (omega (arith, same x)) ∙ w.trees x two h;
-      copy = keeps_on old.known swept.known new.known w.copy m.copy;
+      copy = cells_on old.known swept.known new.known (ap (λ (v : View). v.sizes) w.core) w.copy m.copy;
       known = m.known;
     }

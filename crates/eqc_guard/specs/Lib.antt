@@ -2,6 +2,7 @@ pub mod Coding
 pub mod Known
 pub mod Telling
 pub mod Rule
+pub mod Copying
 pub mod Standing
 pub mod Seats
 pub mod Splitting

@@ -69,6 +69,7 @@ impl Worker {
     ghost use Rattle.eqc_core.specs.Seating.{IsAtRest};
     ghost use Rattle.eqc_guard.specs.Splitting.{IsJoined, IsAbsorbed, HasNumber, WhyNot, IsSplit, IsCopied, IsAlone, outstanding};
     ghost use Rattle.eqc_guard.specs.Closing.{above_zero, IsTallied};
+    ghost use Rattle.eqc_guard.specs.Copying.{cell_in, KeepsCells};
     ghost use Rattle.eqc_guard.specs.Acquiring.{IsAt, IsAcquired, IsPassed};
     ghost use Rattle.eqc_guard.specs.Filling.{MaySwap, word_of};
     ghost use Rattle.eqc_guard.specs.Sweeping.{IsSwept, IsScanned};
@@ -492,12 +493,15 @@ impl Worker {
     }
 
     /// Announces the result of the word that was seen, a node, and looks again: the second half of
-    /// `acquire`. Where the second look finds another word, nothing is announced.
+    /// `acquire`. Where the second look finds another word, nothing is announced. A worker that is
+    /// alone finds the word that its cell has.
     pub fn confirm(&mut self, found: u32) -> bool
         requires may { MayAnnounce self.old.known.core 0 found }
         requires slot { 2 ≤ found }
         ensures yes { IsTrue result → (c word : ℕ) → phase_at self.old.known.core 0 ≡ Phase.Seen c word → IsAcquired word self.old self.new }
         ensures no { result ≡ false → IsAt Phase.Idle self.old self.new }
+        ensures cells { KeepsCells self.old.known self.new.known }
+        ensures alone { (ws : List ℕ) → self.old.known.copy ≡ Some ws → (c word : ℕ) → phase_at self.old.known.core 0 ≡ Phase.Seen c word → cell_in self.old.known ws c ≡ word → IsTrue result }
     {
         // A worker has one announcement word.
         let _phase = self.phase;
@@ -514,7 +518,10 @@ impl Worker {
         requires { MayAnnounce self.old.known.core 0 0 }
         ensures step { Steps self.old (announced self.old.known.core 0) self.new }
         ensures copies { self.new.known.copy ≡ copied self.old.known.copy (word_at self.old.known.core.sizes self.old.known.core.number 0) 0 }
+        ensures cells { KeepsCells self.old.known self.new.known }
     {
+        // A worker has one announcement word, and its number is there.
+        let _phase = self.phase;
         self.announce(0);
     }
 

@@ -14,11 +14,11 @@ loop-ejected-init c =
 pub returns-in-Some : goal.returns-in-Some
 returns-in-Some c =
     elim (dec_le (announced_words c.loop-ejected.self.known.core.sizes) (c.loop-ejected.self.known.core.position + 1)) [
-      | yes end ↦ ends c.args.self.now c.loop-ejected.self c.scan_one.new.self c.scan_one.ensures.step.0 c.loop-ejected.invariant c.scan_one.ensures.step.1 end c.in-Some.ejected.items c.in-Some.ensures.some
+      | yes end ↦ ends c.args.self.now c.loop-ejected.self c.scan_one.new.self c.scan_one.ensures.step.0 c.loop-ejected.invariant c.scan_one.ensures.step.1 c.scan_one.ensures.step.2 end c.in-Some.ejected.items c.in-Some.ensures.some
       | no n ↦ absurd (let q = c.in-Some.ensures.goes_on.1 (omega arith) in cc)
     ]
 
 pub loop-ejected-preserved : goal.loop-ejected-preserved
 loop-ejected-preserved c =
     let lt : c.loop-ejected.self.known.core.position + 1 < announced_words c.loop-ejected.self.known.core.sizes = c.scan_one.ensures.goes_on.0 c.in_default.is in
-    further c.args.self.now c.loop-ejected.self c.scan_one.new.self c.scan_one.ensures.step.0 c.loop-ejected.invariant c.scan_one.ensures.step.1 lt
+    further c.args.self.now c.loop-ejected.self c.scan_one.new.self c.scan_one.ensures.step.0 c.loop-ejected.invariant c.scan_one.ensures.step.1 c.scan_one.ensures.step.2 lt
