@@ -1,10 +1,10 @@
 -- What steps leave of the cells in a copy of the words.
-use Rattle.std.proofs.Common.{◌≡◌, ◌≢◌, ℕ, ◌+◌, ◌*◌, ◌-◌, ◌%◌, ◌^◌, ◌<◌, ◌≤◌, List, get_or, set, length, Option, Some, refl, sym, ap, subst, ◌∙◌, arith}
+use Rattle.std.proofs.Common.{◌≡◌, ℕ, ◌+◌, ◌*◌, ◌<◌, ◌≤◌, List, get_or, set, length, Option, refl, sym, ap, subst, ◌∙◌, arith}
 use Rattle.std.proofs.lemmas.List.{get_or-set_same, get_or-set_other}
 use Rattle.eqc_core.specs.declared.sizes.Sizes.{Sizes}
 use Rattle.eqc_core.specs.View.{View}
 use Rattle.eqc_core.specs.Words.{announced_words, times, word_at}
-use Rattle.eqc_guard.specs.Known.{Known, IsCopy, IsKnown, KeepsCopy}
+use Rattle.eqc_guard.specs.Known.{Known, IsKnown, KeepsCopy}
 use Rattle.atomic_table.specs.Seated.{TableId}
 use Rattle.eqc_core.specs.Announcing.{announced, rechecked}
 use Rattle.eqc_guard.specs.Rule.{cells_from, all_words, IsWorker}

@@ -1,5 +1,5 @@
 -- What a worker that is alone knows of the cells: they stand in its copy of the words.
-use Rattle.std.specs.Prelude.{◌≡◌, ◌≢◌, ℕ, ◌+◌, ◌<◌, List, get_or, Some}
+use Rattle.std.specs.Prelude.{◌≡◌, ◌≢◌, ℕ, ◌+◌, List, get_or, Some}
 use Rattle.eqc_guard.specs.Known.{Known}
 use Rattle.eqc_guard.specs.Rule.{cells_from}
 

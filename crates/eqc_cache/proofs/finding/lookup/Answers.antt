@@ -1,4 +1,4 @@
-use Rattle.std.proofs.Common.{◌≡◌, ◌<◌, ◌+◌, ◌≤◌, sym, ap, subst, ◌∙◌, arith, ℕ, get_or, length, true, false, inl, inr, ⊎_elim}
+use Rattle.std.proofs.Common.{◌≡◌, ◌<◌, ◌+◌, sym, ap, subst, ◌∙◌, arith, ℕ, get_or, length, true, false, inl, inr, ⊎_elim}
 use Rattle.eqc_core.specs.declared.sizes.Sizes.{Sizes}
 use Rattle.eqc_guard.specs.Rule.{cells_from}
 use Rattle.eqc_guard.proofs.Closing.{read_stays}

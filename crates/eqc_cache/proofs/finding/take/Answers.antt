@@ -1,4 +1,4 @@
-use Rattle.std.proofs.Common.{◌≡◌, ℕ, ◌-◌, ◌≤◌, ◌^◌, List, length, refl, sym, ap, subst, arith, inl, inr}
+use Rattle.std.proofs.Common.{◌≡◌, ℕ, length, refl, ap, subst, arith, inl}
 use Rattle.eqc_core.specs.View.{View}
 use Rattle.eqc_guard.specs.Standing.{Standing}
 use Rattle.eqc_guard.specs.Copying.{KeepsCells}

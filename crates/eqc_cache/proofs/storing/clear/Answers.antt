@@ -1,6 +1,5 @@
-use Rattle.std.proofs.Common.{[], None, arith, ap, sym, subst}
+use Rattle.std.proofs.Common.{[], None, arith, ap}
 use Rattle.eqc_core.specs.View.{View}
-use Rattle.eqc_cache.specs.Placing.{AreEmpty}
 use Rattle.eqc_cache.proofs.Trading.{stays, after_room, as_before, may_replace, lengths_now}
 use Rattle.eqc_cache.proofs.Cells.{none_empty, one_empty, all_empty}
 use Rattle.eqc_cache.proofs.storing.clear.Goals as goal

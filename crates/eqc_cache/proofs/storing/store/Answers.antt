@@ -1,9 +1,7 @@
-use Rattle.std.proofs.Common.{◌≡◌, ℕ, ◌+◌, Some, ap, subst, sym, ◌∙◌, inl, inr}
+use Rattle.std.proofs.Common.{Some, ap, inl, inr}
 use Rattle.eqc_core.specs.View.{View}
 use Rattle.eqc_guard.specs.Filling.{entry_names, word_of}
-use Rattle.eqc_guard.specs.Copying.{SetsCell}
 use Rattle.eqc_guard.proofs.Copying.{sets_after}
-use Rattle.eqc_cache.specs.Placing.{in_order, place_of, entry_of}
 use Rattle.eqc_cache.proofs.Trading.{as_before, came_and_went}
 use Rattle.eqc_cache.proofs.Cells.{stores}
 use Rattle.eqc_cache.proofs.storing.store.Goals as goal
