@@ -53,8 +53,9 @@ impl Phase {
         }
     }
 
-    // The phase after such a store.
-    pub(crate) fn announced(self) -> Phase
+    /// The phase after a store to the announcement word: the result that was seen is announced, or
+    /// what was announced is withdrawn.
+    pub fn announced(self) -> Phase
         ensures { result ≡ announced_phase self }
     {
         match self {
@@ -80,9 +81,10 @@ impl Phase {
         }
     }
 
-    // The phase after a second look that found this word.
+    /// The phase after a second look that found this word: what was announced is confirmed where
+    /// it is the word that was seen, and missed where it is another.
     #[tactic(auto, unfolding(crate::specs::Words::result_of))]
-    pub(crate) fn rechecked(self, found: u64) -> Phase
+    pub fn rechecked(self, found: u64) -> Phase
         ensures { result ≡ rechecked_phase self found }
     {
         match self {

@@ -1,2 +1,3 @@
 pub mod WordLemmas
 pub mod EndLemmas
+pub mod Driving

@@ -2,3 +2,4 @@ pub mod CommandLine
 pub mod Sources
 pub mod Warnings
 pub mod Ends
+pub mod Driving

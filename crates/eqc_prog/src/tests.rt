@@ -2,6 +2,7 @@
 //! what was meant. They stand here alone, since a crate with tests is proved twice.
 //!
 //! - `words`, `operations`, of `eqc_tree`; `diagrams`, of `eqc_plain`; `machine`, of `eqc_core`
+//! - `forests`, of `eqc_guard`; `cached_results`, of `eqc_cache`; `random_steps`, of both; `drivers`, what takes their steps
 //! - `reading` and `text_findings`, of `eqc_blif`; `hierarchies`, `random_hierarchies` and `explanations`, of `eqc_flat`
 //! - `pair_findings`, of `eqc_pair`; `pairs`, `workers`, `reports`, `runs`, of `eqc_check`
 //! - `program`, `program_ends`, `models`, `explained_runs`, `compared_hierarchies`, `costs`, of this crate
@@ -9,11 +10,14 @@
 //!
 //! In the texts of `pairs` and of what comes after it `;` stands for LF.
 
+mod cached_results;
 mod compared_hierarchies;
 mod costs;
 mod diagrams;
+mod drivers;
 mod explained_runs;
 mod explanations;
+mod forests;
 mod hierarchies;
 mod machine;
 mod messages;
@@ -24,6 +28,7 @@ mod pairs;
 mod program;
 mod program_ends;
 mod random_hierarchies;
+mod random_steps;
 mod reading;
 mod reports;
 mod runs;

@@ -1,0 +1,3 @@
+pub mod Hits
+pub mod Trading
+pub mod Cells

@@ -1,0 +1,118 @@
+-- What steps leave of the cells in a copy of the words.
+use Rattle.std.proofs.Common.{◌≡◌, ℕ, ◌+◌, ◌*◌, ◌<◌, ◌≤◌, List, get_or, set, length, Option, refl, sym, ap, subst, ◌∙◌, arith}
+use Rattle.std.proofs.lemmas.List.{get_or-set_same, get_or-set_other}
+use Rattle.eqc_core.specs.declared.sizes.Sizes.{Sizes}
+use Rattle.eqc_core.specs.View.{View}
+use Rattle.eqc_core.specs.Words.{announced_words, times, word_at}
+use Rattle.eqc_guard.specs.Known.{Known, IsKnown, KeepsCopy}
+use Rattle.atomic_table.specs.Seated.{TableId}
+use Rattle.eqc_core.specs.Announcing.{announced, rechecked}
+use Rattle.eqc_guard.specs.Rule.{cells_from, all_words, IsWorker}
+use Rattle.eqc_guard.specs.Standing.{Standing, Steps}
+use Rattle.eqc_guard.specs.Copying.{cell_in, KeepsCells, SetsCell}
+use Rattle.eqc_guard.specs.Telling.{Copies, copied}
+use Rattle.eqc_guard.proofs.Closing.{read_stays}
+use Rattle.eqc_guard.proofs.Learning.{held_named}
+use Rattle.eqc_guard.proofs.Stocking.{flat_length}
+
+pub cells_stay : (k : Known) → KeepsCells k k
+cells_stay k ws e = (ws, e, λ c. refl)
+
+-- cells that stay are a copy that stays
+pub keeps_copy : (k after : Known) → KeepsCells k after → KeepsCopy k after
+keeps_copy k after keeps ws e = let t = keeps ws e in (t.0, t.1)
+
+-- two steps, one after the other
+pub cells_on : (a b c : Known) → b.core.sizes ≡ a.core.sizes → KeepsCells a b → KeepsCells b c → KeepsCells a c
+cells_on a b c same first then ws e =
+    let t = first ws e in
+    let u = then t.0 t.1 in (
+      u.0,
+      u.1,
+      λ n. let r : cell_in a u.0 n ≡ cell_in a t.0 n = subst (λ (z : Sizes). get_or u.0 (cells_from z + n) 0 ≡ get_or t.0 (cells_from z + n) 0) same (u.2 n) in r ∙ t.2 n,
+    )
+
+-- a word before the cells is set
+pub set_keeps : (k after : Known) (i left : ℕ) → i < cells_from k.core.sizes → after.copy ≡ copied k.copy i left → KeepsCells k after
+set_keeps k after i left before is ws e = (set ws i left, is ∙ ap (λ (o : Option (List ℕ)). copied o i left) e, λ n. get_or-set_other ws i (cells_from k.core.sizes + n) left 0 (λ q. absurd (omega arith)))
+
+-- a load
+pub load_keeps : (k after : Known) (i found : ℕ) → Copies k i found found after → KeepsCells k after
+load_keeps k after i found c ws e = let r = read_stays k after i found ws c e in (ws, r.0, λ n. refl)
+
+-- a count, of a name that is there
+pub count_keeps : (k after : Known) (x found left : ℕ) → x < k.core.sizes.names → Copies k (announced_words k.core.sizes + x) found left after → KeepsCells k after
+count_keeps k after x found left there c = set_keeps k after (announced_words k.core.sizes + x) left (omega arith) c.copy
+
+pub below : (k : Known) (x : ℕ) → IsKnown k → 2 ≤ x → 0 < times x k.core.held → x < k.core.sizes.names
+below k x known two h = known.below x two (held_named k.core x h)
+
+-- a cell is set
+pub cell_sets : (k after : Known) (c found word : ℕ) → IsKnown k → c < k.core.sizes.cells → Copies k (cells_from k.core.sizes + c) found word after → SetsCell c word k after
+cell_sets k after c found word known there is ws e =
+    let state = known.state ws e in
+    let lengths : length ws ≡ all_words k.core.sizes = ap {B = ℕ} (λ (l : List ℕ). length l) state.laid ∙ flat_length k.core.sizes state.words state.homes state.views state.lawful.sized in (
+      set ws (cells_from k.core.sizes + c) word,
+      is.copy ∙ ap (λ (o : Option (List ℕ)). copied o (cells_from k.core.sizes + c) word) e,
+      get_or-set_same ws (cells_from k.core.sizes + c) word 0 (omega arith),
+      λ d other. get_or-set_other ws (cells_from k.core.sizes + c) (cells_from k.core.sizes + d) word 0 (λ q. other (omega arith)),
+    )
+
+-- cells stay, then one is set, and then they stay
+pub sets_after : (a b c : Known) (n word : ℕ) → b.core.sizes ≡ a.core.sizes → KeepsCells a b → SetsCell n word b c → SetsCell n word a c
+sets_after a b c n word same first then ws e =
+    let t = first ws e in
+    let u = then t.0 t.1 in (
+      u.0,
+      u.1,
+      subst (λ (z : Sizes). get_or u.0 (cells_from z + n) 0 ≡ word) same u.2,
+      λ d other. subst (λ (z : Sizes). get_or u.0 (cells_from z + d) 0 ≡ get_or t.0 (cells_from z + d) 0) same (u.3 d other) ∙ t.2 d,
+    )
+
+pub stays_set : (a b c : Known) (n word : ℕ) → b.core.sizes ≡ a.core.sizes → SetsCell n word a b → KeepsCells b c → SetsCell n word a c
+stays_set a b c n word same first then ws e =
+    let t = first ws e in
+    let u = then t.0 t.1 in
+    let on : (d : ℕ) → cell_in a u.0 d ≡ cell_in a t.0 d = λ d. subst (λ (z : Sizes). get_or u.0 (cells_from z + d) 0 ≡ get_or t.0 (cells_from z + d) 0) same (u.2 d) in (
+      u.0,
+      u.1,
+      on n ∙ t.2,
+      λ d other. on d ∙ t.3 d other,
+    )
+
+-- an announcement word stands before the cells
+pub word_before : (z : Sizes) (number : ℕ) → z.announcements ≡ 1 → number < z.workers → word_at z number 0 < cells_from z
+unfolding word_at
+word_before z number one there =
+    let a : number * z.announcements ≡ number * 1 = ap {B = ℕ} (λ (n : ℕ). number * n) one in
+    let b : z.workers * z.announcements ≡ z.workers * 1 = ap {B = ℕ} (λ (n : ℕ). z.workers * n) one in
+    omega arith
+
+-- so what is announced leaves the cells
+pub announce_keeps : (k after : Known) (left : ℕ) → k.core.sizes.announcements ≡ 1 → k.core.number < k.core.sizes.workers → after.copy ≡ copied k.copy (word_at k.core.sizes k.core.number 0) left → KeepsCells k after
+announce_keeps k after left one there is = set_keeps k after (word_at k.core.sizes k.core.number 0) left (word_before k.core.sizes k.core.number one there) is
+
+-- a worker has one announcement word, and its number is there
+abbrev pub IsPlaced : View → Type 0
+IsPlaced v = (v.sizes.announcements ≡ 1) × (v.number < v.sizes.workers)
+
+pub placed : {T : Type 0} (id : TableId) (z : Sizes) (me : Known × List T) → IsWorker id z me → IsPlaced me.0.core
+placed id z me w = (
+  ap {B = ℕ} (λ (s : Sizes). s.announcements) w.sizes ∙ w.one_word,
+  subst (λ (s : Sizes). me.0.core.number < s.workers) (sym w.sizes) w.number,
+)
+
+-- an announcement and a second look leave the cells
+module _ (old s1 s2 : Standing) (x found : ℕ) (there : IsPlaced old.known.core) (says : Steps old (announced old.known.core 0) s1) (stored : s1.known.copy ≡ copied old.known.copy (word_at old.known.core.sizes old.known.core.number 0) x) (looks : Steps s1 (rechecked s1.known.core 0 found) s2) where
+  pub announced_keeps : KeepsCells old.known s1.known
+  announced_keeps = announce_keeps old.known s1.known x there.0 there.1 stored
+
+  pub looked_keeps : (i : ℕ) → Copies s1.known i found found s2.known → KeepsCells old.known s2.known
+  looked_keeps i copies = cells_on old.known s1.known s2.known (ap (λ (v : View). v.sizes) says.known.core) announced_keeps (load_keeps s1.known s2.known i found copies)
+
+  -- and so does a withdrawal
+  pub withdrawn_keeps : (i : ℕ) (s3 : Standing) → Copies s1.known i found found s2.known → s3.known.copy ≡ copied s2.known.copy (word_at s2.known.core.sizes s2.known.core.number 0) 0 → KeepsCells old.known s3.known
+  withdrawn_keeps i s3 copies gone =
+      let same : s2.known.core.sizes ≡ old.known.core.sizes = ap (λ (v : View). v.sizes) looks.known.core ∙ ap (λ (v : View). v.sizes) says.known.core in
+      let here : IsPlaced s2.known.core = subst (λ (v : View). IsPlaced v) (sym looks.known.core) (subst (λ (v : View). IsPlaced v) (sym says.known.core) there) in
+      cells_on old.known s2.known s3.known same (looked_keeps i copies) (announce_keeps s2.known s3.known 0 here.0 here.1 gone)

@@ -1,0 +1,71 @@
+-- A word in the row of all words, by its kind.
+use Rattle.std.proofs.Common.{◌≡◌, ℕ, zero, suc, ◌+◌, ◌<◌, List, [], ◌∷◌, ◌++◌, length, set, get_or, ap, ◌∙◌, arith}
+use Rattle.std.proofs.lemmas.List.{set-append_left, get_or_append_left}
+use Rattle.eqc_core.specs.declared.sizes.Sizes.{Sizes}
+use Rattle.eqc_core.specs.View.{View}
+use Rattle.eqc_core.specs.Words.{Words, announced_words}
+use Rattle.eqc_core.specs.Tables.{Homes}
+use Rattle.eqc_core.specs.Lawful.{IsSized}
+use Rattle.eqc_core.specs.Moves.{with_announced, with_count, with_cell}
+use Rattle.eqc_guard.specs.Known.{flat}
+use Rattle.eqc_guard.specs.Rule.{cells_from}
+
+-- a write and a read behind n others
+module _ {A : Type 0} where
+  pub set_behind : (p q : List A) (n i : ℕ) (y : A) → length p ≡ n → set (p ++ q) (n + i) y ≡ p ++ set q i y
+  set_behind [] q n i y e = ap (λ (k : ℕ). set q k y) (omega arith)
+  set_behind (x ∷ p) q zero i y e = absurd (omega arith)
+  set_behind (x ∷ p) q (suc n) i y e = rw (suc_add n i) (ap (λ l. x ∷ l) (set_behind p q n i y (omega arith)))
+    where
+      suc_add : (n i : ℕ) → suc n + i ≡ suc (n + i)
+      suc_add n i = omega arith
+
+  pub get_behind : (p q : List A) (n i : ℕ) (d : A) → length p ≡ n → get_or (p ++ q) (n + i) d ≡ get_or q i d
+  get_behind [] q n i d e = ap (λ (k : ℕ). get_or q k d) (omega arith)
+  get_behind (x ∷ p) q zero i d e = absurd (omega arith)
+  get_behind (x ∷ p) q (suc n) i d e = rw (suc_add n i) (get_behind p q n i d (omega arith))
+    where
+      suc_add : (n i : ℕ) → suc n + i ≡ suc (n + i)
+      suc_add n i = omega arith
+
+abbrev behind_cells : Words → List ℕ
+behind_cells w = w.boxes ++ w.locks
+
+abbrev behind_nodes : Words → List ℕ
+behind_nodes w = w.cells ++ (w.boxes ++ w.locks)
+
+abbrev behind_counts : Words → List ℕ
+behind_counts w = w.nodes ++ (w.cells ++ (w.boxes ++ w.locks))
+
+abbrev behind_announced : Words → List ℕ
+behind_announced w = w.counts ++ (w.nodes ++ (w.cells ++ (w.boxes ++ w.locks)))
+
+place : (n k c : ℕ) → n + (k + k) + c ≡ n + (k + (k + c))
+place n k c = omega arith
+
+module _ (z : Sizes) (w : Words) (hs : Homes) (vs : List View) (sized : IsSized z w hs vs) where
+  pub set_announced : (m y : ℕ) → m < announced_words z → set (flat w) m y ≡ flat (with_announced w m y)
+  set_announced m y lt = set-append_left w.announced (behind_announced w) m y (let n = sized.announced in omega arith)
+
+  pub get_announced : (m : ℕ) → m < announced_words z → get_or (flat w) m 0 ≡ get_or w.announced m 0
+  get_announced m lt = get_or_append_left w.announced (behind_announced w) 0 m (let n = sized.announced in omega arith)
+
+  pub set_count : (x y : ℕ) → x < z.names → set (flat w) (announced_words z + x) y ≡ flat (with_count w x y)
+  set_count x y lt = set_behind w.announced (behind_announced w) (announced_words z) x y sized.announced ∙ ap (λ l. w.announced ++ l) (set-append_left w.counts (behind_counts w) x y (let n = sized.counts in omega arith))
+
+  pub get_count : (x : ℕ) → x < z.names → get_or (flat w) (announced_words z + x) 0 ≡ get_or w.counts x 0
+  get_count x lt = get_behind w.announced (behind_announced w) (announced_words z) x 0 sized.announced ∙ get_or_append_left w.counts (behind_counts w) 0 x (let n = sized.counts in omega arith)
+
+  pub set_cell : (c y : ℕ) → c < z.cells → set (flat w) (cells_from z + c) y ≡ flat (with_cell w c y)
+  set_cell c y lt =
+      ap (λ (i : ℕ). set (flat w) i y) (place (announced_words z) z.names c)
+      ∙ (set_behind w.announced (behind_announced w) (announced_words z) (z.names + (z.names + c)) y sized.announced
+      ∙ ap (λ l. w.announced ++ l) (set_behind w.counts (behind_counts w) z.names (z.names + c) y sized.counts
+      ∙ ap (λ l. w.counts ++ l) (set_behind w.nodes (behind_nodes w) z.names c y sized.nodes ∙ ap (λ l. w.nodes ++ l) (set-append_left w.cells (behind_cells w) c y (let n = sized.cells in omega arith)))))
+
+  pub get_cell : (c : ℕ) → c < z.cells → get_or (flat w) (cells_from z + c) 0 ≡ get_or w.cells c 0
+  get_cell c lt =
+      ap (λ (i : ℕ). get_or (flat w) i 0) (place (announced_words z) z.names c)
+      ∙ (get_behind w.announced (behind_announced w) (announced_words z) (z.names + (z.names + c)) 0 sized.announced
+      ∙ (get_behind w.counts (behind_counts w) z.names (z.names + c) 0 sized.counts
+      ∙ (get_behind w.nodes (behind_nodes w) z.names c 0 sized.nodes ∙ get_or_append_left w.cells (behind_cells w) 0 c (let n = sized.cells in omega arith))))

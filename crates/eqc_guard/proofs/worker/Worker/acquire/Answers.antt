@@ -1,0 +1,37 @@
+use Rattle.std.proofs.Common.{◌≡◌, ◌<◌, [], ◌∷◌, sym, subst, arith}
+use Rattle.eqc_core.specs.declared.phase.Phase.{Phase}
+use Rattle.eqc_core.specs.declared.phase.Phase.TheVariants.{Idle, Seen}
+use Rattle.eqc_core.specs.View.{View}
+use Rattle.eqc_core.specs.Words.{result_of}
+use Rattle.eqc_core.specs.Announcing.{LetsAnnounce}
+use Rattle.eqc_guard.specs.Standing.{Standing}
+use Rattle.eqc_guard.proofs.Acquiring.{starts, phase_is, joins, looked_at}
+use Rattle.eqc_guard.proofs.worker.Worker.acquire.Goals as goal
+
+pub returns-then-found-lt2-clause-none : goal.returns-then-found-lt2-clause-none
+returns-then-found-lt2-clause-none c = λ e. record { phase = Seen c.args.cell c.look-word.result; quiet = tt; stands = starts c.args.self.now c.look-word.new.self (Seen c.args.cell c.look-word.result) c.look-word.ensures.step }
+
+pub confirm-requires-clause-may : goal.confirm-requires-clause-may
+unfolding result_of
+confirm-requires-clause-may c =
+    let at = starts c.args.self.now c.look-word.new.self (Seen c.args.cell c.look-word.result) c.look-word.ensures.step in
+    let one : c.args.self.now.known.core.phases ≡ c.self.inside.phase ∷ [] = subst (λ (s : Standing). s.known.core.phases ≡ c.self.inside.phase ∷ []) c.self.view_is c.self.invariant.phases_are in
+    let seen = phase_is c.args.self.now c.look-word.new.self c.self.inside.phase (Seen c.args.cell c.look-word.result) one at in
+    let found : c.unpack_cell-found.result.3 ≡ result_of c.look-word.result = λ i. (c.unpack_cell-found.ensures.fields i).3 in
+    let many = c.if-found-lt2.false in (
+      subst (λ (v : View). v.position ≡ 0) (sym at.core) c.requires.0,
+      subst (λ (v : View). 0 < v.sizes.announcements) (sym at.core) c.requires.1,
+      subst (λ (p : Phase). LetsAnnounce p c.unpack_cell-found.result.3) (sym seen) (omega arith, found),
+    )
+
+pub returns-then-confirm-clause-some : goal.returns-then-confirm-clause-some
+returns-then-confirm-clause-some c =
+    let at = starts c.args.self.now c.look-word.new.self (Seen c.args.cell c.look-word.result) c.look-word.ensures.step in
+    let one : c.args.self.now.known.core.phases ≡ c.self.inside.phase ∷ [] = subst (λ (s : Standing). s.known.core.phases ≡ c.self.inside.phase ∷ []) c.self.view_is c.self.invariant.phases_are in
+    let seen = phase_is c.args.self.now c.look-word.new.self c.self.inside.phase (Seen c.args.cell c.look-word.result) one at in
+    looked_at c.args.self.now c.look-word.new.self c.confirm.new.self c.look-word.result c.args.cell at (c.confirm.ensures.yes c.if-confirm.true c.args.cell c.look-word.result seen)
+
+pub returns-else-confirm-clause-none : goal.returns-else-confirm-clause-none
+returns-else-confirm-clause-none c = λ e.
+    let at = starts c.args.self.now c.look-word.new.self (Seen c.args.cell c.look-word.result) c.look-word.ensures.step in
+    record { phase = Idle; quiet = tt; stands = joins c.args.self.now c.look-word.new.self c.confirm.new.self (Seen c.args.cell c.look-word.result) Idle at (c.confirm.ensures.no c.if-confirm.false) }

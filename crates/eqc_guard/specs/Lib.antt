@@ -1,0 +1,12 @@
+pub mod Coding
+pub mod Known
+pub mod Telling
+pub mod Rule
+pub mod Copying
+pub mod Standing
+pub mod Seats
+pub mod Splitting
+pub mod Filling
+pub mod Acquiring
+pub mod Sweeping
+pub mod Closing

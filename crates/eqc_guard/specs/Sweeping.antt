@@ -1,0 +1,58 @@
+-- What a whole scan leaves. The cells stay: a worker that is alone has the same ones in its copy of the words.
+use Rattle.std.specs.Prelude.{◌≡◌, ℕ, ◌+◌, ◌<◌, ◌≤◌, List, [], ◌++◌, length}
+use Rattle.eqc_core.specs.View.{View}
+use Rattle.eqc_core.specs.Words.{times, announced_words}
+use Rattle.eqc_core.specs.Moves.{forget}
+use Rattle.eqc_guard.specs.Known.{IsKnown, tree_of}
+use Rattle.eqc_guard.specs.Copying.{KeepsCells}
+use Rattle.eqc_guard.specs.Standing.{Standing}
+
+-- the view in the middle of a scan
+abbrev pub scanning : View → ℕ → List ℕ → View
+scanning v position noted = record v { position = position; noted = noted }
+
+-- the scan that began at old has come so far
+pub record IsScanning (old mid : Standing) : Type 0 where
+  pub forest : mid.forest ≡ old.forest
+  pub position : ℕ
+  pub noted : List ℕ
+  pub core : mid.known.core ≡ scanning old.known.core position noted
+  pub trees : (x : ℕ) → 2 ≤ x → 0 < times x old.known.core.held → tree_of mid.known x ≡ tree_of old.known x
+  pub copy : KeepsCells old.known mid.known
+  pub known : IsKnown mid.known
+
+-- it is over: these names are held, few are retired still, and what was held has its tree
+pub record IsSwept (ejected : List ℕ) (old new : Standing) : Type 0 where
+  pub forest : new.forest ≡ old.forest
+  pub retired : List ℕ
+  pub core : new.known.core ≡ record old.known.core { held = old.known.core.held ++ ejected; position = 0; noted = []; retired = retired }
+  pub names : (x : ℕ) → times x retired + times x ejected ≡ times x old.known.core.retired
+  pub few : length retired ≤ announced_words old.known.core.sizes
+  pub trees : (x : ℕ) → 2 ≤ x → 0 < times x old.known.core.held → tree_of new.known x ≡ tree_of old.known x
+  pub copy : KeepsCells old.known new.known
+  pub known : IsKnown new.known
+
+-- of the names that came out of a scan these are left, and the others were given back
+pub record IsLetting (gone rest : List ℕ) (swept mid : Standing) : Type 0 where
+  pub forest : mid.forest ≡ swept.forest
+  pub held : List ℕ
+  pub core : mid.known.core ≡ record swept.known.core { held = held; read = forget held swept.known.core.read }
+  pub names : (x : ℕ) → times x held + times x gone ≡ times x swept.known.core.held + times x rest
+  pub lengths : length held + length gone ≡ length swept.known.core.held + length rest
+  pub trees : (x : ℕ) → 2 ≤ x → 0 < times x held → tree_of mid.known x ≡ tree_of swept.known x
+  pub copy : KeepsCells swept.known mid.known
+  pub known : IsKnown mid.known
+
+-- a scan is over, and what came out was given back: what is held is held as often as before, in another order maybe, and few names are retired still
+pub record IsScanned (old new : Standing) : Type 0 where
+  pub forest : new.forest ≡ old.forest
+  pub held : List ℕ
+  pub retired : List ℕ
+  pub core : new.known.core ≡ record old.known.core { held = held; position = 0; noted = []; retired = retired }
+  pub same : (x : ℕ) → times x held ≡ times x old.known.core.held
+  pub lengths : length held ≡ length old.known.core.held
+  pub names : (x : ℕ) → times x retired ≤ times x old.known.core.retired
+  pub few : length retired ≤ announced_words old.known.core.sizes
+  pub trees : (x : ℕ) → 2 ≤ x → 0 < times x old.known.core.held → tree_of new.known x ≡ tree_of old.known x
+  pub copy : KeepsCells old.known new.known
+  pub known : IsKnown new.known

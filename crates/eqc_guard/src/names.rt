@@ -1,0 +1,139 @@
+//! Names in words, and the retired names of a worker.
+ghost use Rattle.std.specs.Prelude.{◌≡◌, ◌+◌, ◌<◌, ◌≤◌, ◌^◌, [], ◌∷◌, ◌++◌, ℕ, length, ◌==◌, ◌≢◌, ◌↔◌, IsTrue, IfSome, eqb, if◌then◌else◌};
+ghost use Rattle.arrayvec.specs.ArrayVec.{array_vec_len};
+ghost use Rattle.eqc_core.specs.Words.{times, slots_of, cell_names, operands, result_of};
+ghost use Rattle.eqc_core.specs.Moves.{without, without_each, note};
+ghost use Rattle.eqc_core.specs.Scanning.{kept, ejected};
+ghost use Rattle.std.specs.List.{position_from};
+
+use arrayvec::ArrayVec;
+use eqc_tree::unpack_cell;
+
+// 1 where the name is a node's, and 0 where it is a constant's.
+fn slots_in(x: u32) -> u64
+    ensures { result ≡ length (slots_of (x ∷ [])) }
+{
+    if x < 2 { 0 } else { 1 }
+}
+
+// How many names a worker holds that held so many, and swapped a cell from the old word to the new.
+#[tactic(auto, unfolding(eqc_core::specs::Words::first_of, eqc_core::specs::Words::second_of, eqc_core::specs::Words::result_of))]
+pub(crate) fn held_after(held: u64, new: u64, old: u64) -> u64
+    requires enough { length (slots_of (cell_names new)) ≤ held }
+    requires room { held ≤ 2 ^ 40 }
+    ensures { result + length (slots_of (cell_names new)) ≡ held + length (slots_of (operands old)) }
+{
+    let (_, f, g, r) = unpack_cell(new);
+    let (_, old_f, old_g, _) = unpack_cell(old);
+    let given = slots_in(r) + slots_in(f) + slots_in(g);
+    let taken = slots_in(old_f) + slots_in(old_g);
+    held - given + taken
+}
+
+// Keeps the result of a cell's old word for later.
+#[tactic(auto, unfolding(eqc_core::specs::Words::result_of))]
+pub(crate) fn retire(retired: &mut ArrayVec<u32, 128>, old: u64)
+    requires { length retired.old.items < 128 }
+    ensures { retired.new.items ≡ retired.old.items ++ slots_of (result_of old ∷ []) }
+{
+    let (_, _, _, result) = unpack_cell(old);
+    if result >= 2 {
+        retired.push(result);
+    }
+}
+
+// How often the name stands in the list.
+fn count(names: &[u64], x: u64) -> usize
+    ensures { result ≡ times x names.now }
+{
+    names.iter().filter(|y| **y == x).count()
+}
+
+// Whether it stands there.
+fn is_among(names: &[u64], x: u64) -> bool
+    ensures { IsTrue result ↔ (0 < times x names.now) }
+{
+    count(names, x) > 0
+}
+
+// The first place of the name.
+fn place(names: &[u64], x: u64) -> Option<usize>
+    ensures value { result ≡ position_from (λ y. y == x) 0 names.now }
+    ensures within { IfSome result (λ i. i < length names.now) }
+{
+    names.iter().position(|y| *y == x)
+}
+
+// Takes the first such name out of the list, if there is one.
+fn remove_first(names: &mut ArrayVec<u64, 64>, x: u64)
+    ensures { names.new.items ≡ without x names.old.items }
+{
+    if let Some(i) = place(names.as_slice(), x) {
+        names.remove(i);
+    }
+}
+
+// Puts the other names behind these.
+pub(crate) fn append(names: &mut ArrayVec<u32, 128>, more: &[u32])
+    requires { length names.old.items + length more.now ≤ 128 }
+    ensures { names.new.items ≡ names.old.items ++ more.now }
+{
+    let _fits = names.try_extend_from_slice(more);
+}
+
+// Takes one of each of these out.
+fn remove_each(names: &mut ArrayVec<u64, 64>, gone: &[u64])
+    ensures { names.new.items ≡ without_each gone.now names.old.items }
+{
+    for x in gone {
+        remove_first(names, *x);
+    }
+}
+
+// The numbers that are out of a worker's view once it has another worker's back: out no more at
+// worker 0, and taken in at any other.
+pub(crate) fn take_numbers(out: &mut ArrayVec<u64, 64>, number: u32, from: u64, more: &[u64])
+    requires { number ≢ 0 → length out.old.items + 1 + length more.now ≤ 64 }
+    ensures { out.new.items ≡ (if eqb number 0 then without_each (from ∷ more.now) out.old.items else out.old.items ++ from ∷ more.now) }
+{
+    if number == 0 {
+        remove_first(out, from);
+        remove_each(out, more);
+        return;
+    }
+    out.push(from);
+    let _fits = out.try_extend_from_slice(more);
+}
+
+// Notes a name that an announcement word has.
+pub(crate) fn add_note(noted: &mut ArrayVec<u64, 64>, x: u64)
+    requires { length noted.old.items < 64 }
+    ensures { noted.new.items ≡ note x noted.old.items }
+{
+    if x == 0 || is_among(noted.as_slice(), x) {
+        return;
+    }
+    noted.push(x);
+}
+
+// One retired entry of each noted name stays, and the others are given.
+pub(crate) fn sort_out(
+    noted: &mut ArrayVec<u64, 64>,
+    retired: &mut ArrayVec<u32, 128>,
+) -> ArrayVec<u32, 128>
+    ensures stay { retired.new.items ≡ kept noted.old.items retired.old.items }
+    ensures go { result.items ≡ ejected noted.old.items retired.old.items }
+{
+    let mut stay = ArrayVec::new();
+    let mut go = ArrayVec::new();
+    for x in retired.as_slice() {
+        if is_among(noted.as_slice(), u64::from(*x)) {
+            remove_first(noted, u64::from(*x));
+            stay.push(*x);
+        } else {
+            go.push(*x);
+        }
+    }
+    *retired = stay;
+    go
+}

@@ -1,0 +1,117 @@
+//! The rule of the table, and what each step tells.
+ghost use Rattle.std.specs.Prelude.{◌≡◌, ◌+◌, ◌-◌, ◌%◌, ◌^◌, [], ◌∷◌, None};
+ghost use Rattle.eqc_core.specs.View.{fresh};
+ghost use Rattle.eqc_core.specs.Words.{announced_words};
+ghost use Rattle.eqc_core.specs.Announcing.{looked, announced, rechecked};
+ghost use Rattle.eqc_core.specs.Counting.{upped, downed};
+ghost use Rattle.eqc_core.specs.Caching.{swapped};
+ghost use Rattle.eqc_core.specs.Scanning.{scanned};
+ghost use Rattle.eqc_guard.specs.Known.{Known, nobody};
+ghost use Rattle.eqc_guard.specs.Seats.{split_left, split_off, both};
+ghost use Rattle.eqc_guard.specs.Telling.{Copied, Told, Stored, Nothing, Looks, Rechecks, Settles};
+ghost use Rattle.eqc_guard.specs.Rule.{Held, beginner, cells_from};
+
+use crate::origin::Origin;
+use crate::view::View;
+use atomic_table::{Join, Play, Split, TableRule};
+use indexmap::IndexMap;
+
+/// The unique table of one stripe, from node word to node number.
+pub type Stripe = IndexMap<u64, u32>;
+
+/// The rule of the one table.
+pub struct Rule;
+
+impl TableRule<Stripe, View, Origin> for Rule {
+    ghost holds = { λ origin. Held origin.sizes };
+
+    ghost first = { λ origin. beginner origin.sizes origin.literals };
+}
+
+/// A cell was read.
+pub struct Look;
+
+impl Play<Stripe, View> for Look {
+    ghost then = { λ s me n after. Told me s.word n n (looked me.0.core 0 (s.word - cells_from me.0.core.sizes) n) after (Looks me.0 n) };
+}
+
+/// An announcement was stored.
+pub struct Announce;
+
+impl Play<Stripe, View> for Announce {
+    ghost then = { λ s me n after. Stored me s.word s.first (announced me.0.core 0) after };
+}
+
+/// A cell was read again.
+pub struct Recheck;
+
+impl Play<Stripe, View> for Recheck {
+    ghost then = { λ s me n after. Told me s.word n n (rechecked me.0.core 0 n) after (Rechecks me.0 n) };
+}
+
+/// A name was counted up.
+pub struct Up;
+
+impl Play<Stripe, View> for Up {
+    ghost then = { λ s me n after. Told me s.word n ((n + 1) % 2 ^ 64) (upped me.0.core (s.word - announced_words me.0.core.sizes)) after (Nothing n) };
+}
+
+/// A name was counted down.
+pub struct Down;
+
+impl Play<Stripe, View> for Down {
+    ghost then = { λ s me n after. Told me s.word n ((n + (2 ^ 64 - 1)) % 2 ^ 64) (downed me.0.core (s.word - announced_words me.0.core.sizes)) after (Nothing n) };
+}
+
+/// A cell was swapped.
+pub struct SwapCell;
+
+impl Play<Stripe, View> for SwapCell {
+    ghost then = { λ s me n after. Told me s.word n s.first (swapped me.0.core n s.first) after (Nothing n) };
+}
+
+/// A word was read by worker 0 while no number was out.
+pub struct Alone;
+
+impl Play<Stripe, View> for Alone {
+    ghost then = { λ s me n after. Copied me after };
+}
+
+/// A word was read after a join.
+pub struct Settle;
+
+impl Play<Stripe, View> for Settle {
+    ghost then = { λ s me n after. Told me s.word n n me.0.core after (Settles me.0 n) };
+}
+
+/// A count word was read.
+pub struct Count;
+
+impl Play<Stripe, View> for Count {
+    ghost then = { λ s me n after. Told me s.word n n me.0.core after (Nothing n) };
+}
+
+/// A worker was split off.
+pub struct SplitOff;
+
+impl Split<View> for SplitOff {
+    ghost left = { split_left };
+
+    ghost right = { split_off };
+}
+
+/// A worker was joined.
+pub struct JoinUp;
+
+impl Join<View> for JoinUp {
+    ghost both = { both };
+
+    ghost spent = { nobody };
+}
+
+/// An announcement word was read by a scan.
+pub struct ScanOne;
+
+impl Play<Stripe, View> for ScanOne {
+    ghost then = { λ s me n after. Told me s.word n n (scanned me.0.core n) after (Nothing n) };
+}

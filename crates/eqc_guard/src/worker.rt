@@ -1,0 +1,627 @@
+//! A worker: a seat of the one table.
+ghost use Rattle.std.specs.Prelude.{◌≡◌, ◌+◌, ◌<◌};
+ghost use Rattle.std.specs.Arc.{arc_value};
+ghost use Rattle.eqc_guard.specs.Standing.{Standing, standing_coded, IsSeated};
+
+use crate::fault::SplitFault;
+use crate::filled::{self, Filled};
+use crate::names;
+use crate::origin::Origin;
+use crate::reference::Ref;
+use crate::rule::{
+    Alone, Announce, Count, Down, JoinUp, Look, Recheck, Rule, ScanOne, Settle, SplitOff, Stripe,
+    SwapCell, Up,
+};
+use crate::tally::Tally;
+use crate::view::View;
+use arrayvec::ArrayVec;
+use atomic_table::{Seat, Table};
+use eqc_core::{Phase, Sizes};
+use eqc_tree::{Stop, unpack_cell};
+use std::alloc::Global;
+use std::marker::Model;
+use std::sync::Arc;
+
+/// A worker of a forest.
+#[derive(Drop)]
+pub struct Worker {
+    table: Arc<Table<Stripe, View, Origin, Rule, Global>>,
+    seat: Seat<Stripe, View>,
+    sizes: Sizes,
+    number: u32,
+    // How many names are held.
+    held: u64,
+    phase: Phase,
+    retired: ArrayVec<u32, 128>,
+    noted: ArrayVec<u64, 64>,
+    // The announcement word that the scan reads next.
+    position: u32,
+    // How many numbers were given, at worker 0.
+    given: u32,
+    // The numbers that are out, at worker 0, and those taken in, at any other.
+    out: ArrayVec<u64, 64>,
+}
+
+impl Model for Worker {
+    ghost Value = { Standing };
+
+    ghost coded = { standing_coded };
+
+    ghost view = { λ w. record { forest = w.seat.table_id; known = w.seat.me.0 } };
+
+    ghost invariant = { λ w. IsSeated w.seat.table_id (arc_value w.table).shared.table_id (arc_value w.table).shared.key.sizes w.sizes w.seat.me w.number w.held w.phase w.retired.items w.noted.items w.position w.given w.out.items };
+}
+
+impl Worker {
+    ghost use Rattle.eqc_tree.specs.Tree.{SameFunction};
+    ghost use Rattle.std.specs.Prelude.{[], false, if◌then◌else◌, List, Some, ◌-◌, ◌*◌, ◌%◌, ◌^◌, ◌≤◌, ◌↔◌, ◌++◌, length, ℕ, IsTrue, IfSome, None, IfOk, OnOk, OnErr, IfErr};
+    ghost use Rattle.eqc_core.specs.View.{phase_at};
+    ghost use Rattle.eqc_core.specs.Words.{announced_words, word_at, first_of, second_of};
+    ghost use Rattle.eqc_core.specs.Moves.{IsReady};
+    ghost use Rattle.eqc_core.specs.Announcing.{MayLook, looked, MayAnnounce, announced, MayRecheck, rechecked, announced_cell};
+    ghost use Rattle.eqc_core.specs.Counting.{Knows, MayUp, upped, downed};
+    ghost use Rattle.eqc_core.specs.Caching.{swapped};
+    ghost use Rattle.eqc_core.specs.Scanning.{MayScan, scanned};
+    ghost use Rattle.eqc_guard.specs.Known.{IsHeld, IsKnown, tree_of};
+    ghost use Rattle.eqc_guard.specs.Rule.{cells_from};
+    ghost use Rattle.eqc_guard.specs.Standing.{Steps};
+    ghost use Rattle.eqc_guard.specs.Seats.{MayTake};
+    ghost use Rattle.eqc_core.specs.Seating.{IsAtRest};
+    ghost use Rattle.eqc_guard.specs.Splitting.{IsJoined, IsAbsorbed, HasNumber, WhyNot, IsSplit, IsCopied, IsAlone, outstanding};
+    ghost use Rattle.eqc_guard.specs.Closing.{above_zero, IsTallied};
+    ghost use Rattle.eqc_guard.specs.Copying.{cell_in, KeepsCells};
+    ghost use Rattle.eqc_guard.specs.Acquiring.{IsAt, IsAcquired, IsPassed};
+    ghost use Rattle.eqc_guard.specs.Filling.{MaySwap, word_of};
+    ghost use Rattle.eqc_guard.specs.Sweeping.{IsSwept, IsScanned};
+    ghost use Rattle.eqc_guard.specs.Telling.{Copies, copied, HasFound, Looks, Rechecks, MayFill};
+
+    // A worker at rest that holds so many names, on a seat of the table.
+    pub(crate) fn seated(
+        table: Arc<Table<Stripe, View, Origin, Rule, Global>>,
+        seat: Seat<Stripe, View>,
+        sizes: Sizes,
+        number: u32,
+        held: u64,
+        given: u32,
+    ) -> Worker
+        requires { IsSeated seat.table_id (arc_value table).shared.table_id (arc_value table).shared.key.sizes sizes seat.me number held Phase.Idle [] [] 0 given [] }
+        ensures forest { result.forest ≡ seat.table_id }
+        ensures known { result.known ≡ seat.me.0 }
+    {
+        Worker {
+            table,
+            seat,
+            sizes,
+            number,
+            held,
+            phase: Phase::Idle,
+            retired: ArrayVec::new(),
+            noted: ArrayVec::new(),
+            position: 0,
+            given,
+            out: ArrayVec::new(),
+        }
+    }
+
+    // The word of a cell.
+    fn cell_word(&self, cell: u32) -> usize
+        requires { cell < self.now.known.core.sizes.cells }
+        ensures { result ≡ cells_from self.now.known.core.sizes + cell }
+    {
+        let announced = self.sizes.workers as usize * self.sizes.announcements as usize;
+        let names = self.sizes.names as usize;
+        announced + (names + names) + cell as usize
+    }
+
+    // The word of a count.
+    fn count_word(&self, name: u32) -> usize
+        requires { name < self.now.known.core.sizes.names }
+        ensures { result ≡ announced_words self.now.known.core.sizes + name }
+    {
+        let announced = self.sizes.workers as usize * self.sizes.announcements as usize;
+        announced + name as usize
+    }
+
+    // The worker's announcement word.
+    #[tactic(auto, unfolding(eqc_core::specs::Words::word_at))]
+    fn announcement_word(&self) -> usize
+        ensures { result ≡ word_at self.now.known.core.sizes self.now.known.core.number 0 }
+    {
+        self.number as usize * self.sizes.announcements as usize
+    }
+
+    /// Loads a cell's word.
+    pub fn look(&mut self, cell: u32) -> u64
+        requires { MayLook self.old.known.core 0 cell }
+        ensures step { Steps self.old (looked self.old.known.core 0 cell result) self.new }
+        ensures tells { Looks self.old.known result self.new.known }
+        ensures copies { Copies self.old.known (cells_from self.old.known.core.sizes + cell) result result self.new.known }
+    {
+        let word = self.cell_word(cell);
+        let found = self.table.shared.load::<Look>(&mut self.seat, word);
+        self.phase = Phase::Seen(cell, found);
+        found
+    }
+
+    /// Announces the result of the word that was seen, or, with 0, withdraws it.
+    pub fn announce(&mut self, x: u32)
+        requires { MayAnnounce self.old.known.core 0 x }
+        ensures step { Steps self.old (announced self.old.known.core 0) self.new }
+        ensures copies { self.new.known.copy ≡ copied self.old.known.copy (word_at self.old.known.core.sizes self.old.known.core.number 0) x }
+    {
+        let word = self.announcement_word();
+        self.table
+            .shared
+            .store::<Announce>(&mut self.seat, word, u64::from(x));
+        self.phase = self.phase.announced();
+    }
+
+    // Counts a name up that is known to stay, where fewer than 2^32 - 1 names are held.
+    fn count_up(&mut self, x: u32)
+        requires { MayUp self.old.known.core x }
+        ensures step { Steps self.old (upped self.old.known.core x) self.new }
+        ensures copies { (n : ℕ) × Copies self.old.known (announced_words self.old.known.core.sizes + x) n ((n + 1) % 2 ^ 64) self.new.known }
+    {
+        let word = self.count_word(x);
+        self.table.shared.fetch_add::<Up>(&mut self.seat, word, 1);
+        self.held += 1;
+    }
+
+    /// Counts a name up that is known to stay. The error is 73 alone, at 2^32 - 1 names held.
+    pub fn up(&mut self, x: u32) -> Result<Ref, Stop>
+        requires ready { IsReady self.old.known.core }
+        requires slot { 2 ≤ x }
+        requires there { x < self.old.known.core.sizes.names }
+        requires known { Knows self.old.known.core x }
+        ensures name { IfOk result (λ r. r.number ≡ x) }
+        ensures step { OnOk result (Steps self.old (upped self.old.known.core x) self.new) }
+        ensures copies { OnOk result ((n : ℕ) × Copies self.old.known (announced_words self.old.known.core.sizes + x) n ((n + 1) % 2 ^ 64) self.new.known) }
+        ensures room { OnOk result (length self.old.known.core.held < 2 ^ 32 - 1) }
+        ensures still { OnErr result (self.new ≡ self.old) }
+        ensures full { OnErr result (2 ^ 32 - 1 ≤ length self.old.known.core.held) }
+        ensures only { IfErr result (λ s. s ≡ Stop.References) }
+    {
+        if self.held() >= u64::from(u32::MAX) {
+            return Err(Stop::References);
+        }
+        self.count_up(x);
+        Ok(Ref { number: x })
+    }
+
+    // Counts a held name down.
+    fn count_down(&mut self, x: u32)
+        requires ready { IsReady self.old.known.core }
+        requires slot { 2 ≤ x }
+        requires held { IsHeld self.old.known.core x }
+        ensures step { Steps self.old (downed self.old.known.core x) self.new }
+        ensures copies { (n : ℕ) × Copies self.old.known (announced_words self.old.known.core.sizes + x) n ((n + (2 ^ 64 - 1)) % 2 ^ 64) self.new.known }
+    {
+        let word = self.count_word(x);
+        self.table.shared.fetch_sub::<Down>(&mut self.seat, word, 1);
+        self.held -= 1;
+    }
+
+    /// Gives a held name back. A constant takes no step.
+    pub fn down(&mut self, name: Ref)
+        requires ready { IsReady self.old.known.core }
+        requires held { IsHeld self.old.known.core name.number }
+        ensures constant { name.number < 2 → self.new ≡ self.old }
+        ensures step { 2 ≤ name.number → Steps self.old (downed self.old.known.core name.number) self.new }
+        ensures copies { 2 ≤ name.number → (n : ℕ) × Copies self.old.known (announced_words self.old.known.core.sizes + name.number) n ((n + (2 ^ 64 - 1)) % 2 ^ 64) self.new.known }
+    {
+        let Ref { number } = name;
+        if number >= 2 {
+            self.count_down(number);
+        }
+    }
+
+    /// Loads the cell again whose result is announced, and says whether it has the same word.
+    pub fn recheck(&mut self) -> bool
+        requires { MayRecheck self.old.known.core 0 }
+        ensures { (found : ℕ) × Steps self.old (rechecked self.old.known.core 0 found) self.new × Rechecks self.old.known found self.new.known × (IsTrue result ↔ HasFound (phase_at self.old.known.core 0) found) × Copies self.old.known (cells_from self.old.known.core.sizes + announced_cell (phase_at self.old.known.core 0)) found found self.new.known }
+    {
+        let phase = self.phase;
+        let Phase::Announced(cell, seen) = phase else {
+            return false;
+        };
+        let found = self.look_again(cell);
+        found == seen
+    }
+
+    // Loads the cell again whose result is announced.
+    fn look_again(&mut self, cell: u32) -> u64
+        requires may { MayRecheck self.old.known.core 0 }
+        requires cell { cell ≡ announced_cell (phase_at self.old.known.core 0) }
+        requires there { cell < self.old.known.core.sizes.cells }
+        ensures step { Steps self.old (rechecked self.old.known.core 0 result) self.new }
+        ensures tells { Rechecks self.old.known result self.new.known }
+        ensures copies { Copies self.old.known (cells_from self.old.known.core.sizes + cell) result result self.new.known }
+    {
+        let word = self.cell_word(cell);
+        let found = self.table.shared.load::<Recheck>(&mut self.seat, word);
+        self.phase = self.phase.rechecked(found);
+        found
+    }
+
+    // Swaps a cell for a word, or for 0, and gives the word that it had.
+    fn swap_word(&mut self, cell: u32, word: u64) -> u64
+        requires { MayFill self.old.known cell word }
+        ensures step { Steps self.old (swapped self.old.known.core result word) self.new }
+        ensures copies { Copies self.old.known (cells_from self.old.known.core.sizes + cell) result word self.new.known }
+    {
+        let place = self.cell_word(cell);
+        let old = self
+            .table
+            .shared
+            .swap::<SwapCell>(&mut self.seat, place, word);
+        self.held = names::held_after(self.held, word, old);
+        names::retire(&mut self.retired, old);
+        self.phase = Phase::Idle;
+        old
+    }
+
+    /// Swaps a cell for an entry, whose references the cell then has, or empties it.
+    ///
+    /// The references of the operands that the cell had come back. The result that it had is
+    /// retired: a later scan makes it held.
+    pub fn swap_cell(&mut self, cell: u32, filled: Option<Filled>) -> Option<(Ref, Ref)>
+        requires { MaySwap self.old.known cell filled }
+        ensures { (found : ℕ) × Steps self.old (swapped self.old.known.core found (word_of filled)) self.new × ((result ≡ None) ↔ (found ≡ 0)) × IfSome result (λ p. (p.0.number ≡ first_of found) × (p.1.number ≡ second_of found)) × Copies self.old.known (cells_from self.old.known.core.sizes + cell) found (word_of filled) self.new.known }
+    {
+        // There are so few names that those of the entry fit its word.
+        let _names = self.sizes.names;
+        let word = filled::entry_word(filled);
+        let old = self.swap_word(cell, word);
+        filled::operands(old)
+    }
+
+    /// Loads the next announcement word of a scan. After the last one, the names that were retired
+    /// and are not kept any longer are held, and given.
+    pub fn scan_one(&mut self) -> Option<ArrayVec<u32, 128>>
+        requires may { MayScan self.old.known.core }
+        requires room { length self.old.known.core.held ≤ 2 ^ 39 }
+        ensures step { (name : ℕ) × Steps self.old (scanned self.old.known.core name) self.new × Copies self.old.known self.old.known.core.position name name self.new.known }
+        ensures some { IfSome result (λ ejected. self.new.known.core.held ≡ self.old.known.core.held ++ ejected.items) }
+        ensures none { result ≡ None → self.new.known.core.held ≡ self.old.known.core.held }
+        ensures goes_on { (result ≡ None) ↔ (self.old.known.core.position + 1 < announced_words self.old.known.core.sizes) }
+    {
+        let place = self.position as usize;
+        let name = self.table.shared.load::<ScanOne>(&mut self.seat, place);
+        names::add_note(&mut self.noted, name);
+        if self.position + 1 < self.sizes.workers {
+            self.position += 1;
+            return None;
+        }
+        let ejected = names::sort_out(&mut self.noted, &mut self.retired);
+        self.noted = ArrayVec::new();
+        self.held += ejected.len() as u64;
+        self.position = 0;
+        Some(ejected)
+    }
+
+    // Whether this is worker 0 and there is a number that was never given.
+    fn has_number(&self) -> bool
+        ensures { IsTrue result ↔ HasNumber self.now.known.core }
+    {
+        self.number == 0 && self.given < self.sizes.workers
+    }
+
+    // Splits the next number off.
+    fn split_next(&mut self, table: Arc<Table<Stripe, View, Origin, Rule, Global>>) -> Worker
+        requires ready { IsReady self.old.known.core }
+        requires number { HasNumber self.old.known.core }
+        requires table { (arc_value table).shared.table_id ≡ self.old.forest }
+        requires key { (arc_value table).shared.key.sizes ≡ self.old.known.core.sizes }
+        ensures { IsSplit self.old self.new result }
+    {
+        let number = self.given;
+        let seat = self.table.shared.split_seat::<SplitOff>(&mut self.seat);
+        self.given += 1;
+        self.out.push(u64::from(number));
+        Worker::seated(table, seat, self.sizes, number, 0, 0)
+    }
+
+    /// Splits off a worker of the same forest, which holds nothing: it has the next number.
+    ///
+    /// No scan is under way. The error is 75 where all numbers were given, or this is not worker
+    /// 0, and 72 where there is no memory.
+    pub fn split(&mut self) -> Result<Worker, SplitFault>
+        requires { IsReady self.old.known.core }
+        ensures split { IfOk result (λ other. IsSplit self.old self.new other) }
+        ensures still { OnErr result (self.new ≡ self.old) }
+        ensures fault { IfErr result (λ fault. WhyNot self.old.known.core fault) }
+    {
+        if !self.has_number() {
+            return Err(SplitFault::NoneLeft);
+        }
+        match Arc::try_clone(&self.table) {
+            Ok(table) => Ok(self.split_next(table)),
+            Err(_) => Err(SplitFault::Memory),
+        }
+    }
+
+    // Takes another worker of the forest in, where it is at rest.
+    fn take_in(&mut self, other: Worker)
+        requires may { MayTake self.old.known.core other.known.core }
+        requires forest { other.forest ≡ self.old.forest }
+        requires room { length self.old.known.core.held + length other.known.core.held ≤ 2 ^ 39 }
+        ensures { IsJoined self.old other self.new }
+    {
+        let Worker {
+            table,
+            seat,
+            sizes: _,
+            number,
+            held,
+            phase: _,
+            retired,
+            noted: _,
+            position: _,
+            given: _,
+            out,
+        } = other;
+        self.table.shared.join_seat::<JoinUp>(&mut self.seat, seat);
+        self.table.shared.load::<Settle>(&mut self.seat, 0);
+        self.held += held;
+        names::append(&mut self.retired, retired.as_slice());
+        names::take_numbers(
+            &mut self.out,
+            self.number,
+            u64::from(number),
+            out.as_slice(),
+        );
+        drop(table);
+    }
+
+    /// Takes another worker of the forest in, after both have scanned: what it held is held here
+    /// then, and its number is out no more.
+    ///
+    /// The other one is not worker 0, both are at rest (nothing is announced, scanned, claimed or
+    /// in hand), and together they hold at most 2^39 names.
+    pub fn absorb(&mut self, other: Worker)
+        requires rest { IsAtRest self.old.known.core }
+        requires other_rest { IsAtRest other.known.core }
+        requires other_number { 0 < other.known.core.number }
+        requires forest { other.forest ≡ self.old.forest }
+        requires room { length self.old.known.core.held + length other.known.core.held ≤ 2 ^ 39 }
+        ensures { IsAbsorbed self.old other self.new }
+    {
+        // A worker has one announcement word.
+        let _phase = self.phase;
+        let _other_phase = other.phase;
+        let mut other = other;
+        self.scan();
+        other.scan();
+        self.take_in(other);
+    }
+
+    /// How many workers were split off by this one and have not come back to it, by themselves or
+    /// within another.
+    pub fn outstanding(&self) -> u32
+        ensures { result ≡ outstanding self.now.known.core }
+    {
+        if self.number == 0 {
+            self.out.len() as u32
+        } else {
+            0
+        }
+    }
+
+    /// Whether this is worker 0 and no worker is outstanding. Then it has a copy of all words.
+    pub fn alone(&mut self) -> bool
+        ensures answer { IsTrue result ↔ IsAlone self.old.known.core }
+        ensures copy { IsTrue result → IsCopied self.old self.new }
+        ensures still { result ≡ false → self.new ≡ self.old }
+    {
+        if self.number != 0 || self.out.len() != 0 {
+            return false;
+        }
+        self.copy_words();
+        true
+    }
+
+    // Takes a copy of all words, where nobody else is active.
+    fn copy_words(&mut self)
+        requires first { self.old.known.core.number ≡ 0 }
+        requires none { self.old.known.core.out ≡ [] }
+        ensures { IsCopied self.old self.new }
+    {
+        self.table.shared.load::<Alone>(&mut self.seat, 0);
+    }
+
+    // Loads a count word.
+    fn load_count(&mut self, name: u32) -> u64
+        requires { name < self.old.known.core.sizes.names }
+        ensures step { Steps self.old self.old.known.core self.new }
+        ensures copies { Copies self.old.known (announced_words self.old.known.core.sizes + name) result result self.new.known }
+    {
+        let word = self.count_word(name);
+        self.table.shared.load::<Count>(&mut self.seat, word)
+    }
+
+    // How many slots have a count above 0, as a copy of the words has them.
+    fn tally(&mut self) -> u32
+        ensures { (ws : List ℕ) → self.old.known.copy ≡ Some ws → result ≡ above_zero ws (announced_words self.old.known.core.sizes + 2) (self.old.known.core.sizes.names - 2) }
+    {
+        let slots = self.sizes.names - 2;
+        let mut counted = 0;
+        for k in 0..slots {
+            if self.load_count(k + 2) > 0 {
+                counted += 1;
+            }
+        }
+        counted
+    }
+
+    /// Closes the forest, and tells how many slots have a count above 0. Each is loaded once.
+    ///
+    /// The error is the worker itself, as it was, where it is not alone.
+    pub fn close(self) -> Result<Tally, Worker>
+        ensures closed { IfOk result (λ tally. IsAlone self.known.core × IsTallied tally.counted self.known) }
+        ensures kept { IfErr result (λ worker. (worker ≡ self) × (IsAlone self.known.core → ⊥)) }
+    {
+        let mut worker = self;
+        if !worker.alone() {
+            return Err(worker);
+        }
+        let counted = worker.tally();
+        Ok(Tally { counted })
+    }
+
+    /// Looks at a cell, announces its result and looks again. The answer is the word that was found
+    /// twice: its result stays until it is released.
+    ///
+    /// There is none where the word has no node as its result, or the second look finds another
+    /// word. Then nothing is announced.
+    pub fn acquire(&mut self, cell: u32) -> Option<u64>
+        requires { MayLook self.old.known.core 0 cell }
+        ensures some { IfSome result (λ word. IsAcquired word self.old self.new) }
+        ensures none { result ≡ None → IsPassed self.old self.new }
+    {
+        // A worker has one announcement word.
+        let _phase = self.phase;
+        let word = self.look(cell);
+        let (_, _, _, found) = unpack_cell(word);
+        if found < 2 {
+            return None;
+        }
+        if self.confirm(found) {
+            Some(word)
+        } else {
+            None
+        }
+    }
+
+    /// Announces the result of the word that was seen, a node, and looks again: the second half of
+    /// `acquire`. Where the second look finds another word, nothing is announced. A worker that is
+    /// alone finds the word that its cell has.
+    pub fn confirm(&mut self, found: u32) -> bool
+        requires may { MayAnnounce self.old.known.core 0 found }
+        requires slot { 2 ≤ found }
+        ensures yes { IsTrue result → (c word : ℕ) → phase_at self.old.known.core 0 ≡ Phase.Seen c word → IsAcquired word self.old self.new }
+        ensures no { result ≡ false → IsAt Phase.Idle self.old self.new }
+        ensures cells { KeepsCells self.old.known self.new.known }
+        ensures alone { (ws : List ℕ) → self.old.known.copy ≡ Some ws → (c word : ℕ) → phase_at self.old.known.core 0 ≡ Phase.Seen c word → cell_in self.old.known ws c ≡ word → IsTrue result }
+    {
+        // A worker has one announcement word.
+        let _phase = self.phase;
+        self.announce(found);
+        if self.recheck() {
+            return true;
+        }
+        self.release();
+        false
+    }
+
+    /// Withdraws what is announced.
+    pub fn release(&mut self)
+        requires { MayAnnounce self.old.known.core 0 0 }
+        ensures step { Steps self.old (announced self.old.known.core 0) self.new }
+        ensures copies { self.new.known.copy ≡ copied self.old.known.copy (word_at self.old.known.core.sizes self.old.known.core.number 0) 0 }
+        ensures cells { KeepsCells self.old.known self.new.known }
+    {
+        // A worker has one announcement word, and its number is there.
+        let _phase = self.phase;
+        self.announce(0);
+    }
+
+    /// The retired names, with repeats.
+    pub fn retired_names(&self) -> &[u32]
+        ensures names { result.now ≡ self.now.known.core.retired }
+        ensures few { length result.now ≤ 2 * announced_words self.now.known.core.sizes }
+    {
+        self.retired.as_slice()
+    }
+
+    /// The reference of a constant, which is not counted.
+    pub fn constant(&self, value: bool) -> Ref
+        ensures { result.number ≡ (if value then 1 else 0) }
+    {
+        Ref {
+            number: u32::from(value),
+        }
+    }
+
+    /// The reference of a name that is held.
+    pub fn reference(&self, x: u32) -> Ref
+        requires { IsHeld self.now.known.core x }
+        ensures { result.number ≡ x }
+    {
+        Ref { number: x }
+    }
+
+    /// Whether two references have one function.
+    pub fn same(&self, f: &Ref, g: &Ref) -> bool
+        requires first { IsHeld self.now.known.core f.now.number }
+        requires second { IsHeld self.now.known.core g.now.number }
+        ensures { IsTrue result ↔ SameFunction (tree_of self.now.known f.now.number) (tree_of self.now.known g.now.number) }
+    {
+        // Among the names of this forest two with one function are one.
+        let _forest = self.number;
+        f.number == g.number
+    }
+
+    // Reads all announcement words, from the first on, and gives the names that are not kept any
+    // longer, which are held.
+    fn sweep(&mut self) -> ArrayVec<u32, 128>
+        requires ready { IsReady self.old.known.core }
+        requires may { MayScan self.old.known.core }
+        requires room { length self.old.known.core.held ≤ 2 ^ 39 }
+        ensures { IsSwept result.items self.old self.new }
+    {
+        // What is known of the view is known of the place of its scan.
+        let _position = self.position;
+        loop {
+            if let Some(ejected) = self.scan_one() {
+                return ejected;
+            }
+        }
+    }
+
+    /// Scans all announcement words, and gives back each name that was retired and is not kept any
+    /// longer. At most as many names are retired then as there are announcement words.
+    ///
+    /// No scan is under way, nothing is announced, and at most 2^39 names are held.
+    pub fn scan(&mut self)
+        requires ready { IsReady self.old.known.core }
+        requires may { MayScan self.old.known.core }
+        requires room { length self.old.known.core.held ≤ 2 ^ 39 }
+        ensures { IsScanned self.old self.new }
+    {
+        // What is known of the view is known of the names held.
+        let _held = self.held;
+        let gone = self.sweep();
+        for x in gone.as_slice() {
+            self.count_down(*x);
+        }
+    }
+
+    /// How many names are held, the constants not counted.
+    pub fn held(&self) -> u64
+        ensures { result ≡ length self.now.known.core.held }
+    {
+        self.held
+    }
+
+    /// How many cells the operation cache has. What the worker knows is in order.
+    pub fn cells(&self) -> u32
+        ensures cells { result ≡ self.now.known.core.sizes.cells }
+        ensures known { IsKnown self.now.known }
+    {
+        self.sizes.cells
+    }
+
+    /// How many announcement words the workers of the forest have together: a scan reads so many.
+    pub fn announcement_words(&self) -> u32
+        ensures { result ≡ announced_words self.now.known.core.sizes }
+    {
+        self.sizes.workers * self.sizes.announcements
+    }
+
+    /// The worker's number.
+    pub fn number(&self) -> u32
+        ensures { result ≡ self.now.known.core.number }
+    {
+        self.number
+    }
+}
