@@ -136,10 +136,12 @@ fn read_report<RT: Threads + Wait + Sync, R: Read + Drop>(
 {
     let sources = match read_sources(alloc, texts, order) {
         Ok(sources) => sources,
-        Err(Unread {
-            side,
-            fault: StreamFault::Failed(error),
-        }) => return Err(FailedRead { side, error }),
+        Err(
+            Unread {
+                side,
+                fault: StreamFault::Failed(error),
+            },
+        ) => return Err(FailedRead { side, error }),
         Err(_) => {
             return Ok(Reported {
                 told: Told::alone(Report::Stopped(Stop::Memory)),

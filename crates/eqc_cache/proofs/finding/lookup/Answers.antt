@@ -78,7 +78,7 @@ returns-clause-cells c =
 pub returns-then-not-is_entry-clause-missed : goal.returns-then-not-is_entry-clause-missed
 returns-then-not-is_entry-clause-missed c = λ e. inr (λ ws has entry.
     let s = seen_word c.args.op c.args.f.now.number c.args.g.now.number c.number.result c.number-2.result c.cells.result c.place-cell.result c.look-word.result c.ordered-first.result c.args.worker.now.known c.look-word.new.self.known
-        c.number.ensures c.number-2.ensures c.cells.ensures.cells c.ordered-first.ensures.order c.place-cell.ensures.place c.look-word.ensures.copies ws has in
+    c.number.ensures c.number-2.ensures c.cells.ensures.cells c.ordered-first.ensures.order c.place-cell.ensures.place c.look-word.ensures.copies ws has in
     let is = c.is_entry.ensures.1 (entry_here c.args.op c.ordered-first.result (in_order c.args.op c.args.f.now.number c.args.g.now.number) c.look-word.result (kept_word c.args.op c.args.f.now.number c.args.g.now.number c.args.worker.now.known ws) s.1 s.0 entry) in
     let no = c.if-not-is_entry.true in
     absurd (let q : false ≡ true = sym no ∙ is in cc))
@@ -87,28 +87,30 @@ pub returns-then-found-lt2-clause-found : goal.returns-then-found-lt2-clause-fou
 unfolding result_of
 returns-then-found-lt2-clause-found c = λ ws has.
     let s = seen_word c.args.op c.args.f.now.number c.args.g.now.number c.number.result c.number-2.result c.cells.result c.place-cell.result c.look-word.result c.ordered-first.result c.args.worker.now.known c.look-word.new.self.known
-        c.number.ensures c.number-2.ensures c.cells.ensures.cells c.ordered-first.ensures.order c.place-cell.ensures.place c.look-word.ensures.copies ws has in
-    let found : c.unpack_cell-found.result.3 ≡ result_of c.look-word.result = λ i. (c.unpack_cell-found.ensures.fields i).3 in
-    (entry_there c.args.op c.ordered-first.result (in_order c.args.op c.args.f.now.number c.args.g.now.number) c.look-word.result (kept_word c.args.op c.args.f.now.number c.args.g.now.number c.args.worker.now.known ws) s.1 s.0 (c.is_entry.ensures.0 c.if-not-is_entry.false),
-    ap {B = ℕ} (λ (w : ℕ). result_of w) s.0 ∙ (sym found ∙ sym (c.constant.ensures ∙ constant_number c.unpack_cell-found.result.3 c.if-found-lt2.true)))
+    c.number.ensures c.number-2.ensures c.cells.ensures.cells c.ordered-first.ensures.order c.place-cell.ensures.place c.look-word.ensures.copies ws has in
+    let found : c.unpack_cell-found.result.3 ≡ result_of c.look-word.result = λ i. (c.unpack_cell-found.ensures.fields i).3 in (
+      entry_there c.args.op c.ordered-first.result (in_order c.args.op c.args.f.now.number c.args.g.now.number) c.look-word.result (kept_word c.args.op c.args.f.now.number c.args.g.now.number c.args.worker.now.known ws) s.1 s.0 (c.is_entry.ensures.0 c.if-not-is_entry.false),
+      ap {B = ℕ} (λ (w : ℕ). result_of w) s.0 ∙ (sym found ∙ sym (c.constant.ensures ∙ constant_number c.unpack_cell-found.result.3 c.if-found-lt2.true)),
+    )
 
 pub returns-clause-found : goal.returns-clause-found
 unfolding result_of
 returns-clause-found c = found_taken c.args.op c.args.f.now.number c.args.g.now.number c.unpack_cell-found.result.3 c.args.worker.now.known c.take.result c.take.ensures.name (λ ws has.
     let s = seen_word c.args.op c.args.f.now.number c.args.g.now.number c.number.result c.number-2.result c.cells.result c.place-cell.result c.look-word.result c.ordered-first.result c.args.worker.now.known c.look-word.new.self.known
-        c.number.ensures c.number-2.ensures c.cells.ensures.cells c.ordered-first.ensures.order c.place-cell.ensures.place c.look-word.ensures.copies ws has in
-    let found : c.unpack_cell-found.result.3 ≡ result_of c.look-word.result = λ i. (c.unpack_cell-found.ensures.fields i).3 in
-    (entry_there c.args.op c.ordered-first.result (in_order c.args.op c.args.f.now.number c.args.g.now.number) c.look-word.result (kept_word c.args.op c.args.f.now.number c.args.g.now.number c.args.worker.now.known ws) s.1 s.0 (c.is_entry.ensures.0 c.if-not-is_entry.false),
-    ap {B = ℕ} (λ (w : ℕ). result_of w) s.0 ∙ sym found))
+    c.number.ensures c.number-2.ensures c.cells.ensures.cells c.ordered-first.ensures.order c.place-cell.ensures.place c.look-word.ensures.copies ws has in
+    let found : c.unpack_cell-found.result.3 ≡ result_of c.look-word.result = λ i. (c.unpack_cell-found.ensures.fields i).3 in (
+      entry_there c.args.op c.ordered-first.result (in_order c.args.op c.args.f.now.number c.args.g.now.number) c.look-word.result (kept_word c.args.op c.args.f.now.number c.args.g.now.number c.args.worker.now.known ws) s.1 s.0 (c.is_entry.ensures.0 c.if-not-is_entry.false),
+      ap {B = ℕ} (λ (w : ℕ). result_of w) s.0 ∙ sym found,
+    ))
 
 -- a count that was refused was at the limit, and a second look by a worker that is alone finds what the first one found
 pub returns-clause-missed : goal.returns-clause-missed
 returns-clause-missed c = λ none. ⊎_elim
     (λ limit. let held : length c.look-word.new.self.known.core.held ≡ length c.args.worker.now.known.core.held = ap {B = ℕ} (λ (v : View). length v.held) c.look-word.ensures.step.known.core in inl (omega arith))
     (λ other. inr (λ ws has entry.
-      let at = starts c.args.worker.now c.look-word.new.self (Seen c.place-cell.result c.look-word.result) c.look-word.ensures.step in
-      let read = read_stays c.args.worker.now.known c.look-word.new.self.known _ c.look-word.result ws c.look-word.ensures.copies has in
-      let sizes : c.look-word.new.self.known.core.sizes ≡ c.args.worker.now.known.core.sizes = ap (λ (v : View). v.sizes) c.look-word.ensures.step.known.core in
-      other ws read.0 c.place-cell.result c.look-word.result (phase_now c.args.worker.now c.look-word.new.self (Seen c.place-cell.result c.look-word.result) at)
-      (ap {B = ℕ} (λ (z : Sizes). get_or ws (cells_from z + c.place-cell.result) 0) sizes ∙ read.1)))
+    let at = starts c.args.worker.now c.look-word.new.self (Seen c.place-cell.result c.look-word.result) c.look-word.ensures.step in
+    let read = read_stays c.args.worker.now.known c.look-word.new.self.known _ c.look-word.result ws c.look-word.ensures.copies has in
+    let sizes : c.look-word.new.self.known.core.sizes ≡ c.args.worker.now.known.core.sizes = ap (λ (v : View). v.sizes) c.look-word.ensures.step.known.core in
+    other ws read.0 c.place-cell.result c.look-word.result (phase_now c.args.worker.now c.look-word.new.self (Seen c.place-cell.result c.look-word.result) at)
+    (ap {B = ℕ} (λ (z : Sizes). get_or ws (cells_from z + c.place-cell.result) 0) sizes ∙ read.1)))
     (c.take.ensures.alone none)

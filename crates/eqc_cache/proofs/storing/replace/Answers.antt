@@ -48,7 +48,7 @@ returns-in-Some-clause-sets c =
     let room : c.make_room.new.worker.known.core.sizes ≡ c.args.worker.now.known.core.sizes = ap (λ (v : View). v.sizes) c.make_room.ensures.same.core in
     let swapped : c.swap_cell.new.self.known.core.sizes ≡ c.args.worker.now.known.core.sizes = ap (λ (v : View). v.sizes) is.1.known.core ∙ room in
     let set = sets_after c.args.worker.now.known c.make_room.new.worker.known c.swap_cell.new.self.known c.args.cell (word_of c.args.filled) room c.make_room.ensures.cells
-        (cell_sets c.make_room.new.worker.known c.swap_cell.new.self.known c.args.cell is.0 (word_of c.args.filled) c.make_room.ensures.same.known may.there is.4) in
+    (cell_sets c.make_room.new.worker.known c.swap_cell.new.self.known c.args.cell is.0 (word_of c.args.filled) c.make_room.ensures.same.known may.there is.4) in
     let first = down_keeps c.in-Some.f.number c.swap_cell.new.self c.down.new.self is.1.known.known (came_held (entry_names c.args.filled) (c.in-Some.g.number ∷ []) c.in-Some.f.number c.make_room.new.worker c.swap_cell.new.self two) c.down.ensures.constant c.down.ensures.step c.down.ensures.copies in
     let second = down_keeps c.in-Some.g.number c.down.new.self c.down-in-Some.new.self one.known (came_held (entry_names c.args.filled) [] c.in-Some.g.number c.make_room.new.worker c.down.new.self one) c.down-in-Some.ensures.constant c.down-in-Some.ensures.step c.down-in-Some.ensures.copies in
     stays_set c.args.worker.now.known c.down.new.self.known c.down-in-Some.new.self.known c.args.cell (word_of c.args.filled) (first.1 ∙ swapped)

@@ -15,15 +15,34 @@ returns-then-code-10 c =
 
 pub returns : goal.returns
 returns c =
-    absurd (no_other_code c.args.library.now c.args.top c.args.code c.requires.refused
-      ((λ e. c.if-code.false (e ∙ sym c.code.ensures)),
-      ((λ e. c.if-code-2.false (e ∙ sym c.code-2.ensures)),
-      ((λ e. c.if-code-3.false (e ∙ sym c.code-3.ensures)),
-      ((λ e. c.if-code-4.false (e ∙ sym c.code-4.ensures)),
-      ((λ e. c.if-code-5.false (e ∙ sym c.code-5.ensures)),
-      ((λ e. c.if-code-9.false (e ∙ sym c.code-9.ensures)),
-      ((λ e. c.if-code-10.false (e ∙ sym c.code-10.ensures)),
-      ((λ e. c.if-code-6.false (e ∙ sym c.code-6.ensures)),
-      ((λ e. c.if-code-7.false (e ∙ sym c.code-7.ensures)),
-      ((λ e. c.if-code-8.false (e ∙ sym c.code-8.ensures)),
-      tt)))))))))))
+    absurd (no_other_code c.args.library.now c.args.top c.args.code c.requires.refused (
+      (λ e. c.if-code.false (e ∙ sym c.code.ensures)),
+      (
+        (λ e. c.if-code-2.false (e ∙ sym c.code-2.ensures)),
+        (
+          (λ e. c.if-code-3.false (e ∙ sym c.code-3.ensures)),
+          (
+            (λ e. c.if-code-4.false (e ∙ sym c.code-4.ensures)),
+            (
+              (λ e. c.if-code-5.false (e ∙ sym c.code-5.ensures)),
+              (
+                (λ e. c.if-code-9.false (e ∙ sym c.code-9.ensures)),
+                (
+                  (λ e. c.if-code-10.false (e ∙ sym c.code-10.ensures)),
+                  (
+                    (λ e. c.if-code-6.false (e ∙ sym c.code-6.ensures)),
+                    (
+                      (λ e. c.if-code-7.false (e ∙ sym c.code-7.ensures)),
+                      (
+                        (λ e. c.if-code-8.false (e ∙ sym c.code-8.ensures)),
+                        tt,
+                      ),
+                    ),
+                  ),
+                ),
+              ),
+            ),
+          ),
+        ),
+      ),
+    ))
