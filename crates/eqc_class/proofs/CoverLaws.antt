@@ -1,8 +1,8 @@
 -- What a cover makes of the classes of its columns.
-use Rattle.std.proofs.Common.{◌≡◌, ℕ, zero, suc, ◌+◌, ◌<◌, ◌≤◌, Bool, true, false, ◌==◌, ◌||◌, cond, List, [], ◌∷◌, length, get_or, map, refl, sym, ◌∙◌, ap, subst, arith}
+use Rattle.std.proofs.Common.{◌≡◌, ℕ, ◌<◌, Bool, true, false, ◌==◌, ◌||◌, List, [], ◌∷◌, length, get_or, map, refl, ◌∙◌, ap, arith}
 use Rattle.std.proofs.lemmas.List.{length-map, get_or-map}
 use Rattle.std.proofs.lemmas.Bool.{eqb-true}
-use Rattle.eqc_class.specs.Structure.{Structure, constant, gate, in_row, is_constant, passes_on, cover_structure}
+use Rattle.eqc_class.specs.Structure.{Structure, gate, in_row, is_constant, passes_on, cover_structure}
 use Rattle.eqc_class.specs.Shapes.{structure_at}
 use Rattle.eqc_class.specs.Numbering.{said_by}
 

@@ -1,9 +1,9 @@
 -- Numbers of signals while they are found, and what they say of two netlists.
-use Rattle.std.proofs.Common.{◌≡◌, ◌⊎◌, ℕ, zero, suc, ◌+◌, ◌<◌, ◌≤◌, Bool, false, List, [], length, get_or, set, map, refl, sym, ◌∙◌, ap, subst, arith, inl, inr}
+use Rattle.std.proofs.Common.{◌≡◌, ◌⊎◌, ℕ, ◌+◌, ◌<◌, ◌≤◌, Bool, false, List, length, get_or, set, sym, ◌∙◌, ap, subst, arith, inl, inr}
 use Rattle.std.proofs.lemmas.List.{get_or-set_same, get_or-set_other}
 use Rattle.std.proofs.lemmas.Bool.{cases_eq}
 use Rattle.std.proofs.Math.ListN.{length-set}
-use Rattle.eqc_flat.specs.Graph.{FlatOf, IsFlat, FollowsDrivers, driver_at, dependencies, value_of}
+use Rattle.eqc_flat.specs.Graph.{FlatOf, IsFlat, FollowsDrivers, driver_at, dependencies}
 use Rattle.eqc_flat.proofs.EvaluationLaws.{dep_before, step_of}
 use Rattle.eqc_class.specs.Structure.{Structure, constant, driver_structure, structure_of}
 use Rattle.eqc_class.specs.Classes.{ClassesOf, TellStructures, AreClasses, HaveOneValue, HaveOneValueEach, inputs_under}

@@ -1,16 +1,16 @@
 -- Shapes of classes, and the structures that they grow.
-use Rattle.std.proofs.Common.{◌≡◌, ◌⊎◌, ℕ, zero, suc, ◌+◌, ◌<◌, ◌≤◌, Bool, true, false, cond, List, [], ◌∷◌, ◌++◌, length, get_or, map, refl, sym, ◌∙◌, ap, subst, arith, inl, inr, length-append}
+use Rattle.std.proofs.Common.{◌≡◌, ◌⊎◌, ℕ, suc, ◌<◌, ◌≤◌, Bool, true, false, cond, List, [], ◌∷◌, ◌++◌, length, get_or, map, refl, sym, ◌∙◌, ap, subst, arith, inl, inr, length-append}
 use Rattle.std.specs.List.{list_any, position_or_len}
 use Rattle.std.proofs.Math.ListN.{get_or-append}
 use Rattle.std.proofs.Math.Seq.{get_or-append_seam}
 use Rattle.std.proofs.lemmas.Bool.{cases_eq}
-use Rattle.eqc_class.specs.Structure.{Structure, Structures, variable, constant, gate, no_more, then_more, in_row}
+use Rattle.eqc_class.specs.Structure.{Structure, constant, gate, in_row}
 use Rattle.eqc_class.specs.Shapes.{same_shape, grown, structure_at, IsShapeWithin}
 use Rattle.eqc_class.specs.ShapeEquality.{same_shape_decides}
 use Rattle.eqc_class.specs.Tables.{AreApart, Grows, Stands, grown_all, structures_of, structures_in, IsClassTable}
 use Rattle.eqc_class.specs.declared.shape.Shape.{Shape}
 use Rattle.eqc_class.specs.declared.shape.Shape.TheVariants.{Variable, Constant, Gate}
-use Rattle.eqc_class.proofs.KeyLaws.{grows_not, grows_one, stands_last, stands_still, apart_more, put_stands, not_there}
+use Rattle.eqc_class.proofs.KeyLaws.{grows_not, grows_one, apart_more, put_stands, not_there}
 
 pub map_alike : {X : Type 0} (f g : ℕ → X) (xs : List ℕ) → ((k : ℕ) → k < length xs → f (get_or xs k 0) ≡ g (get_or xs k 0)) → map f xs ≡ map g xs
 map_alike f g [] same = refl

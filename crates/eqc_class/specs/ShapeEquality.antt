@@ -1,10 +1,10 @@
 -- For the proofs alone: the test of two shapes decides whether they are equal.
-use Rattle.std.proofs.Common.{◌≡◌, ◌∙◌, ℕ, Bool, true, false, List, refl, sym, ap, ◌==◌, ◌&&◌}
+use Rattle.std.proofs.Common.{◌≡◌, ◌∙◌, true, refl, sym, ap, ◌==◌, ◌&&◌}
 use Rattle.std.proofs.lemmas.Bool.{and_parts, true≢false, eqb-true, eq-eqb}
 use Rattle.std.specs.Bool.{Decides}
 use Rattle.std.specs.Cmp.{IsEquivalence, decided, booleans_Decides}
 use Rattle.std.specs.Cmp.Lexicographic.{bytes_decides}
-use Rattle.std.specs.Hash.{Alike, same_Alike}
+use Rattle.std.specs.Hash.{same_Alike}
 use Rattle.std.specs.Str.{bytes_eq}
 use Rattle.eqc_class.specs.Shapes.{same_shape, shape_input}
 use Rattle.eqc_class.specs.declared.shape.Shape.{Shape}

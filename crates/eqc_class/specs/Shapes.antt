@@ -1,5 +1,5 @@
 -- For the proofs alone: shapes, by which classes are told. A shape is a variable, a constant, or a gate over classes.
-use Rattle.std.specs.Prelude.{◌≡◌, ℕ, ◌<◌, Bool, true, false, ◌&&◌, ◌==◌, List, [], ◌++◌, length, map, slice_index, slice_index_or}
+use Rattle.std.specs.Prelude.{ℕ, ◌<◌, Bool, false, ◌&&◌, ◌==◌, List, [], ◌++◌, length, map, slice_index, slice_index_or}
 use Rattle.std.specs.Str.{bytes_eq}
 use Rattle.std.specs.Bool.{beq}
 use Rattle.std.specs.Hash.{u8, u16, u32, bool, slice}

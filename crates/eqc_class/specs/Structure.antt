@@ -1,7 +1,7 @@
 -- The structure of a signal: the tree that one reaches by following what drives it, down to the inputs. An input is
 -- told by its variable, and inputs that are matched have one. Connections, and covers that only pass their one column
 -- on, leave no trace in it.
-use Rattle.std.specs.Prelude.{ℕ, zero, suc, Bool, true, false, ◌||◌, ◌&&◌, ◌==◌, List, [], ◌∷◌, length, map, slice_index, slice_index_or, if◌then◌else◌}
+use Rattle.std.specs.Prelude.{ℕ, zero, suc, Bool, false, ◌||◌, ◌&&◌, ◌==◌, List, [], ◌∷◌, length, map, slice_index, slice_index_or, if◌then◌else◌}
 use Rattle.std.specs.Str.{bytes_eq}
 use Rattle.eqc_blif.specs.Cover.{is_on_set}
 use Rattle.eqc_flat.specs.Graph.{FlatOf, DriverOf, input, tie, cover, driver_at}

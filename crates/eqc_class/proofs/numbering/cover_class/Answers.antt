@@ -1,4 +1,4 @@
-use Rattle.std.proofs.Common.{◌∙◌, ap, sym, subst, IfOk, false, length, arith, ◌≡◌}
+use Rattle.std.proofs.Common.{◌∙◌, ap, sym, subst, IfOk, false, length}
 use Rattle.eqc_class.specs.Structure.{Structure, constant, passes_on}
 use Rattle.eqc_class.specs.Tables.{Stands, structures_in}
 use Rattle.eqc_class.proofs.CoverLaws.{columns_known, gate_made}

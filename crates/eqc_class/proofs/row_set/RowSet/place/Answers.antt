@@ -1,4 +1,4 @@
-use Rattle.std.proofs.Common.{◌∙◌, [], subst}
+use Rattle.std.proofs.Common.{[], subst}
 use Rattle.std.specs.Cmp.Lexicographic.{pointwise}
 use Rattle.std.specs.Str.{bytes_eq}
 use Rattle.eqc_class.specs.Tables.{Stands}

@@ -1,4 +1,4 @@
-use Rattle.std.proofs.Common.{◌≡◌, ◌∙◌, ◌<◌, [], ap, arith, get_or, length, sym}
+use Rattle.std.proofs.Common.{◌∙◌, ◌<◌, [], ap, arith, get_or, length, sym}
 use Rattle.std.specs.List.{fold}
 use Rattle.std.proofs.lemmas.List.{take_all}
 use Rattle.std.proofs.lemmas.List.Sums.{fold_more}
