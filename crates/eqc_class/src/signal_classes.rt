@@ -10,8 +10,7 @@ use eqc_flat::Flat;
 use std::alloc::{AllocError, Global};
 use std::marker::Model;
 
-/// The class of each signal of two netlists, by its number. Numbers are counted from 0, and each signal depends on
-/// signals of classes with smaller numbers.
+/// The class of each signal of two netlists, by its number, counted from 0.
 #[derive(Drop)]
 pub struct SignalClasses {
     first: Vec<u32>,
