@@ -9,12 +9,18 @@ use indexmap::IndexSet;
 use std::alloc::{AllocError, Global};
 use std::marker::Model;
 
+/// The columns of shapes are stored up to so many. Two texts have no more columns, so only hierarchies meet it: there a cover
+/// stands in each instance of its model, and what is stored of it may be a different one each time.
+const MOST_COLUMNS: usize = 16_777_216;
+
 /// Classes, each told by a shape over classes before it. Contracts see the rows that shapes name by
 /// their numbers, and the shapes; the structures of all classes differ.
 #[derive(Drop)]
 pub(crate) struct ClassTable<'r, 'a> {
     rows: &'r RowSet<'a>,
     shapes: IndexSet<Shape>,
+    /// How many columns the shapes have.
+    columns: usize,
 }
 
 impl<'r, 'a> Model for ClassTable<'r, 'a> {
@@ -29,6 +35,11 @@ impl<'r, 'a> Model for ClassTable<'r, 'a> {
     ghost invariant = { λ a. IsClassTable a.rows.now a.shapes.keys (structures_of a.rows.now a.shapes.keys) };
 }
 
+/// How many columns a shape adds.
+fn added(fresh: bool, width: usize) -> usize {
+    if fresh { width } else { 0 }
+}
+
 impl<'r, 'a> ClassTable<'r, 'a> {
     /// No classes, over these rows.
     pub(crate) fn new(alloc: Global, rows: &'r RowSet<'a>) -> ClassTable<'r, 'a>
@@ -38,18 +49,24 @@ impl<'r, 'a> ClassTable<'r, 'a> {
         ClassTable {
             rows,
             shapes: IndexSet::new(alloc),
+            columns: 0,
         }
     }
 
     /// The class of a shape over rows and classes that are there: a new one, unless there is one. Fails where memory is
-    /// refused, and where there are more classes than memory has room for.
+    /// refused, where there are more classes than memory has room for, and where their shapes have too many columns.
     pub(crate) fn class(&mut self, shape: Shape) -> Result<u32, AllocError>
         requires within { IsShapeWithin (length self.old.0) (length (structures_in self.old)) shape }
         ensures rows { self.new.0 ≡ self.old.0 }
         ensures kept { OnOk result (Grows (constant false) (structures_in self.old) (structures_in self.new) 1) }
         ensures class { IfOk result (λ class. Stands (constant false) (structures_in self.new) class (grown self.old.0 (structures_in self.old) shape)) }
     {
-        let (class, _) = self.shapes.insert_full(shape)?;
+        if self.columns > MOST_COLUMNS {
+            return Err(AllocError);
+        }
+        let width = shape.width();
+        let (class, fresh) = self.shapes.insert_full(shape)?;
+        self.columns = self.columns.saturating_add(added(fresh, width));
         if class > u32::MAX as usize {
             return Err(AllocError);
         }

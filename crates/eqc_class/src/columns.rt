@@ -40,6 +40,13 @@ impl Columns {
         }
         Ok(Columns { classes })
     }
+
+    /// Their number.
+    pub(crate) fn len(&self) -> usize
+        ensures { result ≡ length self.now }
+    {
+        self.classes.as_slice().len()
+    }
 }
 
 impl PartialEq for Columns {

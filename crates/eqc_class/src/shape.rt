@@ -13,6 +13,16 @@ pub(crate) enum Shape {
     Gate { rows: u32, columns: Columns },
 }
 
+impl Shape {
+    /// How many columns it has.
+    pub(crate) fn width(&self) -> usize {
+        match self {
+            Shape::Gate { columns, .. } => columns.len(),
+            _ => 0,
+        }
+    }
+}
+
 impl PartialEq for Shape {
     ghost use Rattle.std.specs.Cmp.{partial_equiv_from_equiv};
     ghost use Rattle.eqc_class.specs.Shapes.{same_shape};

@@ -89,8 +89,8 @@ fn classes_over(
 /// The classes of the signals of two netlists: signals that are driven alike, down to the inputs, are one class, also
 /// signals of both. `variables` has the variable of each input of the first netlist, `others` of the second, in their
 /// orders; inputs with one variable are one class. Time is expected to be in proportion to the netlists' drivers and their
-/// rows; memory to their signals, to the columns of covers that are of no earlier class and to their rows. Fails where memory
-/// is refused.
+/// rows, memory to their signals and rows and to the columns of covers that are of no earlier class. Fails where memory is
+/// refused, and where these columns are more than 16,777,216, which happens in hierarchies alone.
 pub fn classes<'a>(
     alloc: Global,
     first: &'a Flat<'a>,
