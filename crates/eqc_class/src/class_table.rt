@@ -41,16 +41,21 @@ fn added(fresh: bool, width: usize) -> usize {
 }
 
 impl<'r, 'a> ClassTable<'r, 'a> {
-    /// No classes, over these rows.
-    pub(crate) fn new(alloc: Global, rows: &'r RowSet<'a>) -> ClassTable<'r, 'a>
-        ensures { result ≡ (rows.now, []) }
+    /// No classes, over these rows, with room for so many. Fails where memory is refused.
+    pub(crate) fn new(
+        alloc: Global,
+        rows: &'r RowSet<'a>,
+        room: usize,
+    ) -> Result<ClassTable<'r, 'a>, AllocError>
+        ensures { IfOk result (λ table. table ≡ (rows.now, [])) }
     {
         rows.recall_apart();
-        ClassTable {
+        let shapes = IndexSet::with_capacity(alloc, room)?;
+        Ok(ClassTable {
             rows,
-            shapes: IndexSet::new(alloc),
+            shapes,
             columns: 0,
-        }
+        })
     }
 
     /// The class of a shape over rows and classes that are there: a new one, unless there is one. Fails where memory is

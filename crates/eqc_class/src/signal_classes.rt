@@ -75,7 +75,7 @@ fn classes_over(
     requires second_rows { AreRowClasses second.now rows.now second_rows.now }
     ensures { IfOk result (λ c. AreClasses first.now second.now variables.now others.now c) }
 {
-    let mut table = ClassTable::new(alloc, rows);
+    let mut table = ClassTable::new(alloc, rows, first.steps().len())?;
     let first = numbers_of(alloc, &mut table, first, variables, first_rows)?;
     let second = numbers_of(alloc, &mut table, second, others, second_rows)?;
     let count = table.len();
