@@ -9,12 +9,12 @@ use indexmap::IndexSet;
 use std::alloc::{AllocError, Global};
 use std::marker::Model;
 
-/// The columns of shapes are stored up to so many. Two texts have no more columns, so only hierarchies meet it: there a cover
-/// stands in each instance of its model, and what is stored of it may be a different one each time.
+/// No more columns of shapes are stored than about so many. Two texts of the greatest length have no more, so only
+/// hierarchies meet it: there a cover stands in each instance of its model, over other signals each time.
 const MOST_COLUMNS: usize = 16_777_216;
 
-/// Classes, each told by a shape over classes before it. Contracts see the rows that shapes name by
-/// their numbers, and the shapes; the structures of all classes differ.
+/// Classes, each told by a shape over classes before it. Contracts see the rows that shapes name by their numbers, and the
+/// shapes; the structures of all classes differ.
 #[derive(Drop)]
 pub(crate) struct ClassTable<'r, 'a> {
     rows: &'r RowSet<'a>,

@@ -25,7 +25,7 @@ fn passes_on(rows: &Rows<'_>, columns: usize) -> bool
     columns == 1 && rows.len() == 1 && repeats(rows.get(0))
 }
 
-/// The class of a cover with these rows, whose number is `r`, over signals whose classes have these numbers. Fails where
+/// The class of a cover with these rows, which stand at place `r`, over signals whose classes have these numbers. Fails where
 /// memory is refused.
 fn cover_class(
     alloc: Global,
@@ -71,6 +71,7 @@ fn signal_class(
     ensures kept { OnOk result (Grows (constant false) (structures_in table.old) (structures_in table.new) 1) }
     ensures class { IfOk result (λ class. Stands (constant false) (structures_in table.new) class (driver_structure flat.now.rows variables.now (said_by (structures_in table.old) numbers.now) (driver_at flat.now s))) }
 {
+    // A netlist's laws are known only where a call states them.
     let _steps = flat.steps();
     match flat.driver(s) {
         Driver::Input(position) => table.class(Shape::Variable(variables[position as usize])),

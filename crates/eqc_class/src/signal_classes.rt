@@ -49,7 +49,8 @@ impl SignalClasses {
     }
 }
 
-/// What holds of every flat netlist, for a proof of the caller: it does nothing.
+/// What holds of every flat netlist, for a proof of its caller: it does nothing. A netlist's laws are known only
+/// where a call states them.
 fn recall_laws(flat: &Flat<'_>)
     ensures lawful { IsFlat flat.now }
     ensures follows { FollowsDrivers flat.now }
@@ -90,7 +91,7 @@ fn classes_over(
 /// signals of both. `variables` has the variable of each input of the first netlist, `others` of the second, in their
 /// orders; inputs with one variable are one class. Time is expected to be in proportion to the netlists' drivers and their
 /// rows, memory to their signals and rows and to the columns of covers that are of no earlier class. Fails where memory is
-/// refused, and where these columns are more than 16,777,216, which happens in hierarchies alone.
+/// refused, and where these columns are more than 16,777,216, which happens in hierarchies alone: a report tells both by 72.
 pub fn classes<'a>(
     alloc: Global,
     first: &'a Flat<'a>,
