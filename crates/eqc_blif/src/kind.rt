@@ -1,6 +1,8 @@
-ghost use Rattle.std.specs.Prelude.{◌≡◌};
-ghost use Rattle.eqc_blif.specs.Kind.{kind_of, skipped};
+ghost use Rattle.std.specs.Prelude.{◌≡◌, true};
+ghost use Rattle.eqc_blif.specs.Kind.{kind_of, kind_of_line, skipped};
 ghost use Rattle.eqc_blif.specs.Names.{is_named};
+
+use crate::words::is_blank;
 
 /// What kind of statement a logical line is.
 #[derive(Clone, Copy, Debug, PartialEq, Eq)]
@@ -37,6 +39,18 @@ fn is_skipped(word: &[u8]) -> bool
         || word == b".default_output_load".as_slice()
         || word == b".attr".as_slice()
         || word == b".cname".as_slice()
+}
+
+/// Whether a line is a row by its first byte, which is neither a blank nor the `.` of a command. Most lines of a large
+/// text are rows, and their words need not be cut then.
+#[inline(always)]
+pub(crate) fn begins_row(line: &[u8]) -> bool
+    ensures { result ≡ true → kind_of_line line.now ≡ Kind.Row }
+{
+    match line.first() {
+        Some(byte) => !is_blank(*byte) && *byte != b'.',
+        None => false,
+    }
 }
 
 /// What kind of statement begins with this word.

@@ -57,6 +57,7 @@ impl OpenModel {
     }
 
     /// `.inputs` with the words of `line`: code 12 where a name then stands twice.
+    #[inline(never)]
     pub(crate) fn take_inputs(
         &mut self,
         alloc: Global,
@@ -73,6 +74,7 @@ impl OpenModel {
     }
 
     /// `.outputs` with the words of `line`: code 12 where a name then stands twice.
+    #[inline(never)]
     pub(crate) fn take_outputs(
         &mut self,
         alloc: Global,
@@ -89,6 +91,7 @@ impl OpenModel {
     }
 
     /// `.names` with the words of `line`: code 10 where there is none.
+    #[inline(never)]
     pub(crate) fn take_names(
         &mut self,
         alloc: Global,
@@ -106,6 +109,7 @@ impl OpenModel {
     }
 
     /// `.subckt` with the words of `line`: code 9 where one behind the first is no pair, code 10 where there is no word.
+    #[inline(never)]
     pub(crate) fn take_subckt(
         &mut self,
         alloc: Global,
@@ -139,6 +143,8 @@ impl OpenModel {
     }
 
     /// A statement in the model. `rest` stands behind the command, `line` is all.
+    // Most lines of a large text are rows: a row is taken where the line is read, and all else by a call.
+    #[inline(always)]
     pub(crate) fn take(
         &mut self,
         alloc: Global,

@@ -8,7 +8,7 @@ ghost use Rattle.eqc_blif.specs.Steps.{Takes, TakesLine, declares};
 
 use crate::cover::Cover;
 use crate::declarations::Declarations;
-use crate::kind::{Kind, kind_of};
+use crate::kind::{Kind, begins_row, kind_of};
 use crate::library::Library;
 use crate::name::Name;
 use crate::open_model::OpenModel;
@@ -124,6 +124,7 @@ impl Reader {
     }
 
     /// A statement in the open model; code 5 where none is open. `rest` stands behind the command, `line` is all.
+    #[inline(always)]
     fn take_in_model(
         &mut self,
         alloc: Global,
@@ -142,6 +143,7 @@ impl Reader {
     }
 
     /// A statement of some kind; `rest` stands behind the command, `line` is all.
+    #[inline(always)]
     fn take_statement(
         &mut self,
         alloc: Global,
@@ -161,6 +163,16 @@ impl Reader {
         }
     }
 
+    /// A row in the open model; a model without a name is opened for a first one.
+    #[inline(always)]
+    fn take_row(&mut self, alloc: Global, line: &[u8]) -> Result<Option<u8>, AllocError>
+        ensures { IfOk result (λ code. Takes (opened Kind.Row self.old) Kind.Row [] (without_blanks line.now) code self.new) }
+    {
+        self.open_before(alloc, Kind::Row)?;
+        let code = self.take_in_model(alloc, Kind::Row, &[], line)?;
+        Ok(code)
+    }
+
     /// Takes a logical line, and answers its code where it has one.
     // What each line goes through stays within the loop of `read`, though the search for a line at fault calls it too: as a
     // call it made short lines half as slow again.
@@ -170,6 +182,9 @@ impl Reader {
     {
         if has_bad_byte(line) {
             return Ok(Some(Rule::ControlByte.code()));
+        }
+        if begins_row(line) {
+            return self.take_row(alloc, line);
         }
         let (word, rest) = split_first(line);
         let kind = kind_of(word);

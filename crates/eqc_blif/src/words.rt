@@ -79,30 +79,17 @@ pub(crate) fn split_first(line: &[u8]) -> (&[u8], &[u8])
     }
 }
 
-/// The number of words in a line.
-fn count_words(line: &[u8]) -> usize
-    ensures { result ≡ length (words line.now) }
-{
-    let mut count = 0;
-    let mut rest = line;
-    'words: while let Some((_, others)) = split_word(rest) {
-        count += 1;
-        rest = others;
-    }
-    count
-}
-
-/// Room for the words of a line: for a few, one more than the blanks, and else as many as there are.
+/// Room for the words of a line: as many as it has bytes that are no blanks and stand behind a blank or at its start. The
+/// loop has no branch, which is faster than to take the words one by one.
 pub(crate) fn room_for_words(line: &[u8]) -> usize {
-    let mut blanks = 0usize;
+    let mut words = 0usize;
+    let mut behind_blank = true;
     'bytes: for byte in line {
-        blanks = blanks.saturating_add(is_blank(*byte) as usize);
+        let blank = (*byte == b' ') | (*byte == b'\t');
+        words = words.wrapping_add((behind_blank & !blank) as usize);
+        behind_blank = blank;
     }
-    if blanks < 16 {
-        blanks + 1
-    } else {
-        count_words(line)
-    }
+    words
 }
 
 /// The words of a line, as names. Fails where memory is refused.

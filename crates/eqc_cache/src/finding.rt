@@ -1,7 +1,8 @@
 //! The lookup.
-ghost use Rattle.std.specs.Prelude.{◌≡◌, ◌-◌, ◌≤◌, ◌^◌, ◌⊎◌, ℕ, List, length, Some, None, IfSome, IsTrue, ◌↔◌};
+ghost use Rattle.std.specs.Prelude.{◌≡◌, ◌-◌, ◌≤◌, ◌^◌, ◌⊎◌, ℕ, List, length, Some, None, IfSome};
 ghost use Rattle.eqc_core.specs.View.{phase_at};
 ghost use Rattle.eqc_core.specs.declared.phase.Phase.TheVariants.{Idle, Seen};
+ghost use Rattle.eqc_core.specs.Words.{result_of};
 ghost use Rattle.eqc_core.specs.Announcing.{MayLook, MayAnnounce};
 ghost use Rattle.eqc_guard.specs.Known.{IsHeld};
 ghost use Rattle.eqc_guard.specs.Acquiring.{IsAt, IsPassed};
@@ -14,13 +15,17 @@ use eqc_guard::reference::Ref;
 use eqc_guard::worker::Worker;
 use eqc_tree::{Op, unpack_cell};
 
-// Whether the word is the entry of the operation with these operands.
-#[tactic(auto, unfolding(eqc_core::specs::Words::operation_of, eqc_core::specs::Words::first_of, eqc_core::specs::Words::second_of))]
-fn is_entry(word: u64, op: Op, first: u32, second: u32) -> bool
-    ensures { IsTrue result ↔ IsEntry op (first, second) word }
+// The result in a word, where the word is the entry of the operation with these operands.
+#[tactic(auto, unfolding(eqc_core::specs::Words::operation_of, eqc_core::specs::Words::first_of, eqc_core::specs::Words::second_of, eqc_core::specs::Words::result_of))]
+fn result_in(word: u64, op: Op, first: u32, second: u32) -> Option<u32>
+    ensures entry { IfSome result (λ found. IsEntry op (first, second) word × (found ≡ result_of word)) }
+    ensures other { result ≡ None → IsEntry op (first, second) word → ⊥ }
 {
-    let (tag, kept_first, kept_second, _) = unpack_cell(word);
-    tag == op.tag() && kept_first == first && kept_second == second
+    let (tag, kept_first, kept_second, found) = unpack_cell(word);
+    if tag != op.tag() || kept_first != first || kept_second != second {
+        return None;
+    }
+    Some(found)
 }
 
 // Counts the result of the word that was seen up, where a second look finds the word again and the
@@ -67,10 +72,7 @@ pub fn lookup(worker: &mut Worker, op: Op, f: &Ref, g: &Ref) -> Option<Ref>
     let (first, second) = key::ordered(op, f.number(), g.number());
     let cell = key::place(worker.cells(), op, first, second);
     let word = worker.look(cell);
-    if !is_entry(word, op, first, second) {
-        return None;
-    }
-    let (_, _, _, found) = unpack_cell(word);
+    let found = result_in(word, op, first, second)?;
     if found < 2 {
         return Some(worker.constant(found == 1));
     }

@@ -1,12 +1,12 @@
 -- What a comparison of two flat netlists finds.
-use Rattle.std.specs.Prelude.{◌≡◌, ℕ, Bool, List, slice_index, slice_index_or, [], Option, Vec}
+use Rattle.std.specs.Prelude.{◌≡◌, ℕ, ◌<◌, Bool, List, length, slice_index, slice_index_or, [], Option, Vec, IfSome}
 use Rattle.std.specs.declared.alloc.Global.{Global}
 use Rattle.std.specs.Option.{option_map}
 use Rattle.eqc_flat.specs.Graph.{FlatOf, value_of}
 use Rattle.eqc_check.specs.Building.{inputs_under}
 use Rattle.eqc_pair.specs.PairOf.{PairOf, first_variables, second_variables, second_signals}
 use Rattle.eqc_pair.specs.Matched.{position_of}
-use Rattle.eqc_check.specs.Verdict.{NetlistOf, is_different, least_difference}
+use Rattle.eqc_check.specs.Verdict.{NetlistOf, is_different, least_difference, first_difference}
 
 -- a flat netlist as its user sees it
 abbrev pub netlist_of : FlatOf → NetlistOf
@@ -38,3 +38,8 @@ IsDifferenceAt p output found = option_map (λ v. v.items) found ≡ difference_
 -- an output by its position with an assignment, as an output by its name
 abbrev pub found_at : FlatOf → Option (ℕ × Vec Bool Global) → Option (List ℕ × List Bool)
 found_at f found = option_map (λ p. (slice_index_or f.outputs p.0 [], p.1.items)) found
+
+-- the first output that differs is found, by its position, with its least assignment, or none where there is none
+pub record IsFirstFound (p : PairOf) (found : Option (ℕ × Vec Bool Global)) : Type 0 where
+  pub first : found_at p.first found ≡ first_difference (netlist_of p.first) (netlist_of p.second) p.first.outputs
+  pub within : IfSome found (λ q. q.0 < length p.first.outputs)

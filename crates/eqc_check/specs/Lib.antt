@@ -6,6 +6,7 @@ pub mod Report
 pub mod ReportView
 pub mod Building
 pub mod Schedule
+pub mod Plan
 pub mod Listed
 pub mod Assigned
 pub mod Comparing

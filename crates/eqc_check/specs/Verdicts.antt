@@ -1,5 +1,5 @@
 -- What members find at the outputs that they draw, and all of it put in order.
-use Rattle.std.specs.Prelude.{◌≡◌, ◌≢◌, ℕ, ◌+◌, ◌<◌, ◌≤◌, Bool, true, false, IsTrue, List, [], ◌∷◌, length, map, ltb, Option, Some, None, All, Vec, vec_len, ◌^◌, slice_index_or, if◌then◌else◌}
+use Rattle.std.specs.Prelude.{◌≡◌, ◌≢◌, ℕ, ◌+◌, ◌<◌, ◌≤◌, Bool, true, false, IsTrue, List, [], ◌∷◌, length, map, ltb, Option, Some, None, All, Vec, vec_len, ◌^◌, if◌then◌else◌}
 use Rattle.std.specs.declared.alloc.Global.{Global}
 use Rattle.atomic_table.specs.Seated.{TableId}
 use Rattle.atomic_table.specs.declared.shared.Seat.{Seat}
@@ -57,6 +57,13 @@ pub record IsFresh (p : PairOf) (id : TableId) (key : Key) (members : ℕ) (seat
   pub seats : seat.me.0.seats ≡ members
   pub drawn : seat.me.0.drawn ≡ []
 
+-- members that compare a pair: each has diagrams with a variable for each input, and 32 bits number them and the outputs
+pub record AreMembers {D : Type 0} (holding : D → Holding) (p : PairOf) (members : Vec D Global) : Type 0 where
+  pub outputs : length p.first.outputs < 2 ^ 32
+  pub some : 1 ≤ vec_len members
+  pub numbers : vec_len members < 2 ^ 32
+  pub variables : All (λ d. length p.first.inputs ≤ (holding d).variables) members.items
+
 -- members that share a seat: each has diagrams with a variable for each input, and all have numbers, from the first one's on
 pub record AreSeated {D : Type 0} (holding : D → Holding) (p : PairOf) (id : TableId) (key : Key) (seat : Seat ℕ View) (first : ℕ) (members : Vec D Global) : Type 0 where
   pub fresh : IsFresh p id key (vec_len members) seat
@@ -79,6 +86,11 @@ pub record IsWork (p : PairOf) (id : TableId) (least : ℕ) (behind : Bool) (sea
 -- verdicts name each of so many outputs once, and nothing else
 abbrev pub AreOnce : ℕ → List Verdict → Type 0
 AreOnce outputs verdicts = (x : ℕ) → times x (named verdicts) ≡ once_below x outputs
+
+-- verdicts of all outputs of a pair, one for each
+pub record AreVerdicts (p : PairOf) (verdicts : List Verdict) : Type 0 where
+  pub once : AreOnce (length p.first.outputs) verdicts
+  pub right : All (IsRight p) verdicts
 
 -- what stands at a place: nothing where the output's verdict is among the rest, else what was found there
 abbrev pub Stands : PairOf → List Verdict → ℕ → Option Finding → Type 0

@@ -3,8 +3,8 @@ ghost use Rattle.eqc_tree.specs.Holding.{Keeps};
 ghost use Rattle.eqc_flat.specs.Graph.{driver_at, dependencies, value_of};
 ghost use Rattle.eqc_cover.specs.Making.{Makes};
 ghost use Rattle.eqc_check.specs.Building.{OwnsTable, IsBuilt, AreReady, AreVariables, Adds, Advances, Moves, inputs_under, reference_of};
-ghost use Rattle.eqc_pair.specs.PairOf.{ArePlaces};
-ghost use Rattle.eqc_check.specs.Schedule.{moment, uses_at, AreLastMoments};
+ghost use Rattle.eqc_check.specs.Schedule.{moment, uses_at};
+ghost use Rattle.eqc_check.specs.Plan.{IsPlan};
 
 pub(crate) mod cone;
 pub(crate) mod kept;
@@ -25,6 +25,18 @@ use eqc_tree::{Diagrams, References, Stop};
 use std::alloc::{AllocError, Global};
 use std::cmp::Reverse;
 use std::collections::BinaryHeap;
+
+/// What the diagrams of a netlist's signals are built by.
+#[derive(Drop)]
+pub(crate) struct Plan<'a> {
+    pub(crate) flat: &'a Flat<'a>,
+    /// The variable of each input.
+    pub(crate) variables: &'a [u16],
+    /// The step of each signal.
+    pub(crate) places: &'a [u32],
+    /// The last moment at which each signal is used.
+    pub(crate) last: &'a Moments,
+}
 
 /// The references of signals that have one.
 fn references<'a, X>(
@@ -102,27 +114,25 @@ fn build_step<R, D: Diagrams<R>>(
     alloc: Global,
     rt: &R,
     d: &mut D,
-    flat: &Flat<'_>,
-    variables: &[u16],
-    last: &Moments,
+    plan: &Plan<'_>,
     table: &mut Table<D::Ref>,
     step: u32,
     at: u64,
 ) -> Result<(), Stop>
-    requires step { step < length flat.now.steps }
-    requires last { length last.now ≡ length flat.now.drivers }
-    requires variables { AreVariables flat.now variables.now (D.holding d.old).variables }
+    requires step { step < length plan.now.flat.now.steps }
+    requires plan { IsPlan plan.now (D.holding d.old).variables }
     requires owned { OwnsTable D.entry (D.holding d.old) table.old }
-    requires built { IsBuilt D.entry flat.now variables.now table.old }
-    requires ready { AreReady table.old (uses_at flat.now step) }
-    ensures ok { OnOk result (Advances D.entry flat.now variables.now last.now (D.holding d.old) table.old (D.holding d.new) table.new (slice_index flat.now.steps step) at) }
+    requires built { IsBuilt D.entry plan.now.flat.now plan.now.variables.now table.old }
+    requires ready { AreReady table.old (uses_at plan.now.flat.now step) }
+    ensures ok { OnOk result (Advances D.entry plan.now.flat.now plan.now.variables.now plan.now.last.now (D.holding d.old) table.old (D.holding d.new) table.new (slice_index plan.now.flat.now.steps step) at) }
     ensures stop { OnErr result (Keeps (D.holding d.old) (D.holding d.new)) }
     ensures table { OnErr result (table.new ≡ table.old) }
     ensures only { IfErr result (λ s. s ≢ Stop.Threads) }
 {
+    let flat = plan.flat;
     let s = flat.steps()[step as usize];
-    build_signal(alloc, rt, d, flat, variables, table, s)?;
-    release(d, table, last, &flat.driver(s).dependencies(), at);
+    build_signal(alloc, rt, d, flat, plan.variables, table, s)?;
+    release(d, table, plan.last, &flat.driver(s).dependencies(), at);
     Ok(())
 }
 
@@ -151,29 +161,26 @@ pub(crate) fn complete<R, D: Diagrams<R>>(
     alloc: Global,
     rt: &R,
     d: &mut D,
-    flat: &Flat<'_>,
-    variables: &[u16],
-    places: &[u32],
-    last: &Moments,
+    plan: &Plan<'_>,
     kept: &mut Kept<D::Ref>,
     root: u32,
     output: u32,
 ) -> Result<(), Stop>
     requires some { 1 ≤ output }
-    requires root { root < length flat.now.drivers }
-    requires places { ArePlaces flat.now places.now }
-    requires last { AreLastMoments flat.now last.now }
-    requires needed { moment output (length flat.now.drivers + 1) ≤ slice_index last.now root }
-    requires variables { AreVariables flat.now variables.now (D.holding d.old).variables }
+    requires root { root < length plan.now.flat.now.drivers }
+    requires plan { IsPlan plan.now (D.holding d.old).variables }
+    requires needed { moment output (length plan.now.flat.now.drivers + 1) ≤ slice_index plan.now.last.now root }
     requires owned { OwnsTable D.entry (D.holding d.old) kept.old.table }
-    requires built { IsBuilt D.entry flat.now variables.now kept.old.table }
+    requires built { IsBuilt D.entry plan.now.flat.now plan.now.variables.now kept.old.table }
     ensures moves { Moves D.entry (D.holding d.old) kept.old.table (D.holding d.new) kept.new.table }
-    ensures built { IsBuilt D.entry flat.now variables.now kept.new.table }
+    ensures built { IsBuilt D.entry plan.now.flat.now plan.now.variables.now kept.new.table }
     ensures ready { OnOk result (IsSome (reference_of kept.new.table root)) }
-    ensures kept { (s : ℕ) → moment output (length flat.now.drivers + 1) < slice_index last.now s → IsSome (reference_of kept.old.table s) → IsSome (reference_of kept.new.table s) }
+    ensures kept { (s : ℕ) → moment output (length plan.now.flat.now.drivers + 1) < slice_index plan.now.last.now s → IsSome (reference_of kept.old.table s) → IsSome (reference_of kept.new.table s) }
     ensures only { IfErr result (λ s. s ≢ Stop.Threads) }
 {
-    let Ok(mut steps) = wanted(alloc, flat, places, last, &kept.table, root, output) else {
+    let flat = plan.flat;
+    let last = plan.last;
+    let Ok(mut steps) = wanted(alloc, flat, plan.places, last, &kept.table, root, output) else {
         return Err(Stop::Memory);
     };
     let end = moment(output, flat.steps().len() as u32);
@@ -181,17 +188,7 @@ pub(crate) fn complete<R, D: Diagrams<R>>(
         let s = flat.steps()[step as usize];
         note_due(&mut kept.due, last.at(s), s, end)?;
         let at = moment(output, step + 1);
-        build_step(
-            alloc,
-            rt,
-            d,
-            flat,
-            variables,
-            last,
-            &mut kept.table,
-            step,
-            at,
-        )?;
+        build_step(alloc, rt, d, plan, &mut kept.table, step, at)?;
     }
     Ok(())
 }

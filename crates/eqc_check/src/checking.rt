@@ -1,9 +1,9 @@
-ghost use Rattle.std.specs.Prelude.{◌≡◌, ◌≢◌, ◌<◌, ◌≤◌, Bool, true, false, List, length, Some, IfOk, IfErr, IfSome, slice_index_or, not, []};
+ghost use Rattle.std.specs.Prelude.{◌≡◌, ◌≢◌, ◌<◌, ◌≤◌, Bool, true, false, List, length, Some, IfOk, IfErr, slice_index_or, not, []};
 ghost use Rattle.std.specs.List.{zip};
-ghost use Rattle.eqc_check.specs.Verdict.{first_value, differs_under, first_difference};
+ghost use Rattle.eqc_check.specs.Verdict.{first_value, differs_under};
 ghost use Rattle.eqc_check.specs.Report.{difference_report, comparison, differs};
 ghost use Rattle.eqc_check.specs.ReportView.{report_of};
-ghost use Rattle.eqc_check.specs.Comparing.{netlist_of, found_at};
+ghost use Rattle.eqc_check.specs.Comparing.{netlist_of, IsFirstFound};
 
 use crate::compare::compare_outputs;
 use crate::report::Report;
@@ -76,8 +76,7 @@ pub(crate) fn found_report(
     pair: &Pair<'_>,
     found: Option<(usize, Vec<bool>)>,
 ) -> Result<Report, Stop>
-    requires found { found_at pair.now.first found ≡ first_difference (netlist_of pair.now.first) (netlist_of pair.now.second) pair.now.first.outputs }
-    requires within { IfSome found (λ p. p.0 < length pair.now.first.outputs) }
+    requires { IsFirstFound pair.now found }
     ensures report { IfOk result (λ report. report_of report ≡ comparison (netlist_of pair.now.first) (netlist_of pair.now.second)) }
     ensures only { IfErr result (λ s. s ≡ Stop.Memory) }
 {
@@ -100,8 +99,7 @@ fn compare_plain<R>(
 ) -> Result<Option<(usize, Vec<bool>)>, Stop>
     requires some { 1 ≤ nodes }
     requires few { nodes ≤ 1048574 }
-    ensures found { IfOk result (λ found. found_at pair.now.first found ≡ first_difference (netlist_of pair.now.first) (netlist_of pair.now.second) pair.now.first.outputs) }
-    ensures within { IfOk result (λ found. IfSome found (λ p. p.0 < length pair.now.first.outputs)) }
+    ensures found { IfOk result (IsFirstFound pair.now) }
     ensures only { IfErr result (λ s. s ≢ Stop.Threads) }
 {
     pair.recall_laws();

@@ -1,14 +1,13 @@
-ghost use Rattle.std.specs.Prelude.{◌≡◌, ◌≢◌, ℕ, ◌+◌, ◌<◌, ◌≤◌, [], None, length, slice_index, slice_index_or, IfOk, IfErr, IfSome, IsSome, OnOk, OnErr};
+ghost use Rattle.std.specs.Prelude.{◌≡◌, ◌≢◌, ℕ, ◌+◌, ◌<◌, ◌≤◌, [], None, length, slice_index, slice_index_or, IfOk, IfErr, OnOk, OnErr};
 ghost use Rattle.std.specs.Option.{option_map};
 ghost use Rattle.eqc_tree.specs.Holding.{Holding, IsHeld, says, Keeps, Gains, Loses};
-ghost use Rattle.eqc_check.specs.Verdict.{least_difference, first_difference};
+ghost use Rattle.eqc_check.specs.Verdict.{least_difference};
 ghost use Rattle.eqc_pair.specs.PairOf.{second_signals};
 ghost use Rattle.eqc_check.specs.Building.{AreBuilt, OwnsBoth, MovesBoth, KeepsLater};
 ghost use Rattle.eqc_check.specs.Schedule.{moment};
 ghost use Rattle.eqc_check.specs.Turns.{AreScheduled, IsTurn, AreTurns, AreKept, IsComparable, MovesKept, HasOutput};
-ghost use Rattle.eqc_check.specs.Comparing.{netlist_of, differs_at, SaysDifference, IsDifferenceAt, found_at};
+ghost use Rattle.eqc_check.specs.Comparing.{netlist_of, differs_at, SaysDifference, IsDifferenceAt, IsFirstFound};
 
-use crate::build::complete;
 use crate::build::cone::moments_below;
 use crate::build::kept::{
     Tables, clear, give_back_kept, nothing_kept, nothing_kept_of_few, release_due,
@@ -16,6 +15,7 @@ use crate::build::kept::{
 use crate::build::moments::Schedules;
 use crate::build::schedule::{moment, moments_of};
 use crate::build::table::reference_at;
+use crate::build::{Plan, complete};
 use eqc_cover::{is_false, least_over};
 use eqc_pair::Pair;
 use eqc_tree::{Diagrams, Op, References, Stop};
@@ -114,30 +114,20 @@ fn complete_both<R, D: Diagrams<R>>(
     pair.recall_laws();
     let s = pair.first().output_signals()[output];
     let t = pair.second_signals()[output];
-    complete(
-        alloc,
-        rt,
-        d,
-        pair.first(),
-        pair.variables(),
-        pair.first_places(),
-        &schedules.first,
-        &mut tables.first,
-        s,
-        turn,
-    )?;
-    complete(
-        alloc,
-        rt,
-        d,
-        pair.second(),
-        pair.second_variables(),
-        pair.second_places(),
-        &schedules.second,
-        &mut tables.second,
-        t,
-        turn,
-    )
+    let plan = Plan {
+        flat: pair.first(),
+        variables: pair.variables(),
+        places: pair.first_places(),
+        last: &schedules.first,
+    };
+    complete(alloc, rt, d, &plan, &mut tables.first, s, turn)?;
+    let other = Plan {
+        flat: pair.second(),
+        variables: pair.second_variables(),
+        places: pair.second_places(),
+        last: &schedules.second,
+    };
+    complete(alloc, rt, d, &other, &mut tables.second, t, turn)
 }
 
 /// Gives back what no output behind a turn needs.
@@ -309,8 +299,7 @@ fn compare_in_turn<R, D: Diagrams<R>>(
 ) -> Result<Option<(usize, Vec<bool>)>, Stop>
     requires turns { AreTurns pair.now schedules.now }
     requires kept { AreKept D.entry pair.now (D.holding d.old) tables.old }
-    ensures found { IfOk result (λ found. found_at pair.now.first found ≡ first_difference (netlist_of pair.now.first) (netlist_of pair.now.second) pair.now.first.outputs) }
-    ensures within { IfOk result (λ found. IfSome found (λ p. p.0 < length pair.now.first.outputs)) }
+    ensures found { IfOk result (IsFirstFound pair.now) }
     ensures moves { MovesKept D.entry pair.now (D.holding d.old) tables.old (D.holding d.new) tables.new }
     ensures only { IfErr result (λ s. s ≢ Stop.Threads) }
 {
@@ -333,8 +322,7 @@ fn compare_scheduled<R, D: Diagrams<R>>(
 ) -> Result<Option<(usize, Vec<bool>)>, Stop>
     requires variables { length pair.now.first.inputs ≤ (D.holding d.old).variables }
     requires turns { AreTurns pair.now schedules.now }
-    ensures found { IfOk result (λ found. found_at pair.now.first found ≡ first_difference (netlist_of pair.now.first) (netlist_of pair.now.second) pair.now.first.outputs) }
-    ensures within { IfOk result (λ found. IfSome found (λ p. p.0 < length pair.now.first.outputs)) }
+    ensures found { IfOk result (IsFirstFound pair.now) }
     ensures kept { Keeps (D.holding d.old) (D.holding d.new) }
     ensures only { IfErr result (λ s. s ≢ Stop.Threads) }
 {
@@ -354,8 +342,7 @@ pub(crate) fn compare_outputs<R, D: Diagrams<R>>(
     pair: &Pair<'_>,
 ) -> Result<Option<(usize, Vec<bool>)>, Stop>
     requires { length pair.now.first.inputs ≤ (D.holding d.old).variables }
-    ensures found { IfOk result (λ found. found_at pair.now.first found ≡ first_difference (netlist_of pair.now.first) (netlist_of pair.now.second) pair.now.first.outputs) }
-    ensures within { IfOk result (λ found. IfSome found (λ p. p.0 < length pair.now.first.outputs)) }
+    ensures found { IfOk result (IsFirstFound pair.now) }
     ensures kept { Keeps (D.holding d.old) (D.holding d.new) }
     ensures only { IfErr result (λ s. s ≢ Stop.Threads) }
 {

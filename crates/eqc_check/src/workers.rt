@@ -3,16 +3,15 @@
 //!
 //! - `ticket`, the word from which outputs are drawn; `member`, what a member compares with; `gate`, what is told of it
 //! - `group`, members that share a seat; `share`, members in threads and what they give back; `verdict`, all of it put in order
-ghost use Rattle.std.specs.Prelude.{◌≡◌, ◌<◌, ◌≤◌, ◌^◌, ℕ, None, length, vec_len, IfOk, IfErr, IfSome};
+ghost use Rattle.std.specs.Prelude.{◌≡◌, ◌≤◌, None, length, vec_len, IfOk, IfErr};
 ghost use Rattle.std.specs.List.{All};
 ghost use Rattle.eqc_tree.specs.Holding.{Holding};
-ghost use Rattle.eqc_check.specs.Verdict.{first_difference};
 ghost use Rattle.eqc_check.specs.Report.{comparison};
 ghost use Rattle.eqc_check.specs.ReportView.{report_of};
 ghost use Rattle.eqc_check.specs.Options.{options_code};
-ghost use Rattle.eqc_check.specs.Comparing.{netlist_of, found_at};
+ghost use Rattle.eqc_check.specs.Comparing.{netlist_of, IsFirstFound};
 ghost use Rattle.eqc_check.specs.Turns.{AreTurns};
-ghost use Rattle.eqc_check.specs.Verdicts.{AreOnce, IsRight, IsShare};
+ghost use Rattle.eqc_check.specs.Verdicts.{AreMembers, AreVerdicts, IsShare};
 
 pub(crate) mod gate;
 mod group;
@@ -43,8 +42,7 @@ fn verdicts_of(table: TicketTable, pair: &Pair<'_>, share: Share) -> Vec<Verdict
     requires share { IsShare pair.now table.shared.table_id table.shared.key.seats share.seat share.verdicts.items }
     requires key { table.shared.key.outputs ≡ length pair.now.first.outputs }
     requires some { 1 ≤ table.shared.key.seats }
-    ensures once { AreOnce (length pair.now.first.outputs) result.items }
-    ensures right { All (IsRight pair.now) result.items }
+    ensures { AreVerdicts pair.now result.items }
 {
     let Share { seat, verdicts } = share;
     settle(table, seat);
@@ -60,13 +58,9 @@ fn all_verdicts<R: Threads + Wait + Sync, D: Diagrams<R> + Send + Drop, G: Gate<
     members: Vec<D>,
     gate: &G,
 ) -> Result<Vec<Verdict>, Stop>
-    requires outputs { length pair.now.first.outputs < 2 ^ 32 }
-    requires some { 1 ≤ vec_len members }
-    requires numbers { vec_len members < 2 ^ 32 }
-    requires variables { All (λ d. length pair.now.first.inputs ≤ (D.holding d).variables) members.items }
+    requires members { AreMembers D.holding pair.now members }
     requires turns { AreTurns pair.now schedules.now }
-    ensures once { IfOk result (λ verdicts. AreOnce (length pair.now.first.outputs) verdicts.items) }
-    ensures right { IfOk result (λ verdicts. All (IsRight pair.now) verdicts.items) }
+    ensures { IfOk result (λ verdicts. AreVerdicts pair.now verdicts.items) }
 {
     let key = Key {
         outputs: pair.first().outputs().len() as u32,
@@ -92,12 +86,8 @@ fn scheduled_verdicts<R: Threads + Wait + Sync, D: Diagrams<R> + Send + Drop, G:
     members: Vec<D>,
     gate: &G,
 ) -> Result<Vec<Verdict>, Stop>
-    requires outputs { length pair.now.first.outputs < 2 ^ 32 }
-    requires some { 1 ≤ vec_len members }
-    requires numbers { vec_len members < 2 ^ 32 }
-    requires variables { All (λ d. length pair.now.first.inputs ≤ (D.holding d).variables) members.items }
-    ensures once { IfOk result (λ verdicts. AreOnce (length pair.now.first.outputs) verdicts.items) }
-    ensures right { IfOk result (λ verdicts. All (IsRight pair.now) verdicts.items) }
+    requires members { AreMembers D.holding pair.now members }
+    ensures { IfOk result (λ verdicts. AreVerdicts pair.now verdicts.items) }
 {
     match schedules_of(alloc, pair) {
         Ok(schedules) => all_verdicts(rt, alloc, pair, &schedules, members, gate),
@@ -111,10 +101,8 @@ fn first_by(
     pair: &Pair<'_>,
     verdicts: Vec<Verdict>,
 ) -> Result<Option<(usize, Vec<bool>)>, Stop>
-    requires once { AreOnce (length pair.now.first.outputs) verdicts.items }
-    requires right { All (IsRight pair.now) verdicts.items }
-    ensures found { IfOk result (λ found. found_at pair.now.first found ≡ first_difference (netlist_of pair.now.first) (netlist_of pair.now.second) pair.now.first.outputs) }
-    ensures within { IfOk result (λ found. IfSome found (λ p. p.0 < length pair.now.first.outputs)) }
+    requires { AreVerdicts pair.now verdicts.items }
+    ensures found { IfOk result (IsFirstFound pair.now) }
 {
     match in_order(alloc, pair, verdicts) {
         Ok(row) => Ok(first_of(pair, row)),
@@ -130,12 +118,8 @@ fn first_found<R: Threads + Wait + Sync, D: Diagrams<R> + Send + Drop, G: Gate<R
     members: Vec<D>,
     gate: &G,
 ) -> Result<Option<(usize, Vec<bool>)>, Stop>
-    requires outputs { length pair.now.first.outputs < 2 ^ 32 }
-    requires some { 1 ≤ vec_len members }
-    requires numbers { vec_len members < 2 ^ 32 }
-    requires variables { All (λ d. length pair.now.first.inputs ≤ (D.holding d).variables) members.items }
-    ensures found { IfOk result (λ found. found_at pair.now.first found ≡ first_difference (netlist_of pair.now.first) (netlist_of pair.now.second) pair.now.first.outputs) }
-    ensures within { IfOk result (λ found. IfSome found (λ p. p.0 < length pair.now.first.outputs)) }
+    requires members { AreMembers D.holding pair.now members }
+    ensures found { IfOk result (IsFirstFound pair.now) }
 {
     let verdicts = scheduled_verdicts(rt, alloc, pair, members, gate)?;
     first_by(alloc, pair, verdicts)

@@ -1,12 +1,13 @@
 -- What a scan leaves, where a split's view comes, who is alone, and which fields a written word has.
-use Rattle.std.proofs.Common.{◌≡◌, ◌≢◌, ℕ, suc, ◌+◌, ◌^◌, ◌<◌, ◌≤◌, List, [], ◌∷◌, ◌++◌, length, set, ltb, Bool, true, false, if◌then◌else◌, eq-eqb, refl, sym, ap, ◌∙◌, arith, inl, inr, length-append}
+use Rattle.std.proofs.Common.{◌≡◌, ◌≢◌, ℕ, suc, ◌+◌, ◌%◌, ◌^◌, ◌<◌, ◌≤◌, List, [], ◌∷◌, ◌++◌, length, set, ltb, Bool, true, false, if◌then◌else◌, eq-eqb, refl, sym, ap, ◌∙◌, arith, inl, inr, length-append}
 use Rattle.std.proofs.lemmas.Bool.{ltb-true}
 use Rattle.std.proofs.lemmas.List.{set-append_left}
 use mathlib.Core.Option.{some}
 use lib.ListN.{get_elem?}
+use Rattle.eqc_tree.specs.Word.{node_word}
 use Rattle.eqc_core.specs.declared.sizes.Sizes.{Sizes}
 use Rattle.eqc_core.specs.View.{View, Hand, unused, fresh, view_at, grown}
-use Rattle.eqc_core.specs.Words.{Words, announced_words, times, variable_of, low_of, high_of}
+use Rattle.eqc_core.specs.Words.{Words, announced_words, times, variable_of, low_of, high_of, children, stripe_of}
 use Rattle.eqc_core.specs.Tables.{Homes}
 use Rattle.eqc_core.specs.Lawful.{Lawful, numbers_out, is_active}
 use Rattle.eqc_core.specs.Moves.{IsReady, without, note}
@@ -29,7 +30,7 @@ kept_few noted (y ∷ xs) =
       | inr t ↦ rw t.0 (kept_few noted xs)
     ]
 
-fields : (variable low high : ℕ) → low < 2 ^ 20 → high < 2 ^ 20 → HasFields variable low high
+pub fields : (variable low high : ℕ) → low < 2 ^ 20 → high < 2 ^ 20 → HasFields variable low high
 unfolding variable_of low_of high_of
 fields variable low high l g = record { variable_is = omega arith; low_is = omega arith; high_is = omega arith }
 
@@ -97,3 +98,11 @@ module _ (z : Sizes) (w : Words) (hs : Homes) (vs : List View) (id : ℕ) (v : V
       let l = may.low_there in
       let g = may.high_there in
       fields variable low high (omega arith) (omega arith)
+
+-- the stripe and the children of a node of these fields
+pub node_stripe : (variable low high : ℕ) → low < 2 ^ 20 → high < 2 ^ 20 → stripe_of (node_word variable low high) ≡ (variable + low + high) % 16
+unfolding stripe_of
+node_stripe variable low high l h = let f = fields variable low high l h in let a = f.variable_is in let b = f.low_is in let c = f.high_is in ap (λ (n : ℕ). n % 16) (omega arith)
+
+pub node_children : (variable low high : ℕ) → low < 2 ^ 20 → high < 2 ^ 20 → children (node_word variable low high) ≡ low ∷ high ∷ []
+node_children variable low high l h = let f = fields variable low high l h in λ i. f.low_is i ∷ f.high_is i ∷ []

@@ -16,6 +16,12 @@ pub mod Bounds
 pub mod Literals
 pub mod Opening
 pub mod Trees
+pub mod Locking
+pub mod Claiming
+pub mod Writing
+pub mod Reclaiming
+pub mod Collecting
+pub mod Trying
 pub mod Wraps
 pub mod Runs
 pub mod Rooms

@@ -1,33 +1,43 @@
 -- A step leaves the trees of tabled slots, and room for the names that its worker holds.
-use Rattle.std.proofs.Common.{◌≡◌, ℕ, ◌^◌, ◌≤◌, List, [], ◌∷◌, length, get_or, true, refl, sym, subst, arith, length-append}
+use Rattle.std.proofs.Common.{◌≡◌, ℕ, ◌^◌, ◌<◌, ◌≤◌, List, [], ◌∷◌, length, get_or, true, false, arith, length-append}
 use mathlib.Core.Option.{some}
 use lib.ListN.{get_elem?}
 use Rattle.eqc_tree.specs.Tree.{Tree}
+use Rattle.eqc_tree.specs.Word.{node_word}
 use Rattle.eqc_core.specs.declared.event.Step.{Step}
-use Rattle.eqc_core.specs.declared.event.Step.TheVariants.{Split, Join, Announce, Look, Recheck, Up, Down, SwapCell, ScanOne}
-use Rattle.eqc_core.specs.View.{View, view_at}
-use Rattle.eqc_core.specs.Words.{cell_names, operands, slots_of}
+use Rattle.eqc_core.specs.declared.event.Step.TheVariants.{Split, Join, Announce, Look, Recheck, Up, Down, SwapCell, ScanOne, Lock, Unlock, Claim, Unclaim, WriteNode, ReadNode, Reclaim}
+use Rattle.eqc_core.specs.View.{View, view_at, draft_of}
+use Rattle.eqc_core.specs.Words.{cell_names, operands, children, slots_of}
+use Rattle.eqc_core.specs.Tables.{tabled}
 use Rattle.eqc_core.specs.Trees.{IsTree}
 use Rattle.eqc_core.specs.State.{State, IsLawful}
 use Rattle.eqc_core.specs.Moves.{without_each}
 use Rattle.eqc_core.specs.Run.{May, held_before, view_after, words_after}
 use Rattle.eqc_core.proofs.Names.{length-without, length-without_each, length-slots_of}
 use Rattle.eqc_core.proofs.Bounds.{scans_keep_names}
+use Rattle.eqc_core.proofs.Writing.{write_keeps_trees}
 
--- none of these steps writes a node
-same_nodes : (s : State) (id : ℕ) (p : Step) → (words_after s id p).nodes ≡ s.words.nodes
-same_nodes s id (Split to) = refl
-same_nodes s id (Join from) = refl
-same_nodes s id (Announce x) = refl
-same_nodes s id (Look c) = refl
-same_nodes s id Recheck = refl
-same_nodes s id (Up x) = refl
-same_nodes s id (Down x) = refl
-same_nodes s id (SwapCell c word) = refl
-same_nodes s id ScanOne = refl
-
-pub tree_stays : (s : State) (id x : ℕ) (p : Step) (t : Tree) → IsTree s.words.nodes t x → IsTree (words_after s id p).nodes t x
-tree_stays s id x p t is = subst (λ (nodes : List ℕ). IsTree nodes t x) (sym (same_nodes s id p)) is
+-- a write leaves the words of tabled slots, and no other step writes a node
+pub tree_stays : (s : State) (id x : ℕ) (v : View) (p : Step) (t : Tree) → IsLawful s → get_elem? s.views id ≡ some v → May s v p → 0 < tabled s.homes s.views x → IsTree s.words.nodes t x → IsTree (words_after s id v p).nodes t x
+tree_stays s id x v (Split to) t law at may tab is = is
+tree_stays s id x v (Join from) t law at may tab is = is
+tree_stays s id x v (Announce y) t law at may tab is = is
+tree_stays s id x v (Look c) t law at may tab is = is
+tree_stays s id x v Recheck t law at may tab is = is
+tree_stays s id x v (Up y) t law at may tab is = is
+tree_stays s id x v (Down y) t law at may tab is = is
+tree_stays s id x v (SwapCell c word) t law at may tab is = is
+tree_stays s id x v ScanOne t law at may tab is = is
+tree_stays s id x v (Lock i true) t law at may tab is = is
+tree_stays s id x v (Lock i false) t law at may tab is = is
+tree_stays s id x v (Unlock i) t law at may tab is = is
+tree_stays s id x v (Claim y true) t law at may tab is = is
+tree_stays s id x v (Claim y false) t law at may tab is = is
+tree_stays s id x v Unclaim t law at may tab is = is
+tree_stays s id x v (WriteNode variable low high) t law at may tab is =
+    write_keeps_trees s.sizes s.words s.homes s.views id v law at (draft_of v.draft) (node_word variable low high) x t may.word.draft tab is
+tree_stays s id x v (ReadNode y) t law at may tab is = is
+tree_stays s id x v (Reclaim y) t law at may tab is = is
 
 half : (n : ℕ) → n ≤ 2 ^ 39 → n ≤ 2 ^ 40
 half n le = omega arith
@@ -48,3 +58,16 @@ room_after s id v ScanOne law at on may le =
     let most = law.sized.few_announced in
     let k = (scans_keep_names v (get_or s.words.announced v.position 0)).lengths in
     omega arith
+room_after s id v (Lock i true) law at on may le = half (length v.held) le
+room_after s id v (Lock i false) law at on may le = half (length v.held) le
+room_after s id v (Unlock i) law at on may le = half (length v.held) le
+room_after s id v (Claim x true) law at on may le = half (length v.held) le
+room_after s id v (Claim x false) law at on may le = half (length v.held) le
+room_after s id v Unclaim law at on may le = half (length v.held) le
+room_after s id v (WriteNode variable low high) law at on may le =
+    let names : List ℕ = slots_of (children (node_word variable low high)) in
+    omega (arith, length-append (without_each names v.held) (draft_of v.draft ∷ []), length-without_each names v.held)
+room_after s id v (ReadNode x) law at on may le = half (length v.held) le
+room_after s id v (Reclaim x) law at on may le =
+    let names : List ℕ = children (get_or s.words.nodes x 0) in
+    omega (arith, length-append v.held (slots_of names), length-slots_of names)

@@ -1,5 +1,5 @@
 -- The views that stored workers stand for.
-use Rattle.std.proofs.Common.{◌≡◌, ℕ, zero, suc, ◌<◌, ◌≤◌, List, [], ◌∷◌, length, set, get_or, map, Bool, true, false, if◌then◌else◌, refl, sym, ap, subst, ◌∙◌, arith}
+use Rattle.std.proofs.Common.{◌≡◌, ℕ, zero, suc, ◌<◌, ◌≤◌, List, [], ◌∷◌, length, set, get_or, map, Bool, true, false, Option, Some, None, if◌then◌else◌, refl, sym, ap, subst, ◌∙◌, arith, inr}
 use Rattle.std.proofs.lemmas.List.{map-set}
 use mathlib.Core.Option.{some, some-injective, some-ne-none}
 use lib.ListN.{get_elem?}
@@ -7,18 +7,23 @@ use Rattle.eqc_core.specs.declared.sizes.Sizes.{Sizes}
 use Rattle.eqc_core.specs.declared.phase.Phase.{Phase}
 use Rattle.eqc_core.specs.declared.worker.Worker.{Worker}
 use Rattle.eqc_core.specs.declared.machine.Machine.{Machine}
-use Rattle.eqc_core.specs.View.{View, unused, spent, view_at}
-use Rattle.eqc_core.specs.Words.{Words, announced_words, word_at, times}
+use Rattle.eqc_core.specs.View.{View, Hand, Read, draft_of, hand_of, unused, spent, view_at}
+use Rattle.eqc_core.specs.Words.{Words, announced_words, word_at, times, children}
+use Rattle.std.specs.Option.{is_some}
+use Rattle.eqc_core.specs.Tables.{Homes, table_has}
+use Rattle.eqc_core.specs.Stripes.{HasRoom}
+use Rattle.eqc_core.specs.declared.table.Hand.{Hand as StoredHand}
 use Rattle.eqc_core.specs.Owners.{owned}
 use Rattle.eqc_core.specs.State.{State}
 use Rattle.eqc_core.specs.Lawful.{Fits}
-use Rattle.eqc_core.specs.Machine.{active_view, view_of, words_of, state_of, Turns, IsKept, IsTurn}
-use Rattle.eqc_core.specs.Moves.{IsQuiet}
+use Rattle.eqc_core.specs.Machine.{active_view, view_of, hand_view, HasInHand, HasRead, MayPlace, words_of, state_of, Turns, IsKept, IsTurn}
+use Rattle.eqc_core.specs.Moves.{IsQuiet, AreHeld}
 use Rattle.eqc_core.specs.Seating.{IsAtRest}
 use Rattle.eqc_core.proofs.Lists.{get_at, at_get, at_below}
 use Rattle.eqc_core.proofs.Places.{below}
 use Rattle.eqc_core.proofs.Sums.{at_le_sum}
-use Rattle.eqc_core.proofs.Tables.{owned_is}
+use Rattle.eqc_core.specs.Making.{MayReclaim}
+use Rattle.eqc_core.proofs.Tables.{owned_is, held_tabled, table_tabled}
 use Rattle.eqc_core.proofs.Runs.{active_there}
 
 -- the one phase of a worker with one announcement word
@@ -26,8 +31,54 @@ pub one_phase : (a p : Phase) (k : ℕ) → get_elem? (a ∷ []) k ≡ some p �
 one_phase a p zero e = some-injective a p e
 one_phase a p (suc k) e = absurd (some-ne-none p (sym e))
 
-pub at_rest : (z : Sizes) (w : Worker) → w.position ≡ 0 → IsQuiet w.phase → IsAtRest (active_view z w)
-at_rest z w ready quiet = record { ready = ready; quiet = λ k p e. (let P : Phase → Type 0 = λ q. IsQuiet q in subst P (one_phase w.phase p k e) quiet); no_draft = refl; no_hand = refl }
+-- an option that is no Some
+pub is_none : {A : Type 0} (o : Option A) → is_some o ≡ false → o ≡ None
+is_none None e = refl
+is_none (Some a) e = absurd (cc)
+
+-- what a view has in hand, or read last
+pub hand_known : (o : Option Hand) (x : ℕ) → HasInHand o x → (h : Hand) × (o ≡ Some h) × (0 < table_has x h.entries)
+hand_known None x p = absurd p
+hand_known (Some h) x p = (h, refl, p)
+
+pub known_hand : (o : Option Hand) (x : ℕ) (h : Hand) → o ≡ Some h → 0 < table_has x h.entries → HasInHand o x
+known_hand o x h e p = subst (λ (q : Option Hand). HasInHand q x) (sym e) p
+
+pub read_known : (o : Option Read) (x : ℕ) → HasRead o x → (r : Read) × (o ≡ Some r) × (0 < times x (children r.word))
+read_known None x p = absurd p
+read_known (Some r) x p = (r, refl, p)
+
+pub known_read : (o : Option Read) (x : ℕ) (r : Read) → o ≡ Some r → 0 < times x (children r.word) → HasRead o x
+known_read o x r e p = subst (λ (q : Option Read). HasRead q x) (sym e) p
+
+pub are_held_as : (a b held held' : List ℕ) → a ≡ b → held ≡ held' → AreHeld a held → AreHeld b held'
+are_held_as a b held held' e f h = subst (λ (p : List ℕ × List ℕ). AreHeld p.0 p.1) (λ i. (e i, f i)) h
+
+-- a draft or a stripe that is there
+pub draft_is_some : (o : Option ℕ) → is_some o ≡ true → o ≡ Some (draft_of o)
+draft_is_some None e = absurd (cc)
+draft_is_some (Some d) e = refl
+
+pub hand_is : (o : Option Hand) (h : Hand) → o ≡ Some h → o ≡ Some (hand_of o)
+hand_is o h e = e ∙ ap {B = Option Hand} (λ (k : Hand). Some k) (sym (ap hand_of e))
+
+-- a node word may be written where its stripe's table has room for it
+pub may_place : (z : Sizes) (w : Worker) (h : StoredHand) (word : ℕ) → w.position ≡ 0 → is_some w.draft ≡ true → w.hand ≡ Some h → AreHeld (children word) w.held.items
+    → (HasRoom h.stripe h.table.entries.items word → MayPlace (active_view z w) word) × (MayPlace (active_view z w) word → HasRoom h.stripe h.table.entries.items word)
+may_place z w h word ready draft hand held =
+    let k : Hand = record { stripe = h.stripe; entries = h.table.entries.items } in
+    let e : hand_view w.hand ≡ Some k = ap hand_view hand in
+    let same : hand_of (hand_view w.hand) ≡ k = ap hand_of e in (
+      (λ room. (ready, draft_is_some w.draft draft, hand_is (hand_view w.hand) k e, subst (λ (q : Hand). HasRoom q.stripe q.entries word) (sym same) room, held)),
+      (λ may. subst (λ (q : Hand). HasRoom q.stripe q.entries word) same may.3),
+    )
+
+-- a step that takes a table out, or puts one home
+pub stepped_home : (s : State) (w w' : Words) (hs hs' : Homes) (vs vs' : List View) → w ≡ w' → hs ≡ hs' → vs ≡ vs' → record s { words = w; homes = hs; views = vs } ≡ record s { words = w'; homes = hs'; views = vs' }
+stepped_home s w w' hs hs' vs vs' p h q = λ i. record s { words = p i; homes = h i; views = q i }
+
+pub at_rest : (z : Sizes) (w : Worker) → w.position ≡ 0 → IsQuiet w.phase → w.draft ≡ None → w.hand ≡ None → IsAtRest (active_view z w)
+at_rest z w ready quiet draft hand = record { ready = ready; quiet = λ k p e. (let P : Phase → Type 0 = λ q. IsQuiet q in subst P (one_phase w.phase p k e) quiet); no_draft = draft; no_hand = ap hand_view hand }
 
 pub active_is : (z : Sizes) (w : Worker) → w.active ≡ true → view_of z w ≡ active_view z w
 active_is z w on = rw on refl
@@ -125,3 +176,30 @@ silence_there m id kept lt =
     let law = kept.lawful.sized in
     let b = below m.sizes id 0 lt law.some_announcements in
     omega (arith, law.announced, own_word m id kept)
+
+-- a held name, and a slot of the stripe in hand, have their words
+pub held_there : (m : Machine) (id x : ℕ) → IsTurn m id → 0 < times x (view_at (state_of m).views id).held → x < length m.nodes.items
+held_there m id x turn holds =
+    let s = state_of m in
+    let law = turn.kept.lawful in
+    let v = view_at s.views id in
+    let two : 2 ≤ x = (turn_fits m id turn).slots x (omega arith) in
+    let lt = (law.tables.named x (held_tabled s.sizes s.words s.homes s.views law id x v (turn_there m id turn) two holds)).1 in
+    let n = law.sized.nodes in
+    omega arith
+
+pub taken_there : (m : Machine) (id x : ℕ) → IsTurn m id → MayReclaim (words_of m) (view_at (state_of m).views id) (hand_of (view_at (state_of m).views id).hand) x → (x < length m.nodes.items) × (x < length m.counts.items)
+taken_there m id x turn may =
+    let s = state_of m in
+    let law = turn.kept.lawful in
+    let v = view_at s.views id in
+    let h = hand_of v.hand in
+    let has = may.2 in
+    let lt = (law.tables.named x (omega (arith, table_tabled s.homes s.views h.stripe h.entries x (inr (id, v, h, turn_there m id turn, may.1, refl, refl))))).1 in
+    let n = law.sized.nodes in
+    let k = law.sized.counts in
+    (omega arith, omega arith)
+
+-- the worker of a step that needs a stripe in hand has one
+pub hand_there : (m : Machine) (id : ℕ) (w : Worker) (h : Hand) → IsTurn m id → w ≡ get_or m.workers.items id w → (view_at (state_of m).views id).hand ≡ Some h → hand_view w.hand ≡ None → ⊥
+hand_there m id w h turn e is none = let q : Some h ≡ None = sym is ∙ (ap (λ (v : View). v.hand) (turn_view m id w turn e) ∙ none) in cc

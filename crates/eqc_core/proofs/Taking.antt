@@ -6,7 +6,7 @@ use Rattle.eqc_core.specs.declared.phase.Phase.{Phase}
 use Rattle.eqc_core.specs.declared.phase.Phase.TheVariants.{Idle, Seen, Announced, Confirmed, Missed}
 use Rattle.eqc_core.specs.declared.event.Event.{Event}
 use Rattle.eqc_core.specs.declared.event.Step.{Step}
-use Rattle.eqc_core.specs.declared.event.Step.TheVariants.{Split, Join, Announce, Look, Recheck, Up, Down, SwapCell, ScanOne}
+use Rattle.eqc_core.specs.declared.event.Step.TheVariants.{Split, Join, Announce, Look, Recheck, Up, Down, SwapCell, ScanOne, Lock, Unlock, Claim, Unclaim, WriteNode, ReadNode, Reclaim}
 use Rattle.eqc_core.specs.declared.machine.Machine.{Machine}
 use Rattle.eqc_core.specs.View.{View, unused, fresh, spent, view_at, grown}
 use Rattle.eqc_core.specs.Words.{times, cell_names}
@@ -54,6 +54,13 @@ view_at-after s id (Up x) on number may = get_or-set_same s.views id (view_after
 view_at-after s id (Down x) on number may = get_or-set_same s.views id (view_after s (view_at s.views id) (Down x)) unused (at_below s.views id (view_at s.views id) (active_there s.views id on))
 view_at-after s id (SwapCell c word) on number may = get_or-set_same s.views id (view_after s (view_at s.views id) (SwapCell c word)) unused (at_below s.views id (view_at s.views id) (active_there s.views id on))
 view_at-after s id ScanOne on number may = get_or-set_same s.views id (view_after s (view_at s.views id) ScanOne) unused (at_below s.views id (view_at s.views id) (active_there s.views id on))
+view_at-after s id (Lock i won) on number may = get_or-set_same s.views id (view_after s (view_at s.views id) (Lock i won)) unused (at_below s.views id (view_at s.views id) (active_there s.views id on))
+view_at-after s id (Unlock i) on number may = get_or-set_same s.views id (view_after s (view_at s.views id) (Unlock i)) unused (at_below s.views id (view_at s.views id) (active_there s.views id on))
+view_at-after s id (Claim x won) on number may = get_or-set_same s.views id (view_after s (view_at s.views id) (Claim x won)) unused (at_below s.views id (view_at s.views id) (active_there s.views id on))
+view_at-after s id Unclaim on number may = get_or-set_same s.views id (view_after s (view_at s.views id) Unclaim) unused (at_below s.views id (view_at s.views id) (active_there s.views id on))
+view_at-after s id (WriteNode variable low high) on number may = get_or-set_same s.views id (view_after s (view_at s.views id) (WriteNode variable low high)) unused (at_below s.views id (view_at s.views id) (active_there s.views id on))
+view_at-after s id (ReadNode x) on number may = get_or-set_same s.views id (view_after s (view_at s.views id) (ReadNode x)) unused (at_below s.views id (view_at s.views id) (active_there s.views id on))
+view_at-after s id (Reclaim x) on number may = get_or-set_same s.views id (view_after s (view_at s.views id) (Reclaim x)) unused (at_below s.views id (view_at s.views id) (active_there s.views id on))
 
 -- an event that was taken leaves a machine whose state is lawful
 pub kept_after : (m m' : Machine) (e : Event) → IsKept m → IsAllowed (state_of m) e → state_of m' ≡ after (state_of m) e → IsKept m'

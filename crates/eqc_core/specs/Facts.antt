@@ -1,5 +1,5 @@
 -- What a lawful state says of its words, trees and views: the facts that a layer above needs beside the steps.
-use Rattle.std.specs.Prelude.{◌≡◌, ℕ, ◌+◌, ◌^◌, ◌<◌, ◌≤◌, List, [], ◌∷◌, ◌++◌, length, get_or, set, true, false, Some}
+use Rattle.std.specs.Prelude.{◌≡◌, ◌≢◌, ℕ, ◌+◌, ◌^◌, ◌<◌, ◌≤◌, List, [], ◌∷◌, ◌++◌, length, get_or, set, true, false, Some}
 use mathlib.Core.Option.{some}
 use lib.ListN.{get_elem?}
 use Rattle.eqc_tree.specs.Tree.{Tree, IsCanonical}
@@ -17,7 +17,9 @@ use Rattle.eqc_core.specs.Moves.{IsReady}
 use Rattle.eqc_core.specs.Counting.{Knows}
 use Rattle.eqc_core.specs.Scanning.{scanned}
 use Rattle.eqc_core.specs.Seating.{MaySplit, splitter, split}
-use Rattle.eqc_core.specs.Making.{MayWriteNode}
+use Rattle.eqc_core.specs.Making.{MayWriteNode, wins_claim, MayReclaim, reclaimed}
+use Rattle.eqc_core.specs.Locking.{wins_lock}
+use Rattle.eqc_core.specs.Owners.{owners, drafts}
 
 -- in a lawful state no count is so high that one more would not fit its word
 abbrev pub NoCountWraps : Type 0
@@ -111,3 +113,38 @@ abbrev pub WrittenFieldsAreRead : Type 0
 WrittenFieldsAreRead =
     (z : Sizes) (w : Words) (hs : Homes) (vs : List View) (id d variable low high : ℕ) (v : View) (h : Hand) → Lawful z w hs vs → get_elem? vs id ≡ some v → v.active ≡ true
     → MayWriteNode w.nodes v d h variable low high → HasFields variable low high
+
+-- no confirmed announcement names the slot
+abbrev pub IsUnconfirmed : List View → ℕ → Type 0
+IsUnconfirmed vs x = (id k : ℕ) (v : View) → get_elem? vs id ≡ some v → v.active ≡ true → get_elem? v.phases k ≡ some (Confirmed x) → ⊥
+
+-- a slot that nobody owns: no name, no draft, no table, and no confirmed announcement
+pub record IsFree (w : Words) (hs : Homes) (vs : List View) (x : ℕ) : Type 0 where
+  pub owners : owners w hs vs x ≡ 0
+  pub drafts : drafts vs x ≡ 0
+  pub tabled : tabled hs vs x ≡ 0
+  pub unconfirmed : IsUnconfirmed vs x
+
+-- in a lawful state a slot that a claim wins is free
+abbrev pub ClaimedIsFree : Type 0
+ClaimedIsFree =
+    (z : Sizes) (w : Words) (hs : Homes) (vs : List View) (x : ℕ) → Lawful z w hs vs → 2 ≤ x → x < z.names → wins_claim w x ≡ true → IsFree w hs vs x
+
+-- a slot whose one owner is its table
+pub record IsDead (w : Words) (hs : Homes) (vs : List View) (x : ℕ) : Type 0 where
+  pub owners : owners w hs vs x ≡ 1
+  pub drafts : drafts vs x ≡ 0
+  pub tabled : tabled hs vs x ≡ 1
+  pub unconfirmed : IsUnconfirmed vs x
+
+-- in a lawful state a slot that is taken back is owned by its table alone; afterwards it is in none, and every other slot is as before
+abbrev pub ReclaimedIsFree : Type 0
+ReclaimedIsFree =
+    (z : Sizes) (w : Words) (hs : Homes) (vs : List View) (id x : ℕ) (v : View) (h : Hand) → Lawful z w hs vs → get_elem? vs id ≡ some v → v.active ≡ true → MayReclaim w v h x
+    → IsDead w hs vs x
+    × (tabled hs (set vs id (reclaimed v h x (get_or w.nodes x 0))) x ≡ 0)
+    × ((y : ℕ) → y ≢ x → tabled hs (set vs id (reclaimed v h x (get_or w.nodes x 0))) y ≡ tabled hs vs y)
+
+-- in a lawful state the table of a stripe whose lock is 0 is at home
+abbrev pub TableIsThere : Type 0
+TableIsThere = (z : Sizes) (w : Words) (hs : Homes) (vs : List View) (i : ℕ) → Lawful z w hs vs → i < 16 → wins_lock w i ≡ true → (t : Entries) × (get_elem? hs i ≡ some (some t))

@@ -1,30 +1,38 @@
 -- What is proved of the steps, as statements over the definitions alone.
-use Rattle.std.specs.Prelude.{◌≡◌, ℕ, ◌+◌, ◌-◌, ◌^◌, ◌<◌, ◌≤◌, List, length, get_or, set, true}
+use Rattle.std.specs.Prelude.{◌≡◌, ℕ, ◌+◌, ◌-◌, ◌^◌, ◌<◌, ◌≤◌, List, length, get_or, set, true, false}
 use mathlib.Core.Option.{some}
 use lib.ListN.{get_elem?}
 use Rattle.eqc_tree.specs.Tree.{Tree}
 use Rattle.eqc_core.specs.declared.sizes.Sizes.{Sizes}
 use Rattle.eqc_core.specs.declared.event.Event.{Event}
-use Rattle.eqc_core.specs.View.{View, phase_at, view_at}
+use Rattle.eqc_core.specs.declared.event.Step.{Step}
+use Rattle.eqc_core.specs.declared.event.Step.TheVariants.{Split, Join, Announce, Look, Recheck, Up, Down, SwapCell, ScanOne, Lock, Unlock, Claim, Unclaim, WriteNode, ReadNode, Reclaim}
+use Rattle.eqc_core.specs.View.{View, Hand, phase_at, view_at}
 use Rattle.eqc_core.specs.Words.{Words, word_at}
-use Rattle.eqc_core.specs.Tables.{Homes, tabled}
+use Rattle.eqc_core.specs.Tables.{Entries, Homes, tabled}
 use Rattle.eqc_core.specs.Trees.{IsTree}
 use Rattle.eqc_core.specs.Lawful.{Lawful}
 use Rattle.eqc_core.specs.State.{State, IsLawful, IsWithinLimits, opening}
-use Rattle.eqc_core.specs.Facts.{ConfirmedCounted}
+use Rattle.eqc_core.specs.Facts.{ConfirmedCounted, IsFree, IsDead}
 use Rattle.eqc_core.specs.Moves.{with_announced, with_count, with_cell}
 use Rattle.eqc_core.specs.Announcing.{MayLook, looked, MayAnnounce, announced, announced_cell, MayRecheck, rechecked}
 use Rattle.eqc_core.specs.Counting.{MayUp, upped, MayDown, downed}
 use Rattle.eqc_core.specs.Caching.{MaySwapCell, swapped}
 use Rattle.eqc_core.specs.Scanning.{MayScan, scanned}
 use Rattle.eqc_core.specs.Seating.{MaySplit, split, MayJoin, joined, join}
+use Rattle.eqc_core.specs.Locking.{MayTryLock, locked_words, taken_out, locked, MayUnlock, unlocked_words, put_home, unlocked}
+use Rattle.eqc_core.specs.Making.{MayTryClaim, claimed_words, claimed, found_taken, MayUnclaim, unclaimed_words, unclaimed, MayWrite, written_words, wrote, MayRead, read_node, MayReclaim, reclaimed_words, reclaimed}
 use Rattle.eqc_core.specs.Run.{May, held_before, view_after, IsAllowed, after, Runs}
 
 -- in each lawful state, a step that an active worker may take, after which it holds 2 ^ 40 names at most, leads to a lawful state
-abbrev pub StaysLawful : (Words → View → Type 0) → (Sizes → ℕ → Words → View → Words) → (Words → View → View) → Type 0
-StaysLawful may words view =
+abbrev pub KeepsLawful : (Words → Homes → View → Type 0) → (Sizes → ℕ → Words → View → Words) → (Homes → Homes) → (Words → View → View) → Type 0
+KeepsLawful may words homes view =
     (z : Sizes) (w : Words) (hs : Homes) (vs : List View) (id : ℕ) (v : View) → Lawful z w hs vs → get_elem? vs id ≡ some v → v.active ≡ true
-    → may w v → length (view w v).held ≤ 2 ^ 40 → Lawful z (words z id w v) hs (set vs id (view w v))
+    → may w hs v → length (view w v).held ≤ 2 ^ 40 → Lawful z (words z id w v) (homes hs) (set vs id (view w v))
+
+-- such a step that leaves the tables at home
+abbrev pub StaysLawful : (Words → View → Type 0) → (Sizes → ℕ → Words → View → Words) → (Words → View → View) → Type 0
+StaysLawful may words view = KeepsLawful (λ w hs v. may w v) words (λ hs. hs) view
 
 -- a look at the cell c for the k-th announcement word
 abbrev pub LookKeeps : Type 0
@@ -58,6 +66,38 @@ JoinKeeps =
     (z : Sizes) (w : Words) (hs : Homes) (vs : List View) (id from : ℕ) (v o : View) → Lawful z w hs vs → get_elem? vs id ≡ some v → v.active ≡ true → get_elem? vs from ≡ some o
     → MayJoin v from o → length (joined v from o).held ≤ 2 ^ 40 → Lawful z w hs (join vs id v from)
 
+-- a try for the lock of the stripe i that is won, with the table t that is at home then
+abbrev pub LockKeeps : Type 0
+LockKeeps =
+    (i : ℕ) (t : Entries)
+    → KeepsLawful (λ w hs v. MayTryLock w v i true × (get_elem? hs i ≡ some (some t))) (λ z id w v. locked_words w i) (λ hs. taken_out hs i) (λ w v. locked v i t)
+
+-- a try that is not won
+abbrev pub LockLostKeeps : Type 0
+LockLostKeeps = (i : ℕ) → StaysLawful (λ w v. MayTryLock w v i false) (λ z id w v. w) (λ w v. v)
+
+-- the stripe in hand is put home, with its entries in any order
+abbrev pub UnlockKeeps : Type 0
+UnlockKeeps = (h : Hand) (t : Entries) → KeepsLawful (λ w hs v. MayUnlock v h t) (λ z id w v. unlocked_words w h) (λ hs. put_home hs h t) (λ w v. unlocked v)
+
+abbrev pub ClaimKeeps : Type 0
+ClaimKeeps = (x : ℕ) → StaysLawful (λ w v. MayTryClaim w v x true) (λ z id w v. claimed_words w x) (λ w v. claimed v x)
+
+abbrev pub ClaimLostKeeps : Type 0
+ClaimLostKeeps = (x : ℕ) → StaysLawful (λ w v. MayTryClaim w v x false) (λ z id w v. w) (λ w v. found_taken v x)
+
+abbrev pub UnclaimKeeps : Type 0
+UnclaimKeeps = (d : ℕ) → StaysLawful (λ w v. MayUnclaim v d) (λ z id w v. unclaimed_words w d) (λ w v. unclaimed v)
+
+abbrev pub WriteNodeKeeps : Type 0
+WriteNodeKeeps = (d word : ℕ) (h : Hand) → StaysLawful (λ w v. MayWrite w.nodes v d h word) (λ z id w v. written_words w d word) (λ w v. wrote v d h word)
+
+abbrev pub ReadNodeKeeps : Type 0
+ReadNodeKeeps = (x : ℕ) → StaysLawful (λ w v. MayRead v x) (λ z id w v. w) (λ w v. read_node v x (get_or w.nodes x 0))
+
+abbrev pub ReclaimKeeps : Type 0
+ReclaimKeeps = (x : ℕ) (h : Hand) → StaysLawful (λ w v. MayReclaim w v h x) (λ z id w v. reclaimed_words w x) (λ w v. reclaimed v h x (get_or w.nodes x 0))
+
 -- from the empty forest, or from one with the literals of n variables, each run's last state is lawful
 abbrev pub RunIsLawful : Type 0
 RunIsLawful =
@@ -75,3 +115,29 @@ abbrev pub StepsHaveRoom : Type 0
 StepsHaveRoom =
     (s : State) (e : Event) → IsLawful s → (view_at s.views e.worker).active ≡ true → May s (view_at s.views e.worker) e.step
     → held_before s (view_at s.views e.worker) e.step ≤ 2 ^ 39 → length (view_after s (view_at s.views e.worker) e.step).held ≤ 2 ^ 40
+
+-- what a step says of the slot that it claims, or takes back: the one is free, and the other's one owner is its table
+abbrev pub IsGivenOnce : State → Step → Type 0
+IsGivenOnce s (Split to) = Unit {0}
+IsGivenOnce s (Join from) = Unit {0}
+IsGivenOnce s (Announce x) = Unit {0}
+IsGivenOnce s (Look c) = Unit {0}
+IsGivenOnce s Recheck = Unit {0}
+IsGivenOnce s (Up x) = Unit {0}
+IsGivenOnce s (Down x) = Unit {0}
+IsGivenOnce s (SwapCell c word) = Unit {0}
+IsGivenOnce s ScanOne = Unit {0}
+IsGivenOnce s (Lock i won) = Unit {0}
+IsGivenOnce s (Unlock i) = Unit {0}
+IsGivenOnce s (Claim x true) = IsFree s.words s.homes s.views x
+IsGivenOnce s (Claim x false) = Unit {0}
+IsGivenOnce s Unclaim = Unit {0}
+IsGivenOnce s (WriteNode variable low high) = Unit {0}
+IsGivenOnce s (ReadNode x) = Unit {0}
+IsGivenOnce s (Reclaim x) = IsDead s.words s.homes s.views x
+
+-- at each event of each run: a slot that is claimed has no owner, one that is taken back only its table, and no confirmed announcement names either
+abbrev pub NoSlotGivenAgain : Type 0
+NoSlotGivenAgain =
+    (z : Sizes) (n : ℕ) (events : List Event) (last : State) (next : Event) → IsWithinLimits z → n + 2 ≤ z.names → n ≤ z.variables → Runs (opening z n) events last
+    → IsAllowed last next → IsGivenOnce last next.step

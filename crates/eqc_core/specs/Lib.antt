@@ -16,8 +16,10 @@ pub mod Locking
 pub mod Making
 pub mod Sharing
 pub mod State
+pub mod Stripes
 pub mod Machine
 pub mod Run
 pub mod Replay
+pub mod Collecting
 pub mod Facts
 pub mod Laws

@@ -1,7 +1,7 @@
--- A stripe's lock is taken, and with it the stripe's table; and let go. No event takes these steps yet.
+-- A stripe's lock is taken, and with it the stripe's table; and let go.
 use Rattle.std.specs.Prelude.{◌≡◌, ℕ, ◌<◌, [], sum_by, Some, None, Bool, eqb, get_or, set}
 use mathlib.Core.Option.{some, none}
-use Rattle.eqc_core.specs.View.{View, Hand}
+use Rattle.eqc_core.specs.View.{View, Hand, hand_of}
 use Rattle.eqc_core.specs.Words.{Words}
 use Rattle.eqc_core.specs.Tables.{Entries, Homes}
 use Rattle.eqc_core.specs.Moves.{IsReady, with_lock}
@@ -35,6 +35,10 @@ SameEntries t u = (f : ℕ × ℕ → ℕ) → sum_by f t ≡ sum_by f u
 -- the table put home has the entries of the one in hand
 abbrev pub MayUnlock : View → Hand → Entries → Type 0
 MayUnlock v h t = IsReady v × (v.hand ≡ Some h) × SameEntries t h.entries
+
+-- the event says which stripe goes home, and puts its table there as it is
+abbrev pub MayPutHome : View → ℕ → Type 0
+MayPutHome v i = MayUnlock v (hand_of v.hand) (hand_of v.hand).entries × ((hand_of v.hand).stripe ≡ i)
 
 -- the table is put home, and the lock is cleared
 abbrev pub unlocked_words : Words → Hand → Words

@@ -1,4 +1,4 @@
--- A node's life: a free slot is claimed, its word is written and stands in its stripe's table, its children are read, and a node that only the table owns is taken back. No event takes these steps yet.
+-- A node's life: a free slot is claimed, its word is written and stands in its stripe's table, its children are read, and a node that only the table owns is taken back.
 use Rattle.std.specs.Prelude.{◌≡◌, ℕ, ◌<◌, ◌≤◌, List, [], ◌∷◌, ◌++◌, get_or, if◌then◌else◌, eqb, Some, None, Bool}
 use Rattle.eqc_tree.specs.Word.{node_word}
 use Rattle.eqc_core.specs.View.{View, Hand}

@@ -1,17 +1,21 @@
 -- When an event is allowed, what it changes, and the runs of allowed events.
-use Rattle.std.specs.Prelude.{◌≡◌, ℕ, zero, suc, ◌+◌, ◌-◌, ◌^◌, ◌≤◌, List, [], ◌∷◌, length, set, get_or, true}
+use Rattle.std.specs.Prelude.{◌≡◌, ℕ, zero, suc, ◌+◌, ◌-◌, ◌^◌, ◌≤◌, List, [], ◌∷◌, length, set, get_or, true, false}
+use mathlib.Core.Option.{none}
+use Rattle.eqc_tree.specs.Word.{node_word}
 use Rattle.eqc_core.specs.declared.event.Event.{Event}
 use Rattle.eqc_core.specs.declared.event.Step.{Step}
-use Rattle.eqc_core.specs.declared.event.Step.TheVariants.{Split, Join, Announce, Look, Recheck, Up, Down, SwapCell, ScanOne}
-use Rattle.eqc_core.specs.View.{View, view_at, phase_at}
+use Rattle.eqc_core.specs.declared.event.Step.TheVariants.{Split, Join, Announce, Look, Recheck, Up, Down, SwapCell, ScanOne, Lock, Unlock, Claim, Unclaim, WriteNode, ReadNode, Reclaim}
+use Rattle.eqc_core.specs.View.{View, view_at, phase_at, draft_of, hand_of}
 use Rattle.eqc_core.specs.Words.{Words, word_at}
-use Rattle.eqc_core.specs.Tables.{Homes}
+use Rattle.eqc_core.specs.Tables.{Homes, entries_of}
 use Rattle.eqc_core.specs.State.{State}
 use Rattle.eqc_core.specs.Moves.{with_announced, with_count, with_cell}
 use Rattle.eqc_core.specs.Announcing.{MayLook, looked, MayAnnounce, announced, announced_cell, MayRecheck, rechecked}
 use Rattle.eqc_core.specs.Counting.{MayUp, upped, MayDown, downed}
 use Rattle.eqc_core.specs.Caching.{MaySwapCell, swapped}
 use Rattle.eqc_core.specs.Scanning.{MayScan, scanned}
+use Rattle.eqc_core.specs.Locking.{MayTryLock, locked_words, taken_out, locked, MayPutHome, unlocked_words, put_home, unlocked}
+use Rattle.eqc_core.specs.Making.{MayTryClaim, claimed_words, claimed, found_taken, MayUnclaim, unclaimed_words, unclaimed, MayWriteNode, written_words, wrote, MayRead, read_node, MayReclaim, reclaimed_words, reclaimed}
 use Rattle.eqc_core.specs.Seating.{MaySplit, splitter, split, MayJoin, joined, join}
 
 -- a worker with this view may take the step
@@ -25,6 +29,13 @@ May s v (Up x) = MayUp v x
 May s v (Down x) = MayDown v x
 May s v (SwapCell c word) = MaySwapCell s.words.nodes v c word
 May s v ScanOne = MayScan v
+May s v (Lock i won) = MayTryLock s.words v i won
+May s v (Unlock i) = MayPutHome v i
+May s v (Claim x won) = MayTryClaim s.words v x won
+May s v Unclaim = MayUnclaim v (draft_of v.draft)
+May s v (WriteNode variable low high) = MayWriteNode s.words.nodes v (draft_of v.draft) (hand_of v.hand) variable low high
+May s v (ReadNode x) = MayRead v x
+May s v (Reclaim x) = MayReclaim s.words v (hand_of v.hand) x
 
 -- the worker's view after it
 abbrev pub view_after : State → View → Step → View
@@ -37,6 +48,15 @@ view_after s v (Up x) = upped v x
 view_after s v (Down x) = downed v x
 view_after s v (SwapCell c word) = swapped v (get_or s.words.cells c 0) word
 view_after s v ScanOne = scanned v (get_or s.words.announced v.position 0)
+view_after s v (Lock i true) = locked v i (entries_of (get_or s.homes i none))
+view_after s v (Lock i false) = v
+view_after s v (Unlock i) = unlocked v
+view_after s v (Claim x true) = claimed v x
+view_after s v (Claim x false) = found_taken v x
+view_after s v Unclaim = unclaimed v
+view_after s v (WriteNode variable low high) = wrote v (draft_of v.draft) (hand_of v.hand) (node_word variable low high)
+view_after s v (ReadNode x) = read_node v x (get_or s.words.nodes x 0)
+view_after s v (Reclaim x) = reclaimed v (hand_of v.hand) x (get_or s.words.nodes x 0)
 
 -- how many names the workers of the step hold before it: a join has two
 abbrev pub held_before : State → View → Step → ℕ
@@ -49,20 +69,36 @@ held_before s v (Up x) = length v.held
 held_before s v (Down x) = length v.held
 held_before s v (SwapCell c word) = length v.held
 held_before s v ScanOne = length v.held
+held_before s v (Lock i won) = length v.held
+held_before s v (Unlock i) = length v.held
+held_before s v (Claim x won) = length v.held
+held_before s v Unclaim = length v.held
+held_before s v (WriteNode variable low high) = length v.held
+held_before s v (ReadNode x) = length v.held
+held_before s v (Reclaim x) = length v.held
 
--- the words after the step of worker id
-abbrev pub words_after : State → ℕ → Step → Words
-words_after s id (Split to) = s.words
-words_after s id (Join from) = s.words
-words_after s id (Announce x) = with_announced s.words (word_at s.sizes id 0) x
-words_after s id (Look c) = s.words
-words_after s id Recheck = s.words
-words_after s id (Up x) = with_count s.words x (get_or s.words.counts x 0 + 1)
-words_after s id (Down x) = with_count s.words x (get_or s.words.counts x 0 - 1)
-words_after s id (SwapCell c word) = with_cell s.words c word
-words_after s id ScanOne = s.words
+-- the words after the step of worker id, whose view is v
+abbrev pub words_after : State → ℕ → View → Step → Words
+words_after s id v (Split to) = s.words
+words_after s id v (Join from) = s.words
+words_after s id v (Announce x) = with_announced s.words (word_at s.sizes id 0) x
+words_after s id v (Look c) = s.words
+words_after s id v Recheck = s.words
+words_after s id v (Up x) = with_count s.words x (get_or s.words.counts x 0 + 1)
+words_after s id v (Down x) = with_count s.words x (get_or s.words.counts x 0 - 1)
+words_after s id v (SwapCell c word) = with_cell s.words c word
+words_after s id v ScanOne = s.words
+words_after s id v (Lock i true) = locked_words s.words i
+words_after s id v (Lock i false) = s.words
+words_after s id v (Unlock i) = unlocked_words s.words (hand_of v.hand)
+words_after s id v (Claim x true) = claimed_words s.words x
+words_after s id v (Claim x false) = s.words
+words_after s id v Unclaim = unclaimed_words s.words (draft_of v.draft)
+words_after s id v (WriteNode variable low high) = written_words s.words (draft_of v.draft) (node_word variable low high)
+words_after s id v (ReadNode x) = s.words
+words_after s id v (Reclaim x) = reclaimed_words s.words x
 
--- the tables at home after it: of these steps, none takes a table out or puts one home
+-- the tables at home after it: a lock that is won takes one out, and an unlock puts one home
 abbrev pub homes_after : State → View → Step → Homes
 homes_after s v (Split to) = s.homes
 homes_after s v (Join from) = s.homes
@@ -73,6 +109,14 @@ homes_after s v (Up x) = s.homes
 homes_after s v (Down x) = s.homes
 homes_after s v (SwapCell c word) = s.homes
 homes_after s v ScanOne = s.homes
+homes_after s v (Lock i true) = taken_out s.homes i
+homes_after s v (Lock i false) = s.homes
+homes_after s v (Unlock i) = put_home s.homes (hand_of v.hand) (hand_of v.hand).entries
+homes_after s v (Claim x won) = s.homes
+homes_after s v Unclaim = s.homes
+homes_after s v (WriteNode variable low high) = s.homes
+homes_after s v (ReadNode x) = s.homes
+homes_after s v (Reclaim x) = s.homes
 
 -- all views after it: a split and a join change two of them
 abbrev pub views_after : State → ℕ → View → Step → List View
@@ -85,6 +129,13 @@ views_after s id v (Up x) = set s.views id (view_after s v (Up x))
 views_after s id v (Down x) = set s.views id (view_after s v (Down x))
 views_after s id v (SwapCell c word) = set s.views id (view_after s v (SwapCell c word))
 views_after s id v ScanOne = set s.views id (view_after s v ScanOne)
+views_after s id v (Lock i won) = set s.views id (view_after s v (Lock i won))
+views_after s id v (Unlock i) = set s.views id (view_after s v (Unlock i))
+views_after s id v (Claim x won) = set s.views id (view_after s v (Claim x won))
+views_after s id v Unclaim = set s.views id (view_after s v Unclaim)
+views_after s id v (WriteNode variable low high) = set s.views id (view_after s v (WriteNode variable low high))
+views_after s id v (ReadNode x) = set s.views id (view_after s v (ReadNode x))
+views_after s id v (Reclaim x) = set s.views id (view_after s v (Reclaim x))
 
 -- the worker is active, may take the step, and holds 2 ^ 40 names at most after it, so that no count wraps
 pub record IsAllowed (s : State) (e : Event) : Type 0 where
@@ -94,7 +145,7 @@ pub record IsAllowed (s : State) (e : Event) : Type 0 where
 
 abbrev pub after : State → Event → State
 after s e =
-    let v = view_at s.views e.worker in record s { words = words_after s e.worker e.step; homes = homes_after s v e.step; views = views_after s e.worker v e.step }
+    let v = view_at s.views e.worker in record s { words = words_after s e.worker v e.step; homes = homes_after s v e.step; views = views_after s e.worker v e.step }
 
 -- the events lead from s to t, each allowed when it is taken
 abbrev pub Runs : State → List Event → State → Type 0

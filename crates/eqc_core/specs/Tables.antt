@@ -1,5 +1,5 @@
 -- The unique tables: one for each stripe of the node words, at home or in the hand of the worker that has its lock.
-use Rattle.std.specs.Prelude.{◌≡◌, ℕ, ◌+◌, ◌<◌, ◌⊎◌, List, ◌∷◌, sum_by, eqb, cond, Option, Some, None}
+use Rattle.std.specs.Prelude.{◌≡◌, ℕ, ◌+◌, ◌<◌, ◌⊎◌, List, [], ◌∷◌, sum_by, eqb, cond, Option, Some, None}
 use mathlib.Core.Option as May
 use mathlib.Core.Option.{some, none}
 use lib.ListN.{get_elem?}
@@ -13,6 +13,11 @@ Entries = List (ℕ × ℕ)
 -- the tables at home; one that was taken is out
 abbrev pub Homes : Type 0
 Homes = List (May.Option Entries)
+
+-- the table at home; a lock is won only where there is one
+abbrev pub entries_of : May.Option Entries → Entries
+entries_of none = []
+entries_of (some t) = t
 
 abbrev pub at_home : (Entries → ℕ) → May.Option Entries → ℕ
 at_home f none = 0

@@ -1,5 +1,5 @@
 -- What each worker knows. The words of the others tell nothing of it.
-use Rattle.std.specs.Prelude.{ℕ, zero, suc, List, [], ◌∷◌, Bool, true, false, Option, None, get_or}
+use Rattle.std.specs.Prelude.{ℕ, zero, suc, List, [], ◌∷◌, Bool, true, false, Option, Some, None, get_or}
 use Rattle.eqc_core.specs.declared.sizes.Sizes.{Sizes}
 use Rattle.eqc_core.specs.declared.phase.Phase.{Phase}
 use Rattle.eqc_core.specs.declared.phase.Phase.TheVariants.{Idle}
@@ -76,3 +76,12 @@ grown (v ∷ vs) (suc n) = v ∷ grown vs n
 -- the phase of the view's k-th announcement word
 abbrev pub phase_at : View → ℕ → Phase
 phase_at v k = get_or v.phases k Idle
+
+-- the draft, and the stripe in hand, of a view that has one: a step that takes one is allowed only then
+abbrev pub draft_of : Option ℕ → ℕ
+draft_of None = 0
+draft_of (Some d) = d
+
+abbrev pub hand_of : Option Hand → Hand
+hand_of None = record { stripe = 0; entries = [] }
+hand_of (Some h) = h

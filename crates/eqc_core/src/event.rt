@@ -1,6 +1,7 @@
 //! One step of one worker.
 
-/// One step of one worker: a load, a store, a swap or an add on one shared word, or a split or join.
+/// One step of one worker: a load, a store, a swap, an add or a compare-and-exchange on one shared
+/// word, or a split or join.
 #[derive(Clone, Copy)]
 pub struct Event {
     /// The number of the worker, counted from 0.
@@ -30,4 +31,18 @@ pub enum Step {
     SwapCell(u32, u64),
     /// Loads the announcement word at the scan's position.
     ScanOne,
+    /// Tries for this stripe's lock, and says whether it is won: then the stripe is in hand.
+    Lock(u32, bool),
+    /// Puts this stripe home, which is in hand.
+    Unlock(u32),
+    /// Tries for this slot, and says whether it is won: then it is the worker's draft.
+    Claim(u32, bool),
+    /// Gives the draft up.
+    Unclaim,
+    /// Writes the node of this variable, low child and high child into the draft.
+    WriteNode(u16, u32, u32),
+    /// Loads the node word of this slot, which is held.
+    ReadNode(u32),
+    /// Takes this slot of the stripe in hand back, whose count is 1.
+    Reclaim(u32),
 }

@@ -1,6 +1,7 @@
 //! The laws of the machine. Each function is a fact about the definitions, with nothing to run.
-ghost use Rattle.eqc_core.specs.Laws.{LookKeeps, AnnounceKeeps, RecheckKeeps, UpKeeps, DownKeeps, SwapCellKeeps, ScanOneKeeps, SplitKeeps, JoinKeeps, RunIsLawful, StepsKeepTrees, StepsHaveRoom};
-ghost use Rattle.eqc_core.specs.Facts.{NoCountWraps, TreesAreOne, ViewsAreBounded, HeldIsCounted, ConfirmedIsCounted, NamesAreTabled, ScansKeepNames, ScansLeaveFew, SplitsComeLast, NothingOutIsAlone, WrittenFieldsAreRead};
+ghost use Rattle.eqc_core.specs.Laws.{LookKeeps, AnnounceKeeps, RecheckKeeps, UpKeeps, DownKeeps, SwapCellKeeps, ScanOneKeeps, SplitKeeps, JoinKeeps, LockKeeps, LockLostKeeps, UnlockKeeps, ClaimKeeps, ClaimLostKeeps, UnclaimKeeps, WriteNodeKeeps, ReadNodeKeeps, ReclaimKeeps, RunIsLawful, NoSlotGivenAgain, StepsKeepTrees, StepsHaveRoom};
+ghost use Rattle.eqc_core.specs.Facts.{NoCountWraps, TreesAreOne, ViewsAreBounded, HeldIsCounted, ConfirmedIsCounted, NamesAreTabled, ScansKeepNames, ScansLeaveFew, SplitsComeLast, NothingOutIsAlone, WrittenFieldsAreRead, TableIsThere, ClaimedIsFree, ReclaimedIsFree};
+ghost use Rattle.eqc_core.specs.Collecting.{LeastIsDead, TurnRaises, TurnsEmpty, NoDeadIsEmpty, EmptyIsFree, TriesAreSteps, StripesAreSteps};
 
 /// Every state of every run is lawful, and the count of a confirmed name is at least 2.
 ///
@@ -8,6 +9,14 @@ ghost use Rattle.eqc_core.specs.Facts.{NoCountWraps, TreesAreOne, ViewsAreBounde
 /// It may have up to 1,048,576 workers, 1,048,574 slots, 65,536 variables and 1,048,576 cells.
 pub fn run_is_lawful()
     ensures { RunIsLawful }
+{}
+
+/// No slot is given while anything names it, at any event of any run.
+///
+/// A slot that is claimed has no owner, one that is taken back has its table as its only owner, and
+/// no confirmed announcement names either.
+pub fn no_slot_given_again()
+    ensures { NoSlotGivenAgain }
 {}
 
 /// A look at a cell leaves the state lawful.
@@ -53,6 +62,51 @@ pub fn split_keeps()
 /// A join leaves the state lawful.
 pub fn join_keeps()
     ensures { JoinKeeps }
+{}
+
+/// A stripe's lock that is won, and its table taken from home, leave the state lawful.
+pub fn lock_keeps()
+    ensures { LockKeeps }
+{}
+
+/// A lock that is not won leaves the state lawful.
+pub fn lock_lost_keeps()
+    ensures { LockLostKeeps }
+{}
+
+/// A stripe that is put home, with its entries in any order, leaves the state lawful.
+pub fn unlock_keeps()
+    ensures { UnlockKeeps }
+{}
+
+/// A free slot that is claimed leaves the state lawful.
+pub fn claim_keeps()
+    ensures { ClaimKeeps }
+{}
+
+/// A claim that is not won leaves the state lawful.
+pub fn claim_lost_keeps()
+    ensures { ClaimLostKeeps }
+{}
+
+/// A draft that is given up leaves the state lawful.
+pub fn unclaim_keeps()
+    ensures { UnclaimKeeps }
+{}
+
+/// A node that is written into its draft and its stripe's table leaves the state lawful.
+pub fn write_node_keeps()
+    ensures { WriteNodeKeeps }
+{}
+
+/// A held node that is read leaves the state lawful.
+pub fn read_node_keeps()
+    ensures { ReadNodeKeeps }
+{}
+
+/// A node that is taken back, since its table alone owns it, leaves the state lawful.
+pub fn reclaim_keeps()
+    ensures { ReclaimKeeps }
 {}
 
 /// A step leaves the tree of each slot that is in a table before and after it.
@@ -119,4 +173,54 @@ pub fn nothing_out_is_alone()
 /// The word of a node that may be written has the variable and the children that were given.
 pub fn written_fields_are_read()
     ensures { WrittenFieldsAreRead }
+{}
+
+/// The table of a stripe whose lock is 0 is at home.
+pub fn table_is_there()
+    ensures { TableIsThere }
+{}
+
+/// A slot that a claim wins has no owner, no draft and no table, and no confirmed announcement names it.
+pub fn claimed_is_free()
+    ensures { ClaimedIsFree }
+{}
+
+/// A slot that is taken back is owned by its table alone, and no confirmed announcement names it.
+pub fn reclaimed_is_free()
+    ensures { ReclaimedIsFree }
+{}
+
+/// Where worker 0 is alone and holds nothing, a tabled slot of the least variable has the count 1.
+pub fn least_is_dead()
+    ensures { LeastIsDead }
+{}
+
+/// A whole turn over the tables raises the least variable.
+pub fn turn_raises()
+    ensures { TurnRaises }
+{}
+
+/// After as many turns as variables nothing is tabled.
+pub fn turns_empty()
+    ensures { TurnsEmpty }
+{}
+
+/// Where worker 0 is alone and holds nothing, and no tabled slot has the count 1, nothing is tabled.
+pub fn no_dead_is_empty()
+    ensures { NoDeadIsEmpty }
+{}
+
+/// Where nothing is tabled, and worker 0 is alone and holds nothing, every count is 0.
+pub fn empty_is_free()
+    ensures { EmptyIsFree }
+{}
+
+/// A slot of the stripe in hand is tried by steps, after which worker 0 holds nothing again.
+pub fn tries_are_steps()
+    ensures { TriesAreSteps }
+{}
+
+/// A stripe is taken and put home by steps that leave worker 0 holding nothing.
+pub fn stripes_are_steps()
+    ensures { StripesAreSteps }
 {}

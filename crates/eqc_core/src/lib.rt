@@ -9,7 +9,8 @@
 //!   lawful state says); `event`, the steps
 //! - `state`, a state as callers have it; `playback`, what a list of events makes of it
 //! - `machine`, the stored words; `worker` and `phase`, what a worker knows; `agreement`, whether a
-//!   cell's word is right; `multiset`, `sizes` and `stock`, what these stand on
+//!   cell's word is right; `table`, a stripe's table; `multiset`, `sizes` and `stock`, what these
+//!   stand on
 #![tactic(auto)]
 
 mod agreement;
@@ -22,6 +23,7 @@ mod playback;
 mod sizes;
 mod state;
 mod stock;
+mod table;
 mod worker;
 
 pub use event::{Event, Step};

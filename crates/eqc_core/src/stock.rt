@@ -1,13 +1,17 @@
 //! The machine with which a replay begins.
-ghost use Rattle.std.specs.Prelude.{◌≡◌, ◌≤◌, ◌^◌, IfOk};
-ghost use Rattle.eqc_core.specs.State.{stocked, repeated, literals, slots_from};
-ghost use Rattle.eqc_core.specs.Machine.{state_of};
+ghost use Rattle.std.specs.Prelude.{◌≡◌, ◌≤◌, ◌^◌, map, IfOk};
+ghost use Rattle.eqc_core.specs.State.{stocked, repeated, literals, slots_from, stripe_entries, literal_homes};
+ghost use Rattle.eqc_core.specs.Machine.{state_of, home_of};
 
 use crate::machine::Machine;
 use crate::sizes::Sizes;
+use crate::table::Table;
 use crate::worker::Worker;
 use eqc_tree::pack_node;
 use std::alloc::{AllocError, Global};
+
+// How many stripes the unique table has.
+const STRIPES: u32 = 16;
 
 // A word n times.
 fn repeat(alloc: Global, word: u64, n: u32) -> Result<Vec<u64>, AllocError>
@@ -55,6 +59,34 @@ fn first_slots(alloc: Global, n: u32) -> Result<Vec<u32>, AllocError>
     Ok(slots)
 }
 
+// The table of a stripe, with those of the literals of the first n variables that stand in it.
+fn literal_table(alloc: Global, s: u32, n: u32) -> Result<Table, AllocError>
+    requires { n ≤ 2 ^ 16 }
+    ensures { IfOk result (λ t. t.entries.items ≡ stripe_entries s 0 n) }
+{
+    let mut table = Table::empty(alloc);
+    for k in 0..n {
+        // The children of a literal are 0 and 1.
+        if (k + 1) % STRIPES == s {
+            table.insert(pack_node(k as u16, 0, 1), k + 2)?;
+        }
+    }
+    Ok(table)
+}
+
+// The tables of all stripes, at home.
+fn literal_tables(alloc: Global, n: u32) -> Result<Vec<Option<Table>>, AllocError>
+    requires { n ≤ 2 ^ 16 }
+    ensures { IfOk result (λ v. map home_of v.items ≡ literal_homes n) }
+{
+    let mut homes = Vec::new(alloc);
+    for s in 0..STRIPES {
+        let table = literal_table(alloc, s, n)?;
+        homes.push(Some(table))?;
+    }
+    Ok(homes)
+}
+
 // Each variable's literal has a slot, which worker 0 holds once. Worker 0 is alone.
 pub(crate) fn stock(
     alloc: Global,
@@ -86,6 +118,8 @@ pub(crate) fn stock(
         counts,
         nodes: words,
         cells: repeat(alloc, 0, cells)?,
+        locks: repeat(alloc, 0, STRIPES)?,
+        homes: literal_tables(alloc, nodes)?,
         workers: all,
     })
 }

@@ -1,5 +1,5 @@
 -- What is at fault is found, and told by its place.
-use Rattle.std.proofs.Common.{◌==◌, ◌≡◌, ℕ, zero, suc, ◌+◌, ◌-◌, ◌<◌, ◌≤◌, inl, inr, Bool, true, false, not, ◌||◌, ◌&&◌, List, [], ◌∷◌, ◌++◌, length, map, take, drop, get_or, refl, sym, ◌∙◌, ap, subst, arith, Option, Some, None, nat_lt, zero-add, cond}
+use Rattle.std.proofs.Common.{◌==◌, ◌≡◌, ℕ, zero, suc, ◌+◌, ◌-◌, ◌<◌, ◌≤◌, inl, inr, Bool, true, false, not, ◌||◌, ◌&&◌, List, [], ◌∷◌, ◌++◌, length, map, take, drop, get_or, refl, sym, ◌∙◌, ap, subst, arith, Option, Some, None, nat_lt, cond}
 use Rattle.std.specs.Prelude.{slice_index_or, is_some, is_none, position, IsSome, Contains, MatchOption}
 use Rattle.std.specs.List.{list_any, flat_map, fold, position_or_len}
 use Rattle.std.specs.Option.{option_map}
@@ -23,7 +23,10 @@ use Rattle.eqc_flat.specs.Finding.{steps_of, hierarchical_name, callee, IsCircle
 use Rattle.eqc_flat.specs.NameSets.{with_name}
 use Rattle.eqc_flat.specs.Reaching.{some_instance_in}
 use Rattle.eqc_flat.specs.ModelFaults.{names_no_model, names_no_formal, names_formal_twice, leaves_input_out, ports}
+use Rattle.eqc_flat.specs.Rule.{rule_code}
 use Rattle.eqc_flat.specs.declared.hierarchical_name.Step.{Step}
+use Rattle.eqc_flat.specs.declared.rule.Rule.{Rule}
+use Rattle.eqc_flat.specs.declared.rule.Rule.TheVariants.{NoSuchModel, Recursion, UnknownFormal, FormalTwice, MissingInput, DrivenTwice, Undriven, Circle, TooLarge, ManyInputs}
 use Rattle.eqc_flat.specs.declared.stored_driver.StoredDriver.{StoredDriver}
 use Rattle.eqc_flat.proofs.InstanceLaws.{first_more, first_all}
 use Rattle.eqc_flat.proofs.ExpandedLaws.{front_place}
@@ -211,52 +214,47 @@ pub there : (o : Option ℕ) → is_some o ≡ true → IsSome o
 there None e = absurd (true≢false (sym e))
 there (Some s) e = refl
 
--- the conditions of the codes, each with its code, in their order
-abbrev conditions : List ModelOf → ℕ → List (Bool × ℕ)
+-- the conditions of the codes, each with its rule, in their order
+abbrev conditions : List ModelOf → ℕ → List (Bool × Rule)
 conditions library top =
-    (has_no_such_model library top, 21) ∷ (is_recursive library top, 22) ∷ (has_unknown_formal library top, 23) ∷ (has_formal_twice library top, 24) ∷ (has_missing_formal library top, 25)
-    ∷ (is_too_large library top, 29) ∷ (has_many_inputs library top, 30) ∷ (is_driven_twice library top, 26) ∷ (is_undriven library top, 27) ∷ (is_cyclic library top, 28) ∷ []
+    (has_no_such_model library top, NoSuchModel) ∷ (is_recursive library top, Recursion) ∷ (has_unknown_formal library top, UnknownFormal) ∷ (has_formal_twice library top, FormalTwice) ∷ (has_missing_formal library top, MissingInput)
+    ∷ (is_too_large library top, TooLarge) ∷ (has_many_inputs library top, ManyInputs) ∷ (is_driven_twice library top, DrivenTwice) ∷ (is_undriven library top, Undriven) ∷ (is_cyclic library top, Circle) ∷ []
 
 -- the code of the first condition that holds
-abbrev first_code : List (Bool × ℕ) → Option ℕ
+abbrev first_code : List (Bool × Rule) → Option ℕ
 first_code [] = None
-first_code (c ∷ cs) = code_if c.0 c.1 (first_code cs)
+first_code (c ∷ cs) = code_if c.0 (rule_code c.1) (first_code cs)
 
 code_first : (library : List ModelOf) (top : ℕ) → flat_code library top ≡ first_code (conditions library top)
 unfolding flat_code
 code_first library top = refl
 
 -- where a code is told, a condition with it holds
-told_by : (cs : List (Bool × ℕ)) (code : ℕ) → first_code cs ≡ Some code → list_any (λ c. (c.1 == code) && c.0) cs ≡ true
+told_by : (cs : List (Bool × Rule)) (code : ℕ) → first_code cs ≡ Some code → list_any (λ c. (rule_code c.1 == code) && c.0) cs ≡ true
 told_by [] code e = absurd (none_some code e)
-told_by ((true, n) ∷ cs) code e = rw (eq-eqb n code (inside e)) refl
+told_by ((true, rule) ∷ cs) code e = rw (eq-eqb (rule_code rule) code (inside e)) refl
   where
-    inside : Some n ≡ Some code → n ≡ code
+    inside : Some (rule_code rule) ≡ Some code → rule_code rule ≡ code
     inside e = cc
-told_by ((false, n) ∷ cs) code e = or_right ((n == code) && false) (list_any (λ c. (c.1 == code) && c.0) cs) (told_by cs code e)
+told_by ((false, rule) ∷ cs) code e = or_right ((rule_code rule == code) && false) (list_any (λ c. (rule_code c.1 == code) && c.0) cs) (told_by cs code e)
 
--- a number is the code of none of these conditions
-abbrev pub IsNoCodeOf : List (Bool × ℕ) → ℕ → Type 0
-IsNoCodeOf [] code = Unit {0}
-IsNoCodeOf (c ∷ cs) code = (code ≡ c.1 → ⊥) × IsNoCodeOf cs code
-
-told_by_none : (cs : List (Bool × ℕ)) (code : ℕ) → first_code cs ≡ Some code → IsNoCodeOf cs code → ⊥
-told_by_none [] code e none = none_some code e
-told_by_none ((true, n) ∷ cs) code e none = none.0 (inside e)
+-- a code that is told is that of a rule
+pub code_rule : (library : List ModelOf) (top code : ℕ) → flat_code library top ≡ Some code → (rule : Rule) × (rule_code rule ≡ code)
+code_rule library top code e = by (conditions library top) (sym (code_first library top) ∙ e)
   where
-    inside : Some n ≡ Some code → code ≡ n
-    inside e = cc
-told_by_none ((false, n) ∷ cs) code e none = told_by_none cs code e none.1
-
--- a code that is told is that of a condition
-pub no_other_code : (library : List ModelOf) (top code : ℕ) → flat_code library top ≡ Some code → IsNoCodeOf (conditions library top) code → ⊥
-no_other_code library top code e none = told_by_none (conditions library top) code (sym (code_first library top) ∙ e) none
+    by : (cs : List (Bool × Rule)) → first_code cs ≡ Some code → (rule : Rule) × (rule_code rule ≡ code)
+    by [] k = absurd (none_some code k)
+    by ((true, rule) ∷ cs) k = (rule, inside k)
+      where
+        inside : Some (rule_code rule) ≡ Some code → rule_code rule ≡ code
+        inside e = cc
+    by ((false, rule) ∷ cs) k = by cs k
 
 or_false : (b : Bool) → (b || false) ≡ true → b ≡ true
 or_false true e = refl
 or_false false e = e
 
-told_code : (library : List ModelOf) (top code : ℕ) → flat_code library top ≡ Some code → list_any (λ c. (c.1 == code) && c.0) (conditions library top) ≡ true
+told_code : (library : List ModelOf) (top code : ℕ) → flat_code library top ≡ Some code → list_any (λ c. (rule_code c.1 == code) && c.0) (conditions library top) ≡ true
 told_code library top code e = told_by (conditions library top) code (sym (code_first library top) ∙ e)
 
 -- the conditions of the codes of models, over the models that are reached
@@ -286,6 +284,12 @@ inputs_many library top e = ltb-true 2048 (length (model library top).inputs) (o
 pub size_large : (library : List ModelOf) (top : ℕ) → flat_code library top ≡ Some 29 → 1048576 < length (signals library top) + (length (paths library top) - 1)
 unfolding is_too_large
 size_large library top e = ltb-true 1048576 (length (signals library top) + (length (paths library top) - 1)) (or_false (is_too_large library top) (told_code library top 29 e))
+
+pub size_ends : (library : List ModelOf) (top : ℕ) → flat_code library top ≡ Some 29 → is_recursive library top ≡ false
+unfolding flat_code
+size_ends library top e =
+    let a = no_code (Some 29) (has_no_such_model library top) 21 _ (apart 21 29 (λ k. absurd (omega (arith, k)))) e in
+    (no_code (Some 29) (is_recursive library top) 22 _ (apart 22 29 (λ k. absurd (omega (arith, k)))) a.1).0
 
 -- what stands somewhere has a first place
 pub place_known : {X : Type 0} (p : X → Bool) (xs : List X) → list_any p xs ≡ true → is_some (position p xs) ≡ true

@@ -30,3 +30,4 @@ pub mod NeedLaws
 pub mod CyclicLaws
 pub mod InputLaws
 pub mod FindingLaws
+pub mod SizeLaws

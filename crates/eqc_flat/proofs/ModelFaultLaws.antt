@@ -40,7 +40,7 @@ missing_formal_is library models some e top same = e ∙ same_instances library 
 
 -- ---- recursion
 
-ends_below : (deps : ℕ → List ℕ) (d n s : ℕ) → d ≤ n → ends_within deps d s ≡ true → ends_within deps n s ≡ true
+pub ends_below : (deps : ℕ → List ℕ) (d n s : ℕ) → d ≤ n → ends_within deps d s ≡ true → ends_within deps n s ≡ true
 ends_below deps d zero s le e = let P : ℕ → Type 0 = λ x. ends_within deps x s ≡ true in let same : d ≡ 0 = omega arith in subst P same e
 ends_below deps d (suc n) s le e = elim (cases_eq d (suc n)) [
   | inl same ↦ let P : ℕ → Type 0 = λ x. ends_within deps x s ≡ true in subst P same e

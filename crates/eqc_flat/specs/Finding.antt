@@ -68,6 +68,11 @@ abbrev pub IsCircle : List ModelOf → ℕ → List (List Step × List ℕ) × �
 IsCircle library top circle =
     (members : List ℕ) × (0 < length members) × (circle.1 ≡ length members) × (circle.0 ≡ map (λ s. hierarchical_name library top (signal_at library top s)) (take 20 members)) × ((k : ℕ) → k < length members → slice_index_or members k 0 < length (signals library top)) × IsWalk (needed library top) (map (signal_at library top) (members ++ slice_index_or members 0 0 ∷ []))
 
+-- a number that is told, or isn't told since it is over 2^64 - 1
+abbrev pub IsTold : Option ℕ → ℕ → Type 0
+IsTold None number = 18446744073709551615 < number
+IsTold (Some told) number = told ≡ number
+
 -- what is named holds of the hierarchy, which is refused for it
 abbrev pub IsAtFault : List ModelOf → ℕ → Finding → Type 0
 IsAtFault library top (NoSuchModel found) = (flat_code library top ≡ Some 21) × IsMissingModel library top found
@@ -78,7 +83,7 @@ IsAtFault library top (MissingInput found) = (flat_code library top ≡ Some 25)
 IsAtFault library top (DrivenTwice name) = (flat_code library top ≡ Some 26) × NamesDrivenTwice library top name
 IsAtFault library top (Undriven name) = (flat_code library top ≡ Some 27) × NamesUndriven library top name
 IsAtFault library top (Circular circle) = (flat_code library top ≡ Some 28) × IsCircle library top circle
-IsAtFault library top (TooLarge limit) = (flat_code library top ≡ Some 29) × (limit ≡ 1048576) × (limit < length (signals library top) + (length (paths library top) - 1))
+IsAtFault library top (TooLarge size limit) = (flat_code library top ≡ Some 29) × (limit ≡ 1048576) × (limit < length (signals library top) + (length (paths library top) - 1)) × IsTold size (length (signals library top) + (length (paths library top) - 1))
 IsAtFault library top (ManyInputs inputs limit) = (flat_code library top ≡ Some 30) × (inputs ≡ length (model library top).inputs) × (limit ≡ 2048) × (limit < inputs)
 
 -- what is at fault, or none where nothing is refused

@@ -20,4 +20,5 @@ pub mod Ordering
 pub mod Known
 pub mod Flattening
 pub mod Walks
+pub mod Sizes
 pub mod Finding

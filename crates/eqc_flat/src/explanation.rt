@@ -1,6 +1,8 @@
 ghost use Rattle.std.specs.Prelude.{◌≡◌, ◌<◌, length, IfOk, Some};
+ghost use Rattle.std.specs.Option.{option_map};
 ghost use Rattle.eqc_flat.specs.Codes.{flat_code};
-ghost use Rattle.eqc_flat.specs.Finding.{IsExplained};
+ghost use Rattle.eqc_flat.specs.Finding.{IsAtFault, IsExplained};
+ghost use Rattle.eqc_flat.specs.Rule.{rule_code};
 
 use crate::circle_finding::circle_below;
 use crate::driver_findings::{driven_twice, undriven};
@@ -10,78 +12,57 @@ use crate::instance_findings::{formal_twice, missing_input, missing_model, unkno
 use crate::instances::LIMIT;
 use crate::recursion::recursive_chain;
 use crate::rule::Rule;
+use crate::size::hierarchy_size;
 use eqc_blif::Library;
 use std::alloc::{AllocError, Global};
 
-/// The code by which the hierarchy below model `top` is refused, or none where it is accepted. Fails where memory is
+/// The rule by which the hierarchy below model `top` is refused, or none where it is accepted. Fails where memory is
 /// refused.
-fn refusal(alloc: Global, library: &Library, top: usize) -> Result<Option<u8>, AllocError>
+fn refusal(alloc: Global, library: &Library, top: usize) -> Result<Option<Rule>, AllocError>
     requires { top < length library.now }
-    ensures { IfOk result (λ code. code ≡ flat_code library.now top) }
+    ensures { IfOk result (λ rule. option_map rule_code rule ≡ flat_code library.now top) }
 {
-    match flatten(alloc, library, top) {
-        Ok(_) => Ok(None),
-        Err(fault) => {
-            if fault.is_memory() {
-                return Err(AllocError);
-            }
-            Ok(Some(fault.code))
-        }
+    let Err(fault) = flatten(alloc, library, top) else {
+        return Ok(None);
+    };
+    if fault.is_memory() {
+        return Err(AllocError);
     }
+    Ok(Some(fault.rule()))
 }
 
-/// What is at fault in a hierarchy that is refused by a code. Fails where memory is refused.
+/// What is at fault in a hierarchy that is refused by a rule. Fails where memory is refused.
 fn finding(
     alloc: Global,
     library: &Library,
     top: usize,
-    code: u8,
-) -> Result<Option<Finding<'_>>, AllocError>
+    rule: Rule,
+) -> Result<Finding<'_>, AllocError>
     requires there { top < length library.now }
-    requires refused { flat_code library.now top ≡ Some code }
-    ensures { IfOk result (λ found. IsExplained library.now top found) }
+    requires refused { flat_code library.now top ≡ Some (rule_code rule) }
+    ensures { IfOk result (λ found. IsAtFault library.now top found) }
 {
-    if code == Rule::NoSuchModel.code() {
-        let found = missing_model(alloc, library, top)?;
-        return Ok(Some(Finding::NoSuchModel(found)));
+    match rule {
+        Rule::NoSuchModel => Ok(Finding::NoSuchModel(missing_model(alloc, library, top)?)),
+        Rule::Recursion => Ok(Finding::Recursion(recursive_chain(alloc, library, top)?)),
+        Rule::UnknownFormal => Ok(Finding::UnknownFormal(unknown_formal(alloc, library, top)?)),
+        Rule::FormalTwice => Ok(Finding::FormalTwice(formal_twice(alloc, library, top)?)),
+        Rule::MissingInput => Ok(Finding::MissingInput(missing_input(alloc, library, top)?)),
+        Rule::DrivenTwice => Ok(Finding::DrivenTwice(driven_twice(alloc, library, top)?)),
+        Rule::Undriven => Ok(Finding::Undriven(undriven(alloc, library, top)?)),
+        Rule::Circle => Ok(Finding::Circular(circle_below(alloc, library, top)?)),
+        Rule::TooLarge => {
+            let size = hierarchy_size(alloc, library, top)?;
+            let limit = LIMIT;
+            Ok(Finding::TooLarge { size, limit })
+        }
+        Rule::ManyInputs => {
+            let inputs = library.inputs(top).len();
+            let limit = MAX_INPUTS;
+            Ok(Finding::ManyInputs { inputs, limit })
+        }
+        Rule::Memory => Err(AllocError),
     }
-    if code == Rule::Recursion.code() {
-        let models = recursive_chain(alloc, library, top)?;
-        return Ok(Some(Finding::Recursion(models)));
-    }
-    if code == Rule::UnknownFormal.code() {
-        let found = unknown_formal(alloc, library, top)?;
-        return Ok(Some(Finding::UnknownFormal(found)));
-    }
-    if code == Rule::FormalTwice.code() {
-        let found = formal_twice(alloc, library, top)?;
-        return Ok(Some(Finding::FormalTwice(found)));
-    }
-    if code == Rule::MissingInput.code() {
-        let found = missing_input(alloc, library, top)?;
-        return Ok(Some(Finding::MissingInput(found)));
-    }
-    if code == Rule::DrivenTwice.code() {
-        let name = driven_twice(alloc, library, top)?;
-        return Ok(Some(Finding::DrivenTwice(name)));
-    }
-    if code == Rule::Undriven.code() {
-        let name = undriven(alloc, library, top)?;
-        return Ok(Some(Finding::Undriven(name)));
-    }
-    if code == Rule::Circle.code() {
-        let circle = circle_below(alloc, library, top)?;
-        return Ok(Some(Finding::Circular(circle)));
-    }
-    if code == Rule::TooLarge.code() {
-        return Ok(Some(Finding::TooLarge { limit: LIMIT }));
-    }
-    if code == Rule::ManyInputs.code() {
-        let inputs = library.inputs(top).len();
-        let limit = MAX_INPUTS;
-        return Ok(Some(Finding::ManyInputs { inputs, limit }));
-    }
-    Ok(None)
 }
 
 /// What is at fault in the hierarchy below model `top` of a library, which is below the number of models, for a reader of
@@ -96,7 +77,7 @@ pub fn explain(
     ensures { IfOk result (λ found. IsExplained library.now top found) }
 {
     match refusal(alloc, library, top)? {
-        Some(code) => finding(alloc, library, top, code),
+        Some(rule) => Ok(Some(finding(alloc, library, top, rule)?)),
         None => Ok(None),
     }
 }

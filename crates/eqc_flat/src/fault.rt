@@ -1,3 +1,6 @@
+ghost use Rattle.std.specs.Prelude.{◌≡◌, nat_eq, position};
+ghost use Rattle.eqc_flat.specs.Rule.{rule_code};
+
 use crate::rule::{RULES, Rule};
 use std::alloc::AllocError;
 use thiserror::Error;
@@ -10,10 +13,21 @@ pub struct Fault {
     pub code: u8,
 }
 
+/// Where a rule of a code first stands among these.
+fn place_of(rules: &[Rule], code: u8) -> Option<usize>
+    ensures { result ≡ position (λ rule. nat_eq (rule_code rule) code) rules.now }
+{
+    rules.iter().position(|rule| rule.code() == code)
+}
+
 /// The rule of a code of a fault.
-fn rule_of(code: &u8) -> Rule {
-    let found = RULES.iter().copied().find(|rule| rule.code() == *code);
-    found.unwrap_or(Rule::Memory)
+fn rule_of(code: &u8) -> Rule
+    ensures { (rule : Rule) → rule_code rule ≡ code.now → rule_code result ≡ code.now }
+{
+    match place_of(&RULES, *code) {
+        Some(k) => RULES[k],
+        None => Rule::Memory,
+    }
 }
 
 impl Rule {
@@ -30,6 +44,14 @@ impl Rule {
 
 impl Fault {
     ghost use Rattle.std.specs.Prelude.{◌≡◌, ◌↔◌, IsTrue};
+    ghost use Rattle.eqc_flat.specs.Rule.{rule_code};
+
+    /// The rule of the code.
+    pub(crate) fn rule(&self) -> Rule
+        ensures { (rule : Rule) → rule_code rule ≡ self.now.code → rule_code result ≡ self.now.code }
+    {
+        rule_of(&self.code)
+    }
 
     /// Whether memory was refused, which is no fault of the netlist.
     pub fn is_memory(&self) -> bool

@@ -22,8 +22,8 @@ pub enum Finding<'a> {
     Undriven(HierarchicalName<'a>),
     /// 28: signals of which each depends on the next one and the last on the first.
     Circular(Circle<'a>),
-    /// 29: there are more signals and instances together than there may be.
-    TooLarge { limit: usize },
+    /// 29: the number of signals and instances together, or none where it is over 2^64 - 1, and how many there may be.
+    TooLarge { size: Option<usize>, limit: usize },
     /// 30: the number of the main model's inputs, and how many there may be.
     ManyInputs { inputs: usize, limit: usize },
 }

@@ -10,7 +10,7 @@
 //! - `driver_table` and `drivers`, what drives each signal, by `stored_driver` and `row_table`
 //! - `explanation`, what is at fault, as a `finding`, by `driver_findings`, told by a `hierarchical_name`,
 //!   and `instance_findings`, told by a `found_instance`,
-//!   `recursion`, and `circle_finding`, told by a `circle`
+//!   `recursion`, `size`, and `circle_finding`, told by a `circle`
 //! - `signal_order`, an order by dependency, by `search` over a `graph`; `evaluation`, values; `laws`, facts about the definitions
 #![tactic(auto)]
 
@@ -47,6 +47,7 @@ mod rule;
 mod search;
 mod signal_order;
 mod signals;
+mod size;
 mod stored_driver;
 
 pub use circle::Circle;

@@ -56,7 +56,7 @@ impl Worker {
     ghost use Rattle.eqc_tree.specs.Tree.{SameFunction};
     ghost use Rattle.std.specs.Prelude.{[], false, if◌then◌else◌, List, Some, ◌-◌, ◌*◌, ◌%◌, ◌^◌, ◌≤◌, ◌↔◌, ◌++◌, length, ℕ, IsTrue, IfSome, None, IfOk, OnOk, OnErr, IfErr};
     ghost use Rattle.eqc_core.specs.View.{phase_at};
-    ghost use Rattle.eqc_core.specs.Words.{announced_words, word_at, first_of, second_of};
+    ghost use Rattle.eqc_core.specs.Words.{announced_words, word_at, first_of, second_of, result_of};
     ghost use Rattle.eqc_core.specs.Moves.{IsReady};
     ghost use Rattle.eqc_core.specs.Announcing.{MayLook, looked, MayAnnounce, announced, MayRecheck, rechecked, announced_cell};
     ghost use Rattle.eqc_core.specs.Counting.{Knows, MayUp, upped, downed};
@@ -472,11 +472,14 @@ impl Worker {
     /// twice: its result stays until it is released.
     ///
     /// There is none where the word has no node as its result, or the second look finds another
-    /// word. Then nothing is announced.
+    /// word. Then nothing is announced. A worker that is alone acquires the word that its cell has,
+    /// where that has a node as its result.
     pub fn acquire(&mut self, cell: u32) -> Option<u64>
         requires { MayLook self.old.known.core 0 cell }
         ensures some { IfSome result (λ word. IsAcquired word self.old self.new) }
         ensures none { result ≡ None → IsPassed self.old self.new }
+        ensures found { (ws : List ℕ) → self.old.known.copy ≡ Some ws → IfSome result (λ word. word ≡ cell_in self.old.known ws cell) }
+        ensures missed { result ≡ None → (ws : List ℕ) → self.old.known.copy ≡ Some ws → result_of (cell_in self.old.known ws cell) < 2 }
     {
         // A worker has one announcement word.
         let _phase = self.phase;

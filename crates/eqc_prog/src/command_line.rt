@@ -7,7 +7,10 @@ ghost use Rattle.clap.specs.Simple.{app_of};
 ghost use Rattle.clap.specs.Walk.{rows_of, rule_of};
 ghost use Rattle.eqc_prog.specs.CommandLine.{eqc_app, number_rule, text_rule, flag_rule, path_rule, number_of, rows_asked, IsAsked};
 
-use crate::help::{ABOUT, USAGE};
+use crate::help::{
+    ABOUT, CELLS, EXPLAIN, FIRST, FIRST_MODEL, FORKS, NODES, ORDER, SECOND, SECOND_MODEL, USAGE,
+    WORKERS,
+};
 use crate::version::VERSION;
 use clap::{Arg, ArgAction, ArgMatches, Command, Error, value_parser};
 use eqc_check::Options;
@@ -83,55 +86,16 @@ fn command<'a>(alloc: Global, answers: &'a str) -> Result<Command<'a>, AllocErro
         .about(ABOUT)
         .override_usage(USAGE)
         .after_help(answers)
-        .arg(number(
-            alloc,
-            "workers",
-            "2",
-            "Compares outputs on this many threads, 1 to 64",
-        ))?
-        .arg(number(
-            alloc,
-            "nodes",
-            "65536",
-            "Keeps at most this many nodes of diagrams for each worker, 1 to 1048574",
-        ))?
-        .arg(number(
-            alloc,
-            "cells",
-            "8192",
-            "Remembers this many operations, a power of two up to 1048576",
-        ))?
-        .arg(number(
-            alloc,
-            "forks",
-            "0",
-            "Shares this many levels of an operation among workers, 0 to 16",
-        ))?
-        .arg(text(
-            alloc,
-            "order",
-            "FILE",
-            "Takes the variables in this file's order, a word for each input of the first netlist",
-        ))?
-        .arg(text(
-            alloc,
-            "first-model",
-            "NAME",
-            "Compares the model of this name of the first netlist's text",
-        ))?
-        .arg(text(
-            alloc,
-            "second-model",
-            "NAME",
-            "Compares the model of this name of the second netlist's text",
-        ))?
-        .arg(flag(
-            alloc,
-            "explain",
-            "Tells on standard error why there is no verdict",
-        ))?
-        .arg(path(alloc, "first", "The first netlist, or both"))?
-        .arg(path(alloc, "second", "The second netlist"))
+        .arg(number(alloc, "workers", "2", WORKERS))?
+        .arg(number(alloc, "nodes", "65536", NODES))?
+        .arg(number(alloc, "cells", "8192", CELLS))?
+        .arg(number(alloc, "forks", "0", FORKS))?
+        .arg(text(alloc, "order", "FILE", ORDER))?
+        .arg(text(alloc, "first-model", "NAME", FIRST_MODEL))?
+        .arg(text(alloc, "second-model", "NAME", SECOND_MODEL))?
+        .arg(flag(alloc, "explain", EXPLAIN))?
+        .arg(path(alloc, "first", FIRST))?
+        .arg(path(alloc, "second", SECOND))
 }
 
 /// The number of an option.

@@ -255,6 +255,19 @@ fn circle_said(
     Ok(said)
 }
 
+/// What is said of a hierarchy that is too large, whose size isn't told where no `usize` has it.
+fn size_said(alloc: Global, size: Option<usize>, limit: usize) -> Result<String, AllocError> {
+    match size {
+        Some(size) => format!(in alloc;
+            "the main model has {size} signals and instances in all, and may have {limit} (29)"
+        ),
+        None => format!(in alloc;
+            "the main model has over {} signals and instances in all, and may have {limit} (29)",
+            usize::MAX
+        ),
+    }
+}
+
 /// What is said of an instance, a signal or a size at fault in a hierarchy.
 fn hierarchy_said(
     alloc: Global,
@@ -296,9 +309,7 @@ fn hierarchy_said(
             Signal { library, name }
         ),
         Finding::Circular(circle) => circle_said(alloc, library, circle),
-        Finding::TooLarge { limit } => format!(in alloc;
-            "the main model has more than {limit} signals and instances in all (29)"
-        ),
+        Finding::TooLarge { size, limit } => size_said(alloc, *size, *limit),
         Finding::ManyInputs { inputs, limit } => format!(in alloc;
             "the main model has {inputs} inputs, and may have {limit} (30)"
         ),

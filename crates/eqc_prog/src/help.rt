@@ -1,4 +1,4 @@
-//! What `--help` shows beside the options. What a number means is said by the type that has it.
+//! The texts of `--help`. What a number means is said by the type that has it.
 use eqc_check::RunFault;
 use eqc_tree::Stop;
 use std::alloc::{AllocError, Global};
@@ -10,6 +10,27 @@ pub const ABOUT: &str =
 pub const USAGE: &str = "\
 eqc [--workers N] [--nodes N] [--cells N] [--forks N] [--order FILE]
            [--first-model NAME] [--second-model NAME] [--explain] [FILE [FILE]]";
+
+pub const WORKERS: &str = "Compares outputs on this many threads, 1 to 64";
+
+pub const NODES: &str = "Keeps at most this many nodes of diagrams for each worker, 1 to 1048574";
+
+pub const CELLS: &str = "Remembers this many operations, a power of two up to 1048576";
+
+pub const FORKS: &str = "Shares this many levels of an operation among workers, 0 to 16";
+
+pub const ORDER: &str =
+    "Takes the variables in this file's order, a word for each input of the first netlist";
+
+pub const FIRST_MODEL: &str = "Compares the model of this name of the first netlist's text";
+
+pub const SECOND_MODEL: &str = "Compares the model of this name of the second netlist's text";
+
+pub const EXPLAIN: &str = "Tells on standard error why there is no verdict";
+
+pub const FIRST: &str = "The first netlist, or both";
+
+pub const SECOND: &str = "The second netlist";
 
 /// The texts that are compared, and the reports with their statuses.
 const REPORTS: &str = "\

@@ -1,9 +1,7 @@
 //! What members found, put in the order of the outputs, and the first that differs.
-ghost use Rattle.std.specs.Prelude.{◌≡◌, ℕ, ◌<◌, ◌≤◌, None, [], length, vec_len, slice_index_or, replicate, IfOk, IfSome};
-ghost use Rattle.std.specs.List.{All};
-ghost use Rattle.eqc_check.specs.Verdict.{first_difference};
-ghost use Rattle.eqc_check.specs.Comparing.{netlist_of, found_at};
-ghost use Rattle.eqc_check.specs.Verdicts.{tells_difference, AreOnce, IsRight, Stands};
+ghost use Rattle.std.specs.Prelude.{◌≡◌, ℕ, ◌<◌, ◌≤◌, None, [], length, vec_len, slice_index_or, replicate, IfOk};
+ghost use Rattle.eqc_check.specs.Comparing.{IsFirstFound};
+ghost use Rattle.eqc_check.specs.Verdicts.{tells_difference, AreVerdicts, Stands};
 
 use eqc_pair::Pair;
 use std::alloc::{AllocError, Global};
@@ -57,8 +55,7 @@ pub(crate) fn in_order(
     pair: &Pair<'_>,
     verdicts: Vec<Verdict>,
 ) -> Result<Vec<Option<Finding>>, AllocError>
-    requires once { AreOnce (length pair.now.first.outputs) verdicts.items }
-    requires right { All (IsRight pair.now) verdicts.items }
+    requires { AreVerdicts pair.now verdicts.items }
     ensures size { IfOk result (λ row. vec_len row ≡ length pair.now.first.outputs) }
     ensures each { IfOk result (λ row. (o : ℕ) → o < vec_len row → Stands pair.now [] o (slice_index_or row.items o None)) }
 {
@@ -81,8 +78,7 @@ pub(crate) fn in_order(
 pub(crate) fn first_of(pair: &Pair<'_>, row: Vec<Option<Finding>>) -> Option<(usize, Vec<bool>)>
     requires size { vec_len row ≡ length pair.now.first.outputs }
     requires each { (o : ℕ) → o < vec_len row → Stands pair.now [] o (slice_index_or row.items o None) }
-    ensures found { found_at pair.now.first result ≡ first_difference (netlist_of pair.now.first) (netlist_of pair.now.second) pair.now.first.outputs }
-    ensures within { IfSome result (λ p. p.0 < length pair.now.first.outputs) }
+    ensures { IsFirstFound pair.now result }
 {
     let mut row = row;
     let mut output = 0;

@@ -26,7 +26,7 @@ pub(super) struct Driver {
     pub(super) worker: Worker,
     pub(super) references: Vec<Ref>,
     pub(super) phase: Phase,
-    position: u32,
+    pub(super) position: u32,
     ghost driven: { IsDriven phase position references.items worker },
 }
 

@@ -164,7 +164,7 @@ static FLATTENING: [Row; 9] = [
         "",
         ".model f;.subckt a;.subckt a;.end;.model a;.subckt b;.subckt b;.end;.model b;.subckt c;.subckt c;.end;.model c;.subckt d;.subckt d;.end;.model d;.subckt e;.subckt e;.end;.model e;.subckt g;.subckt g;.end;.model g;.subckt h;.subckt h;.end;.model h;.subckt i;.subckt i;.end;.model i;.subckt j;.subckt j;.end;.model j;.subckt k;.subckt k;.end;.model k;.subckt l;.subckt l;.end;.model l;.subckt m;.subckt m;.end;.model m;.subckt n;.subckt n;.end;.model n;.subckt o;.subckt o;.end;.model o;.subckt p;.subckt p;.end;.model p;.subckt q;.subckt q;.end;.model q;.subckt r;.subckt r;.end;.model r;.subckt s;.subckt s;.end;.model s;.subckt t;.subckt t;.end;.model t;.subckt u;.subckt u;.end;.model u;.end;",
         "refused first 0 29;",
-        "eqc: standard input: the main model has more than 1048576 signals and instances in all (29)\n",
+        "eqc: standard input: the main model has 2097150 signals and instances in all, and may have 1048576 (29)\n",
     ),
 ];
 
@@ -308,6 +308,39 @@ fn many_inputs(alloc: Global, count: u32) -> Result<String, AllocError> {
     }
     text.push_str(";.end;.model g;")?;
     Ok(text)
+}
+
+/// Models without names, of which each but the last has two instances of the next one.
+fn doubling(alloc: Global, models: u32) -> Result<String, AllocError> {
+    let mut text = String::from_str(alloc, "")?;
+    for k in 1..models {
+        let model = format!(in alloc; ".model m{};.subckt m{k};.subckt m{k};.end;", k - 1)?;
+        text.push_str(&model)?;
+    }
+    let last = format!(in alloc; ".model m{};.end;", models - 1)?;
+    text.push_str(&last)?;
+    Ok(text)
+}
+
+#[test]
+fn sizes_are_counted_as_far_as_they_go(rt: HostRuntime) -> Result<(), AllocError> {
+    // 64 models have 2^64 - 2 instances below the first, and 65 have 2^65 - 2.
+    for (models, said) in [
+        (
+            64,
+            "eqc: standard input: the main model has 18446744073709551614 signals and instances in all, and may have 1048576 (29);",
+        ),
+        (
+            65,
+            "eqc: standard input: the main model has over 18446744073709551615 signals and instances in all, and may have 1048576 (29);",
+        ),
+    ] {
+        let text = doubling(rt.alloc(), models)?;
+        let told = written_by(&rt, "eqc --explain", Feed::whole(&text))?;
+        assert!(rt; is_text(&told.out, "refused first 0 29;"), "{models}");
+        assert!(rt; is_text(&told.err, said), "{models}");
+    }
+    Ok(())
 }
 
 #[test]

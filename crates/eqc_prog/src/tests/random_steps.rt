@@ -277,8 +277,129 @@ fn walk(
     }
 }
 
-/// Compares three workers after a list of steps with the machine after the same list.
+/// 50 steps by chance of worker 0 and of another one, and each is written down.
+fn walk_on(
+    rt: &impl Abort,
+    a: &mut Driver,
+    b: &mut Driver,
+    number: u32,
+    chance: &mut Chance,
+    events: &mut Vec<Event>,
+)
+    ensures first { a.new.worker.forest ≡ a.old.worker.forest }
+    ensures second { b.new.worker.forest ≡ b.old.worker.forest }
+{
+    for _ in 0..50 {
+        if chance.below(2) == 0 {
+            let taken = step(rt, a, chance);
+            write_down(rt, events, 0, taken);
+        } else {
+            let taken = step(rt, b, chance);
+            write_down(rt, events, number, taken);
+        }
+    }
+}
+
+/// What the machine has after these events.
+fn after(rt: &(impl Abort + AllocGlobal), core: &Core, events: &[Event]) -> Core
+    ensures { result.sizes ≡ core.now.sizes }
+{
+    assert!(rt; events.len() < 10_000);
+    replay(rt.alloc(), core, events).expect(rt, "each step is allowed")
+}
+
+/// Writes down that a worker scans, and gives back what comes out of the scan.
+fn write_scan(rt: &(impl Abort + AllocGlobal), core: &Core, events: &mut Vec<Event>, worker: u32)
+    requires sizes { core.now.sizes ≡ record { workers = 3; announcements = 1; names = 6; cells = 2; variables = 4 } }
+    requires there { worker < 3 }
+{
+    let before = after(rt, core, events);
+    for _ in 0..3 {
+        write_down(rt, events, worker, Taken::One(Step::ScanOne));
+    }
+    let scanned = after(rt, core, events);
+    for x in 2..6 {
+        let came = scanned
+            .held(worker, x)
+            .saturating_sub(before.held(worker, x));
+        for _ in 0..came {
+            write_down(rt, events, worker, Taken::One(Step::Down(x)));
+        }
+    }
+}
+
+/// A worker comes to rest, and its steps are written down.
+fn come_to_rest(rt: &impl Abort, driver: &mut Driver, worker: u32, events: &mut Vec<Event>)
+    ensures { driver.new.worker.forest ≡ driver.old.worker.forest }
+{
+    for _ in 0..3 {
+        if driver.position != 0 {
+            let taken = change(rt, driver, 4, 0, 0);
+            write_down(rt, events, worker, taken);
+        }
+    }
+    let taken = load(rt, driver, 4, 0);
+    write_down(rt, events, worker, taken);
+}
+
+/// A worker takes another one in, and the steps are written down: both come to rest, scan and join.
+fn take_in(
+    rt: &(impl Abort + AllocGlobal),
+    core: &Core,
+    a: &mut Driver,
+    number: u32,
+    b: Driver,
+    from: u32,
+    events: &mut Vec<Event>,
+)
+    requires sizes { core.now.sizes ≡ record { workers = 3; announcements = 1; names = 6; cells = 2; variables = 4 } }
+    requires there { (number < 3) × (from < 3) }
+    requires forest { b.worker.forest ≡ a.old.worker.forest }
+    ensures { a.new.worker.forest ≡ a.old.worker.forest }
+{
+    let mut b = b;
+    come_to_rest(rt, a, number, events);
+    come_to_rest(rt, &mut b, from, events);
+    write_scan(rt, core, events, number);
+    write_scan(rt, core, events, from);
+    write_down(rt, events, number, Taken::One(Step::Join(from)));
+    a.absorb(rt, b);
+}
+
+/// Worker 0 and another one go on, and are compared with the machine; then worker 0 takes the other one in, and is
+/// compared alone.
+fn compare_two(
+    rt: &(impl Abort + AllocGlobal),
+    core: &Core,
+    a: Driver,
+    b: Driver,
+    number: u32,
+    chance: &mut Chance,
+    events: &mut Vec<Event>,
+    list: u32,
+)
+    requires sizes { core.now.sizes ≡ record { workers = 3; announcements = 1; names = 6; cells = 2; variables = 4 } }
+    requires there { number < 3 }
+    requires forest { b.worker.forest ≡ a.worker.forest }
+{
+    let mut a = a;
+    let mut b = b;
+    walk_on(rt, &mut a, &mut b, number, chance, events);
+    let two = after(rt, core, events);
+    compare(rt, &two, &a, 0, list);
+    compare(rt, &two, &b, number, list);
+    take_in(rt, core, &mut a, 0, b, number, events);
+    let one = after(rt, core, events);
+    compare(rt, &one, &a, 0, list);
+    assert_eq!(rt; a.look(0), Some(one.cell(0)), "{list}");
+    assert_eq!(rt; a.look(1), Some(one.cell(1)), "{list}");
+    assert_eq!(rt; a.close(rt), 4);
+}
+
+/// Compares three workers after a list of steps with the machine after the same list, and two workers after one of the
+/// three took another one in.
 fn compare_list(rt: &(impl Abort + AllocGlobal), list: u32) {
+    let core = Core::stocked(rt.alloc(), 3, 4, 2).expect(rt, "there is memory");
     let mut a = stocked(rt, 3, 4, 2);
     let mut b = a.another(rt);
     let mut c = a.another(rt);
@@ -287,20 +408,17 @@ fn compare_list(rt: &(impl Abort + AllocGlobal), list: u32) {
     write_down(rt, &mut events, 0, Taken::One(Step::Split(2)));
     let mut chance = Chance { seed: list };
     walk(rt, &mut a, &mut b, &mut c, &mut chance, &mut events);
-    assert!(rt; events.len() < 1000);
-    let core = Core::stocked(rt.alloc(), 3, 4, 2).expect(rt, "there is memory");
-    let last = replay(rt.alloc(), &core, &events).expect(rt, "each step is allowed");
-    compare(rt, &last, &a, 0, list);
-    compare(rt, &last, &b, 1, list);
-    compare(rt, &last, &c, 2, list);
-    a.rest(rt);
-    b.rest(rt);
-    c.rest(rt);
-    assert_eq!(rt; a.look(0), Some(last.cell(0)), "{list}");
-    assert_eq!(rt; a.look(1), Some(last.cell(1)), "{list}");
-    a.absorb(rt, b);
-    a.absorb(rt, c);
-    assert_eq!(rt; a.close(rt), 4);
+    let three = after(rt, &core, &events);
+    compare(rt, &three, &a, 0, list);
+    compare(rt, &three, &b, 1, list);
+    compare(rt, &three, &c, 2, list);
+    if list % 2 == 0 {
+        take_in(rt, &core, &mut a, 0, b, 1, &mut events);
+        compare_two(rt, &core, a, c, 2, &mut chance, &mut events, list);
+    } else {
+        take_in(rt, &core, &mut b, 1, c, 2, &mut events);
+        compare_two(rt, &core, a, b, 1, &mut chance, &mut events, list);
+    }
 }
 
 #[test]

@@ -1,4 +1,4 @@
-use Rattle.std.proofs.Common.{◌≡◌, ◌<◌, ◌+◌, sym, ap, subst, ◌∙◌, arith, ℕ, get_or, length, true, false, inl, inr, ⊎_elim}
+use Rattle.std.proofs.Common.{◌≡◌, ◌<◌, ◌+◌, sym, ap, subst, ◌∙◌, arith, ℕ, get_or, length, refl, inl, inr, ⊎_elim}
 use Rattle.eqc_core.specs.declared.sizes.Sizes.{Sizes}
 use Rattle.eqc_guard.specs.Rule.{cells_from}
 use Rattle.eqc_guard.proofs.Closing.{read_stays}
@@ -13,8 +13,8 @@ use Rattle.eqc_guard.proofs.Copying.{load_keeps, cells_on}
 use Rattle.eqc_cache.proofs.Hits.{phase_now, finds_constant, hits, ordered_there, some_word, constant_number, may_announce}
 use Rattle.eqc_cache.proofs.finding.lookup.Goals as goal
 
-pub returns-then-not-is_entry-clause-miss : goal.returns-then-not-is_entry-clause-miss
-returns-then-not-is_entry-clause-miss c = λ e.
+pub returns-in_err-found-clause-miss : goal.returns-in_err-found-clause-miss
+returns-in_err-found-clause-miss c = λ e.
     record { phase = Seen c.place-cell.result c.look-word.result; quiet = tt; stands = starts c.args.worker.now c.look-word.new.self (Seen c.place-cell.result c.look-word.result) c.look-word.ensures.step }
 
 pub returns-then-found-lt2-clause-hit : goal.returns-then-found-lt2-clause-hit
@@ -25,21 +25,21 @@ returns-then-found-lt2-clause-hit c =
     let word = c.look-word.result in
     let cell = c.place-cell.result in
     let at = starts c.args.worker.now c.look-word.new.self (Seen c.place-cell.result c.look-word.result) c.look-word.ensures.step in
-    let is = c.is_entry.ensures.0 c.if-not-is_entry.false in
+    let is = c.in_ok-found.ensures.entry.0 in
     let tag : operation_of c.look-word.result ≡ tag_of c.args.op = is.0 in
     let first : first_of c.look-word.result ≡ c.ordered-first.result.0 = is.1 in
     let second : second_of c.look-word.result ≡ c.ordered-first.result.1 = is.2 in
-    let found : c.unpack_cell-found.result.3 ≡ result_of c.look-word.result = λ i. (c.unpack_cell-found.ensures.fields i).3 in
+    let found : c.in_ok-found.found ≡ result_of c.look-word.result = c.in_ok-found.ensures.entry.1 in
     let ordered = ordered_there c.args.op c.args.f.now.number c.args.g.now.number c.number.result c.number-2.result c.look-word.result c.ordered-first.result c.number.ensures c.number-2.ensures first second c.ordered-first.ensures.either in
     let small : result_of c.look-word.result < 2 = subst (λ (n : ℕ). n < 2) found c.if-found-lt2.true in
-    let r : c.constant.result.number ≡ result_of c.look-word.result = c.constant.ensures ∙ (constant_number c.unpack_cell-found.result.3 c.if-found-lt2.true ∙ found) in
+    let r : c.constant.result.number ≡ result_of c.look-word.result = c.constant.ensures ∙ (constant_number c.in_ok-found.found c.if-found-lt2.true ∙ found) in
     finds_constant c.args.op c.args.f.now.number c.args.g.now.number 0 cell word old s1 at tag ordered c.requires.first c.requires.second c.constant.result.number r small (c.look-word.ensures.tells (some_word c.args.op c.look-word.result tag))
 
 pub take-requires-clause-may : goal.take-requires-clause-may
 unfolding result_of
 take-requires-clause-may c =
     let at = starts c.args.worker.now c.look-word.new.self (Seen c.place-cell.result c.look-word.result) c.look-word.ensures.step in
-    may_announce c.args.worker.now c.look-word.new.self c.place-cell.result c.look-word.result c.unpack_cell-found.result.3 at c.requires.may.0 c.requires.may.1 (let n = c.if-found-lt2.false in omega arith) (λ i. (c.unpack_cell-found.ensures.fields i).3)
+    may_announce c.args.worker.now c.look-word.new.self c.place-cell.result c.look-word.result c.in_ok-found.found at c.requires.may.0 c.requires.may.1 (let n = c.if-found-lt2.false in omega arith) c.in_ok-found.ensures.entry.1
 
 pub returns-clause-hit : goal.returns-clause-hit
 unfolding result_of
@@ -49,13 +49,13 @@ returns-clause-hit c =
     let word = c.look-word.result in
     let cell = c.place-cell.result in
     let at = starts c.args.worker.now c.look-word.new.self (Seen c.place-cell.result c.look-word.result) c.look-word.ensures.step in
-    let is = c.is_entry.ensures.0 c.if-not-is_entry.false in
+    let is = c.in_ok-found.ensures.entry.0 in
     let tag : operation_of c.look-word.result ≡ tag_of c.args.op = is.0 in
     let first : first_of c.look-word.result ≡ c.ordered-first.result.0 = is.1 in
     let second : second_of c.look-word.result ≡ c.ordered-first.result.1 = is.2 in
-    let found : c.unpack_cell-found.result.3 ≡ result_of c.look-word.result = λ i. (c.unpack_cell-found.ensures.fields i).3 in
+    let found : c.in_ok-found.found ≡ result_of c.look-word.result = c.in_ok-found.ensures.entry.1 in
     let ordered = ordered_there c.args.op c.args.f.now.number c.args.g.now.number c.number.result c.number-2.result c.look-word.result c.ordered-first.result c.number.ensures c.number-2.ensures first second c.ordered-first.ensures.either in
-    hits c.args.op c.args.f.now.number c.args.g.now.number c.unpack_cell-found.result.3 cell word old s1 at tag ordered c.requires.first c.requires.second c.take.new.worker (let n = c.if-found-lt2.false in omega arith) c.take.result c.take.ensures.name c.take.ensures.hit
+    hits c.args.op c.args.f.now.number c.args.g.now.number c.in_ok-found.found cell word old s1 at tag ordered c.requires.first c.requires.second c.take.new.worker (let n = c.if-found-lt2.false in omega arith) c.take.result c.take.ensures.name c.take.ensures.hit
 
 pub returns-clause-miss : goal.returns-clause-miss
 returns-clause-miss c = λ e.
@@ -63,8 +63,8 @@ returns-clause-miss c = λ e.
     record { phase = Idle; quiet = tt; stands = joins c.args.worker.now c.look-word.new.self c.take.new.worker (Seen c.place-cell.result c.look-word.result) Idle at (c.take.ensures.miss e) }
 
 -- what the look leaves of the cells
-pub returns-then-not-is_entry-clause-cells : goal.returns-then-not-is_entry-clause-cells
-returns-then-not-is_entry-clause-cells c = load_keeps c.args.worker.now.known c.look-word.new.self.known _ c.look-word.result c.look-word.ensures.copies
+pub returns-in_err-found-clause-cells : goal.returns-in_err-found-clause-cells
+returns-in_err-found-clause-cells c = load_keeps c.args.worker.now.known c.look-word.new.self.known _ c.look-word.result c.look-word.ensures.copies
 
 pub returns-then-found-lt2-clause-cells : goal.returns-then-found-lt2-clause-cells
 returns-then-found-lt2-clause-cells c = load_keeps c.args.worker.now.known c.look-word.new.self.known _ c.look-word.result c.look-word.ensures.copies
@@ -75,31 +75,29 @@ returns-clause-cells c =
     (load_keeps c.args.worker.now.known c.look-word.new.self.known _ c.look-word.result c.look-word.ensures.copies) c.take.ensures.cells
 
 -- a word that is no entry is what the copy has
-pub returns-then-not-is_entry-clause-missed : goal.returns-then-not-is_entry-clause-missed
-returns-then-not-is_entry-clause-missed c = λ e. inr (λ ws has entry.
+pub returns-in_err-found-clause-missed : goal.returns-in_err-found-clause-missed
+returns-in_err-found-clause-missed c = λ e. inr (λ ws has entry.
     let s = seen_word c.args.op c.args.f.now.number c.args.g.now.number c.number.result c.number-2.result c.cells.result c.place-cell.result c.look-word.result c.ordered-first.result c.args.worker.now.known c.look-word.new.self.known
     c.number.ensures c.number-2.ensures c.cells.ensures.cells c.ordered-first.ensures.order c.place-cell.ensures.place c.look-word.ensures.copies ws has in
-    let is = c.is_entry.ensures.1 (entry_here c.args.op c.ordered-first.result (in_order c.args.op c.args.f.now.number c.args.g.now.number) c.look-word.result (kept_word c.args.op c.args.f.now.number c.args.g.now.number c.args.worker.now.known ws) s.1 s.0 entry) in
-    let no = c.if-not-is_entry.true in
-    absurd (let q : false ≡ true = sym no ∙ is in cc))
+    c.in_err-found.ensures.other refl (entry_here c.args.op c.ordered-first.result (in_order c.args.op c.args.f.now.number c.args.g.now.number) c.look-word.result (kept_word c.args.op c.args.f.now.number c.args.g.now.number c.args.worker.now.known ws) s.1 s.0 entry))
 
 pub returns-then-found-lt2-clause-found : goal.returns-then-found-lt2-clause-found
 unfolding result_of
 returns-then-found-lt2-clause-found c = λ ws has.
     let s = seen_word c.args.op c.args.f.now.number c.args.g.now.number c.number.result c.number-2.result c.cells.result c.place-cell.result c.look-word.result c.ordered-first.result c.args.worker.now.known c.look-word.new.self.known
     c.number.ensures c.number-2.ensures c.cells.ensures.cells c.ordered-first.ensures.order c.place-cell.ensures.place c.look-word.ensures.copies ws has in
-    let found : c.unpack_cell-found.result.3 ≡ result_of c.look-word.result = λ i. (c.unpack_cell-found.ensures.fields i).3 in (
-      entry_there c.args.op c.ordered-first.result (in_order c.args.op c.args.f.now.number c.args.g.now.number) c.look-word.result (kept_word c.args.op c.args.f.now.number c.args.g.now.number c.args.worker.now.known ws) s.1 s.0 (c.is_entry.ensures.0 c.if-not-is_entry.false),
-      ap {B = ℕ} (λ (w : ℕ). result_of w) s.0 ∙ (sym found ∙ sym (c.constant.ensures ∙ constant_number c.unpack_cell-found.result.3 c.if-found-lt2.true)),
+    let found : c.in_ok-found.found ≡ result_of c.look-word.result = c.in_ok-found.ensures.entry.1 in (
+      entry_there c.args.op c.ordered-first.result (in_order c.args.op c.args.f.now.number c.args.g.now.number) c.look-word.result (kept_word c.args.op c.args.f.now.number c.args.g.now.number c.args.worker.now.known ws) s.1 s.0 c.in_ok-found.ensures.entry.0,
+      ap {B = ℕ} (λ (w : ℕ). result_of w) s.0 ∙ (sym found ∙ sym (c.constant.ensures ∙ constant_number c.in_ok-found.found c.if-found-lt2.true)),
     )
 
 pub returns-clause-found : goal.returns-clause-found
 unfolding result_of
-returns-clause-found c = found_taken c.args.op c.args.f.now.number c.args.g.now.number c.unpack_cell-found.result.3 c.args.worker.now.known c.take.result c.take.ensures.name (λ ws has.
+returns-clause-found c = found_taken c.args.op c.args.f.now.number c.args.g.now.number c.in_ok-found.found c.args.worker.now.known c.take.result c.take.ensures.name (λ ws has.
     let s = seen_word c.args.op c.args.f.now.number c.args.g.now.number c.number.result c.number-2.result c.cells.result c.place-cell.result c.look-word.result c.ordered-first.result c.args.worker.now.known c.look-word.new.self.known
     c.number.ensures c.number-2.ensures c.cells.ensures.cells c.ordered-first.ensures.order c.place-cell.ensures.place c.look-word.ensures.copies ws has in
-    let found : c.unpack_cell-found.result.3 ≡ result_of c.look-word.result = λ i. (c.unpack_cell-found.ensures.fields i).3 in (
-      entry_there c.args.op c.ordered-first.result (in_order c.args.op c.args.f.now.number c.args.g.now.number) c.look-word.result (kept_word c.args.op c.args.f.now.number c.args.g.now.number c.args.worker.now.known ws) s.1 s.0 (c.is_entry.ensures.0 c.if-not-is_entry.false),
+    let found : c.in_ok-found.found ≡ result_of c.look-word.result = c.in_ok-found.ensures.entry.1 in (
+      entry_there c.args.op c.ordered-first.result (in_order c.args.op c.args.f.now.number c.args.g.now.number) c.look-word.result (kept_word c.args.op c.args.f.now.number c.args.g.now.number c.args.worker.now.known ws) s.1 s.0 c.in_ok-found.ensures.entry.0,
       ap {B = ℕ} (λ (w : ℕ). result_of w) s.0 ∙ sym found,
     ))
 

@@ -9,7 +9,8 @@ pub returns-in-Some-clause-found : goal.returns-in-Some-clause-found
 returns-in-Some-clause-found g c =
     let outputs = rw c.first.ensures at c.outputs-o-end.ensures in
     let inside : c.loop-o.o < length c.args.pair.now.first.outputs = omega (arith, ap length outputs) in
-    found_first c.args.pair.now.first c.args.pair.now.second c.loop-o.o c.in-Some.values inside (sym (ap (option_map (λ (v : Vec Bool Global). v.items)) c.in-Some.is) ∙ c.in_ok-values.ensures.found) c.loop-o.invariant.0
+    let first = found_first c.args.pair.now.first c.args.pair.now.second c.loop-o.o c.in-Some.values inside (sym (ap (option_map (λ (v : Vec Bool Global). v.items)) c.in-Some.is) ∙ c.in_ok-values.ensures.found) c.loop-o.invariant.0 in
+    record { first = first; within = inside }
 
 pub loop-o-preserved : goal.loop-o-preserved
 loop-o-preserved g c =

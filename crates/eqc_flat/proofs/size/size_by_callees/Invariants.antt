@@ -1,0 +1,10 @@
+use Rattle.std.proofs.Common.{◌+◌, length, take}
+use Rattle.std.specs.List.{sum_by}
+use Rattle.eqc_flat.specs.Hierarchy.{model, callees}
+use Rattle.eqc_flat.specs.Signals.{names_of}
+use Rattle.eqc_flat.specs.Finding.{IsTold}
+use Rattle.eqc_flat.specs.Sizes.{model_size}
+use Rattle.eqc_flat.proofs.size.size_by_callees.Given as goal
+
+abbrev pub invariant-callees : goal.invariant-callees
+invariant-callees l = IsTold l.size (length (names_of (model l.calls l.m)) + sum_by (λ c. model_size l.calls c + 1) (take l.callee-index (callees l.calls l.m)))
