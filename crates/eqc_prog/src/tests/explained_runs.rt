@@ -310,35 +310,36 @@ fn many_inputs(alloc: Global, count: u32) -> Result<String, AllocError> {
     Ok(text)
 }
 
-/// Models without names, of which each but the last has two instances of the next one.
-fn doubling(alloc: Global, models: u32) -> Result<String, AllocError> {
+/// Models without names on this many levels below the first one, each with two instances of the next one.
+fn doubling(alloc: Global, levels: u32) -> Result<String, AllocError> {
     let mut text = String::from_str(alloc, "")?;
-    for k in 1..models {
-        let model = format!(in alloc; ".model m{};.subckt m{k};.subckt m{k};.end;", k - 1)?;
+    for k in 0..levels {
+        let next = k + 1;
+        let model = format!(in alloc; ".model m{k};.subckt m{next};.subckt m{next};.end;")?;
         text.push_str(&model)?;
     }
-    let last = format!(in alloc; ".model m{};.end;", models - 1)?;
+    let last = format!(in alloc; ".model m{levels};.end;")?;
     text.push_str(&last)?;
     Ok(text)
 }
 
 #[test]
 fn sizes_are_counted_as_far_as_they_go(rt: HostRuntime) -> Result<(), AllocError> {
-    // 64 models have 2^64 - 2 instances below the first, and 65 have 2^65 - 2.
-    for (models, said) in [
+    // On n levels are 2^(n + 1) - 2 instances.
+    for (levels, said) in [
         (
-            64,
+            63,
             "eqc: standard input: the main model has 18446744073709551614 signals and instances in all, and may have 1048576 (29);",
         ),
         (
-            65,
+            64,
             "eqc: standard input: the main model has over 18446744073709551615 signals and instances in all, and may have 1048576 (29);",
         ),
     ] {
-        let text = doubling(rt.alloc(), models)?;
+        let text = doubling(rt.alloc(), levels)?;
         let told = written_by(&rt, "eqc --explain", Feed::whole(&text))?;
-        assert!(rt; is_text(&told.out, "refused first 0 29;"), "{models}");
-        assert!(rt; is_text(&told.err, said), "{models}");
+        assert!(rt; is_text(&told.out, "refused first 0 29;"), "{levels}");
+        assert!(rt; is_text(&told.err, said), "{levels}");
     }
     Ok(())
 }
