@@ -242,7 +242,7 @@ pub(crate) fn check_alike<R: Threads + Wait + Sync>(
 {
     let equal = alike_or_none(alloc, pair);
     if are_all_marked(pair, &equal) {
-        return Ok(Report::Equivalent);
+        return found_report(alloc, pair, None);
     }
     let members = stores_for(alloc, pair, options)?;
     check_unmarked(rt, alloc, pair, members, equal, &NoGate)

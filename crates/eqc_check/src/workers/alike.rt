@@ -43,7 +43,8 @@ fn alike(alloc: Global, pair: &Pair<'_>) -> Result<Vec<bool>, AllocError>
         pair.second(),
         pair.second_variables(),
     )?;
-    outputs_of_one_class(alloc, pair, &classes)
+    let marks = outputs_of_one_class(alloc, pair, &classes)?;
+    Ok(marks)
 }
 
 /// Marks the outputs whose two signals have one structure, or none where memory for that is refused.

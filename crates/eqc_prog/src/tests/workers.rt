@@ -109,7 +109,7 @@ fn two_stores(alloc: Global, inputs: u16) -> Result<Vec<Plain>, Stop>
 
 /// How a pair is compared.
 #[derive(Clone, Copy)]
-enum Way {
+pub enum Way {
     /// By so many workers, with a store of 16 nodes each.
     Workers(u32),
     /// By two members over stores of 16 nodes.
@@ -188,7 +188,7 @@ fn library_word<R: Threads + Wait + Sync, G: Gate<R> + Sync>(
 }
 
 /// What is reported of the first two models of a text.
-fn word_of<R: Threads + Wait + Sync, G: Gate<R> + Sync>(
+pub fn word_of<R: Threads + Wait + Sync, G: Gate<R> + Sync>(
     rt: &R,
     alloc: Global,
     text: &str,
