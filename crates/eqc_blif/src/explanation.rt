@@ -1,5 +1,6 @@
 ghost use Rattle.std.specs.Prelude.{◌≡◌, ◌≢◌, IfOk, Some};
 ghost use Rattle.std.specs.Option.{option_map};
+ghost use Rattle.eqc_blif.specs.Reading.{start};
 ghost use Rattle.eqc_blif.specs.Finding.{refused, IsExplained};
 
 use crate::bad_byte::bad_byte;
@@ -29,6 +30,26 @@ fn refusal(alloc: Global, text: &[u8]) -> Result<Option<Refusal>, AllocError>
     }
 }
 
+/// What is at fault in the line that a text is refused for, which is put into `line`, as what stands before it is into
+/// `reader`. Fails where memory is refused.
+fn finding_by(
+    alloc: Global,
+    text: &[u8],
+    refusal: Refusal,
+    reader: &mut Reader,
+    line: &mut Vec<u8>,
+) -> Result<Option<Finding>, AllocError>
+    requires refused { refused text.now ≡ Some (refusal.line, refusal.code) }
+    requires line { (refusal.code ≢ 1) × (refusal.code ≢ 2) × (refusal.code ≢ 13) }
+    requires start { reader.old ≡ start }
+    ensures { IfOk result (λ found. IsExplained text.now found) }
+{
+    go_to_line(alloc, text, refusal, reader, line)?;
+    let (word, _) = split_first(line);
+    reader.open_before(alloc, kind_of(word))?;
+    line_finding(alloc, reader, line, refusal.code)
+}
+
 /// What is at fault in the line that a text is refused for. Fails where memory is refused.
 fn finding_in_line(
     alloc: Global,
@@ -41,10 +62,7 @@ fn finding_in_line(
 {
     let mut reader = Reader::new(alloc);
     let mut line = Vec::new(alloc);
-    go_to_line(alloc, text, refusal, &mut reader, &mut line)?;
-    let (word, _) = split_first(&line);
-    reader.open_before(alloc, kind_of(word))?;
-    line_finding(alloc, &mut reader, &line, refusal.code)
+    finding_by(alloc, text, refusal, &mut reader, &mut line)
 }
 
 /// What is at fault in a text that is refused. Fails where memory is refused.

@@ -1,5 +1,6 @@
-ghost use Rattle.std.specs.Prelude.{◌≡◌, ◌⊎◌, IfOk, IfErr, Ok, Err};
-ghost use Rattle.eqc_blif.specs.Reading.{outcome};
+ghost use Rattle.std.specs.Prelude.{◌≡◌, ◌<◌, ◌^◌, ◌⊎◌, length, IfOk, IfErr, Ok, Err, Some, None};
+ghost use Rattle.eqc_blif.specs.Lines.{logical_lines};
+ghost use Rattle.eqc_blif.specs.Reading.{after, first_fault, outcome};
 
 use crate::library::Library;
 use crate::lines::Lines;
@@ -10,6 +11,26 @@ use std::alloc::Global;
 
 /// How many bytes a text may have.
 pub(crate) const MAX_BYTES: usize = 16_777_216;
+
+/// Takes the lines of a text, up to the first with a fault. Else it fails where memory is refused.
+fn take_lines(alloc: Global, text: &[u8], reader: &mut Reader) -> Result<(), Refusal>
+    requires short { length text.now < 2 ^ 31 }
+    ensures taken { IfOk result (λ _. (first_fault reader.old (logical_lines text.now) ≡ None) × (reader.new ≡ after reader.old (logical_lines text.now))) }
+    ensures fault { IfErr result (λ refusal. (refusal ≡ record { line = 0; code = 72 }) ⊎ (first_fault reader.old (logical_lines text.now) ≡ Some (refusal.line, refusal.code))) }
+{
+    let mut lines = Lines::new(text);
+    let mut joined = Vec::new(alloc);
+    'lines: while let Some((number, whole)) = lines.next_logical(&mut joined)? {
+        let line = match whole {
+            Some(line) => line,
+            None => joined.as_slice(),
+        };
+        if let Some(code) = reader.take_line(alloc, line)? {
+            return Err(Refusal { line: number, code });
+        }
+    }
+    Ok(())
+}
 
 /// Reads a netlist (BLIF 1992, in the profile of `docs/blif.md`).
 ///
@@ -23,18 +44,8 @@ pub fn read(alloc: Global, text: &[u8]) -> Result<Library, Refusal>
     if text.len() > MAX_BYTES {
         return Err(Rule::TextTooLong.without_line());
     }
-    let mut lines = Lines::new(text);
-    let mut joined = Vec::new(alloc);
     let mut reader = Reader::new(alloc);
-    'lines: while let Some((number, whole)) = lines.next_logical(&mut joined)? {
-        let line = match whole {
-            Some(line) => line,
-            None => joined.as_slice(),
-        };
-        if let Some(code) = reader.take_line(alloc, line)? {
-            return Err(Refusal { line: number, code });
-        }
-    }
+    take_lines(alloc, text, &mut reader)?;
     let library = reader.finish()?;
     if library.models() == 0 {
         return Err(Rule::NoModel.without_line());

@@ -1,5 +1,6 @@
 -- Where the result of an operation is kept, and what a worker that is alone knows of it.
 use Rattle.std.specs.Prelude.{◌≡◌, ℕ, ◌+◌, ◌-◌, ◌*◌, ◌/◌, ◌%◌, ◌^◌, ◌<◌, ◌≤◌, ◌⊎◌, List, length, ltb, if◌then◌else◌, Some}
+use Rattle.std.specs.Int.Bits.{bit_xor}
 use Rattle.eqc_tree.specs.Operation.{tag_of}
 use Rattle.eqc_tree.specs.Word.{cell_word}
 use Rattle.eqc_tree.specs.declared.operation.Op.{Op}
@@ -15,9 +16,13 @@ in_order Or f g = if ltb g f then (g, f) else (f, g)
 in_order Xor f g = if ltb g f then (g, f) else (f, g)
 in_order AndNot f g = (f, g)
 
--- the cell of an operation, of so many: operands and operation are mixed by a multiplication with the golden ratio (Knuth 1973)
+-- a word of 64 bits, mixed: it is multiplied by the golden ratio (Knuth 1973), its upper half is added to the lower one without carry, and it is multiplied once more
+unfoldable pub mixed_word : ℕ → ℕ
+mixed_word w = (let spread = w * 11400714819323198485 % 2 ^ 64 in bit_xor spread (spread / 2 ^ 32)) * 11400714819323198485 % 2 ^ 64
+
+-- the cell of an operation, of so many: operands and operation are mixed, and the upper half is scaled to the number of cells
 unfoldable pub place_of : ℕ → Op → ℕ × ℕ → ℕ
-place_of cells op p = ((((p.0 * 2 ^ 32 + p.1) * 8 % 2 ^ 64 + tag_of op) % 2 ^ 64 * 11400714819323198485) % 2 ^ 64 / 2 ^ 32) % cells
+place_of cells op p = mixed_word (((p.0 * 2 ^ 32 + p.1) * 8 % 2 ^ 64 + tag_of op) % 2 ^ 64) / 2 ^ 32 * cells / 2 ^ 32
 
 -- the word of an entry
 abbrev pub entry_of : Op → ℕ × ℕ → ℕ → ℕ

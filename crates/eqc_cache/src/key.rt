@@ -1,9 +1,12 @@
 //! Where the result of an operation is kept.
 ghost use Rattle.std.specs.Prelude.{◌≡◌, ◌<◌};
 ghost use Rattle.eqc_cache.specs.Finding.{IsOrdered};
-ghost use Rattle.eqc_cache.specs.Placing.{in_order, place_of};
+ghost use Rattle.eqc_cache.specs.Placing.{in_order, mixed_word, place_of};
 
 use eqc_tree::Op;
+
+// 2^64 divided by the golden ratio, an odd number.
+const GOLDEN: u64 = 0x9E37_79B9_7F4A_7C15;
 
 // The operands in the order in which a cell has them: the smaller one first, where the operation
 // does not tell them apart.
@@ -17,7 +20,17 @@ pub(crate) fn ordered(op: Op, f: u32, g: u32) -> (u32, u32)
     }
 }
 
-// The cell of an operation, of so many.
+// A word with its bits mixed, so that each bit of the upper half depends on all of them.
+#[tactic(auto, unfolding(crate::specs::Placing::mixed_word))]
+fn mixed(word: u64) -> u64
+    ensures { result ≡ mixed_word word }
+{
+    let spread = word.wrapping_mul(GOLDEN);
+    (spread ^ (spread >> 32)).wrapping_mul(GOLDEN)
+}
+
+// The cell of an operation, of so many. Operands that are near each other, as those of one level
+// of a diagram are, must not share cells: so all bits are mixed, and the upper half is scaled.
 #[tactic(auto, unfolding(crate::specs::Placing::place_of))]
 pub(crate) fn place(cells: u32, op: Op, first: u32, second: u32) -> u32
     requires { 0 < cells }
@@ -26,6 +39,6 @@ pub(crate) fn place(cells: u32, op: Op, first: u32, second: u32) -> u32
 {
     let operands = u64::from(first) * 0x1_0000_0000 + u64::from(second);
     let word = operands.wrapping_mul(8).wrapping_add(u64::from(op.tag()));
-    let mixed = word.wrapping_mul(0x9E37_79B9_7F4A_7C15) >> 32;
-    (mixed % u64::from(cells)) as u32
+    let upper = mixed(word) >> 32;
+    ((upper * u64::from(cells)) >> 32) as u32
 }

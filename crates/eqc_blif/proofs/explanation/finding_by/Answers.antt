@@ -2,7 +2,7 @@ use Rattle.std.proofs.Common.{◌≡◌, ◌∙◌, ap}
 use Rattle.std.proofs.lemmas.Result.{IfOk-weaker}
 use Rattle.eqc_blif.specs.Kind.{kind_of, kind_of_line}
 use Rattle.eqc_blif.proofs.FindingLemmas.{explained}
-use Rattle.eqc_blif.proofs.explanation.finding_in_line.Goals as goal
+use Rattle.eqc_blif.proofs.explanation.finding_by.Goals as goal
 
 pub returns : goal.returns
 returns c =
