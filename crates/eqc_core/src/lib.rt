@@ -8,13 +8,14 @@
 //! - `laws`, with `specs/Lawful.antt`, `specs/Laws.antt` (the steps) and `specs/Facts.antt` (what a
 //!   lawful state says); `event`, the steps
 //! - `state`, a state as callers have it; `playback`, what a list of events makes of it
-//! - `machine`, the stored words; `worker` and `phase`, what a worker knows; `agreement`, whether a
-//!   cell's word is right; `table`, a stripe's table; `multiset`, `sizes` and `stock`, what these
+//! - `machine`, the stored words, and in its folder the steps on them; `worker` and `phase`, what a
+//!   worker knows; `agreement`, whether a cell's word is right; `table` and `homes`, the stripes' tables; `multiset`, `sizes` and `stock`, what these
 //!   stand on
 #![tactic(auto)]
 
 mod agreement;
 mod event;
+mod homes;
 pub mod laws;
 mod machine;
 mod multiset;

@@ -95,15 +95,10 @@ impl Core {
         requires slot { x < self.now.sizes.names }
         ensures { result ≡ times x (view_at self.now.views worker).held }
     {
-        let place = worker as usize;
-        if place >= self.machine.workers.len() {
-            return 0;
+        match self.machine.active(worker) {
+            Some(worker) => multiset::count(&worker.held, x) as u64,
+            None => 0,
         }
-        let worker = &self.machine.workers[place];
-        if !worker.active {
-            return 0;
-        }
-        multiset::count(&worker.held, x) as u64
     }
 
     /// How often a worker has this slot retired.
@@ -112,14 +107,9 @@ impl Core {
         requires slot { x < self.now.sizes.names }
         ensures { result ≡ times x (view_at self.now.views worker).retired }
     {
-        let place = worker as usize;
-        if place >= self.machine.workers.len() {
-            return 0;
+        match self.machine.active(worker) {
+            Some(worker) => multiset::count(&worker.retired, x) as u64,
+            None => 0,
         }
-        let worker = &self.machine.workers[place];
-        if !worker.active {
-            return 0;
-        }
-        multiset::count(&worker.retired, x) as u64
     }
 }

@@ -1,7 +1,7 @@
 use Rattle.std.proofs.Common.{set, map, ap, ◌∙◌}
 use Rattle.std.proofs.lemmas.List.{map-set}
 use Rattle.eqc_core.specs.Machine.{home_of}
-use Rattle.eqc_core.proofs.machine.take_home.Goals as goal
+use Rattle.eqc_core.proofs.homes.take_home.Goals as goal
 
 pub returns-in-Some-clause-homes : goal.returns-in-Some-clause-homes
 returns-in-Some-clause-homes c =

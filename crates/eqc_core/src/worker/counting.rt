@@ -1,0 +1,167 @@
+//! The steps on counts, announcements and cells: when a worker may take them, and what it knows then.
+
+use crate::multiset;
+use crate::phase::Phase;
+use crate::sizes::Sizes;
+use crate::worker::Worker;
+use eqc_tree::unpack_cell;
+use std::alloc::{AllocError, Global};
+
+impl Worker {
+    ghost use Rattle.std.specs.Prelude.{◌≡◌, ◌↔◌, ◌<◌, IsTrue, OnOk};
+    ghost use Rattle.eqc_core.specs.Words.{announced_words};
+    ghost use Rattle.eqc_core.specs.Machine.{active_view, reads_on, sorted_out, Turns, MayStore};
+    ghost use Rattle.eqc_core.specs.Counting.{MayUp, upped, MayDown, downed};
+    ghost use Rattle.eqc_core.specs.Announcing.{MayLook, looked, MayAnnounce, announced, MayRecheck, rechecked};
+    ghost use Rattle.eqc_core.specs.Caching.{swapped};
+    ghost use Rattle.eqc_core.specs.Scanning.{MayScan, scanned};
+
+    pub(crate) fn may_look(&self, sizes: Sizes, c: u32) -> bool
+        requires { sizes.announcements ≡ 1 }
+        ensures { IsTrue result ↔ MayLook (active_view sizes self.now) 0 c }
+    {
+        self.position == 0 && c < sizes.cells && self.phase.is_quiet()
+    }
+
+    pub(crate) fn may_announce(&self, sizes: Sizes, x: u32) -> bool
+        requires { sizes.announcements ≡ 1 }
+        ensures { IsTrue result ↔ MayAnnounce (active_view sizes self.now) 0 x }
+    {
+        self.position == 0 && sizes.announcements == 1 && self.phase.lets_announce(x)
+    }
+
+    pub(crate) fn may_recheck(&self, sizes: Sizes) -> bool
+        requires { sizes.announcements ≡ 1 }
+        ensures { IsTrue result ↔ MayRecheck (active_view sizes self.now) 0 }
+    {
+        self.position == 0 && sizes.announcements == 1 && self.phase.cell().is_some()
+    }
+
+    pub(crate) fn may_up(&self, sizes: Sizes, x: u32) -> bool
+        ensures { IsTrue result ↔ MayUp (active_view sizes self.now) x }
+    {
+        if self.position != 0 || x < 2 || x >= sizes.names {
+            return false;
+        }
+        if self.held.len() >= u32::MAX as usize {
+            return false;
+        }
+        self.knows(x)
+    }
+
+    pub(crate) fn may_down(&self, sizes: Sizes, x: u32) -> bool
+        ensures { IsTrue result ↔ MayDown (active_view sizes self.now) x }
+    {
+        self.position == 0 && x >= 2 && x < sizes.names && multiset::is_among(&self.held, x)
+    }
+
+    // The phase after a look at the cell that found this word.
+    pub(crate) fn look(&mut self, c: u32, found: u64)
+        ensures { Turns self.old self.new (λ v. looked v 0 c found) }
+    {
+        self.phase = Phase::Seen(c, found);
+    }
+
+    pub(crate) fn announce(&mut self)
+        ensures { Turns self.old self.new (λ v. announced v 0) }
+    {
+        self.phase = self.phase.announced();
+    }
+
+    pub(crate) fn recheck(&mut self, found: u64)
+        ensures { Turns self.old self.new (λ v. rechecked v 0 found) }
+    {
+        self.phase = self.phase.rechecked(found);
+    }
+
+    pub(crate) fn up(&mut self, x: u32) -> Result<(), AllocError>
+        ensures { OnOk result (Turns self.old self.new (λ v. upped v x)) }
+    {
+        self.held.push(x)?;
+        self.forget();
+        Ok(())
+    }
+
+    pub(crate) fn down(&mut self, x: u32)
+        ensures { Turns self.old self.new (λ v. downed v x) }
+    {
+        multiset::remove_first(&mut self.held, x);
+        self.forget();
+    }
+
+    // Whether it may store this word into the cell, where the word is right.
+    #[tactic(auto, unfolding(crate::specs::Words::first_of, crate::specs::Words::second_of, crate::specs::Words::result_of))]
+    pub(crate) fn may_store(&self, sizes: Sizes, c: u32, word: u64) -> bool
+        requires { sizes.announcements ≡ 1 }
+        ensures { IsTrue result ↔ MayStore (active_view sizes self.now) c word }
+    {
+        if self.position != 0 || c >= sizes.cells || !self.phase.is_quiet() {
+            return false;
+        }
+        if self.retired.len() as u64 >= 2 * sizes.announced_words() {
+            return false;
+        }
+        let (_, f, g, r) = unpack_cell(word);
+        multiset::are_held(&[r, f, g], &self.held)
+    }
+
+    // Gives the names of the new word away, and takes those of the old one.
+    pub(crate) fn swap_cell(&mut self, alloc: Global, old: u64, word: u64) -> Result<(), AllocError>
+        ensures { OnOk result (Turns self.old self.new (λ v. swapped v old word)) }
+    {
+        self.trade(alloc, old, word)?;
+        self.forget();
+        Ok(())
+    }
+
+    // The same, before the node last read is forgotten.
+    #[tactic(auto, unfolding(crate::specs::Words::first_of, crate::specs::Words::second_of, crate::specs::Words::result_of))]
+    fn trade(&mut self, alloc: Global, old: u64, word: u64) -> Result<(), AllocError>
+        ensures { OnOk result (Turns self.old self.new (reads_on (λ v. swapped v old word))) }
+    {
+        let (_, f, g, r) = unpack_cell(word);
+        let given = multiset::slots(alloc, &[r, f, g])?;
+        let (_, old_f, old_g, old_r) = unpack_cell(old);
+        let taken = multiset::slots(alloc, &[old_f, old_g])?;
+        let late = multiset::slots(alloc, &[old_r])?;
+        multiset::remove_each(&mut self.held, &given);
+        self.held.extend_from_slice(&taken)?;
+        self.retired.extend_from_slice(&late)?;
+        self.phase = Phase::Idle;
+        Ok(())
+    }
+
+    pub(crate) fn may_scan(&self, sizes: Sizes) -> bool
+        ensures { IsTrue result ↔ MayScan (active_view sizes self.now) }
+    {
+        self.phase.is_quiet()
+    }
+
+    // The word at the scan's position has this name.
+    pub(crate) fn scan(&mut self, alloc: Global, sizes: Sizes, name: u32) -> Result<(), AllocError>
+        requires { self.old.position < announced_words sizes }
+        ensures active { OnOk result (self.new.active ≡ self.old.active) }
+        ensures view { OnOk result (active_view sizes self.new ≡ scanned (active_view sizes self.old) name) }
+    {
+        multiset::add_note(&mut self.noted, name)?;
+        if self.position + 1 < sizes.announced_words() {
+            self.position += 1;
+            return Ok(());
+        }
+        self.sort_out(alloc)?;
+        self.forget();
+        Ok(())
+    }
+
+    // Some retired names stay, and the others become held, before the node last read is forgotten.
+    fn sort_out(&mut self, alloc: Global) -> Result<(), AllocError>
+        ensures { OnOk result (Turns self.old self.new sorted_out) }
+    {
+        let (stay, go) = multiset::sort_out(alloc, &self.noted, &self.retired)?;
+        self.held.extend_from_slice(&go)?;
+        self.retired = stay;
+        self.noted = Vec::new(alloc);
+        self.position = 0;
+        Ok(())
+    }
+}
