@@ -3,6 +3,8 @@
 use super::program::{check_texts, reports};
 use super::streams::Feed;
 use std::alloc::{AllocError, Global};
+use std::sync::Wait;
+use std::thread::Threads;
 
 /// The exclusive or of three inputs, by one cover and by two.
 const PARITY: &str =
@@ -109,10 +111,8 @@ fn hierarchies_are_compared(rt: HostRuntime) -> Result<(), AllocError> {
 #[test]
 fn a_small_store_stops_covers_of_covers(rt: HostRuntime) -> Result<(), AllocError> {
     let line = "eqc --nodes 2";
-    assert!(rt;
-        reports(&rt, line, Feed::whole(PARITY), "stopped 71;", 3)?,
-        "{line}"
-    );
+    let found = reports(&rt, line, Feed::whole(PARITY), "stopped 71;", 3)?;
+    assert!(rt; found, "{line}");
     Ok(())
 }
 
@@ -127,29 +127,46 @@ fn doubled(alloc: Global) -> Result<String, AllocError> {
     Ok(text)
 }
 
-/// So many inputs.
-fn inputs(alloc: Global, text: &mut String, count: u32) -> Result<(), AllocError> {
-    text.push_str(".inputs")?;
+/// The names of so many inputs, each behind a blank.
+fn inputs(alloc: Global, count: u32) -> Result<String, AllocError> {
+    let mut names = String::new(alloc);
     for k in 0..count {
-        text.push_str(&format!(in alloc; " i{k}")?)?;
+        let name = format!(in alloc; " i{k}")?;
+        names.push_str(&name)?;
     }
-    text.push_str(";.end;")?;
-    Ok(())
+    Ok(names)
+}
+
+/// A main model with one input more than there may be.
+fn too_many_inputs(alloc: Global) -> Result<String, AllocError> {
+    let names = inputs(alloc, 2_049)?;
+    format!(in alloc; ".model f;.inputs{names};.end;.model g;.end;")
+}
+
+/// Two models with as many inputs as there may be.
+fn most_inputs(alloc: Global) -> Result<String, AllocError> {
+    let names = inputs(alloc, 2_048)?;
+    format!(in alloc; ".model f;.inputs{names};.end;.model g;.inputs{names};.end;")
+}
+
+/// Whether this is reported of a text, with this status.
+fn is_reported(
+    rt: &(impl AllocGlobal + Threads + Wait + Sync),
+    text: Result<String, AllocError>,
+    report: &str,
+    status: u8,
+) -> Result<bool, AllocError> {
+    match text {
+        Ok(text) => reports(rt, "eqc", Feed::whole(&text), report, status),
+        Err(error) => Err(error),
+    }
 }
 
 #[test]
 fn limits_of_hierarchies_are_told(rt: HostRuntime) -> Result<(), AllocError> {
     let alloc = rt.alloc();
-    let text = doubled(alloc)?;
-    assert!(rt; reports(&rt, "eqc", Feed::whole(&text), "refused first 0 29;", 2)?);
-    let mut text = String::from_str(alloc, ".model f;")?;
-    inputs(alloc, &mut text, 2_049)?;
-    text.push_str(".model g;.end;")?;
-    assert!(rt; reports(&rt, "eqc", Feed::whole(&text), "refused first 0 30;", 2)?);
-    let mut text = String::from_str(alloc, ".model f;")?;
-    inputs(alloc, &mut text, 2_048)?;
-    text.push_str(".model g;")?;
-    inputs(alloc, &mut text, 2_048)?;
-    assert!(rt; reports(&rt, "eqc", Feed::whole(&text), "equivalent;", 0)?);
+    assert!(rt; is_reported(&rt, doubled(alloc), "refused first 0 29;", 2)?);
+    assert!(rt; is_reported(&rt, too_many_inputs(alloc), "refused first 0 30;", 2)?);
+    assert!(rt; is_reported(&rt, most_inputs(alloc), "equivalent;", 0)?);
     Ok(())
 }

@@ -1,6 +1,6 @@
 //! What `--explain` tells behind the report of a run without a verdict, for each code, worked out by hand from the texts.
 
-use super::program::{LEAF_FIRST, words_of, written_by};
+use super::program::{LEAF_FIRST, words_of, writes, written_by};
 use super::streams::{Drain, Endless, Feed, NEVER};
 use super::{PERMUTED, UNEQUAL, is_text};
 use crate::command_line::Request;
@@ -10,6 +10,7 @@ use eqc_check::{Diagnostics, Options};
 use eqc_tree::Stop;
 use std::alloc::{AllocError, Global};
 use std::process::Abort;
+use std::rt::Files;
 use std::sync::Wait;
 use std::thread::Threads;
 
@@ -251,76 +252,136 @@ static COMPARING: [Row; 14] = [
     ),
 ];
 
-/// A row is reported as ever, with the lines of its explanation where `--explain` asks for them, and with none where it
-/// doesn't.
-fn check_row(
-    rt: &(impl Abort + AllocGlobal + Threads + Wait + Sync),
+/// The status of a command line on a text, where it writes this report, and exactly this on standard error.
+fn status_of(
+    rt: &(impl AllocGlobal + Threads + Wait + Sync),
+    line: &str,
+    text: &str,
+    report: &str,
+    said: &str,
+) -> Result<Option<u8>, AllocError> {
+    let written = written_by(rt, line.trim_end(), Feed::whole(text))?;
+    let as_said = is_text(&written.out, report) && written.err.as_slice() == said.as_bytes();
+    Ok(as_said.then_some(written.status))
+}
+
+/// What ends standard error where there is no report.
+fn fault_of(report: &str) -> &'static str {
+    if report.is_empty() { "fault 91\n" } else { "" }
+}
+
+/// The status of a row without an explanation.
+fn plain_status(
+    rt: &(impl AllocGlobal + Threads + Wait + Sync),
     row: &Row,
+) -> Result<Option<u8>, AllocError> {
+    let (options, text, report, _) = *row;
+    let line = format!(in rt.alloc(); "eqc {options}")?;
+    status_of(rt, &line, text, report, fault_of(report))
+}
+
+/// The status of a command line on the text of a row with its explanation.
+fn told_status(
+    rt: &(impl AllocGlobal + Threads + Wait + Sync),
+    line: &str,
+    row: &Row,
+) -> Result<Option<u8>, AllocError> {
+    let (_, text, report, said) = *row;
+    let said = format!(in rt.alloc(); "{said}{}", fault_of(report))?;
+    status_of(rt, line, text, report, &said)
+}
+
+/// The status of a row with its explanation.
+fn explained_status(
+    rt: &(impl AllocGlobal + Threads + Wait + Sync),
+    row: &Row,
+) -> Result<Option<u8>, AllocError> {
+    let line = format!(in rt.alloc(); "eqc --explain {}", row.0)?;
+    told_status(rt, &line, row)
+}
+
+/// Each row is reported as ever, with the lines of its explanation where `--explain` asks for them, and with none where it
+/// doesn't.
+fn check_rows(
+    rt: &(impl Abort + AllocGlobal + Threads + Wait + Sync),
+    rows: &[Row],
 ) -> Result<(), AllocError> {
-    let (options, text, report, said) = *row;
-    let plain = format!(in rt.alloc(); "eqc {options}")?;
-    let line = format!(in rt.alloc(); "eqc --explain {options}")?;
-    let plain = written_by(rt, plain.trim_end(), Feed::whole(text))?;
-    let told = written_by(rt, line.trim_end(), Feed::whole(text))?;
-    assert!(rt; is_text(&plain.out, report), "{options}: {text}");
-    assert!(rt; is_text(&told.out, report), "{options}: {text}");
-    assert_eq!(rt; told.status, plain.status, "{options}: {text}");
-    let fault = if report.is_empty() { "fault 91\n" } else { "" };
-    assert!(rt;
-        plain.err.as_slice() == fault.as_bytes(),
-        "{options}: {text}"
-    );
-    let both = format!(in rt.alloc(); "{said}{fault}")?;
-    assert!(rt; told.err.as_slice() == both.as_bytes(), "{options}: {text}");
+    for row in rows {
+        let plain = plain_status(rt, row)?;
+        let explained = explained_status(rt, row)?;
+        assert!(rt;
+            plain.is_some() && explained == plain,
+            "{}: {}",
+            row.0,
+            row.1
+        );
+    }
     Ok(())
 }
 
 #[test]
 fn texts_at_fault_are_explained(rt: HostRuntime) -> Result<(), AllocError> {
-    for row in &READING {
-        check_row(&rt, row)?;
-    }
-    Ok(())
+    check_rows(&rt, READING.as_slice())
 }
 
 #[test]
 fn hierarchies_at_fault_are_explained(rt: HostRuntime) -> Result<(), AllocError> {
-    for row in &FLATTENING {
-        check_row(&rt, row)?;
-    }
-    Ok(())
+    check_rows(&rt, FLATTENING.as_slice())
 }
 
 #[test]
 fn runs_without_a_verdict_are_explained(rt: HostRuntime) -> Result<(), AllocError> {
-    for row in &COMPARING {
-        check_row(&rt, row)?;
+    check_rows(&rt, COMPARING.as_slice())
+}
+
+/// The names of so many inputs, each behind a blank.
+fn input_names(alloc: Global, count: u32) -> Result<String, AllocError> {
+    let mut names = String::new(alloc);
+    for k in 0..count {
+        let name = format!(in alloc; " i{k}")?;
+        names.push_str(&name)?;
     }
-    Ok(())
+    Ok(names)
 }
 
 /// A main model with so many inputs.
 fn many_inputs(alloc: Global, count: u32) -> Result<String, AllocError> {
-    let mut text = String::from_str(alloc, ".model f;.inputs")?;
-    for k in 0..count {
-        let name = format!(in alloc; " i{k}")?;
-        text.push_str(&name)?;
-    }
-    text.push_str(";.end;.model g;")?;
-    Ok(text)
+    let names = input_names(alloc, count)?;
+    format!(in alloc; ".model f;.inputs{names};.end;.model g;")
 }
 
-/// Models without names on this many levels below the first one, each with two instances of the next one.
-fn doubling(alloc: Global, levels: u32) -> Result<String, AllocError> {
-    let mut text = String::from_str(alloc, "")?;
+/// Models without names on this many levels below the first one, each with two instances of the next one, and the start
+/// of the one below them.
+fn levels_above(alloc: Global, levels: u32) -> Result<String, AllocError> {
+    let mut text = String::new(alloc);
     for k in 0..levels {
         let next = k + 1;
         let model = format!(in alloc; ".model m{k};.subckt m{next};.subckt m{next};.end;")?;
         text.push_str(&model)?;
     }
-    let last = format!(in alloc; ".model m{levels};.end;")?;
-    text.push_str(&last)?;
     Ok(text)
+}
+
+/// The same, with the one below them.
+fn doubling(alloc: Global, levels: u32) -> Result<String, AllocError> {
+    let above = levels_above(alloc, levels)?;
+    format!(in alloc; "{above}.model m{levels};.end;")
+}
+
+/// Whether a text is refused by its hierarchy's size, with this explanation.
+fn is_too_large(
+    rt: &(impl AllocGlobal + Threads + Wait + Sync),
+    text: &str,
+    said: &str,
+) -> Result<bool, AllocError> {
+    writes(
+        rt,
+        "eqc --explain",
+        Feed::whole(text),
+        2,
+        "refused first 0 29;",
+        said,
+    )
 }
 
 #[test]
@@ -337,32 +398,68 @@ fn sizes_are_counted_as_far_as_they_go(rt: HostRuntime) -> Result<(), AllocError
         ),
     ] {
         let text = doubling(rt.alloc(), levels)?;
-        let told = written_by(&rt, "eqc --explain", Feed::whole(&text))?;
-        assert!(rt; is_text(&told.out, "refused first 0 29;"), "{levels}");
-        assert!(rt; is_text(&told.err, said), "{levels}");
+        let found = is_too_large(&rt, &text, said)?;
+        assert!(rt; found, "{levels}");
     }
     Ok(())
+}
+
+/// What is said of a text with 2049 inputs.
+const MANY_INPUTS: &str =
+    "eqc: standard input: the main model has 2049 inputs, and may have 2048 (30);";
+
+/// Whether a text is refused for its inputs, with that explanation.
+fn has_many_inputs(
+    rt: &(impl AllocGlobal + Threads + Wait + Sync),
+    text: &str,
+) -> Result<bool, AllocError> {
+    let input = Feed::whole(text);
+    writes(
+        rt,
+        "eqc --explain",
+        input,
+        2,
+        "refused first 0 30;",
+        MANY_INPUTS,
+    )
+}
+
+/// What is said of a text without end.
+const MANY_BYTES: &str =
+    "eqc: standard input: the text has 16777217 bytes at least, and may have 16777216 (2);";
+
+/// Whether a text without end is refused, with that explanation.
+fn has_many_bytes(
+    rt: &(impl AllocGlobal + Files + Threads + Wait + Sync),
+    words: &[String],
+) -> bool {
+    let mut out = Vec::new(rt.alloc());
+    let mut err = Vec::new(rt.alloc());
+    program(rt, words, Endless::new(), &mut out, &mut err);
+    is_text(&out, "refused first 0 2;") && is_text(&err, MANY_BYTES)
 }
 
 #[test]
 fn too_many_inputs_and_bytes_are_explained(rt: HostRuntime) -> Result<(), AllocError> {
     let text = many_inputs(rt.alloc(), 2049)?;
-    let told = written_by(&rt, "eqc --explain", Feed::whole(&text))?;
-    assert!(rt; is_text(&told.out, "refused first 0 30;"));
-    assert!(rt;
-        told.err.as_slice()
-            == b"eqc: standard input: the main model has 2049 inputs, and may have 2048 (30)\n".as_slice()
-    );
+    let inputs = has_many_inputs(&rt, &text)?;
+    assert!(rt; inputs);
     let words = words_of(rt.alloc(), "eqc --explain")?;
-    let mut out = Vec::new(rt.alloc());
-    let mut err = Vec::new(rt.alloc());
-    program(&rt, &words, Endless::new(), &mut out, &mut err);
-    assert!(rt; is_text(&out, "refused first 0 2;"));
-    assert!(rt;
-        err.as_slice()
-            == b"eqc: standard input: the text has 16777217 bytes at least, and may have 16777216 (2)\n".as_slice()
-    );
+    assert!(rt; has_many_bytes(&rt, &words));
     Ok(())
+}
+
+/// Whether these words end as a failed write, with this on standard error.
+fn is_write_fault(
+    rt: &(impl AllocGlobal + Files + Threads + Wait + Sync),
+    words: &[String],
+    said: &str,
+) -> bool {
+    let mut out = Drain::new(Vec::new(rt.alloc()), 4, 1, true);
+    let mut err = Vec::new(rt.alloc());
+    let input = Feed::new(UNEQUAL, NEVER, NEVER);
+    let status = program(rt, words, input, &mut out, &mut err);
+    status == 4 && is_text(&err, said)
 }
 
 #[test]
@@ -375,17 +472,8 @@ fn a_failed_write_is_explained(rt: HostRuntime) -> Result<(), AllocError> {
         ),
     ] {
         let words = words_of(rt.alloc(), line)?;
-        let mut out = Drain::new(Vec::new(rt.alloc()), 4, 1, true);
-        let mut err = Vec::new(rt.alloc());
-        let status = program(
-            &rt,
-            &words,
-            Feed::new(UNEQUAL, NEVER, NEVER),
-            &mut out,
-            &mut err,
-        );
-        assert_eq!(rt; status, 4);
-        assert!(rt; is_text(&err, said), "{line}");
+        let found = is_write_fault(&rt, &words, said);
+        assert!(rt; found, "{line}");
     }
     Ok(())
 }
@@ -400,25 +488,30 @@ static STOPS: [(Stop, &str); 3] = [
     (Stop::Threads, "eqc: a thread could not be started (74);"),
 ];
 
+/// Whether this is said of a stop.
+fn is_said_of(alloc: Global, stop: Stop, said: &str) -> bool {
+    let request = Request {
+        options: Options {
+            workers: 1,
+            nodes: 1,
+            cells: 1,
+            forks: 0,
+        },
+        explain: true,
+        order: None,
+        first_model: None,
+        second_model: None,
+        first: None,
+        second: None,
+    };
+    let mut explanation = explanation_for(alloc, &request);
+    explanation.stopped(stop);
+    is_text(explanation.as_bytes(), said)
+}
+
 #[test]
 fn stops_are_explained(rt: HostRuntime) {
     for (stop, said) in &STOPS {
-        let request = Request {
-            options: Options {
-                workers: 1,
-                nodes: 1,
-                cells: 1,
-                forks: 0,
-            },
-            explain: true,
-            order: None,
-            first_model: None,
-            second_model: None,
-            first: None,
-            second: None,
-        };
-        let mut explanation = explanation_for(rt.alloc(), &request);
-        explanation.stopped(*stop);
-        assert!(rt; is_text(explanation.as_bytes(), said));
+        assert!(rt; is_said_of(rt.alloc(), *stop, said));
     }
 }

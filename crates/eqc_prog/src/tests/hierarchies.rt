@@ -4,18 +4,28 @@
 ghost use Rattle.std.specs.Prelude.{◌<◌, length};
 
 use eqc_blif::{Library, read};
-use eqc_flat::{Driver, Flat, eval, flatten};
+use eqc_flat::{Driver, Flat, Signals, eval, flatten};
 use std::alloc::{AllocError, Global};
 use std::process::Abort;
 use std::test::Fail;
 
-/// The code of the first fault below the main model of a text, or none.
-fn code(alloc: Global, text: &[u8]) -> Result<Option<u8>, Fail> {
-    let library = read(alloc, text).ok().ok_or("refused")?;
+/// The code of the first fault below the main model of a library, or none.
+fn library_code(alloc: Global, library: &Library) -> Result<Option<u8>, Fail> {
     if library.models() == 0 {
         return Err(Fail::from("no model"));
     }
-    Ok(flatten(alloc, &library, 0).err().map(|fault| fault.code))
+    match flatten(alloc, library, 0) {
+        Ok(_) => Ok(None),
+        Err(fault) => Ok(Some(fault.code)),
+    }
+}
+
+/// The code of the first fault below the main model of a text, or none.
+fn code(alloc: Global, text: &[u8]) -> Result<Option<u8>, Fail> {
+    match read(alloc, text) {
+        Ok(library) => library_code(alloc, &library),
+        Err(_) => Err(Fail::from("refused")),
+    }
 }
 
 /// Texts and their codes. The codes of models are 21 to 25; the first text has none of them, and then 27, since nothing
@@ -48,7 +58,8 @@ static CODES: [(&[u8], Option<u8>); 7] = [
 #[test]
 fn tells_the_first_code_of_the_models(rt: HostRuntime) -> Result<(), Fail> {
     for (text, want) in CODES.iter() {
-        assert_eq!(rt; code(rt.alloc(), text)?, *want);
+        let found = code(rt.alloc(), text)?;
+        assert_eq!(rt; found, *want);
     }
     Ok(())
 }
@@ -59,6 +70,15 @@ pub fn flat_of(alloc: Global, library: &Library, m: usize) -> Option<Flat<'_>> {
         flatten(alloc, library, m).ok()
     } else {
         None
+    }
+}
+
+/// The first two models of a library, flat, or none where they aren't there or one is refused.
+pub fn two_flats(alloc: Global, library: &Library) -> Option<(Flat<'_>, Flat<'_>)> {
+    let first = flat_of(alloc, library, 0)?;
+    match flat_of(alloc, library, 1) {
+        Some(second) => Some((first, second)),
+        None => None,
     }
 }
 
@@ -73,16 +93,42 @@ pub fn output_values(alloc: Global, flat: &Flat<'_>, values: &[bool]) -> Result<
     }
 }
 
-/// The number of models of a text, the number of signals below its main model, and the values of the outputs.
-fn evaluated(
+/// Whether a flat netlist has so many signals, and these values of its outputs under those of its inputs.
+fn flat_gives(
     alloc: Global,
-    text: &[u8],
-    values: &[bool],
-) -> Result<(usize, usize, Vec<bool>), Fail> {
-    let library = read(alloc, text).ok().ok_or("refused")?;
-    let flat = flat_of(alloc, &library, 0).ok_or("refused hierarchy")?;
-    let outputs = output_values(alloc, &flat, values)?;
-    Ok((library.models(), flat.steps().len(), outputs))
+    flat: &Flat<'_>,
+    signals: usize,
+    inputs: &[bool],
+    outputs: &[bool],
+) -> Result<bool, Fail> {
+    let values = output_values(alloc, flat, inputs)?;
+    Ok(flat.steps().len() == signals && values.as_slice() == outputs)
+}
+
+/// Whether the main model of a library does.
+fn library_gives(
+    alloc: Global,
+    library: &Library,
+    signals: usize,
+    inputs: &[bool],
+    outputs: &[bool],
+) -> Result<bool, Fail> {
+    match flat_of(alloc, library, 0) {
+        Some(flat) => flat_gives(alloc, &flat, signals, inputs, outputs),
+        None => Err(Fail::from("refused hierarchy")),
+    }
+}
+
+/// Whether a text has so many models, and its main model does.
+fn gives(alloc: Global, row: &Row) -> Result<bool, Fail> {
+    let (text, models, signals, inputs, outputs) = *row;
+    match read(alloc, text) {
+        Ok(library) => {
+            let given = library_gives(alloc, &library, signals, inputs, outputs)?;
+            Ok(given && library.models() == models)
+        }
+        Err(_) => Err(Fail::from("refused")),
+    }
 }
 
 /// A text, its number of models and of signals, values of the inputs, and those of the outputs.
@@ -95,11 +141,9 @@ type Row = (
 );
 
 fn check_values(rt: &(impl Abort + AllocGlobal), rows: &[Row]) -> Result<(), Fail> {
-    for (text, models, signals, inputs, outputs) in rows {
-        let (m, s, values) = evaluated(rt.alloc(), text, inputs)?;
-        assert_eq!(rt; m, *models);
-        assert_eq!(rt; s, *signals);
-        assert_eq!(rt; values.as_slice(), *outputs);
+    for (k, row) in rows.iter().enumerate() {
+        let found = gives(rt.alloc(), row)?;
+        assert!(rt; found, "row {k}");
     }
     Ok(())
 }
@@ -133,52 +177,84 @@ fn evaluates_hierarchies(rt: HostRuntime) -> Result<(), Fail> {
     check_values(&rt, INSTANCES.as_slice())
 }
 
+/// A name as text.
+fn name_word(alloc: Global, name: &[u8]) -> Result<String, AllocError> {
+    let mut word = String::new(alloc);
+    for byte in name {
+        word.push(*byte as char)?;
+    }
+    Ok(word)
+}
+
 /// The name of a signal behind those of the positions on the way to its instance, from the main model down.
 fn path_of(alloc: Global, flat: &Flat<'_>, s: u32) -> Result<String, AllocError>
     requires { s < length flat.now.drivers }
 {
     let (instance, name) = flat.signal(s);
-    let mut path = String::new(alloc);
-    for byte in name {
-        path.push(*byte as char)?;
-    }
+    let word = name_word(alloc, name)?;
     if instance == 0 {
-        return Ok(path);
+        return Ok(word);
     }
     let (parent, position) = flat.place(instance);
-    format!(in alloc; "{parent}.{position}.{path}")
+    format!(in alloc; "{parent}.{position}.{word}")
+}
+
+/// Signals, each behind a blank.
+fn signals_word(alloc: Global, signals: &Signals<'_>) -> Result<String, AllocError> {
+    let mut word = String::new(alloc);
+    for k in 0..signals.len() {
+        let other = format!(in alloc; " {}", signals.get(k))?;
+        word.push_str(&other)?;
+    }
+    Ok(word)
 }
 
 /// What drives a signal, in one word: its kind and what it depends on.
 fn driver_word(alloc: Global, flat: &Flat<'_>, s: u32) -> Result<String, AllocError>
     requires { s < length flat.now.drivers }
 {
-    let mut word = match flat.driver(s) {
-        Driver::Input(position) => format!(in alloc; "input {position}")?,
-        Driver::Tie(_) => String::from_str(alloc, "tie")?,
-        Driver::Cover { .. } => String::from_str(alloc, "cover")?,
-    };
-    let dependencies = flat.driver(s).dependencies();
-    for k in 0..dependencies.len() {
-        let other = dependencies.get(k);
-        word.push_str(&format!(in alloc; " {other}")?)?;
+    let others = signals_word(alloc, &flat.driver(s).dependencies())?;
+    match flat.driver(s) {
+        Driver::Input(position) => format!(in alloc; "input {position}{others}"),
+        Driver::Tie(_) => format!(in alloc; "tie{others}"),
+        Driver::Cover { .. } => format!(in alloc; "cover{others}"),
     }
-    Ok(word)
 }
 
-/// The signals of a text's main model in the order of the steps: path and driver, with `;` behind each.
-fn signals_of(alloc: Global, text: &[u8]) -> Result<String, Fail> {
-    let library = read(alloc, text).ok().ok_or("refused")?;
-    let flat = flat_of(alloc, &library, 0).ok_or("refused hierarchy")?;
+/// A signal: path and driver, with `;` behind it.
+fn signal_word(alloc: Global, flat: &Flat<'_>, s: u32) -> Result<String, AllocError>
+    requires { s < length flat.now.drivers }
+{
+    let path = path_of(alloc, flat, s)?;
+    let driver = driver_word(alloc, flat, s)?;
+    format!(in alloc; "{path}={driver};")
+}
+
+/// The signals of a flat netlist in the order of the steps.
+fn flat_word(alloc: Global, flat: &Flat<'_>) -> Result<String, AllocError> {
     let mut all = String::new(alloc);
     let steps = flat.steps();
     for k in 0..steps.len() {
-        all.push_str(&path_of(alloc, &flat, steps[k])?)?;
-        all.push('=')?;
-        all.push_str(&driver_word(alloc, &flat, steps[k])?)?;
-        all.push(';')?;
+        let word = signal_word(alloc, flat, steps[k])?;
+        all.push_str(&word)?;
     }
     Ok(all)
+}
+
+/// Whether the signals of a library's main model are these.
+fn library_has(alloc: Global, library: &Library, signals: &str) -> Result<bool, Fail> {
+    match flat_of(alloc, library, 0) {
+        Some(flat) => Ok(flat_word(alloc, &flat)?.as_str() == signals),
+        None => Err(Fail::from("refused hierarchy")),
+    }
+}
+
+/// Whether the signals of a text's main model are these.
+fn has_signals(alloc: Global, text: &[u8], signals: &str) -> Result<bool, Fail> {
+    match read(alloc, text) {
+        Ok(library) => library_has(alloc, &library, signals),
+        Err(_) => Err(Fail::from("refused")),
+    }
 }
 
 static SIGNALS: [(&[u8], &str); 2] = [
@@ -195,7 +271,8 @@ static SIGNALS: [(&[u8], &str); 2] = [
 #[test]
 fn signals_have_names_places_and_drivers(rt: HostRuntime) -> Result<(), Fail> {
     for (text, want) in SIGNALS.iter() {
-        assert_eq!(rt; signals_of(rt.alloc(), text)?.as_str(), *want);
+        let found = has_signals(rt.alloc(), text, want)?;
+        assert!(rt; found, "{want}");
     }
     Ok(())
 }

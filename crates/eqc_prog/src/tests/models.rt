@@ -1,10 +1,13 @@
 //! Which models are compared, by their names or their places, and the warnings on models that others contain.
 
 use super::is_text;
-use super::program::{LEAF_FIRST, words_of, written_by};
+use super::program::{LEAF_FIRST, words_of, writes, written_by};
 use super::streams::{Drain, Feed};
 use crate::program;
 use std::alloc::AllocError;
+use std::rt::Files;
+use std::sync::Wait;
+use std::thread::Threads;
 
 /// Warnings on the leaf of two texts.
 const ON_BOTH: &str =
@@ -96,10 +99,9 @@ static NAMED: [(&str, &str, u8, &str); 15] = [
 #[test]
 fn models_are_chosen_and_warned_of(rt: HostRuntime) -> Result<(), AllocError> {
     for (line, report, status, warnings) in &NAMED {
-        let written = written_by(&rt, line, Feed::whole(""))?;
-        assert_eq!(rt; written.status, *status, "{line}");
-        assert!(rt; is_text(&written.out, report), "{line}");
-        assert!(rt; is_text(&written.err, warnings), "{line}");
+        let input = Feed::whole("");
+        let found = writes(&rt, line, input, *status, report, warnings)?;
+        assert!(rt; found, "{line}");
     }
     Ok(())
 }
@@ -120,28 +122,37 @@ static CONTAINED: [(&str, &str); 3] = [
     ),
 ];
 
+/// Whether a text is compared, and these are the warnings on it.
+fn is_warned_of(
+    rt: &(impl AllocGlobal + Threads + Wait + Sync),
+    text: &str,
+    warnings: &str,
+) -> Result<bool, AllocError> {
+    let written = written_by(rt, "eqc", Feed::whole(text))?;
+    Ok(written.status < 2 && is_text(&written.err, warnings))
+}
+
 #[test]
 fn containers_are_named(rt: HostRuntime) -> Result<(), AllocError> {
     for (text, warnings) in &CONTAINED {
-        let written = written_by(&rt, "eqc", Feed::whole(text))?;
-        assert!(rt; written.status < 2, "{text}");
-        assert!(rt; is_text(&written.err, warnings), "{text}");
+        let found = is_warned_of(&rt, text, warnings)?;
+        assert!(rt; found, "{text}");
     }
     Ok(())
 }
 
+/// Whether these leaves are equivalent, with as much of a warning as standard error takes.
+fn is_cut_off(rt: &(impl AllocGlobal + Files + Threads + Wait + Sync), words: &[String]) -> bool {
+    let mut out = Vec::new(rt.alloc());
+    let mut err = Drain::new(Vec::new(rt.alloc()), 4, 1, true);
+    let status = program(rt, words, Feed::whole(LEAF_FIRST), &mut out, &mut err);
+    status == 0 && is_text(&out, "equivalent;") && is_text(&err.bytes, "eqc:")
+}
+
 #[test]
 fn a_warning_that_is_cut_off_changes_nothing(rt: HostRuntime) -> Result<(), AllocError> {
-    let alloc = rt.alloc();
-    let words = words_of(alloc, "eqc --first-model leaf --second-model leaf")?;
-    let mut out = Vec::new(alloc);
-    let mut err = Drain::new(Vec::new(alloc), 4, 1, true);
-    assert_eq!(rt;
-        program(&rt, &words, Feed::whole(LEAF_FIRST), &mut out, &mut err),
-        0
-    );
-    assert!(rt; is_text(&out, "equivalent;"));
-    assert!(rt; is_text(&err.bytes, "eqc:"));
+    let words = words_of(rt.alloc(), "eqc --first-model leaf --second-model leaf")?;
+    assert!(rt; is_cut_off(&rt, &words));
     Ok(())
 }
 
@@ -149,18 +160,19 @@ fn a_warning_that_is_cut_off_changes_nothing(rt: HostRuntime) -> Result<(), Allo
 const AND_IN_THIRD: &str =
     ".model f;.inputs x y;.outputs z;.names x y z;11 1;.end;.model g;.inputs x y;.outputs z;.names x y z;11 1;.end;.model h;.subckt f x=a y=b z=c;.end;";
 
+/// The warning on them.
+const ON_AND_IN_THIRD: &str =
+    "eqc: warning: standard input: model 'f' is compared, which model 'h' contains;";
+
 #[test]
 fn a_stop_is_not_warned_of(rt: HostRuntime) -> Result<(), AllocError> {
-    let stopped = written_by(&rt, "eqc --nodes 1", Feed::whole(AND_IN_THIRD))?;
-    assert_eq!(rt; stopped.status, 3);
-    assert!(rt; stopped.err.is_empty());
-    let answered = written_by(&rt, "eqc", Feed::whole(AND_IN_THIRD))?;
-    assert_eq!(rt; answered.status, 0);
-    assert!(rt;
-        is_text(
-            &answered.err,
-            "eqc: warning: standard input: model 'f' is compared, which model 'h' contains;"
-        )
-    );
+    for (line, status, report, warnings) in [
+        ("eqc --nodes 1", 3, "stopped 71;", ""),
+        ("eqc", 0, "equivalent;", ON_AND_IN_THIRD),
+    ] {
+        let input = Feed::whole(AND_IN_THIRD);
+        let found = writes(&rt, line, input, status, report, warnings)?;
+        assert!(rt; found, "{line}");
+    }
     Ok(())
 }

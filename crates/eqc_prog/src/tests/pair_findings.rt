@@ -1,21 +1,12 @@
 //! What is at fault in two netlists that make no pair, and in an order text, worked out by hand.
 
-use super::hierarchies::flat_of;
+use super::hierarchies::two_flats;
 use super::{EQUAL, lines};
 use eqc_blif::{Library, read};
 use eqc_check::{Finding, Unmatched, explain_pair};
 use eqc_flat::Flat;
 use std::alloc::{AllocError, Global};
 use std::process::Abort;
-
-/// Adds how many names there are, and those that are told.
-fn push_names(alloc: Global, out: &mut String, names: &Unmatched<'_>) -> Result<(), AllocError> {
-    out.push_str(&format!(in alloc; " {}", names.count())?)?;
-    for name in names.names() {
-        push_name(out, name)?;
-    }
-    Ok(())
-}
 
 /// Adds a name.
 fn push_name(out: &mut String, name: &[u8]) -> Result<(), AllocError> {
@@ -26,6 +17,21 @@ fn push_name(out: &mut String, name: &[u8]) -> Result<(), AllocError> {
     Ok(())
 }
 
+/// Names, each behind a blank.
+fn names_word(alloc: Global, names: &Unmatched<'_>) -> Result<String, AllocError> {
+    let mut out = String::new(alloc);
+    for name in names.names() {
+        push_name(&mut out, name)?;
+    }
+    Ok(out)
+}
+
+/// A code, how many names there are, and those that are told.
+fn counted(alloc: Global, code: &str, names: &Unmatched<'_>) -> Result<String, AllocError> {
+    let told = names_word(alloc, names)?;
+    format!(in alloc; "{code} {}{told}", names.count())
+}
+
 /// A code, and the names of the two netlists behind it.
 fn differing(
     alloc: Global,
@@ -33,10 +39,15 @@ fn differing(
     first: &Unmatched<'_>,
     second: &Unmatched<'_>,
 ) -> Result<String, AllocError> {
-    let mut out = String::from_str(alloc, code)?;
-    push_names(alloc, &mut out, first)?;
-    out.push_str(",")?;
-    push_names(alloc, &mut out, second)?;
+    let first = counted(alloc, code, first)?;
+    let second = counted(alloc, "", second)?;
+    format!(in alloc; "{first},{second}")
+}
+
+/// The code of a word twice, and the word.
+fn twice(alloc: Global, word: &[u8]) -> Result<String, AllocError> {
+    let mut out = String::from_str(alloc, "52")?;
+    push_name(&mut out, word)?;
     Ok(out)
 }
 
@@ -46,21 +57,9 @@ fn shown(alloc: Global, finding: &Finding<'_>) -> Result<String, AllocError> {
         Finding::OtherInputs { first, second } => differing(alloc, "41", first, second),
         Finding::OtherOutputs { first, second } => differing(alloc, "42", first, second),
         Finding::OrderTooLong { bytes, limit } => format!(in alloc; "2 {bytes} {limit}"),
-        Finding::UnknownWords(words) => {
-            let mut out = String::from_str(alloc, "51")?;
-            push_names(alloc, &mut out, words)?;
-            Ok(out)
-        }
-        Finding::WordTwice(word) => {
-            let mut out = String::from_str(alloc, "52")?;
-            push_name(&mut out, word)?;
-            Ok(out)
-        }
-        Finding::InputsLeftOut(inputs) => {
-            let mut out = String::from_str(alloc, "53")?;
-            push_names(alloc, &mut out, inputs)?;
-            Ok(out)
-        }
+        Finding::UnknownWords(words) => counted(alloc, "51", words),
+        Finding::WordTwice(word) => twice(alloc, word),
+        Finding::InputsLeftOut(inputs) => counted(alloc, "53", inputs),
     }
 }
 
@@ -79,20 +78,35 @@ fn flat_finding(
 
 /// What is at fault in the first two models of a library.
 fn found_in(alloc: Global, library: &Library, order: Option<&[u8]>) -> Result<String, AllocError> {
-    let (Some(first), Some(second)) = (flat_of(alloc, library, 0), flat_of(alloc, library, 1))
-    else {
-        return String::from_str(alloc, "no two models");
-    };
-    flat_finding(alloc, &first, &second, order)
+    match &two_flats(alloc, library) {
+        Some((first, second)) => flat_finding(alloc, first, second, order),
+        None => String::from_str(alloc, "no two models"),
+    }
 }
 
-/// What is at fault in the first two models of a text.
-fn found(alloc: Global, text: &str, order: Option<&[u8]>) -> Result<String, AllocError> {
-    let text = lines(alloc, text)?;
-    match read(alloc, &text) {
-        Ok(library) => found_in(alloc, &library, order),
-        Err(_) => String::from_str(alloc, "no library"),
+/// Whether this is at fault in the first two models of a text.
+fn has(alloc: Global, text: &[u8], order: Option<&[u8]>, wanted: &str) -> Result<bool, AllocError> {
+    match read(alloc, text) {
+        Ok(library) => Ok(found_in(alloc, &library, order)?.as_str() == wanted),
+        Err(_) => Ok(false),
     }
+}
+
+/// The same, where `;` stands for LF.
+fn found(
+    alloc: Global,
+    text: &str,
+    order: Option<&[u8]>,
+    wanted: &str,
+) -> Result<bool, AllocError> {
+    let text = lines(alloc, text)?;
+    has(alloc, &text, order, wanted)
+}
+
+/// The same of an order text for `EQUAL`.
+fn found_in_order(alloc: Global, order: &str, wanted: &str) -> Result<bool, AllocError> {
+    let order = lines(alloc, order)?;
+    found(alloc, EQUAL, Some(&order), wanted)
 }
 
 /// Texts of two models, each with its name and with what is at fault.
@@ -133,8 +147,8 @@ static PAIRS: [(&str, &str, &str); 7] = [
 #[test]
 fn names_what_one_netlist_lacks(rt: HostRuntime) -> Result<(), AllocError> {
     for (name, text, wanted) in &PAIRS {
-        let out = found(rt.alloc(), text, None)?;
-        assert_eq!(rt; out.as_str(), *wanted, "{name}");
+        let found = found(rt.alloc(), text, None, wanted)?;
+        assert!(rt; found, "{name}");
     }
     Ok(())
 }
@@ -153,9 +167,8 @@ static ORDERS: [(&str, &str, &str); 7] = [
 #[test]
 fn names_what_an_order_text_has_wrong(rt: HostRuntime) -> Result<(), AllocError> {
     for (name, order, wanted) in &ORDERS {
-        let order = lines(rt.alloc(), order)?;
-        let out = found(rt.alloc(), EQUAL, Some(&order))?;
-        assert_eq!(rt; out.as_str(), *wanted, "{name}");
+        let found = found_in_order(rt.alloc(), order, wanted)?;
+        assert!(rt; found, "{name}");
     }
     Ok(())
 }
@@ -163,7 +176,7 @@ fn names_what_an_order_text_has_wrong(rt: HostRuntime) -> Result<(), AllocError>
 #[test]
 fn names_the_size_of_a_long_order_text(rt: HostRuntime) -> Result<(), AllocError> {
     let order = vec![in rt.alloc(); b'\n'; 16_777_217]?;
-    let out = found(rt.alloc(), EQUAL, Some(&order))?;
-    assert_eq!(rt; out.as_str(), "2 16777217 16777216");
+    let found = found(rt.alloc(), EQUAL, Some(&order), "2 16777217 16777216")?;
+    assert!(rt; found);
     Ok(())
 }

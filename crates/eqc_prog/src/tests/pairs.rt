@@ -5,7 +5,7 @@
 ghost use Rattle.std.specs.Prelude.{◌<◌, ◌≤◌, IsTrue, length};
 ghost use Rattle.eqc_tree.specs.Holding.{Keeps};
 
-use super::hierarchies::flat_of;
+use super::hierarchies::two_flats;
 use super::{DIFFERENCE, EQUAL, UNEQUAL, lines};
 use eqc_blif::{Library, read};
 use eqc_check::{Pair, Report, check_plain, compare_output, least_assignment, pair, write_report};
@@ -231,35 +231,60 @@ fn models_answer<R>(
     rt: &R,
     alloc: Global,
     library: &Library,
-    order: &str,
+    order: Option<&[u8]>,
     ask: Ask,
 ) -> Result<String, AllocError> {
-    let (Some(first), Some(second)) = (flat_of(alloc, library, 0), flat_of(alloc, library, 1))
-    else {
-        return String::from_str(alloc, "no two simple models");
-    };
-    let order = lines(alloc, order)?;
-    let order = if order.is_empty() {
-        None
-    } else {
-        Some(order.as_slice())
-    };
-    flat_answer(rt, alloc, &first, &second, order, ask)
+    match &two_flats(alloc, library) {
+        Some((first, second)) => flat_answer(rt, alloc, first, second, order, ask),
+        None => String::from_str(alloc, "no two simple models"),
+    }
 }
 
-/// The answer on the first two models of a text, with an order text where it isn't empty.
-fn text_answer<R>(
+/// Whether this is the answer on the first two models of a text.
+fn is_answer<R>(
+    rt: &R,
+    alloc: Global,
+    text: &[u8],
+    order: Option<&[u8]>,
+    ask: Ask,
+    wanted: &str,
+) -> Result<bool, AllocError> {
+    match read(alloc, text) {
+        Ok(library) => {
+            let answer = models_answer(rt, alloc, &library, order, ask)?;
+            Ok(answer.as_str() == wanted)
+        }
+        Err(_) => Ok(false),
+    }
+}
+
+/// The same, with an order text where it isn't empty, in which `;` stands for LF.
+fn is_ordered_answer<R>(
+    rt: &R,
+    alloc: Global,
+    text: &[u8],
+    order: &str,
+    ask: Ask,
+    wanted: &str,
+) -> Result<bool, AllocError> {
+    if order.is_empty() {
+        return is_answer(rt, alloc, text, None, ask, wanted);
+    }
+    let order = lines(alloc, order)?;
+    is_answer(rt, alloc, text, Some(&order), ask, wanted)
+}
+
+/// The same, where `;` stands for LF in both texts.
+fn answers<R>(
     rt: &R,
     alloc: Global,
     text: &str,
     order: &str,
     ask: Ask,
-) -> Result<String, AllocError> {
+    wanted: &str,
+) -> Result<bool, AllocError> {
     let text = lines(alloc, text)?;
-    match read(alloc, &text) {
-        Ok(library) => models_answer(rt, alloc, &library, order, ask),
-        Err(_) => String::from_str(alloc, "no library"),
-    }
+    is_ordered_answer(rt, alloc, &text, order, ask, wanted)
 }
 
 /// Texts with order texts: which output is compared, on a store of how many nodes, and the least assignment under which it
@@ -280,8 +305,9 @@ static OUTPUTS: [(&str, &str, usize, u32, &str); 10] = [
 #[test]
 fn outputs_are_compared_one_by_one(rt: HostRuntime) -> Result<(), AllocError> {
     for (text, order, output, nodes, answer) in &OUTPUTS {
-        let found = text_answer(&rt, rt.alloc(), text, order, Ask::Output(*output, *nodes))?;
-        assert_eq!(rt; found.as_str(), *answer, "{output} {order}");
+        let ask = Ask::Output(*output, *nodes);
+        let found = answers(&rt, rt.alloc(), text, order, ask, answer)?;
+        assert!(rt; found, "{output} {order}");
     }
     Ok(())
 }
@@ -297,8 +323,9 @@ static LITERALS: [(&str, u16, &str); 4] = [
 #[test]
 fn least_assignments_go_by_inputs(rt: HostRuntime) -> Result<(), AllocError> {
     for (order, variable, answer) in &LITERALS {
-        let found = text_answer(&rt, rt.alloc(), EQUAL, order, Ask::Literal(*variable))?;
-        assert_eq!(rt; found.as_str(), *answer, "{variable} {order}");
+        let ask = Ask::Literal(*variable);
+        let found = answers(&rt, rt.alloc(), EQUAL, order, ask, answer)?;
+        assert!(rt; found, "{variable} {order}");
     }
     Ok(())
 }
@@ -306,55 +333,76 @@ fn least_assignments_go_by_inputs(rt: HostRuntime) -> Result<(), AllocError> {
 /// The variables have the inputs in the opposite order, and the least assignment is that of the inputs all the same.
 #[test]
 fn positions_decide_and_not_variables(rt: HostRuntime) -> Result<(), AllocError> {
-    let found = text_answer(&rt, rt.alloc(), EQUAL, "y x", Ask::Either)?;
-    assert_eq!(rt; found.as_str(), "01");
+    let found = answers(&rt, rt.alloc(), EQUAL, "y x", Ask::Either, "01")?;
+    assert!(rt; found);
     Ok(())
+}
+
+/// The names of 512 inputs.
+fn input_names(alloc: Global) -> Result<String, AllocError> {
+    let mut names = String::new(alloc);
+    for k in 0..512 {
+        let name = format!(in alloc; " i{k}")?;
+        names.push_str(&name)?;
+    }
+    Ok(names)
+}
+
+/// Two characters, 256 times.
+fn repeated(alloc: Global, two: &str) -> Result<String, AllocError> {
+    let mut all = String::new(alloc);
+    for _k in 0..256 {
+        all.push_str(two)?;
+    }
+    Ok(all)
 }
 
 /// The constant 0, and the conjunction of every second of 512 inputs.
 fn every_second(alloc: Global) -> Result<String, AllocError> {
-    let mut names = String::new(alloc);
-    let mut row = String::new(alloc);
-    for k in 0..512 {
-        names.push_str(&format!(in alloc; " i{k}")?)?;
-        row.push_str(if k % 2 == 0 { "1" } else { "-" })?;
-    }
-    let mut text = String::from_str(alloc, ".model f;.inputs")?;
-    text.push_str(&names)?;
-    text.push_str(";.outputs z;.names z;.end;.model g;.inputs")?;
-    text.push_str(&names)?;
-    text.push_str(";.outputs z;.names")?;
-    text.push_str(&names)?;
-    text.push_str(" z;")?;
-    text.push_str(&row)?;
-    text.push_str(" 1;")?;
-    Ok(text)
+    let names = input_names(alloc)?;
+    let row = repeated(alloc, "1-")?;
+    format!(in alloc;
+        ".model f;.inputs{names};.outputs z;.names z;.end;.model g;.inputs{names};.outputs z;.names{names} z;{row} 1;"
+    )
 }
 
 /// The names of 512 inputs, the last one first.
 fn backwards(alloc: Global) -> Result<String, AllocError> {
     let mut order = String::new(alloc);
     for k in 0..512_u32 {
-        order.push_str(&format!(in alloc; " i{}", 511_u32.saturating_sub(k))?)?;
+        let name = format!(in alloc; " i{}", 511_u32.saturating_sub(k))?;
+        order.push_str(&name)?;
     }
     Ok(order)
+}
+
+/// Whether the least assignment of `every_second` is found under an order text, in a store of so many nodes.
+fn is_least_of_many<R>(
+    rt: &R,
+    alloc: Global,
+    text: &str,
+    order: &str,
+    nodes: u32,
+) -> Result<bool, AllocError> {
+    let answer = repeated(alloc, "10")?;
+    answers(rt, alloc, text, order, Ask::Output(0, nodes), &answer)
+}
+
+/// Whether it is in the order of the inputs, and in the opposite one.
+fn are_least_of_many<R>(rt: &R, alloc: Global, text: &str) -> Result<(bool, bool), AllocError> {
+    let onwards = is_least_of_many(rt, alloc, text, "", 2_048)?;
+    let order = backwards(alloc)?;
+    let back = is_least_of_many(rt, alloc, text, &order, 65_536)?;
+    Ok((onwards, back))
 }
 
 /// Where many inputs have to be 1 between others that are free, the least assignment is found in a store that has room for the
 /// diagram of the difference and for those on the way to it.
 #[test]
 fn least_assignments_of_many_ones_take_no_nodes(rt: HostRuntime) -> Result<(), AllocError> {
-    let alloc = rt.alloc();
-    let text = every_second(alloc)?;
-    let order = backwards(alloc)?;
-    let mut answer = String::new(alloc);
-    for _k in 0..256 {
-        answer.push_str("10")?;
-    }
-    for (order, nodes) in [("", 2_048), (order.as_str(), 65_536)] {
-        let found = text_answer(&rt, alloc, &text, order, Ask::Output(0, nodes))?;
-        assert_eq!(rt; found.as_str(), answer.as_str(), "{nodes}");
-    }
+    let text = every_second(rt.alloc())?;
+    let found = are_least_of_many(&rt, rt.alloc(), &text)?;
+    assert_eq!(rt; found, (true, true));
     Ok(())
 }
 
@@ -362,8 +410,8 @@ fn least_assignments_of_many_ones_take_no_nodes(rt: HostRuntime) -> Result<(), A
 #[test]
 fn an_order_text_has_words(rt: HostRuntime) -> Result<(), AllocError> {
     let order = "  x1\ty # z\r;#;x2\r#w";
-    let found = text_answer(&rt, rt.alloc(), THREE, order, Ask::Order)?;
-    assert_eq!(rt; found.as_str(), "2;1;0;");
+    let found = answers(&rt, rt.alloc(), THREE, order, Ask::Order, "2;1;0;")?;
+    assert!(rt; found);
     Ok(())
 }
 
@@ -382,8 +430,9 @@ static REPORTS: [(&str, &str, u32, &str); 8] = [
 #[test]
 fn pairs_are_reported(rt: HostRuntime) -> Result<(), AllocError> {
     for (text, order, nodes, answer) in &REPORTS {
-        let found = text_answer(&rt, rt.alloc(), text, order, Ask::Report(*nodes))?;
-        assert_eq!(rt; found.as_str(), *answer, "{order} {nodes}");
+        let ask = Ask::Report(*nodes);
+        let found = answers(&rt, rt.alloc(), text, order, ask, answer)?;
+        assert!(rt; found, "{order} {nodes}");
     }
     Ok(())
 }

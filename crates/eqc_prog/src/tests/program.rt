@@ -73,6 +73,19 @@ pub fn written_by<RT: AllocGlobal + Threads + Wait + Sync>(
     Ok(Written { status, out, err })
 }
 
+/// Whether this was written on standard output and on standard error, with this status.
+pub fn writes<RT: AllocGlobal + Threads + Wait + Sync>(
+    rt: &RT,
+    line: &str,
+    input: Feed<'_>,
+    status: u8,
+    out: &str,
+    err: &str,
+) -> Result<bool, AllocError> {
+    let written = written_by(rt, line, input)?;
+    Ok(written.status == status && is_text(&written.out, out) && is_text(&written.err, err))
+}
+
 /// Whether nothing but this report was written, with this status.
 pub fn reports<RT: AllocGlobal + Threads + Wait + Sync>(
     rt: &RT,
@@ -81,8 +94,7 @@ pub fn reports<RT: AllocGlobal + Threads + Wait + Sync>(
     report: &str,
     status: u8,
 ) -> Result<bool, AllocError> {
-    let written = written_by(rt, line, input)?;
-    Ok(written.status == status && is_text(&written.out, report) && written.err.is_empty())
+    writes(rt, line, input, status, report, "")
 }
 
 /// Each text on standard input, which is the first in its row, gives its report and status, whatever the number of

@@ -1,11 +1,14 @@
 //! How the program ends where it writes no report: faults of files, readers and writers, bad command lines, and help.
 
-use super::program::{words_of, written_by};
+use super::program::{reports, words_of, writes, written_by};
 use super::streams::{Drain, Endless, Feed, NEVER};
 use super::{DIFFERENCE, EQUAL, UNEQUAL, is_text};
 use crate::program;
-use std::alloc::AllocError;
+use std::alloc::{AllocError, Global};
 use std::process::Abort;
+use std::rt::Files;
+use std::sync::Wait;
+use std::thread::Threads;
 
 /// Command lines whose files can't be opened or read, the options being looked at after the opening.
 static FAULTS: [&str; 11] = [
@@ -25,10 +28,8 @@ static FAULTS: [&str; 11] = [
 #[test]
 fn files_that_fail_are_faults(rt: HostRuntime) -> Result<(), AllocError> {
     for line in FAULTS.iter() {
-        let written = written_by(&rt, line, Feed::whole(EQUAL))?;
-        assert_eq!(rt; written.status, 4, "{line}");
-        assert!(rt; written.out.is_empty(), "{line}");
-        assert!(rt; is_text(&written.err, "fault 91;"), "{line}");
+        let found = writes(&rt, line, Feed::whole(EQUAL), 4, "", "fault 91;")?;
+        assert!(rt; found, "{line}");
     }
     Ok(())
 }
@@ -54,13 +55,20 @@ static BAD_WORDS: [&str; 17] = [
     "eqc and or -- and",
 ];
 
+/// Whether a command line is refused, and why is told on standard error alone.
+fn is_told(
+    rt: &(impl AllocGlobal + Threads + Wait + Sync),
+    line: &str,
+) -> Result<bool, AllocError> {
+    let written = written_by(rt, line, Feed::whole(EQUAL))?;
+    Ok(written.status == 5 && written.out.is_empty() && written.err.starts_with(b"error: "))
+}
+
 #[test]
 fn bad_command_lines_are_told(rt: HostRuntime) -> Result<(), AllocError> {
     for line in BAD_WORDS.iter() {
-        let written = written_by(&rt, line, Feed::whole(EQUAL))?;
-        assert_eq!(rt; written.status, 5, "{line}");
-        assert!(rt; written.out.is_empty(), "{line}");
-        assert!(rt; written.err.starts_with(b"error: "), "{line}");
+        let told = is_told(&rt, line)?;
+        assert!(rt; told, "{line}");
     }
     Ok(())
 }
@@ -71,17 +79,16 @@ static NUMBERS: [u8; 38] = [
     52, 53, 71, 72, 73, 74, 81, 82, 83, 84, 91, 92,
 ];
 
-/// Each of these numbers has a line of its own in the help.
-fn check_numbers(rt: &(impl Abort + AllocGlobal), help: &str) -> Result<(), AllocError> {
-    for number in NUMBERS.iter() {
-        let start = format!(in rt.alloc(); "\n  {number:>2}  ")?;
-        assert!(rt; help.contains(start.as_str()), "{number}");
-    }
-    for status in 0..=5 {
-        let start = format!(in rt.alloc(); "\n  {status}  ")?;
-        assert!(rt; help.contains(start.as_str()), "{status}");
-    }
-    Ok(())
+/// Whether a refusal, stop or fault has a line of its own in the help.
+fn has_number(alloc: Global, help: &str, number: u8) -> Result<bool, AllocError> {
+    let start = format!(in alloc; "\n  {number:>2}  ")?;
+    Ok(help.contains(start.as_str()))
+}
+
+/// Whether a status has a line of its own in the help.
+fn has_status(alloc: Global, help: &str, status: u8) -> Result<bool, AllocError> {
+    let start = format!(in alloc; "\n  {status}  ")?;
+    Ok(help.contains(start.as_str()))
 }
 
 /// The options of the command line.
@@ -97,33 +104,75 @@ static OPTIONS: [&str; 9] = [
     "--version",
 ];
 
-#[test]
-fn help_has_every_number(rt: HostRuntime) -> Result<(), AllocError> {
-    let written = written_by(&rt, "eqc --nodes 5 --help", Feed::whole(EQUAL))?;
-    assert_eq!(rt; written.status, 0);
-    assert!(rt; written.err.is_empty());
-    let help = String::from_utf8(written.out).expect(&rt, "text");
-    check_numbers(&rt, help.as_str())?;
+/// Each number, each status and each option stands in the help.
+fn check_help(rt: &(impl Abort + AllocGlobal), help: &str) -> Result<(), AllocError> {
+    for number in NUMBERS.iter() {
+        let found = has_number(rt.alloc(), help, *number)?;
+        assert!(rt; found, "{number}");
+    }
+    for status in 0..=5 {
+        let found = has_status(rt.alloc(), help, status)?;
+        assert!(rt; found, "{status}");
+    }
     for option in OPTIONS.iter() {
-        assert!(rt; help.as_str().contains(option), "{option}");
+        assert!(rt; help.contains(option), "{option}");
     }
     Ok(())
+}
+
+/// What is written on standard output, where nothing else is and the status is 0.
+fn answer(
+    rt: &(impl AllocGlobal + Threads + Wait + Sync),
+    line: &str,
+) -> Result<Option<Vec<u8>>, AllocError> {
+    let written = written_by(rt, line, Feed::whole(EQUAL))?;
+    if written.status != 0 || !written.err.is_empty() {
+        return Ok(None);
+    }
+    Ok(Some(written.out))
+}
+
+/// The same as text.
+fn answer_text(
+    rt: &(impl AllocGlobal + Threads + Wait + Sync),
+    line: &str,
+) -> Result<Option<String>, AllocError> {
+    match answer(rt, line)? {
+        Some(bytes) => Ok(String::from_utf8(bytes).ok()),
+        None => Ok(None),
+    }
+}
+
+#[test]
+fn help_has_every_number(rt: HostRuntime) -> Result<(), AllocError> {
+    let help = answer_text(&rt, "eqc --nodes 5 --help")?;
+    let help = help.expect(&rt, "a text");
+    check_help(&rt, help.as_str())
+}
+
+/// Whether a text names the program, the toolchain and what is proved.
+fn is_version(text: &str) -> bool {
+    text.starts_with("eqc ")
+        && text.contains("\nproved and built with rattle-kit-")
+        && text.contains("\nproved: ")
+}
+
+/// Whether the answer to a command line is the version.
+fn tells_version(
+    rt: &(impl AllocGlobal + Threads + Wait + Sync),
+    line: &str,
+) -> Result<bool, AllocError> {
+    match answer_text(rt, line)? {
+        Some(text) => Ok(is_version(text.as_str())),
+        None => Ok(false),
+    }
 }
 
 #[test]
 fn the_version_says_what_is_proved(rt: HostRuntime) -> Result<(), AllocError> {
     for line in ["eqc --version", "eqc -V", "eqc or --version"] {
-        let written = written_by(&rt, line, Feed::whole(EQUAL))?;
-        assert_eq!(rt; written.status, 0, "{line}");
-        assert!(rt; written.err.is_empty(), "{line}");
-        let text = String::from_utf8(written.out).expect(&rt, "text");
-        assert!(rt; text.as_str().starts_with("eqc "), "{line}");
-        assert!(rt;
-            text.as_str()
-                .contains("\nproved and built with rattle-kit-"),
-            "{line}"
-        );
-        assert!(rt; text.as_str().contains("\nproved: "), "{line}");
+        let told = tells_version(&rt, line)?;
+        assert!(rt; told, "{line}");
     }
     Ok(())
 }
@@ -138,76 +187,92 @@ static CUT_OFF: [(&str, usize, usize, bool, &str); 5] = [
     ("eqc --help", 6, 1, true, "Decide"),
 ];
 
+/// Whether these words end as a fault that is told, where this writer takes no more than this text.
+fn is_write_fault(
+    rt: &(impl AllocGlobal + Files + Threads + Wait + Sync),
+    words: &[String],
+    step: usize,
+    fails_at: usize,
+    flushes: bool,
+    written: &str,
+) -> bool {
+    let mut out = Drain::new(Vec::new(rt.alloc()), step, fails_at, flushes);
+    let mut err = Vec::new(rt.alloc());
+    let status = program(rt, words, Feed::whole(EQUAL), &mut out, &mut err);
+    status == 4 && is_text(&out.bytes, written) && is_text(&err, "fault 92;")
+}
+
 #[test]
 fn a_failed_write_is_a_fault(rt: HostRuntime) -> Result<(), AllocError> {
-    let alloc = rt.alloc();
     for (line, step, fails_at, flushes, written) in CUT_OFF.iter() {
-        let mut out = Drain::new(Vec::new(alloc), *step, *fails_at, *flushes);
-        let mut err = Vec::new(alloc);
-        let words = words_of(alloc, line)?;
-        let status = program(&rt, &words, Feed::whole(EQUAL), &mut out, &mut err);
-        assert_eq!(rt; status, 4, "{line}, {step}, {fails_at}");
-        assert!(rt; is_text(&out.bytes, written), "{line}, {step}, {fails_at}");
-        assert!(rt; is_text(&err, "fault 92;"), "{line}, {step}, {fails_at}");
+        let words = words_of(rt.alloc(), line)?;
+        let found = is_write_fault(&rt, &words, *step, *fails_at, *flushes, written);
+        assert!(rt; found, "{line}, {step}, {fails_at}");
     }
     Ok(())
 }
 
+/// The status of these words, where standard error takes three bytes; none where it got others or anything is on standard
+/// output.
+fn status_unheard(
+    rt: &(impl AllocGlobal + Files + Threads + Wait + Sync),
+    words: &[String],
+) -> Option<u8> {
+    let mut out = Vec::new(rt.alloc());
+    let mut err = Drain::new(Vec::new(rt.alloc()), 3, 1, true);
+    let status = program(rt, words, Feed::whole(EQUAL), &mut out, &mut err);
+    (out.is_empty() && err.bytes.len() == 3).then_some(status)
+}
+
 #[test]
 fn a_failed_line_on_standard_error_changes_nothing(rt: HostRuntime) -> Result<(), AllocError> {
-    let alloc = rt.alloc();
     for (line, status) in [("eqc none/such", 4), ("eqc --workers x", 5)] {
-        let mut out = Vec::new(alloc);
-        let mut err = Drain::new(Vec::new(alloc), 3, 1, true);
-        let words = words_of(alloc, line)?;
-        assert_eq!(rt;
-            program(&rt, &words, Feed::whole(EQUAL), &mut out, &mut err),
-            status,
-            "{line}"
-        );
-        assert!(rt; out.is_empty(), "{line}");
-        assert_eq!(rt; err.bytes.len(), 3, "{line}");
+        let words = words_of(rt.alloc(), line)?;
+        let found = status_unheard(&rt, &words);
+        assert_eq!(rt; found, Some(status), "{line}");
     }
     Ok(())
 }
 
 #[test]
 fn a_failed_read_writes_nothing(rt: HostRuntime) -> Result<(), AllocError> {
-    let alloc = rt.alloc();
     let short = ".model f;.end;.model g;.end;";
     let reads = short.len() + 1;
     for call in 0..=reads {
-        let written = written_by(&rt, "eqc", Feed::new(short, 1, call))?;
         let (status, out, err) = if call < reads {
             (4, "", "fault 91;")
         } else {
             (0, "equivalent;", "")
         };
-        assert_eq!(rt; written.status, status, "at {call}");
-        assert!(rt; is_text(&written.out, out), "at {call}");
-        assert!(rt; is_text(&written.err, err), "at {call}");
+        let found = writes(&rt, "eqc", Feed::new(short, 1, call), status, out, err)?;
+        assert!(rt; found, "at {call}");
     }
-    let written = written_by(&rt, "eqc", Feed::new(UNEQUAL, 70, 1))?;
-    assert_eq!(rt; written.status, 4);
-    assert!(rt; written.out.is_empty() && is_text(&written.err, "fault 91;"));
+    let found = writes(&rt, "eqc", Feed::new(UNEQUAL, 70, 1), 4, "", "fault 91;")?;
+    assert!(rt; found);
     Ok(())
 }
 
 #[test]
 fn a_text_may_come_byte_by_byte(rt: HostRuntime) -> Result<(), AllocError> {
-    let written = written_by(&rt, "eqc", Feed::new(UNEQUAL, 1, NEVER))?;
-    assert_eq!(rt; written.status, 1);
-    assert!(rt; is_text(&written.out, DIFFERENCE));
+    let found = reports(&rt, "eqc", Feed::new(UNEQUAL, 1, NEVER), DIFFERENCE, 1)?;
+    assert!(rt; found);
     Ok(())
+}
+
+/// Whether a reader without end is refused, and nothing else is told.
+fn refuses_endless(
+    rt: &(impl AllocGlobal + Files + Threads + Wait + Sync),
+    words: &[String],
+) -> bool {
+    let mut out = Vec::new(rt.alloc());
+    let mut err = Vec::new(rt.alloc());
+    let status = program(rt, words, Endless::new(), &mut out, &mut err);
+    status == 2 && is_text(&out, "refused first 0 2;") && err.is_empty()
 }
 
 #[test]
 fn a_reader_without_end_is_refused(rt: HostRuntime) -> Result<(), AllocError> {
-    let alloc = rt.alloc();
-    let words = words_of(alloc, "eqc")?;
-    let mut out = Vec::new(alloc);
-    let mut err = Vec::new(alloc);
-    assert_eq!(rt; program(&rt, &words, Endless::new(), &mut out, &mut err), 2);
-    assert!(rt; is_text(&out, "refused first 0 2;") && err.is_empty());
+    let words = words_of(rt.alloc(), "eqc")?;
+    assert!(rt; refuses_endless(&rt, &words));
     Ok(())
 }

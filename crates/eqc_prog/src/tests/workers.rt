@@ -4,7 +4,7 @@ ghost use Rattle.std.specs.Prelude.{◌≤◌, vec_len, IfOk};
 ghost use Rattle.std.specs.List.{All};
 
 use super::compared_hierarchies::{ADDERS, WRONG_ADDERS, WRONG_SUM};
-use super::hierarchies::flat_of;
+use super::hierarchies::two_flats;
 use super::pairs::report_word;
 use super::program::reports;
 use super::streams::Feed;
@@ -21,20 +21,32 @@ use std::sync::Wait;
 use std::sync::atomic::{AtomicU64, Ordering};
 use std::thread::{self, Threads};
 
+/// Whether the reports on both texts are the wanted ones under a command line.
+fn are_reported(
+    rt: &(impl AllocGlobal + Threads + Wait + Sync),
+    line: &str,
+) -> Result<bool, AllocError> {
+    let equal = reports(rt, line, Feed::whole(ADDERS), "equivalent;", 0)?;
+    let unequal = reports(rt, line, Feed::whole(WRONG_ADDERS), WRONG_SUM, 1)?;
+    Ok(equal && unequal)
+}
+
+/// Whether they are with so many workers and forks.
+fn are_reported_by(
+    rt: &(impl AllocGlobal + Threads + Wait + Sync),
+    workers: u32,
+    forks: u32,
+) -> Result<bool, AllocError> {
+    let line = format!(in rt.alloc(); "eqc --workers {workers} --forks {forks}")?;
+    are_reported(rt, line.as_str())
+}
+
 #[test]
 fn workers_and_forks_change_no_report(rt: HostRuntime) -> Result<(), AllocError> {
     for workers in [1, 2, 8, 64] {
         for forks in [0, 16] {
-            let line = format!(in rt.alloc(); "eqc --workers {workers} --forks {forks}")?;
-            let line = line.as_str();
-            assert!(rt;
-                reports(&rt, line, Feed::whole(ADDERS), "equivalent;", 0)?,
-                "{line}"
-            );
-            assert!(rt;
-                reports(&rt, line, Feed::whole(WRONG_ADDERS), WRONG_SUM, 1)?,
-                "{line}"
-            );
+            let found = are_reported_by(&rt, workers, forks)?;
+            assert!(rt; found, "{workers} {forks}");
         }
     }
     Ok(())
@@ -180,56 +192,82 @@ fn library_word<R: Threads + Wait + Sync, G: Gate<R> + Sync>(
     way: Way,
     gate: &G,
 ) -> Result<String, AllocError> {
-    let (Some(first), Some(second)) = (flat_of(alloc, library, 0), flat_of(alloc, library, 1))
-    else {
-        return String::from_str(alloc, "no two simple models");
-    };
-    flat_word(rt, alloc, &first, &second, way, gate)
+    match &two_flats(alloc, library) {
+        Some((first, second)) => flat_word(rt, alloc, first, second, way, gate),
+        None => String::from_str(alloc, "no two simple models"),
+    }
 }
 
-/// What is reported of the first two models of a text.
-fn word_of<R: Threads + Wait + Sync, G: Gate<R> + Sync>(
+/// Whether this is reported of the first two models of a text.
+fn is_word_of<R: Threads + Wait + Sync, G: Gate<R> + Sync>(
+    rt: &R,
+    alloc: Global,
+    text: &[u8],
+    way: Way,
+    gate: &G,
+    wanted: &str,
+) -> Result<bool, AllocError> {
+    match read(alloc, text) {
+        Ok(library) => {
+            let word = library_word(rt, alloc, &library, way, gate)?;
+            Ok(word.as_str() == wanted)
+        }
+        Err(_) => Ok(false),
+    }
+}
+
+/// The same, where `;` stands for LF.
+fn gives<R: Threads + Wait + Sync, G: Gate<R> + Sync>(
     rt: &R,
     alloc: Global,
     text: &str,
     way: Way,
     gate: &G,
-) -> Result<String, AllocError> {
+    wanted: &str,
+) -> Result<bool, AllocError> {
     let text = lines(alloc, text)?;
-    match read(alloc, &text) {
-        Ok(library) => library_word(rt, alloc, &library, way, gate),
-        Err(_) => String::from_str(alloc, "refused"),
-    }
+    is_word_of(rt, alloc, &text, way, gate, wanted)
 }
 
 #[test]
 fn pairs_are_compared_by_workers(rt: HostRuntime) -> Result<(), AllocError> {
-    let alloc = rt.alloc();
     for way in [
         Way::Workers(1),
         Way::Workers(2),
         Way::Workers(64),
         Way::Members,
     ] {
-        assert_eq!(rt;
-            word_of(&rt, alloc, EQUAL, way, &NoGate)?.as_str(),
-            "equivalent;"
-        );
-        assert_eq!(rt;
-            word_of(&rt, alloc, UNEQUAL, way, &NoGate)?.as_str(),
-            DIFFERENCE
-        );
+        for (text, report) in [(EQUAL, "equivalent;"), (UNEQUAL, DIFFERENCE)] {
+            let given = gives(&rt, rt.alloc(), text, way, &NoGate, report)?;
+            assert!(rt; given, "{report}");
+        }
     }
     Ok(())
+}
+
+/// Whether two outputs are reported on, and were compared at once.
+fn are_compared_at_once<R: Threads + Wait + Sync>(
+    rt: &R,
+    alloc: Global,
+    way: Way,
+) -> Result<bool, AllocError> {
+    let gate = Held::new();
+    let given = gives(
+        rt,
+        alloc,
+        TWO,
+        way,
+        &gate,
+        "differs at p;a=0;first=0;second=1;",
+    )?;
+    Ok(given && gate.is_passed())
 }
 
 #[test]
 fn two_outputs_are_compared_at_once(rt: HostRuntime) -> Result<(), AllocError> {
     for way in [Way::Workers(2), Way::Members] {
-        let gate = Held::new();
-        let word = word_of(&rt, rt.alloc(), TWO, way, &gate)?;
-        assert_eq!(rt; word.as_str(), "differs at p;a=0;first=0;second=1;");
-        assert!(rt; gate.is_passed());
+        let found = are_compared_at_once(&rt, rt.alloc(), way)?;
+        assert!(rt; found);
     }
     Ok(())
 }
@@ -253,33 +291,40 @@ impl<R> Gate<R> for Count {
     }
 }
 
-#[test]
-fn nothing_is_compared_behind_a_difference(rt: HostRuntime) -> Result<(), AllocError> {
+/// How many outputs of `MANY` one worker enters, where it reports the second one.
+fn entered<R: Threads + Wait + Sync>(rt: &R, alloc: Global) -> Result<Option<u64>, AllocError> {
     let gate = Count {
         entered: AtomicU64::new(0),
     };
-    let word = word_of(&rt, rt.alloc(), MANY, Way::Workers(1), &gate)?;
-    assert_eq!(rt; word.as_str(), SECOND);
-    assert_eq!(rt; gate.entered.load(Ordering::SeqCst), 2);
-    Ok(())
+    let given = gives(rt, alloc, MANY, Way::Workers(1), &gate, SECOND)?;
+    Ok(given.then_some(gate.entered.load(Ordering::SeqCst)))
 }
 
 #[test]
-fn runs_of_many_workers_write_the_same(rt: HostRuntime) -> Result<(), AllocError> {
-    let alloc = rt.alloc();
-    let text = lines(alloc, MANY)?;
+fn nothing_is_compared_behind_a_difference(rt: HostRuntime) -> Result<(), AllocError> {
+    let entered = entered(&rt, rt.alloc())?;
+    assert_eq!(rt; entered, Some(2));
+    Ok(())
+}
+
+/// Whether a run of many workers over a text reports the second output.
+fn is_second<R: AllocGlobal + Threads + Wait + Sync>(rt: &R, text: &[u8]) -> bool {
     let options = Options {
         workers: 64,
         nodes: 65_536,
         cells: 8_192,
         forks: 0,
     };
+    let mut out = Vec::new(rt.alloc());
+    let done = run(rt, rt.alloc(), Texts::One(text), None, &options, &mut out);
+    done == Ok(Status::Differs) && is_text(&out, SECOND)
+}
+
+#[test]
+fn runs_of_many_workers_write_the_same(rt: HostRuntime) -> Result<(), AllocError> {
+    let text = lines(rt.alloc(), MANY)?;
     for turn in 0..1_000 {
-        let mut out = Vec::new(alloc);
-        let texts = Texts::One(text.as_slice());
-        let done = run(&rt, alloc, texts, None, &options, &mut out);
-        assert_eq!(rt; done, Ok(Status::Differs), "{turn}");
-        assert!(rt; is_text(&out, SECOND), "{turn}");
+        assert!(rt; is_second(&rt, &text), "{turn}");
     }
     Ok(())
 }
