@@ -141,6 +141,33 @@ fn a_name_that_is_confirmed_stays(rt: HostRuntime) {
     assert_eq!(rt; up, Ok([0, 2, 3, 0, 1]));
 }
 
+/// The name that was missed is given back, its slot taken back, and claimed: the announcement of it isn't confirmed.
+static TAKEN_BACK: [(u32, Step); 8] = [
+    (0, Step::Down(2)),
+    (0, Step::Down(2)),
+    (0, Step::Down(2)),
+    (0, Step::Down(2)),
+    (0, Step::Lock(1, true)),
+    (0, Step::Reclaim(2)),
+    (0, Step::Unlock(1)),
+    (0, Step::Claim(2, true)),
+];
+
+#[test]
+fn a_name_that_was_missed_is_taken_back(rt: HostRuntime) {
+    let last = readings_after(rt.alloc(), &MISSED, &TAKEN_BACK);
+    assert_eq!(rt; last, Ok([0, 2, 2, 0, 0]));
+}
+
+#[test]
+fn a_name_that_is_confirmed_is_not_taken_back(rt: HostRuntime) {
+    let lock = (0, Step::Lock(1, true));
+    let reclaimed = readings_after(rt.alloc(), &CONFIRMED, &[lock, (0, Step::Reclaim(2))]);
+    assert_eq!(rt; reclaimed, Err(ReplayFault::Event(15)));
+    let claimed = readings_after(rt.alloc(), &CONFIRMED, &[lock, (0, Step::Claim(2, true))]);
+    assert_eq!(rt; claimed, Err(ReplayFault::Event(15)));
+}
+
 /// All readings of a core with 3 workers, 4 nodes and 2 cells, in one number.
 fn digest(core: &Core) -> u64
     requires { core.now.sizes ≡ record { workers = 3; announcements = 1; names = 6; cells = 2; variables = 4 } }
@@ -277,4 +304,150 @@ fn the_second_random_list_ends_as_elsewhere(rt: HostRuntime) {
     let forbidden = (2, Step::SwapCell(0, 1152923703631151106));
     let more = digest_after(rt.alloc(), &SECOND, &[forbidden]);
     assert_eq!(rt; more, Err(ReplayFault::Event(40)));
+}
+
+/// A list by chance with steps on stripes, drafts and nodes.
+static THIRD: [(u32, Step); 60] = [
+    (0, Step::ReadNode(2)),
+    (0, Step::ScanOne),
+    (0, Step::ScanOne),
+    (0, Step::ScanOne),
+    (0, Step::Down(2)),
+    (0, Step::Lock(1, true)),
+    (0, Step::Reclaim(2)),
+    (0, Step::Claim(2, true)),
+    (0, Step::WriteNode(0, 1, 0)),
+    (0, Step::Split(1)),
+    (0, Step::Join(1)),
+    (0, Step::SwapCell(0, 4611686018427387904)),
+    (0, Step::ReadNode(3)),
+    (0, Step::Down(4)),
+    (0, Step::Up(3)),
+    (0, Step::Up(2)),
+    (0, Step::Look(0)),
+    (0, Step::ReadNode(3)),
+    (0, Step::Up(5)),
+    (0, Step::Look(1)),
+    (0, Step::Unlock(1)),
+    (0, Step::Lock(3, true)),
+    (0, Step::ReadNode(5)),
+    (0, Step::Reclaim(4)),
+    (0, Step::Claim(4, true)),
+    (0, Step::WriteNode(2, 0, 1)),
+    (0, Step::Split(2)),
+    (0, Step::Unlock(3)),
+    (2, Step::Lock(3, true)),
+    (0, Step::Down(5)),
+    (0, Step::SwapCell(1, 2305843009215791106)),
+    (2, Step::ScanOne),
+    (2, Step::ScanOne),
+    (2, Step::ScanOne),
+    (0, Step::Lock(2, true)),
+    (0, Step::Down(5)),
+    (0, Step::Unlock(2)),
+    (2, Step::Look(1)),
+    (0, Step::Claim(2, false)),
+    (2, Step::Unlock(3)),
+    (2, Step::Lock(1, true)),
+    (2, Step::Unlock(1)),
+    (0, Step::Claim(2, false)),
+    (2, Step::Lock(4, true)),
+    (2, Step::Reclaim(5)),
+    (0, Step::Claim(5, true)),
+    (2, Step::Look(1)),
+    (0, Step::Look(1)),
+    (2, Step::Announce(2)),
+    (2, Step::Recheck),
+    (0, Step::Down(4)),
+    (0, Step::Lock(3, true)),
+    (0, Step::WriteNode(2, 1, 0)),
+    (2, Step::Announce(0)),
+    (0, Step::Reclaim(4)),
+    (0, Step::Claim(3, false)),
+    (2, Step::Unlock(4)),
+    (2, Step::SwapCell(1, 0)),
+    (2, Step::Claim(5, false)),
+    (0, Step::SwapCell(0, 1152922604121620483)),
+];
+
+#[test]
+fn the_third_random_list_ends_as_elsewhere(rt: HostRuntime) {
+    let last = digest_after(rt.alloc(), &THIRD, &[]);
+    assert_eq!(rt; last, Ok(15425200296797180857));
+    let forbidden = (0, Step::SwapCell(1, 2305848506771832837));
+    let more = digest_after(rt.alloc(), &THIRD, &[forbidden]);
+    assert_eq!(rt; more, Err(ReplayFault::Event(60)));
+}
+
+/// Another such list.
+static FOURTH: [(u32, Step); 60] = [
+    (0, Step::Lock(3, true)),
+    (0, Step::Up(2)),
+    (0, Step::Look(1)),
+    (0, Step::Split(2)),
+    (2, Step::SwapCell(0, 0)),
+    (2, Step::SwapCell(1, 0)),
+    (0, Step::Unlock(3)),
+    (0, Step::Join(2)),
+    (0, Step::Down(3)),
+    (0, Step::Look(1)),
+    (0, Step::Lock(2, true)),
+    (0, Step::Reclaim(3)),
+    (0, Step::Claim(3, true)),
+    (0, Step::ReadNode(2)),
+    (0, Step::WriteNode(1, 1, 0)),
+    (0, Step::Unlock(2)),
+    (0, Step::Down(3)),
+    (0, Step::Lock(2, true)),
+    (0, Step::ReadNode(5)),
+    (0, Step::SwapCell(1, 1152922604120571906)),
+    (0, Step::Down(5)),
+    (0, Step::Reclaim(3)),
+    (0, Step::Look(1)),
+    (0, Step::Claim(3, true)),
+    (0, Step::WriteNode(1, 1, 0)),
+    (0, Step::Announce(2)),
+    (0, Step::Split(1)),
+    (1, Step::Lock(4, true)),
+    (1, Step::Reclaim(5)),
+    (0, Step::Announce(0)),
+    (1, Step::Claim(5, true)),
+    (1, Step::WriteNode(3, 1, 0)),
+    (0, Step::ScanOne),
+    (0, Step::ScanOne),
+    (0, Step::ScanOne),
+    (0, Step::ReadNode(3)),
+    (1, Step::Down(5)),
+    (1, Step::Reclaim(5)),
+    (0, Step::Claim(5, true)),
+    (0, Step::Up(3)),
+    (1, Step::Claim(3, false)),
+    (0, Step::WriteNode(1, 0, 1)),
+    (0, Step::Down(3)),
+    (0, Step::Look(1)),
+    (0, Step::Unlock(2)),
+    (0, Step::Down(5)),
+    (0, Step::Claim(4, false)),
+    (0, Step::Lock(2, true)),
+    (0, Step::Reclaim(5)),
+    (0, Step::Claim(5, true)),
+    (0, Step::WriteNode(1, 0, 1)),
+    (1, Step::Unlock(4)),
+    (0, Step::Up(4)),
+    (0, Step::Unlock(2)),
+    (1, Step::SwapCell(0, 0)),
+    (0, Step::ScanOne),
+    (0, Step::ScanOne),
+    (1, Step::Lock(2, true)),
+    (0, Step::ScanOne),
+    (1, Step::Claim(2, false)),
+];
+
+#[test]
+fn the_fourth_random_list_ends_as_elsewhere(rt: HostRuntime) {
+    let last = digest_after(rt.alloc(), &FOURTH, &[]);
+    assert_eq!(rt; last, Ok(4023163620145408469));
+    let forbidden = (1, Step::SwapCell(0, 4611688217452740608));
+    let more = digest_after(rt.alloc(), &FOURTH, &[forbidden]);
+    assert_eq!(rt; more, Err(ReplayFault::Event(60)));
 }
