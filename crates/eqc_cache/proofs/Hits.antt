@@ -22,7 +22,7 @@ use Rattle.eqc_guard.specs.Known.{IsHeld, tree_of, names_of}
 use Rattle.eqc_guard.specs.Standing.{Standing, Steps}
 use Rattle.eqc_guard.specs.Acquiring.{IsAt, IsAcquired}
 use Rattle.eqc_guard.specs.Telling.{IsResult, Shown}
-use Rattle.eqc_guard.proofs.Acquiring.{seen_as, goes_on, constant_trees, result_before}
+use Rattle.eqc_guard.proofs.Acquiring.{set_twice, seen_as, goes_on, constant_trees, result_before}
 use Rattle.eqc_guard.proofs.Learning.{held_named, confirmed_named, keeps_on}
 use Rattle.eqc_guard.proofs.Sweeping.{forget_none}
 use Rattle.eqc_cache.specs.Finding.{IsOrdered, IsTaken, IsHit}
@@ -31,10 +31,6 @@ use Rattle.eqc_cache.specs.Finding.{IsOrdered, IsTaken, IsHit}
 pub length_set : (ps : List Phase) (p : Phase) → length (set ps 0 p) ≡ length ps
 length_set [] p = refl
 length_set (q ∷ qs) p = refl
-
-pub set_twice : (ps : List Phase) (p q : Phase) → set (set ps 0 p) 0 q ≡ set ps 0 q
-set_twice [] p q = refl
-set_twice (r ∷ rs) p q = refl
 
 pub first_set : (ps : List Phase) (p : Phase) → 0 < length ps → get_or (set ps 0 p) 0 Idle ≡ p
 first_set [] p some_words = absurd (omega arith)

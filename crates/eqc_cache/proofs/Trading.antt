@@ -19,14 +19,14 @@ use Rattle.eqc_guard.specs.Sweeping.{IsScanned}
 use Rattle.eqc_guard.specs.Filling.{MaySwap, HasEntry, word_of, entry_names}
 use Rattle.eqc_guard.specs.declared.filled.Filled.{Filled}
 use Rattle.eqc_guard.proofs.Filling.{are_small, may_fill, word_names, no_operands}
-use Rattle.eqc_guard.proofs.Acquiring.{constant_trees}
+use Rattle.eqc_guard.proofs.Acquiring.{set_twice, constant_trees}
 use Rattle.eqc_guard.proofs.Counts.{length-without_all}
 use Rattle.eqc_guard.proofs.Learning.{held_named, keeps_on}
 use Rattle.eqc_guard.proofs.Copying.{keeps_copy}
 use Rattle.eqc_guard.proofs.Sweeping.{forget_none, forget_twice}
 use Rattle.eqc_cache.specs.Finding.{IsOrdered}
 use Rattle.eqc_cache.specs.Storing.{Trades, IsAsBefore, IsRight, MayReplace}
-use Rattle.eqc_cache.proofs.Hits.{first_set, length_set, set_twice, either_way}
+use Rattle.eqc_cache.proofs.Hits.{first_set, length_set, either_way}
 
 -- a phase that is set to itself
 set_same : (ps : List Phase) → set ps 0 (get_or ps 0 Idle) ≡ ps

@@ -22,7 +22,7 @@ use Rattle.eqc_core.proofs.Scanning.{some_cases, length_note, length_kept, kept_
 use Rattle.eqc_core.proofs.Splitting.{split_at_end}
 
 -- one retired entry at most stays for each noted name
-kept_few : (noted xs : List ℕ) → length (kept noted xs) ≤ length noted
+pub kept_few : (noted xs : List ℕ) → length (kept noted xs) ≤ length noted
 kept_few noted [] = omega arith
 kept_few noted (y ∷ xs) =
     elim (some_cases (times y noted)) [

@@ -8,6 +8,7 @@ use Rattle.std.proofs.lemmas.List.Quantifiers.{position-Some}
 use Rattle.std.proofs.lemmas.List.{append_assoc, append-nil, get_or-map, get_or-take, get_or-drop, length-map, length-take-le, length-drop, take_all, take_more}
 use Rattle.eqc_blif.specs.Netlist.{ModelOf, InstanceOf}
 use Rattle.eqc_blif.specs.Names.{is_named}
+use Rattle.eqc_blif.proofs.CodeLemmas.{alone}
 use Rattle.eqc_flat.specs.Graph.{DriverOf, input, tie, cover, dependencies}
 use Rattle.eqc_flat.specs.HierarchyLaws.{needed}
 use Rattle.eqc_flat.specs.Ordering.{signal_deps, IsOrder, IsTrail}
@@ -250,40 +251,36 @@ code_rule library top code e = by (conditions library top) (sym (code_first libr
         inside e = cc
     by ((false, rule) ∷ cs) k = by cs k
 
-or_false : (b : Bool) → (b || false) ≡ true → b ≡ true
-or_false true e = refl
-or_false false e = e
-
 told_code : (library : List ModelOf) (top code : ℕ) → flat_code library top ≡ Some code → list_any (λ c. (rule_code c.1 == code) && c.0) (conditions library top) ≡ true
 told_code library top code e = told_by (conditions library top) code (sym (code_first library top) ∙ e)
 
 -- the conditions of the codes of models, over the models that are reached
 pub model_missing : (library : List ModelOf) (top : ℕ) → flat_code library top ≡ Some 21 → some_instance_in library (reached library top) (names_no_model library) ≡ true
 unfolding has_no_such_model
-model_missing library top e = or_false (has_no_such_model library top) (told_code library top 21 e)
+model_missing library top e = alone (has_no_such_model library top) (told_code library top 21 e)
 
 pub recursive : (library : List ModelOf) (top : ℕ) → flat_code library top ≡ Some 22 → is_recursive library top ≡ true
-recursive library top e = or_false (is_recursive library top) (told_code library top 22 e)
+recursive library top e = alone (is_recursive library top) (told_code library top 22 e)
 
 pub formal_unknown : (library : List ModelOf) (top : ℕ) → flat_code library top ≡ Some 23 → some_instance_in library (reached library top) (names_no_formal library) ≡ true
 unfolding has_unknown_formal
-formal_unknown library top e = or_false (has_unknown_formal library top) (told_code library top 23 e)
+formal_unknown library top e = alone (has_unknown_formal library top) (told_code library top 23 e)
 
 pub formal_repeated : (library : List ModelOf) (top : ℕ) → flat_code library top ≡ Some 24 → some_instance_in library (reached library top) names_formal_twice ≡ true
 unfolding has_formal_twice
-formal_repeated library top e = or_false (has_formal_twice library top) (told_code library top 24 e)
+formal_repeated library top e = alone (has_formal_twice library top) (told_code library top 24 e)
 
 pub input_missing : (library : List ModelOf) (top : ℕ) → flat_code library top ≡ Some 25 → some_instance_in library (reached library top) (leaves_input_out library) ≡ true
 unfolding has_missing_formal
-input_missing library top e = or_false (has_missing_formal library top) (told_code library top 25 e)
+input_missing library top e = alone (has_missing_formal library top) (told_code library top 25 e)
 
 pub inputs_many : (library : List ModelOf) (top : ℕ) → flat_code library top ≡ Some 30 → 2048 < length (model library top).inputs
 unfolding has_many_inputs
-inputs_many library top e = ltb-true 2048 (length (model library top).inputs) (or_false (has_many_inputs library top) (told_code library top 30 e))
+inputs_many library top e = ltb-true 2048 (length (model library top).inputs) (alone (has_many_inputs library top) (told_code library top 30 e))
 
 pub size_large : (library : List ModelOf) (top : ℕ) → flat_code library top ≡ Some 29 → 1048576 < length (signals library top) + (length (paths library top) - 1)
 unfolding is_too_large
-size_large library top e = ltb-true 1048576 (length (signals library top) + (length (paths library top) - 1)) (or_false (is_too_large library top) (told_code library top 29 e))
+size_large library top e = ltb-true 1048576 (length (signals library top) + (length (paths library top) - 1)) (alone (is_too_large library top) (told_code library top 29 e))
 
 pub size_ends : (library : List ModelOf) (top : ℕ) → flat_code library top ≡ Some 29 → is_recursive library top ≡ false
 unfolding flat_code

@@ -1,6 +1,7 @@
 -- The steps of a search in depth keep what it keeps.
 use Rattle.std.proofs.Common.{◌==◌, ◌≡◌, ℕ, zero, suc, ◌+◌, ◌-◌, ◌<◌, ◌≤◌, ◌⊎◌, inl, inr, Bool, true, false, not, ◌&&◌, ◌||◌, List, [], ◌∷◌, ◌++◌, length, take, set, get_or, refl, sym, ◌∙◌, ap, subst, arith, Some, cond, replicate, nat_lt, sum_by}
 use Rattle.std.specs.List.{list_all, list_any, slice_get, count_by}
+use Rattle.std.proofs.Math.Bool.{or-false}
 use Rattle.std.proofs.lemmas.Bool.{cases_eq, cases_lt, true≢false, and_parts, and_from, lt-ltb, ltb-true, not-true, or_cases, eqb-true, eq-eqb}
 use Rattle.std.proofs.lemmas.List.{get_or-set_same, get_or-set_other, take_all, take_more, map_push, length-set, length_push, get_or-replicate, get_or_past, length-replicate}
 use Rattle.std.proofs.lemmas.List.Sums.{sum_by-set, sum_by-cons}
@@ -11,10 +12,6 @@ use Rattle.eqc_flat.specs.declared.search.Stage.TheVariants.{Fresh, Open, Done}
 use Rattle.eqc_flat.specs.Searching.{is_fresh, stage_at, IsPath, on, IsSearch}
 use Rattle.eqc_flat.proofs.Depth.{all_more, or_right}
 use Rattle.eqc_flat.proofs.Orders.{same_all, all_push, all_front, all_last, among_left, among_end, among_push, order_more, stuck_never_ends, any_at}
-
-or_false : (a : Bool) → a ≡ (a || false)
-or_false true = refl
-or_false false = refl
 
 -- one more element of a list that is there
 take_get : (xs : List ℕ) (k t : ℕ) → slice_get xs k ≡ Some t → take (k + 1) xs ≡ take k xs ++ t ∷ []
@@ -130,7 +127,7 @@ enter deps n stages path order t h inside fresh linked = record {
 pub leave : (deps : ℕ → List ℕ) (n : ℕ) (stages : List Stage) (front : List (ℕ × ℕ)) (order : List ℕ) (s k : ℕ) → IsSearch deps n stages (front ++ (s, k) ∷ []) order → length (deps s) ≤ k → IsSearch deps n (set stages s Done) front (order ++ s ∷ [])
 leave deps n stages front order s k h all = record {
   size = length-set stages s Done ∙ h.size;
-  sorted = order_more deps [] order s h.sorted (sym (same_all (among order) (λ x. among order x || false) (deps s) (λ x. or_false (among order x))) ∙ looked_at);
+  sorted = order_more deps [] order s h.sorted (sym (same_all (among order) (λ x. among order x || false) (deps s) (λ x. sym (or-false (among order x)))) ∙ looked_at);
   finished = λ x e. elim (cases_eq x s) [ inl same ↦ rw same (among_end order s) | inr other ↦ among_left order (s ∷ []) x (h.finished x (stage_other stages s x Done other ∙ e)) ];
   open_on_path = λ x e. elim (cases_eq x s) [
     | inl same ↦ absurd (not_open x same e)

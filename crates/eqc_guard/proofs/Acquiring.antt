@@ -17,7 +17,7 @@ use Rattle.eqc_guard.specs.Rule.{cells_from}
 use Rattle.eqc_guard.specs.Copying.{cell_in, KeepsCells}
 use Rattle.eqc_guard.proofs.Learning.{held_named, keeps_on}
 
-set_twice : (ps : List Phase) (p q : Phase) → set (set ps 0 p) 0 q ≡ set ps 0 q
+pub set_twice : (ps : List Phase) (p q : Phase) → set (set ps 0 p) 0 q ≡ set ps 0 q
 set_twice [] p q = refl
 set_twice (r ∷ rs) p q = refl
 

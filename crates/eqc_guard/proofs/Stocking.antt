@@ -11,7 +11,7 @@ use Rattle.eqc_core.specs.Tables.{Homes}
 use Rattle.eqc_core.specs.Lawful.{IsSized}
 use Rattle.eqc_core.specs.State.{repeated, literal, literals, slots_from, stripe_entries, homes_from, literal_homes, opening}
 use Rattle.eqc_core.proofs.Literals.{literal_variable, literal_low, literal_high}
-use Rattle.eqc_core.proofs.Stocks.{repeated-push, literals-push, slots-push}
+use Rattle.eqc_core.proofs.Stocks.{repeated-push, literals-push, slots-push, homes-push}
 use Rattle.eqc_guard.specs.declared.reference.Ref.{Ref}
 use Rattle.eqc_guard.specs.Known.{flat}
 use Rattle.eqc_guard.specs.Rule.{all_words, homes_of}
@@ -101,21 +101,11 @@ one_stripe_literal s i b (suc k) is lt few from upto = go (ℕ_discrete b i) (λ
         rw (ne_eqb (stripe_of (literal b)) s apart) (rest (let ne : b ≢ i = n in omega arith))
 
 -- one table more
-homes_more : (s k n : ℕ) → homes_from s (suc k) n ≡ homes_from s k n ++ some (stripe_entries (s + k) 0 n) ∷ []
-homes_more s zero n = ap (λ (j : ℕ). some (stripe_entries j 0 n) ∷ []) (let e : s ≡ s + 0 = omega arith in e)
-homes_more s (suc k) n = ap (λ (hs : Homes). some (stripe_entries s 0 n) ∷ hs) (homes_more (suc s) k n ∙ ap (λ (j : ℕ). homes_from (suc s) k n ++ some (stripe_entries j 0 n) ∷ []) (let e : suc s + k ≡ s + suc k = omega arith in e))
-
 pub one_home : {S : Type 0} (maps : List (HashMap ℕ ℕ S)) (m : HashMap ℕ ℕ S) (k n : ℕ) → homes_of (map some maps) ≡ homes_from 0 k n → m.entries ≡ stripe_entries k 0 n → homes_of (map some (maps ++ m ∷ [])) ≡ homes_from 0 (k + 1) n
 one_home maps m k n all is =
     ap homes_of (map-append some maps (m ∷ []))
     ∙ (map-append Rattle.eqc_guard.specs.Rule.entries_at (map some maps) (some m ∷ [])
-    ∙ ((λ i. all i ++ some (is i) ∷ [])
-    ∙ (ap (λ (j : ℕ). homes_from 0 k n ++ some (stripe_entries j 0 n) ∷ []) (let e : k ≡ 0 + k = omega arith in e)
-    ∙ sym (homes_more 0 k n) ∙ ap (λ (j : ℕ). homes_from 0 j n) (let e : suc k ≡ k + 1 = omega arith in e))))
-
-pub all_homes : (n : ℕ) → homes_from 0 16 n ≡ literal_homes n
-unfolding literal_homes
-all_homes n = refl
+    ∙ ((λ i. all i ++ some (is i) ∷ []) ∙ sym (homes-push k n)))
 
 -- one reference more
 pub one_reference : (refs : List Ref) (r : Ref) (k : ℕ) → map (λ (r : Ref). r.number) refs ≡ slots_from 2 k → r.number ≡ k + 2 → map (λ (r : Ref). r.number) (refs ++ r ∷ []) ≡ slots_from 2 (k + 1)

@@ -7,6 +7,7 @@ use Rattle.eqc_core.specs.Moves.{with_held, without, note, forget}
 use Rattle.eqc_core.specs.Scanning.{kept, ejected, scan_on, scan_end, scanned}
 use Rattle.eqc_core.specs.Counting.{downed}
 use Rattle.eqc_core.proofs.Names.{times-append, times-nil, times-same, times-other, times-without, times-without_other, times_without_le, length-without_one}
+use Rattle.eqc_core.proofs.Bounds.{kept_few}
 use Rattle.eqc_core.proofs.Scanning.{some_cases, length_note, kept_ejected}
 use native.Mathlib.Decide.{ℕ_discrete}
 use Rattle.eqc_guard.specs.Known.{IsKnown, names_of, tree_of}
@@ -46,15 +47,6 @@ module _ (old mid next : Standing) (name : ℕ) (m : IsScanning old mid) (s : St
 
     pub nearer : announced_words next.known.core.sizes - next.known.core.position < announced_words mid.known.core.sizes - mid.known.core.position
     nearer = subst (λ (v : View). announced_words v.sizes - v.position < announced_words mid.known.core.sizes - mid.known.core.position) (sym (s.known.core ∙ on)) (omega arith)
-
--- one retired entry at most stays for each noted name
-kept_few : (noted xs : List ℕ) → length (kept noted xs) ≤ length noted
-kept_few noted [] = omega arith
-kept_few noted (y ∷ xs) =
-    elim (some_cases (times y noted)) [
-      | inl t ↦ rw t.0 (omega (arith, kept_few (without y noted) xs, length-without_one y noted t.1))
-      | inr t ↦ rw t.0 (kept_few noted xs)
-    ]
 
 abbrev tail : List ℕ → List ℕ
 tail [] = []

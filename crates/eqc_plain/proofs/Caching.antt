@@ -6,6 +6,7 @@ use Rattle.eqc_tree.specs.Operation.{tag_of}
 use Rattle.eqc_tree.specs.Word.{cell_word}
 use Rattle.eqc_tree.specs.declared.operation.Op.{Op}
 use Rattle.eqc_tree.specs.declared.operation.Op.TheVariants.{And, Or, Xor, AndNot}
+use Rattle.eqc_tree.proofs.Tags.{tag_of-injective}
 use Rattle.eqc_plain.specs.Combining.{IsResult}
 use Rattle.eqc_plain.specs.Cache.{IsCache}
 use Rattle.eqc_plain.specs.Terminal.{AreOperands}
@@ -18,24 +19,6 @@ tag_range And = (omega arith, omega arith)
 tag_range Or = (omega arith, omega arith)
 tag_range Xor = (omega arith, omega arith)
 tag_range AndNot = (omega arith, omega arith)
-
-tag_once : (p q : Op) → tag_of p ≡ tag_of q → p ≡ q
-tag_once And And e = refl
-tag_once And Or e = absurd (omega arith)
-tag_once And Xor e = absurd (omega arith)
-tag_once And AndNot e = absurd (omega arith)
-tag_once Or And e = absurd (omega arith)
-tag_once Or Or e = refl
-tag_once Or Xor e = absurd (omega arith)
-tag_once Or AndNot e = absurd (omega arith)
-tag_once Xor And e = absurd (omega arith)
-tag_once Xor Or e = absurd (omega arith)
-tag_once Xor Xor e = refl
-tag_once Xor AndNot e = absurd (omega arith)
-tag_once AndNot And e = absurd (omega arith)
-tag_once AndNot Or e = absurd (omega arith)
-tag_once AndNot Xor e = absurd (omega arith)
-tag_once AndNot AndNot e = refl
 
 -- the fields of two equal words
 pub record AreFields (s f g x t p q y : ℕ) : Type 0 where
@@ -77,7 +60,7 @@ cache_keeps variables ws cells op f g p q x i hp hq hx m right c inside =
         | inl here ↦
             let n : get_or (set cells i (cell_word (tag_of op) p q x)) k 0 ≡ cell_word (tag_of op) p q x = rw here (get_or-set_same cells i (cell_word (tag_of op) p q x) 0 inside) in
             let s = cell_once (tag_of op) p q x (tag_of o) u v r hp hq hx a b d (sym n ∙ e) in
-            let z : op ≡ o = tag_once op o s.tag in
+            let z : op ≡ o = tag_of-injective op o s.tag in
             rw (← z, ← s.first, ← s.second, ← s.found) (to_ordered variables op ws f g p q x m right)
         | inr there ↦ c.right k (omega (arith, length-set cells i (cell_word (tag_of op) p q x))) o u v r a b d (sym (get_or-set_other cells i k (cell_word (tag_of op) p q x) 0 there) ∙ e)
       ];

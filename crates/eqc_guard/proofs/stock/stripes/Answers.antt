@@ -2,7 +2,8 @@ use Rattle.std.proofs.Common.{◌≡◌, ap, ◌∙◌, arith, ℕ, map}
 use mathlib.Core.Option.{some}
 use Rattle.eqc_core.specs.State.{homes_from}
 use Rattle.eqc_guard.specs.Rule.{homes_of}
-use Rattle.eqc_guard.proofs.Stocking.{one_home, all_homes}
+use Rattle.eqc_core.proofs.Stocks.{all_homes}
+use Rattle.eqc_guard.proofs.Stocking.{one_home}
 use Rattle.eqc_guard.proofs.stock.stripes.Goals as goal
 
 pub loop-s-preserved : goal.loop-s-preserved
