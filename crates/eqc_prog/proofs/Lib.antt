@@ -1,3 +1,1 @@
-pub mod WordLemmas
-pub mod EndLemmas
 pub mod Driving

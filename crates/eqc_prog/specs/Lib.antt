@@ -1,5 +1,1 @@
-pub mod CommandLine
-pub mod Sources
-pub mod Warnings
-pub mod Ends
 pub mod Driving

@@ -1,18 +1,10 @@
 //! The program `eqc`: compares two netlists, of standard input or of files, and writes the report to standard output.
 #![tactic(auto)]
 
-mod command_line;
-mod ending;
-mod explanation;
-mod help;
-mod source;
-mod start;
 #[cfg(test)]
 mod tests;
-mod version;
-mod warning;
 
-use start::program;
+use eqc_command::program;
 use std::process::ExitCode;
 use std::{env, io};
 

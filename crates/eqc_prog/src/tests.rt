@@ -5,7 +5,7 @@
 //! - `forests`, of `eqc_guard`; `cached_results`, of `eqc_cache`; `random_steps`, of both; `drivers`, what takes their steps
 //! - `reading` and `text_findings`, of `eqc_blif`; `hierarchies`, `random_hierarchies` and `explanations`, of `eqc_flat`
 //! - `pair_findings`, of `eqc_pair`; `pairs`, `workers`, `reports`, `runs`, of `eqc_check`
-//! - `program`, `program_ends`, `models`, `explained_runs`, `compared_hierarchies`, `costs`, of this crate
+//! - `program`, `program_ends`, `models`, `explained_runs`, `compared_hierarchies`, `costs`, of `eqc_command` and the program
 //! - `messages`, of the errors of all crates; `streams`, the readers, writers and files that fail
 //!
 //! In the texts of `pairs` and of what comes after it `;` stands for LF.

@@ -3,10 +3,8 @@
 use super::program::{LEAF_FIRST, words_of, writes, written_by};
 use super::streams::{Drain, Endless, Feed, NEVER};
 use super::{PERMUTED, UNEQUAL, is_text};
-use crate::command_line::Request;
-use crate::explanation::explanation_for;
-use crate::program;
 use eqc_check::{Diagnostics, Options};
+use eqc_command::{Request, explanation_for, program};
 use eqc_tree::Stop;
 use std::alloc::{AllocError, Global};
 use std::process::Abort;

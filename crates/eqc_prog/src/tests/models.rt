@@ -3,7 +3,7 @@
 use super::is_text;
 use super::program::{LEAF_FIRST, words_of, writes, written_by};
 use super::streams::{Drain, Feed};
-use crate::program;
+use eqc_command::program;
 use std::alloc::AllocError;
 use std::rt::Files;
 use std::sync::Wait;

@@ -3,7 +3,7 @@
 
 use super::streams::{Disk, Feed, NEVER};
 use super::{DIFFERENCE, EQUAL, PERMUTED, UNEQUAL, XOR, is_text};
-use crate::program;
+use eqc_command::program;
 use std::alloc::{AllocError, Global};
 use std::process::Abort;
 use std::sync::Wait;

@@ -3,7 +3,7 @@
 use super::program::{reports, words_of, writes, written_by};
 use super::streams::{Drain, Endless, Feed, NEVER};
 use super::{DIFFERENCE, EQUAL, UNEQUAL, is_text};
-use crate::program;
+use eqc_command::program;
 use std::alloc::{AllocError, Global};
 use std::process::Abort;
 use std::rt::Files;

@@ -1,0 +1,73 @@
+-- The command line as `clap` takes it, and what its words ask for.
+use Rattle.std.specs.Prelude.{◌≡◌, ℕ, Bool, true, false, None, pos, List, [], ◌∷◌, codes, Option, Some, option_map}
+use Rattle.std.specs.Str.Parse.{digits_value, without_leading_plus}
+use Rattle.clap.specs.Walk.{Rule, Row, Text, first_of, one_of}
+use Rattle.clap.specs.Simple.{App, matches_of, new_app, new_rule, on_top, with_rule}
+use Rattle.clap.specs.declared.builder.value_parser.ValueParser.TheVariants.{Signed}
+use Rattle.clap.specs.declared.builder.action.ArgAction.TheVariants.{SetTrue}
+use Rattle.eqc_command.specs.declared.command_line.Request.{Request}
+
+-- an option with a number of 32 bits
+abbrev pub number_rule : Text → Text → Rule
+number_rule name default = record (new_rule name) {
+  long = Some name;
+  value_names = 1;
+  defaults = default ∷ [];
+  parser = Some (Signed (pos 0) (pos 4294967295));
+}
+
+-- a path without an option's name
+abbrev pub path_rule : Text → Rule
+path_rule name = record (new_rule name) { value_names = 1 }
+
+-- an option with a text: a path or a name
+abbrev pub text_rule : Text → Rule
+text_rule name = record (path_rule name) { long = Some name }
+
+-- an option without a value
+abbrev pub flag_rule : Text → Rule
+flag_rule name = record (new_rule name) { long = Some name; action = Some SetTrue }
+
+-- whether an option without a value was given, by what `clap` finds of it
+abbrev pub IsFlag : Option Text → Bool → Type 0
+IsFlag None given = given ≡ false
+IsFlag (Some t) given = (t ≡ codes "true" → given ≡ true) × (t ≡ codes "false" → given ≡ false)
+
+-- a command line that can be asked for its version
+abbrev pub with_version : App → App
+with_version a = on_top (λ s. record s { has_version = true }) a
+
+-- four numbers, the order text's path, the names of two models, whether to explain, and at most two paths
+abbrev pub eqc_app : App
+eqc_app = with_rule (with_rule (with_rule (with_rule (with_rule (with_rule (with_rule (with_rule (with_rule (with_rule (with_version (new_app (codes "eqc")))
+    (number_rule (codes "workers") (codes "2")))
+    (number_rule (codes "nodes") (codes "65536")))
+    (number_rule (codes "cells") (codes "8192")))
+    (number_rule (codes "forks") (codes "0")))
+    (text_rule (codes "order")))
+    (text_rule (codes "first-model")))
+    (text_rule (codes "second-model")))
+    (flag_rule (codes "explain")))
+    (path_rule (codes "first")))
+    (path_rule (codes "second"))
+
+-- what `clap` finds in the words
+unfoldable pub rows_asked : List Text → List Row
+rows_asked words = matches_of eqc_app words
+
+-- the number of an option
+abbrev pub number_of : Text → List Row → Option ℕ
+number_of name rows = option_map (λ t. digits_value 10 (without_leading_plus t)) (one_of name rows)
+
+-- what the matches of a command line ask for
+pub record IsAsked (rows : List Row) (request : Request) : Type 0 where
+  pub workers : number_of (codes "workers") rows ≡ Some request.options.workers
+  pub nodes : number_of (codes "nodes") rows ≡ Some request.options.nodes
+  pub cells : number_of (codes "cells") rows ≡ Some request.options.cells
+  pub forks : number_of (codes "forks") rows ≡ Some request.options.forks
+  pub explain : IsFlag (one_of (codes "explain") rows) request.explain
+  pub order : option_map (λ s. s.now) request.order ≡ first_of (codes "order") rows
+  pub first_model : option_map (λ s. s.now) request.first_model ≡ first_of (codes "first-model") rows
+  pub second_model : option_map (λ s. s.now) request.second_model ≡ first_of (codes "second-model") rows
+  pub first : option_map (λ s. s.now) request.first ≡ first_of (codes "first") rows
+  pub second : option_map (λ s. s.now) request.second ≡ first_of (codes "second") rows

@@ -1,0 +1,120 @@
+-- How the program ends, by its words and its input, and what it has written.
+use Rattle.std.specs.Prelude.{◌≡◌, ◌⊎◌, ℕ, Bool, true, false, List, [], ◌++◌, ◌∷◌, codes, Option, option_map}
+use Rattle.std.specs.Fmt.{decimal}
+use Rattle.std.specs.Io.KnownBytes.{Appends}
+use Rattle.clap.specs.Walk.{Text}
+use Rattle.clap.specs.Faults.{fault_of}
+use Rattle.clap.specs.Kinds.{HasKind, IsAmong}
+use Rattle.clap.specs.Values.{kind_of}
+use Rattle.clap.specs.declared.error.kind.ErrorKind.{ErrorKind}
+use Rattle.clap.specs.declared.error.kind.ErrorKind.TheVariants.{DisplayHelp, DisplayVersion, OutOfMemory}
+use Rattle.clap.specs.declared.error.Error.{Error}
+use Rattle.eqc_check.specs.declared.io.fault.RunFault.{RunFault}
+use Rattle.eqc_check.specs.declared.io.fault.RunFault.TheVariants as run_fault
+use Rattle.eqc_check.specs.declared.options.Options.{Options}
+use Rattle.eqc_check.specs.declared.report.Status.{Status}
+use Rattle.eqc_check.specs.declared.report.Status.TheVariants.{Equivalent, Differs, Refused, Stopped}
+use Rattle.eqc_check.specs.declared.running.Texts.{Texts}
+use Rattle.eqc_check.specs.Ends.{AppendsPrefix, fault_code}
+use Rattle.eqc_check.specs.Running.{IsAnswered, IsCutOff}
+use Rattle.eqc_check.specs.Answer.{NamesOf}
+use Rattle.eqc_check.specs.Warning.{IsWarned}
+use Rattle.eqc_check.specs.declared.warning.Warnings.{Warnings}
+use Rattle.eqc_command.specs.Warnings.{warnings_text, IsToldOf}
+use Rattle.eqc_command.specs.CommandLine.{eqc_app, rows_asked, IsAsked}
+use Rattle.eqc_command.specs.Sources.{source_remaining, AreAskedFor}
+use Rattle.eqc_command.specs.declared.command_line.Request.{Request}
+use Rattle.eqc_command.specs.declared.ending.End.{End}
+use Rattle.eqc_command.specs.declared.ending.End.TheVariants.{Reported, Helped, Failed, BadWords}
+use Rattle.eqc_command.specs.declared.source.Source.{Source}
+use Rattle.eqc_command.specs.declared.source.Sources.{Sources}
+
+-- the exit status
+abbrev pub status_code : End → ℕ
+status_code (Reported Equivalent) = 0
+status_code (Reported Differs) = 1
+status_code (Reported Refused) = 2
+status_code (Reported Stopped) = 3
+status_code Helped = 0
+status_code (Failed fault) = 4
+status_code (BadWords error) = 5
+
+-- `fault CODE`
+abbrev pub fault_text : RunFault → List ℕ
+fault_text fault = codes "fault " ++ decimal (fault_code fault) ++ 10 ∷ []
+
+-- some bytes were written
+abbrev pub Grows : Option (List ℕ) → Option (List ℕ) → Type 0
+Grows old new = (text : List ℕ) × Appends old new text
+
+-- what standard error gets behind the warnings: a fault's line or a part of it, some text on a bad command line, else nothing
+abbrev pub IsTold : End → Option (List ℕ) → Option (List ℕ) → Type 0
+IsTold (Reported status) old new = new ≡ old
+IsTold Helped old new = new ≡ old
+IsTold (Failed fault) old new = AppendsPrefix old new (fault_text fault)
+IsTold (BadWords error) old new = Grows old new
+
+-- the sources that are asked for were opened, and the run on them wrote
+pub record IsRunOn {R F : Type 0} (request : Request) (input : R) (Writes : Texts (Source R F) → Option (Source R F) → Options → Type 0) : Type 0 where
+  pub sources : Sources R F
+  pub opened : AreAskedFor request input sources
+  pub writes : Writes sources.texts sources.order request.options
+
+-- the names that are asked for
+abbrev pub names_of : Request → NamesOf
+names_of request = record { first = option_map (λ s. s.now) request.first_model; second = option_map (λ s. s.now) request.second_model }
+
+-- standard error got some text, where an explanation is asked for
+abbrev pub MayBeExplained : Bool → Option (List ℕ) → Option (List ℕ) → Type 0
+MayBeExplained false old new = new ≡ old
+MayBeExplained true old new = Grows old new
+
+-- a run wrote its report, and standard error got its warnings, and behind them what is explained
+pub record IsReported {R : Type 0} (remaining : R → Option (List ℕ)) (request : Request) (texts : Texts R) (order : Option R) (options : Options) (old new err_old err_new : Option (List ℕ)) (status : Status) : Type 0 where
+  pub answered : IsAnswered (names_of request) remaining texts order options old new status
+  pub warnings : Warnings
+  pub warned : IsWarned (names_of request) remaining texts status warnings
+  pub err : Option (List ℕ)
+  pub told : IsToldOf (warnings_text request warnings) err_old err
+  pub explained : MayBeExplained request.explain err err_new
+
+-- an end of a run: no report is written where a file can't be opened or a read fails, and a part of it where a write
+-- fails
+abbrev pub IsRunEnd : {R F : Type 0} → (R → Option (List ℕ)) → (F → Option (List ℕ)) → Request → R → Option (List ℕ) → Option (List ℕ) → Option (List ℕ) → Option (List ℕ) → End → Type 0
+IsRunEnd input_remaining file_remaining request input old new err_old err_new (Reported status) =
+    IsRunOn request input (λ texts order options. IsReported (source_remaining input_remaining file_remaining) request texts order options old new err_old err_new status)
+IsRunEnd input_remaining file_remaining request input old new err_old err_new Helped = ⊥
+IsRunEnd input_remaining file_remaining request input old new err_old err_new (Failed run_fault.Memory) = ⊥
+IsRunEnd input_remaining file_remaining request input old new err_old err_new (Failed run_fault.Read) = (new ≡ old) × MayBeExplained request.explain err_old err_new
+IsRunEnd input_remaining file_remaining request input old new err_old err_new (Failed run_fault.Write) =
+    IsRunOn request input (λ texts order options. IsCutOff (names_of request) (source_remaining input_remaining file_remaining) texts order options old new) × MayBeExplained request.explain err_old err_new
+IsRunEnd input_remaining file_remaining request input old new err_old err_new (BadWords error) = ⊥
+
+-- a request for help or for the version
+abbrev pub IsShowing : ErrorKind → Type 0
+IsShowing kind = (kind ≡ DisplayHelp) ⊎ (kind ≡ DisplayVersion)
+
+-- an end of such a request
+abbrev pub IsHelpEnd : Option (List ℕ) → Option (List ℕ) → End → Type 0
+IsHelpEnd old new (Reported status) = ⊥
+IsHelpEnd old new Helped = Grows old new
+IsHelpEnd old new (Failed fault) = (fault ≡ run_fault.Write) × Grows old new
+IsHelpEnd old new (BadWords error) = (kind_of error ≡ OutOfMemory) × (new ≡ old)
+
+-- an end of the program: the words ask for a run, or for help or the version, or they are a bad command line
+pub data IsEnd {R F : Type 0} (input_remaining : R → Option (List ℕ)) (file_remaining : F → Option (List ℕ)) (words : List Text) (input : R) (old new err_old err_new : Option (List ℕ)) (end : End) : Type 0 where
+  of_run : (request : Request) → fault_of eqc_app words ≡ [] → IsAsked (rows_asked words) request
+      → IsRunEnd input_remaining file_remaining request input old new err_old err_new end
+      → IsEnd input_remaining file_remaining words input old new err_old err_new end
+  of_help : (kind : ErrorKind) → IsShowing kind → IsAmong kind (fault_of eqc_app words) → IsHelpEnd old new end → err_new ≡ err_old
+      → IsEnd input_remaining file_remaining words input old new err_old err_new end
+  of_bad_words : (error : Error) → end ≡ BadWords error → (IsShowing (kind_of error) → ⊥) → HasKind (fault_of eqc_app words) error
+      → new ≡ old → err_new ≡ err_old → IsEnd input_remaining file_remaining words input old new err_old err_new end
+
+-- the program ended, was told of behind its warnings, and has its status
+pub record IsDone {R F : Type 0} (input_remaining : R → Option (List ℕ)) (file_remaining : F → Option (List ℕ)) (words : List Text) (input : R) (old new err_old err_new : Option (List ℕ)) (code : ℕ) : Type 0 where
+  pub end : End
+  pub warned : Option (List ℕ)
+  pub ended : IsEnd input_remaining file_remaining words input old new err_old warned end
+  pub told : IsTold end warned err_new
+  pub status : code ≡ status_code end

@@ -1,0 +1,4 @@
+pub mod CommandLine
+pub mod Sources
+pub mod Warnings
+pub mod Ends

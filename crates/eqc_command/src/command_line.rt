@@ -1,0 +1,145 @@
+//! The command line: which words it takes, and what they ask for.
+ghost use Rattle.std.specs.Prelude.{◌≡◌, false, map, [], Some, IfOk, IfErr, IfSome, string_bytes};
+ghost use Rattle.clap.specs.Faults.{fault_of};
+ghost use Rattle.clap.specs.Kinds.{HasKind};
+ghost use Rattle.clap.specs.Matches.{found_of};
+ghost use Rattle.clap.specs.Simple.{app_of};
+ghost use Rattle.clap.specs.Walk.{rows_of, rule_of};
+ghost use Rattle.eqc_command.specs.CommandLine.{eqc_app, number_rule, text_rule, flag_rule, path_rule, number_of, rows_asked, IsAsked};
+
+use crate::help::{
+    ABOUT, CELLS, EXPLAIN, FIRST, FIRST_MODEL, FORKS, NODES, ORDER, SECOND, SECOND_MODEL, USAGE,
+    WORKERS,
+};
+use crate::version::VERSION;
+use clap::{Arg, ArgAction, ArgMatches, Command, Error, value_parser};
+use eqc_check::Options;
+use std::alloc::{AllocError, Global};
+
+/// What the words of a command line ask for.
+#[derive(Drop)]
+pub struct Request<'a> {
+    pub options: Options,
+    /// Whether a refusal or a stop is to be explained.
+    pub explain: bool,
+    /// The path of the order text.
+    pub order: Option<&'a str>,
+    /// The name of the first model that is compared; without it, the place decides.
+    pub first_model: Option<&'a str>,
+    /// The name of the second.
+    pub second_model: Option<&'a str>,
+    /// The path of the first text; without it, standard input is read.
+    pub first: Option<&'a str>,
+    /// The path of the second text.
+    pub second: Option<&'a str>,
+}
+
+/// An option with a number.
+fn number<'a>(alloc: Global, name: &'a str, default: &'a str, help: &'a str) -> Arg<'a>
+    ensures rule { rule_of result ≡ number_rule name.now default.now }
+    ensures own { result.global ≡ false }
+{
+    Arg::new(alloc, name)
+        .long(name)
+        .value_name("N")
+        .value_parser(value_parser!(u32))
+        .default_value(default)
+        .help(help)
+}
+
+/// A path without an option's name.
+fn path<'a>(alloc: Global, name: &'a str, help: &'a str) -> Arg<'a>
+    ensures rule { rule_of result ≡ path_rule name.now }
+    ensures own { result.global ≡ false }
+{
+    Arg::new(alloc, name).value_name("FILE").help(help)
+}
+
+/// An option with a text, which the help shows as `shown`.
+fn text<'a>(alloc: Global, name: &'a str, shown: &'a str, help: &'a str) -> Arg<'a>
+    ensures rule { rule_of result ≡ text_rule name.now }
+    ensures own { result.global ≡ false }
+{
+    Arg::new(alloc, name)
+        .long(name)
+        .value_name(shown)
+        .help(help)
+}
+
+/// An option without a value.
+fn flag<'a>(alloc: Global, name: &'a str, help: &'a str) -> Arg<'a>
+    ensures rule { rule_of result ≡ flag_rule name.now }
+    ensures own { result.global ≡ false }
+{
+    Arg::new(alloc, name)
+        .long(name)
+        .action(ArgAction::SetTrue)
+        .help(help)
+}
+
+/// The command line of the program; its help ends with `answers`.
+fn command<'a>(alloc: Global, answers: &'a str) -> Result<Command<'a>, AllocError>
+    ensures { IfOk result (λ c. app_of c ≡ eqc_app) }
+{
+    Command::new(alloc, "eqc")
+        .version(VERSION)
+        .about(ABOUT)
+        .override_usage(USAGE)
+        .after_help(answers)
+        .arg(number(alloc, "workers", "2", WORKERS))?
+        .arg(number(alloc, "nodes", "65536", NODES))?
+        .arg(number(alloc, "cells", "8192", CELLS))?
+        .arg(number(alloc, "forks", "0", FORKS))?
+        .arg(text(alloc, "order", "FILE", ORDER))?
+        .arg(text(alloc, "first-model", "NAME", FIRST_MODEL))?
+        .arg(text(alloc, "second-model", "NAME", SECOND_MODEL))?
+        .arg(flag(alloc, "explain", EXPLAIN))?
+        .arg(path(alloc, "first", FIRST))?
+        .arg(path(alloc, "second", SECOND))
+}
+
+/// The number of an option.
+fn number_given(matches: &ArgMatches<'_>, name: &str) -> Option<u32>
+    ensures { IfSome result (λ n. number_of name.now (rows_of (found_of matches.now)) ≡ Some n) }
+{
+    matches.get_one(name)
+}
+
+/// What the words ask for.
+fn request_of<'a>(matches: &ArgMatches<'a>) -> Option<Request<'a>>
+    ensures { IfSome result (IsAsked (rows_of (found_of matches.now))) }
+{
+    Some(Request {
+        options: Options {
+            workers: number_given(matches, "workers")?,
+            nodes: number_given(matches, "nodes")?,
+            cells: number_given(matches, "cells")?,
+            forks: number_given(matches, "forks")?,
+        },
+        explain: matches.get_flag("explain"),
+        order: matches.get_str("order"),
+        first_model: matches.get_str("first-model"),
+        second_model: matches.get_str("second-model"),
+        first: matches.get_str("first"),
+        second: matches.get_str("second"),
+    })
+}
+
+/// Reads a command line, the program's name first. A bad one, a request for help or the version and want of memory are errors. The help
+/// ends with `answers`.
+pub fn read_words<'a>(
+    alloc: Global,
+    answers: &'a str,
+    words: &'a [String],
+) -> Result<Request<'a>, Error>
+    ensures taken { IfOk result (λ _. fault_of eqc_app (map string_bytes words.now) ≡ []) }
+    ensures asked { IfOk result (IsAsked (rows_asked (map string_bytes words.now))) }
+    ensures refused { IfErr result (HasKind (fault_of eqc_app (map string_bytes words.now))) }
+{
+    let matches = command(alloc, answers)?.try_get_matches_from(words)?;
+    match request_of(&matches) {
+        Some(request) => Ok(request),
+        // Each number has a default and has passed its parser, so none is missing.
+        None => Err(Error::from(AllocError)),
+    }
+}

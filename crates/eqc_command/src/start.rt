@@ -1,0 +1,185 @@
+//! The program over readers and writers.
+ghost use Rattle.std.specs.Prelude.{◌≡◌, ◌↔◌, IsTrue, map, string_bytes};
+ghost use Rattle.std.specs.Option.{option_copied, option_map};
+ghost use Rattle.clap.specs.Values.{kind_of};
+ghost use Rattle.eqc_command.specs.Ends.{names_of, IsRunEnd, MayBeExplained, IsShowing, IsHelpEnd, IsEnd, IsDone};
+
+use crate::command_line::{Request, read_words};
+use crate::ending::{End, tell};
+use crate::explanation::{Explanation, explanation_for};
+use crate::help::answers;
+use crate::source::{Unopened, open};
+use crate::warning::warn;
+use clap::Error;
+use clap::error::ErrorKind;
+use eqc_check::{ModelNames, RunFault, run_explained, write_text};
+use std::alloc::{AllocError, Global};
+use std::io::{Read, Write};
+use std::rt::Files;
+use std::sync::Wait;
+use std::thread::Threads;
+
+/// Whether an error is a request for help or for the version.
+fn is_showing(error: &Error) -> bool
+    ensures { IsTrue result ↔ IsShowing (kind_of error.now) }
+{
+    let kind = error.kind();
+    kind == ErrorKind::DisplayHelp || kind == ErrorKind::DisplayVersion
+}
+
+/// Writes the help or the version.
+fn write_help<W: Write>(alloc: Global, help: Error, out: &mut W) -> End
+    ensures { IsHelpEnd (W.contents out.old) (W.contents out.new) result }
+{
+    let Ok(text) = format!(in alloc; "{help}") else {
+        return End::BadWords(Error::from(AllocError));
+    };
+    match write_text(out, text.as_bytes()) {
+        Ok(()) => End::Helped,
+        Err(_) => End::Failed(RunFault::Write),
+    }
+}
+
+/// The bytes of a text that may be missing.
+fn bytes_of<'a>(text: Option<&'a str>) -> Option<&'a [u8]>
+    ensures { option_copied result ≡ option_map (λ s. s.now) text.entry }
+{
+    match text {
+        Some(text) => Some(text.as_bytes()),
+        None => None,
+    }
+}
+
+/// The names of the models that are asked for.
+fn names_of<'a>(request: &Request<'a>) -> ModelNames<'a>
+    ensures { result ≡ names_of request.now }
+{
+    ModelNames {
+        first: bytes_of(request.first_model),
+        second: bytes_of(request.second_model),
+    }
+}
+
+/// Writes an explanation, where one is asked for. Where a write fails, a part of it is lost.
+fn explain<E: Write>(request: &Request<'_>, explanation: &Explanation<'_>, err: &mut E)
+    ensures { MayBeExplained request.now.explain (E.contents err.old) (E.contents err.new) }
+{
+    if !request.explain {
+        return;
+    }
+    let bytes = explanation.as_bytes();
+    if !bytes.is_empty() {
+        let _ = write_text(err, bytes);
+    }
+}
+
+/// What an explanation is told to, where one is asked for.
+fn if_asked<'x, 'a>(
+    request: &Request<'_>,
+    explanation: &'x mut Explanation<'a>,
+) -> Option<&'x mut Explanation<'a>> {
+    if request.explain {
+        Some(explanation)
+    } else {
+        None
+    }
+}
+
+/// Opens the files, runs the comparison, and warns of what it is.
+fn compare<RT: Files + AllocGlobal + Threads + Wait + Sync, R: Read + Drop, W: Write, E: Write>(
+    rt: &RT,
+    request: &Request<'_>,
+    input: R,
+    out: &mut W,
+    err: &mut E,
+) -> End
+    ensures { IsRunEnd R.remaining RT.File.remaining request.now input (W.contents out.old) (W.contents out.new) (E.contents err.old) (E.contents err.new) result }
+{
+    let mut explanation = explanation_for(rt.alloc(), request);
+    let sources = match open(rt, request, input) {
+        Ok(sources) => sources,
+        Err(Unopened { path, error }) => {
+            explanation.unopened(path, &error);
+            explain(request, &explanation, err);
+            return End::Failed(RunFault::Read);
+        }
+    };
+    let finished = run_explained(
+        rt,
+        rt.alloc(),
+        sources.texts,
+        &names_of(request),
+        sources.order,
+        &request.options,
+        out,
+        if_asked(request, &mut explanation),
+    );
+    match finished {
+        Ok(finished) => {
+            warn(rt.alloc(), request, &finished.warnings, err);
+            explain(request, &explanation, err);
+            End::Reported(finished.status)
+        }
+        Err(fault) => {
+            explain(request, &explanation, err);
+            End::Failed(fault)
+        }
+    }
+}
+
+/// A text that only the help shows, or an empty one where memory was refused for it: a comparison goes on without.
+fn shown(text: &Result<String, AllocError>) -> &str {
+    match text {
+        Ok(text) => text.as_str(),
+        Err(_) => "",
+    }
+}
+
+/// Reads the words, and does what they ask for.
+fn perform<RT: Files + AllocGlobal + Threads + Wait + Sync, R: Read + Drop, W: Write, E: Write>(
+    rt: &RT,
+    words: &[String],
+    input: R,
+    out: &mut W,
+    err: &mut E,
+) -> End
+    ensures { IsEnd R.remaining RT.File.remaining (map string_bytes words.now) input (W.contents out.old) (W.contents out.new) (E.contents err.old) (E.contents err.new) result }
+{
+    let answers = answers(rt.alloc());
+    let error = match read_words(rt.alloc(), shown(&answers), words) {
+        Ok(request) => return compare(rt, &request, input, out, err),
+        Err(error) => error,
+    };
+    if !is_showing(&error) {
+        return End::BadWords(error);
+    }
+    write_help(rt.alloc(), error, out)
+}
+
+/// Does all that the program does, and answers its exit status.
+///
+/// The words are those of the command line, the program's name first; `input`, `out` and `err` are standard input,
+/// output and error. The options are `--workers N`, `--nodes N`, `--cells N`, `--forks N` and `--order FILE`,
+/// `--first-model NAME`, `--second-model NAME` and `--explain`, and up to two files are compared. All files are opened
+/// before one is read. The report is written to `out`. Where it is a verdict on a model that a model of its text contains
+/// which isn't compared, `err` gets a warning on it. Where there is no verdict and `--explain` is given, `err` gets lines
+/// on what is at fault.
+///
+/// The status is 0 where the netlists are equivalent, 1 where they differ, 2 where the input is refused and 3 where
+/// the comparison was stopped. It is 4 where a read or a write failed, and then `err` gets `fault 91` for a read, or
+/// a file that can't be opened, and `fault 92` for a write. It is 5 for a bad command line and for want of memory in
+/// reading it; `err` gets a text on it. For `--help` and `--version` what they ask for is written to `out`, and the
+/// status is 0. The call may wait, for the threads that compare.
+pub fn program<RT: Files + AllocGlobal + Threads + Wait + Sync, R: Read + Drop, W: Write, E: Write>(
+    rt: &RT,
+    words: &[String],
+    input: R,
+    out: &mut W,
+    err: &mut E,
+) -> u8
+    ensures { IsDone R.remaining RT.File.remaining (map string_bytes words.now) input (W.contents out.old) (W.contents out.new) (E.contents err.old) (E.contents err.new) result }
+{
+    let end = perform(rt, words, input, out, err);
+    tell(rt.alloc(), &end, err);
+    end.status()
+}

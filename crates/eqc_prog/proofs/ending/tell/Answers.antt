@@ -1,8 +1,0 @@
-use Rattle.std.proofs.Common.{refl, subst, sym}
-use Rattle.eqc_prog.specs.Ends.{IsTold}
-use Rattle.eqc_prog.proofs.EndLemmas.{same_grows}
-use Rattle.eqc_prog.proofs.ending.tell.Goals as goal
-
-pub returns-in_default : goal.returns-in_default
-returns-in_default g c =
-    subst (λ end. IsTold end (g.E.Write.contents c.args.err.now) (g.E.Write.contents c.args.err.now)) (sym c.in-BadWords.is) (same_grows (g.E.Write.contents c.args.err.now) _ refl)
