@@ -196,9 +196,9 @@ of_two_neither true one other both x y e = absurd (false≢true (sym e))
 of_two_neither false one other both x y e = refl
 
 -- the value of a cover by rows that match alike
-pub covered_by : (on : Bool) (kept rows : List (List ℕ)) (vs : List Bool) → (length rows == 0) ≡ false → on ≡ is_on_set rows → MatchAlike kept rows → agrees on (some_match kept vs) ≡ cover_value rows vs
-covered_by on kept [] vs some is m = absurd (false≢true (sym some))
-covered_by on kept (row ∷ rows) vs some is m = ap (agrees on) (m.alike vs) ∙ by on (is_on row) (some_match (row ∷ rows) vs) is
+pub covered_by : (on : Bool) (n : ℕ) (kept rows : List (List ℕ)) (vs : List Bool) → length vs ≡ n → (length rows == 0) ≡ false → on ≡ is_on_set rows → MatchAlike n kept rows → agrees on (some_match kept vs) ≡ cover_value rows vs
+covered_by on n kept [] vs size some is m = absurd (false≢true (sym some))
+covered_by on n kept (row ∷ rows) vs size some is m = ap (agrees on) (m.alike vs (omega (arith, size))) ∙ by on (is_on row) (some_match (row ∷ rows) vs) is
   where
     by : (on other b : Bool) → on ≡ other → agrees on b ≡ cond other b (not b)
     by true true b e = refl
@@ -207,8 +207,8 @@ covered_by on kept (row ∷ rows) vs some is m = ap (agrees on) (m.alike vs) ∙
     by false false true e = refl
     by false false false e = refl
 
-pub covered_off : (kept rows : List (List ℕ)) (vs : List Bool) → (length rows == 0) ≡ false → false ≡ is_on_set rows → MatchAlike kept rows → not (some_match kept vs) ≡ cover_value rows vs
-covered_off kept rows vs some is m = opposite (some_match kept vs) ∙ covered_by false kept rows vs some is m
+pub covered_off : (n : ℕ) (kept rows : List (List ℕ)) (vs : List Bool) → length vs ≡ n → (length rows == 0) ≡ false → false ≡ is_on_set rows → MatchAlike n kept rows → not (some_match kept vs) ≡ cover_value rows vs
+covered_off n kept rows vs size some is m = opposite (some_match kept vs) ∙ covered_by false n kept rows vs size some is m
   where
     opposite : (b : Bool) → not b ≡ agrees false b
     opposite true = refl

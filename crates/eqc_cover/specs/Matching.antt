@@ -1,5 +1,5 @@
 -- Rows of a cover under the value of their first column, and the columns of a cover as diagrams.
-use Rattle.std.specs.Prelude.{◌≡◌, ℕ, Bool, true, false, List, [], ◌∷◌, map, take, not, ◌||◌, ◌==◌, if◌then◌else◌, ◌+◌}
+use Rattle.std.specs.Prelude.{◌≡◌, ℕ, Bool, true, false, List, [], ◌∷◌, length, map, take, not, ◌||◌, ◌==◌, ◌≤◌, if◌then◌else◌, ◌+◌}
 use Rattle.std.specs.List.{list_any, AllByRecursion}
 use Rattle.std.specs.Borrow.{Bor}
 use Rattle.eqc_blif.specs.Cover.{allows, row_matches}
@@ -19,17 +19,21 @@ cofactor v ((byte ∷ row) ∷ rows) = if allows byte v then row ∷ cofactor v 
 abbrev pub is_literal : ℕ → Bool
 is_literal byte = (byte == 48) || (byte == 49)
 
--- whether one of the rows asks for no value of so many columns
-abbrev pub has_free_row : ℕ → List (List ℕ) → Bool
-has_free_row columns rows = list_any (λ r. not (list_any is_literal (take columns r))) rows
+-- whether one of the rows has no places
+abbrev pub has_free_row : List (List ℕ) → Bool
+has_free_row rows = list_any (λ r. length r == 0) rows
 
 -- whether one of the rows asks for a value of its first column
 abbrev pub constrains_first : List (List ℕ) → Bool
 constrains_first rows = list_any (λ r. list_any is_literal (take 1 r)) rows
 
--- under all values some row of the one list matches exactly where some row of the other does
-pub record MatchAlike (rows others : List (List ℕ)) : Type 0 where
-  pub alike : (vs : List Bool) → some_match rows vs ≡ some_match others vs
+-- under all values of so many columns the one row matches exactly where the other does
+pub record RowsAlike (columns : ℕ) (row other : List ℕ) : Type 0 where
+  pub alike : (vs : List Bool) → length vs ≤ columns → row_matches row vs ≡ row_matches other vs
+
+-- under all values of so many columns some row of the one list matches exactly where some row of the other does
+pub record MatchAlike (columns : ℕ) (rows others : List (List ℕ)) : Type 0 where
+  pub alike : (vs : List Bool) → length vs ≤ columns → some_match rows vs ≡ some_match others vs
 
 -- whether a value is the one that is wanted
 abbrev pub agrees : Bool → Bool → Bool

@@ -102,7 +102,7 @@ fn by_columns<R, D: Diagrams<R>>(
     let Some((column, others)) = columns.split_first() else {
         return d.constant(on);
     };
-    if has_free_row(rows, columns.len()) {
+    if has_free_row(rows) {
         return d.constant(on);
     }
     if !constrains_first(rows) {

@@ -2,7 +2,7 @@
 ghost use Rattle.std.specs.Prelude.{◌≡◌, ℕ, Bool, List, [], ◌∷◌, true, length, map, take, IfOk, option_to_list};
 ghost use Rattle.std.specs.List.{list_any};
 ghost use Rattle.std.specs.Option.{option_copied};
-ghost use Rattle.eqc_cover.specs.Matching.{some_match, cofactor, is_literal, has_free_row, constrains_first, MatchAlike};
+ghost use Rattle.eqc_cover.specs.Matching.{some_match, cofactor, is_literal, has_free_row, constrains_first, RowsAlike, MatchAlike};
 
 use eqc_blif::{Rows, allows, row_matches};
 use indexmap::IndexSet;
@@ -82,12 +82,12 @@ fn has_literal(places: &[u8]) -> bool
     false
 }
 
-/// Whether one of the rows matches whatever the values of so many columns.
-pub(crate) fn has_free_row(rows: &[&[u8]], columns: usize) -> bool
-    ensures { result ≡ has_free_row columns (map (λ r. r.now) rows.now) }
+/// Whether one of the rows has no places left, so that it matches whatever the values.
+pub(crate) fn has_free_row(rows: &[&[u8]]) -> bool
+    ensures { result ≡ has_free_row (map (λ r. r.now) rows.now) }
 {
     for row in rows {
-        if !has_literal(&row[..columns.min(row.len())]) {
+        if row.is_empty() {
             return true;
         }
     }
@@ -106,24 +106,48 @@ pub(crate) fn constrains_first(rows: &[&[u8]]) -> bool
     false
 }
 
-fn slices<'a>(alloc: Global, rows: &'a Rows<'_>) -> Result<Vec<&'a [u8]>, AllocError>
-    ensures { IfOk result (λ v. map (λ r. r.now) v.items ≡ rows.now) }
+/// A row's places for so many columns, up to the last of them that asks for a value: a row that asks for none is empty.
+fn up_to_last_literal(row: &[u8], columns: usize) -> &[u8]
+    ensures { RowsAlike columns result.now row.now }
+{
+    let mut places = &row[..columns.min(row.len())];
+    'places: while let Some((byte, front)) = places.split_last() {
+        if is_literal(*byte) {
+            return places;
+        }
+        places = front;
+    }
+    places
+}
+
+/// The rows of a cover over so many columns, each up to its last literal. Fails where memory is refused.
+fn slices<'a>(
+    alloc: Global,
+    rows: &'a Rows<'_>,
+    columns: usize,
+) -> Result<Vec<&'a [u8]>, AllocError>
+    ensures { IfOk result (λ slices. MatchAlike columns (map (λ r. r.now) slices.items) rows.now) }
 {
     let mut slices = Vec::with_capacity(alloc, rows.len())?;
     for k in 0..rows.len() {
-        slices.push(rows.get(k))?;
+        slices.push(up_to_last_literal(rows.get(k), columns))?;
     }
     Ok(slices)
 }
 
-/// The rows, those that stand several times once. Fails where memory is refused.
-fn distinct<'a>(alloc: Global, rows: &'a Rows<'_>) -> Result<Vec<&'a [u8]>, AllocError>
-    ensures { IfOk result (λ kept. MatchAlike (map (λ r. r.now) kept.items) rows.now) }
+/// The rows of a cover over so many columns, each up to its last literal, and those that stand several times once. Fails
+/// where memory is refused.
+fn distinct<'a>(
+    alloc: Global,
+    rows: &'a Rows<'_>,
+    columns: usize,
+) -> Result<Vec<&'a [u8]>, AllocError>
+    ensures { IfOk result (λ kept. MatchAlike columns (map (λ r. r.now) kept.items) rows.now) }
 {
     let mut seen = IndexSet::new(alloc);
     let mut kept = Vec::new(alloc);
     'rows: for k in 0..rows.len() {
-        let row = rows.get(k);
+        let row = up_to_last_literal(rows.get(k), columns);
         if seen.insert(row)? {
             kept.push(row)?;
         }
@@ -142,7 +166,7 @@ fn left_after(
     let Some(left) = budget.checked_sub(rows.len()) else {
         return Ok(None);
     };
-    if columns <= 2 || rows.is_empty() || has_free_row(rows, columns) {
+    if columns <= 2 || rows.is_empty() || has_free_row(rows) {
         return Ok(Some(left));
     }
     let with_one = cofactor(alloc, rows, true)?;
@@ -157,17 +181,18 @@ fn left_after(
 }
 
 /// A number of visits that no expansion of the rows over so many columns exceeds: a row stands in each cofactor that
-/// its dashes allow.
+/// its dashes allow, down to those where it has no places left, or where two columns are left.
 fn most_visits(rows: &[&[u8]], columns: usize) -> usize {
     let mut visits: usize = 0;
     for row in rows {
         let mut cofactors: usize = 1;
-        for byte in &row[..columns.min(row.len())] {
+        for byte in &row[..columns.saturating_sub(1).min(row.len())] {
             visits = visits.saturating_add(cofactors);
             if !is_literal(*byte) {
                 cofactors = cofactors.saturating_mul(2);
             }
         }
+        visits = visits.saturating_add(cofactors);
     }
     visits
 }
@@ -181,7 +206,7 @@ fn is_narrow(columns: usize, rows: usize) -> bool {
 /// How a cover is built.
 #[derive(Drop)]
 pub(crate) struct Plan<'a> {
-    /// Its rows, of which some that stand several times may be left out.
+    /// Its rows, each up to its last literal. Some that stand several times may be left out.
     pub(crate) rows: Vec<&'a [u8]>,
     /// Whether it is expanded column by column, at a price in proportion to its text.
     pub(crate) expands: bool,
@@ -193,9 +218,9 @@ pub(crate) fn plan_cover<'a>(
     rows: &'a Rows<'_>,
     columns: usize,
 ) -> Result<Plan<'a>, AllocError>
-    ensures { IfOk result (λ plan. MatchAlike (map (λ r. r.now) plan.rows.items) rows.now) }
+    ensures { IfOk result (λ plan. MatchAlike columns (map (λ r. r.now) plan.rows.items) rows.now) }
 {
-    let all = slices(alloc, rows)?;
+    let all = slices(alloc, rows, columns)?;
     if !is_narrow(columns, all.len()) {
         return Ok(Plan {
             rows: all,
@@ -209,7 +234,7 @@ pub(crate) fn plan_cover<'a>(
             expands: true,
         });
     }
-    let once = distinct(alloc, rows)?;
+    let once = distinct(alloc, rows, columns)?;
     let budget = places.saturating_mul(VISITS);
     let expands = left_after(alloc, &once, columns, budget)?.is_some();
     Ok(Plan {
