@@ -108,7 +108,8 @@ impl Worker {
         requires { cell < self.now.known.core.sizes.cells }
         ensures { result ≡ cells_from self.now.known.core.sizes + cell }
     {
-        let announced = self.sizes.workers as usize * self.sizes.announcements as usize;
+        // A worker has one announcement word.
+        let announced = self.sizes.workers as usize;
         let names = self.sizes.names as usize;
         announced + (names + names) + cell as usize
     }
@@ -118,8 +119,8 @@ impl Worker {
         requires { name < self.now.known.core.sizes.names }
         ensures { result ≡ announced_words self.now.known.core.sizes + name }
     {
-        let announced = self.sizes.workers as usize * self.sizes.announcements as usize;
-        announced + name as usize
+        // A worker has one announcement word.
+        self.sizes.workers as usize + name as usize
     }
 
     // The worker's announcement word.
@@ -127,7 +128,8 @@ impl Worker {
     fn announcement_word(&self) -> usize
         ensures { result ≡ word_at self.now.known.core.sizes self.now.known.core.number 0 }
     {
-        self.number as usize * self.sizes.announcements as usize
+        // A worker has one announcement word.
+        self.number as usize
     }
 
     /// Loads a cell's word.
