@@ -1,5 +1,5 @@
 -- The steps of a lookup.
-use Rattle.std.proofs.Common.{◌≡◌, ◌≢◌, ⊎_elim, ℕ, zero, suc, ◌<◌, ◌≤◌, List, [], ◌∷◌, ◌++◌, set, get_or, length, Bool, true, false, if◌then◌else◌, nat_eq, Option, Some, None, IfSome, append-nil, refl, sym, ap, subst, ◌∙◌, arith, inl, inr}
+use Rattle.std.proofs.Common.{◌≡◌, ◌≢◌, ⊎_elim, ℕ, zero, suc, ◌^◌, ◌<◌, ◌≤◌, List, [], ◌∷◌, ◌++◌, set, get_or, length, Bool, true, false, if◌then◌else◌, nat_eq, Option, Some, None, IfSome, append-nil, refl, sym, ap, subst, ◌∙◌, arith, inl, inr}
 use Rattle.std.proofs.lemmas.Bool.{lt-ltb, le-ltb}
 use mathlib.Core.Option.{some}
 use native.Mathlib.Decide.{ℕ_discrete}
@@ -18,7 +18,7 @@ use Rattle.eqc_core.specs.Counting.{Knows, upped}
 use Rattle.eqc_core.proofs.Lists.{set_here}
 use Rattle.eqc_core.proofs.Names.{times-append, times-same}
 use Rattle.eqc_guard.specs.declared.reference.Ref.{Ref}
-use Rattle.eqc_guard.specs.Known.{IsHeld, tree_of, names_of}
+use Rattle.eqc_guard.specs.Known.{Known, IsHeld, IsKnown, tree_of, names_of}
 use Rattle.eqc_guard.specs.Standing.{Standing, Steps}
 use Rattle.eqc_guard.specs.Acquiring.{IsAt, IsAcquired}
 use Rattle.eqc_guard.specs.Telling.{IsResult, Shown}
@@ -203,6 +203,23 @@ module _ (op : Op) (f g x cell word : ℕ) (old s1 : Standing) (looks : IsAt (Se
 -- the operands in the word are those in order
 pub ordered_there : (op : Op) (f g m n word : ℕ) (p : ℕ × ℕ) → m ≡ f → n ≡ g → first_of word ≡ p.0 → second_of word ≡ p.1 → IsOrdered op m n p → IsOrdered op f g (first_of word, second_of word)
 ordered_there op f g m n word p a b c d is = subst (λ (t : ℕ × (ℕ × (ℕ × ℕ))). IsOrdered op t.0 t.1.0 t.1.1) (λ i. (a i, (b i, (sym c i, sym d i)))) is
+
+-- names that are held fit their fields of a word, in whatever order
+pub small_name : (x : ℕ) (k : Known) → IsKnown k → IsHeld k.core x → x < 2 ^ 20
+small_name x k known (inl lt) = omega arith
+small_name x k known (inr h) = let b = known.below x (known.slots x h) (held_named k.core x h) in let l = known.limit in omega arith
+
+pub small_operands : (op : Op) (f g m n : ℕ) (p : ℕ × ℕ) (k : Known) → IsKnown k → IsHeld k.core f → IsHeld k.core g → m ≡ f → n ≡ g → IsOrdered op m n p → (p.0 < 2 ^ 20) × (p.1 < 2 ^ 20)
+small_operands op f g m n p k known first second a b is = ⊎_elim
+    (λ e. subst (λ (q : ℕ × ℕ). (q.0 < 2 ^ 20) × (q.1 < 2 ^ 20)) (sym e) (one, two))
+    (λ e. subst (λ (q : ℕ × ℕ). (q.0 < 2 ^ 20) × (q.1 < 2 ^ 20)) (sym e.1) (two, one))
+    is
+  where
+    one : m < 2 ^ 20
+    one = subst (λ (x : ℕ). x < 2 ^ 20) (sym a) (small_name f k known first)
+
+    two : n < 2 ^ 20
+    two = subst (λ (x : ℕ). x < 2 ^ 20) (sym b) (small_name g k known second)
 
 -- an empty word has no operation
 pub some_word : (op : Op) (word : ℕ) → operation_of word ≡ tag_of op → word ≢ 0

@@ -1,5 +1,5 @@
 //! The lookup.
-ghost use Rattle.std.specs.Prelude.{◌≡◌, ◌-◌, ◌≤◌, ◌^◌, ◌⊎◌, ℕ, List, length, Some, None, IfSome};
+ghost use Rattle.std.specs.Prelude.{◌≡◌, ◌-◌, ◌<◌, ◌≤◌, ◌^◌, ◌⊎◌, ℕ, List, length, Some, None, IfSome};
 ghost use Rattle.eqc_core.specs.View.{phase_at};
 ghost use Rattle.eqc_core.specs.declared.phase.Phase.TheVariants.{Idle, Seen};
 ghost use Rattle.eqc_core.specs.Words.{result_of};
@@ -13,16 +13,20 @@ ghost use Rattle.eqc_cache.specs.Placing.{IsEntry, HasResult, HasNone};
 use crate::key;
 use eqc_guard::reference::Ref;
 use eqc_guard::worker::Worker;
-use eqc_tree::{Op, unpack_cell};
+use eqc_tree::{Op, pack_cell, unpack_cell};
 
 // The result in a word, where the word is the entry of the operation with these operands.
 #[tactic(auto, unfolding(eqc_core::specs::Words::operation_of, eqc_core::specs::Words::first_of, eqc_core::specs::Words::second_of, eqc_core::specs::Words::result_of))]
+#[inline(always)]
 fn result_in(word: u64, op: Op, first: u32, second: u32) -> Option<u32>
+    requires first { first < 2 ^ 20 }
+    requires second { second < 2 ^ 20 }
     ensures entry { IfSome result (λ found. IsEntry op (first, second) word × (found ≡ result_of word)) }
     ensures other { result ≡ None → IsEntry op (first, second) word → ⊥ }
 {
-    let (tag, kept_first, kept_second, found) = unpack_cell(word);
-    if tag != op.tag() || kept_first != first || kept_second != second {
+    // The fields of a word are apart, so one comparison of words compares the tag and both operands.
+    let (_, _, _, found) = unpack_cell(word);
+    if word != pack_cell(op.tag(), first, second, found) {
         return None;
     }
     Some(found)

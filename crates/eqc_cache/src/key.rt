@@ -10,6 +10,7 @@ const GOLDEN: u64 = 0x9E37_79B9_7F4A_7C15;
 
 // The operands in the order in which a cell has them: the smaller one first, where the operation
 // does not tell them apart.
+#[inline(always)]
 pub(crate) fn ordered(op: Op, f: u32, g: u32) -> (u32, u32)
     ensures either { IsOrdered op f g result }
     ensures order { result ≡ in_order op f g }
@@ -22,6 +23,7 @@ pub(crate) fn ordered(op: Op, f: u32, g: u32) -> (u32, u32)
 
 // A word with its bits mixed, so that each bit of the upper half depends on all of them.
 #[tactic(auto, unfolding(crate::specs::Placing::mixed_word))]
+#[inline(always)]
 fn mixed(word: u64) -> u64
     ensures { result ≡ mixed_word word }
 {
@@ -32,6 +34,7 @@ fn mixed(word: u64) -> u64
 // The cell of an operation, of so many. Operands that are near each other, as those of one level
 // of a diagram are, must not share cells: so all bits are mixed, and the upper half is scaled.
 #[tactic(auto, unfolding(crate::specs::Placing::place_of))]
+#[inline(always)]
 pub(crate) fn place(cells: u32, op: Op, first: u32, second: u32) -> u32
     requires { 0 < cells }
     ensures within { result < cells }

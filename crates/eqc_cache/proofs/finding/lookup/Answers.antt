@@ -10,8 +10,15 @@ use Rattle.eqc_core.specs.Words.{operation_of, first_of, second_of, result_of}
 use Rattle.eqc_core.specs.View.{View}
 use Rattle.eqc_guard.proofs.Acquiring.{starts, joins}
 use Rattle.eqc_guard.proofs.Copying.{load_keeps, cells_on}
-use Rattle.eqc_cache.proofs.Hits.{phase_now, finds_constant, hits, ordered_there, some_word, constant_number, may_announce}
+use Rattle.eqc_cache.proofs.Hits.{phase_now, finds_constant, hits, ordered_there, some_word, constant_number, may_announce, small_operands}
 use Rattle.eqc_cache.proofs.finding.lookup.Goals as goal
+
+-- the operands fit their fields of a word
+pub result_in-requires-clause-first : goal.result_in-requires-clause-first
+result_in-requires-clause-first c = (small_operands c.args.op c.args.f.now.number c.args.g.now.number c.number.result c.number-2.result c.ordered-first.result c.args.worker.now.known c.cells.ensures.known c.requires.first c.requires.second c.number.ensures c.number-2.ensures c.ordered-first.ensures.either).0
+
+pub result_in-requires-clause-second : goal.result_in-requires-clause-second
+result_in-requires-clause-second c = (small_operands c.args.op c.args.f.now.number c.args.g.now.number c.number.result c.number-2.result c.ordered-first.result c.args.worker.now.known c.cells.ensures.known c.requires.first c.requires.second c.number.ensures c.number-2.ensures c.ordered-first.ensures.either).1
 
 pub returns-in_err-found-clause-miss : goal.returns-in_err-found-clause-miss
 returns-in_err-found-clause-miss c = λ e.
