@@ -1,5 +1,5 @@
 -- How many names a worker holds after a step, and that what it steps on is there.
-use Rattle.std.proofs.Common.{◌≡◌, ℕ, ◌+◌, ◌-◌, ◌<◌, ◌≤◌, List, [], ◌∷◌, length, get_or, true, length-append, refl, sym, ap, subst, ◌∙◌, arith, inl, inr}
+use Rattle.std.proofs.Common.{◌≡◌, ℕ, ◌+◌, ◌-◌, ◌<◌, ◌≤◌, List, [], ◌∷◌, length, get_or, true, Option, Some, None, length-append, refl, sym, ap, subst, ◌∙◌, arith, inl, inr}
 use mathlib.Core.Option.{some}
 use native.Mathlib.Decide.{ℕ_discrete, dec_le}
 use lib.ListN.{get_elem?}
@@ -7,14 +7,14 @@ use Rattle.atomic_table.specs.Seated.{TableId}
 use Rattle.eqc_core.specs.declared.sizes.Sizes.{Sizes}
 use Rattle.eqc_core.specs.declared.phase.Phase.{Phase}
 use Rattle.eqc_core.specs.declared.phase.Phase.TheVariants.{Idle, Announced}
-use Rattle.eqc_core.specs.View.{View, phase_at}
+use Rattle.eqc_core.specs.View.{View, Hand, phase_at}
 use Rattle.eqc_core.specs.Words.{times, cell_names, operands, slots_of}
 use Rattle.eqc_core.specs.Moves.{IsReady, AreHeld, without, without_each}
 use Rattle.eqc_core.specs.Counting.{MayDown, downed}
 use Rattle.eqc_core.specs.Caching.{swapped}
 use Rattle.eqc_core.proofs.Names.{times-same, times-other, times-without, times-without_other, times-slots_of, slots_of_slots, length-without_one}
 use Rattle.eqc_guard.specs.Known.{Known, IsKnown, IsHeld, Stepped}
-use Rattle.eqc_guard.specs.Standing.{IsSeated}
+use Rattle.eqc_guard.specs.Standing.{IsSeated, slots_out, stripes_in}
 use Rattle.eqc_guard.proofs.Learning.{held_named}
 
 -- one name less is held
@@ -34,13 +34,13 @@ announced_there k p c word known phases is =
     (ap (λ (ps : List Phase). get_or ps 0 Idle) e, (known.phases 0 (Announced c word) here).0)
 
 -- a worker's fields fit its seat after a step, where they are those of the new view
-module _ {T : Type 0} (seat_table table : TableId) (key sizes : Sizes) (me : Known × List T) (number held : ℕ) (phase : Phase) (retired noted : List ℕ) (position given : ℕ) (out : List ℕ)
-    (is : IsSeated seat_table table key sizes me number held phase retired noted position given out) where
-  pub seated_with : (seat_table' : TableId) (me' : Known × List T) (v : View) (held' : ℕ) (phase' : Phase) (retired' noted' : List ℕ) (position' given' : ℕ) (out' : List ℕ)
-      → seat_table' ≡ seat_table → me'.0.core ≡ v → IsKnown me'.0 → me'.1 ≡ me.1 → v.sizes ≡ me.0.core.sizes → v.active ≡ true → v.number ≡ me.0.core.number
-      → held' ≡ length v.held → v.phases ≡ phase' ∷ [] → retired' ≡ v.retired → noted' ≡ v.noted → position' ≡ v.position → given' ≡ v.given → out' ≡ v.out
-      → IsSeated seat_table' table key sizes me' number held' phase' retired' noted' position' given' out'
-  seated_with seat_table' me' v held' phase' retired' noted' position' given' out' same core knows carries size on num h p r n pos giv o =
+module _ {S : Type 0} (seat_table table : TableId) (key sizes : Sizes) (me : Known × List (ℕ × S)) (number held : ℕ) (phase : Phase) (retired noted : List ℕ) (position given : ℕ) (out : List ℕ) (draft : Option ℕ)
+    (is : IsSeated seat_table table key sizes me number held phase retired noted position given out draft) where
+  pub seated_with : (seat_table' : TableId) (me' : Known × List (ℕ × S)) (v : View) (held' : ℕ) (phase' : Phase) (retired' noted' : List ℕ) (position' given' : ℕ) (out' : List ℕ) (draft' : Option ℕ)
+      → seat_table' ≡ seat_table → me'.0.core ≡ v → IsKnown me'.0 → slots_out me'.1 ≡ stripes_in v.hand → v.sizes ≡ me.0.core.sizes → v.active ≡ true → v.number ≡ me.0.core.number
+      → held' ≡ length v.held → v.phases ≡ phase' ∷ [] → retired' ≡ v.retired → noted' ≡ v.noted → position' ≡ v.position → given' ≡ v.given → out' ≡ v.out → draft' ≡ v.draft
+      → IsSeated seat_table' table key sizes me' number held' phase' retired' noted' position' given' out' draft'
+  seated_with seat_table' me' v held' phase' retired' noted' position' given' out' draft' same core knows carries size on num h p r n pos giv o d =
       let e : v ≡ me'.0.core = sym core in
       let old = is.worker in
       record {
@@ -56,7 +56,7 @@ module _ {T : Type 0} (seat_table table : TableId) (key sizes : Sizes) (me : Kno
           number = subst (λ (k : ℕ). k < sizes.workers) (sym num ∙ ap (λ (u : View). u.number) e) old.number;
           known = knows;
         };
-        carries_none = carries ∙ is.carries_none;
+        carries = carries ∙ ap (λ (u : View). stripes_in u.hand) e;
         number_is = is.number_is ∙ (sym num ∙ ap (λ (u : View). u.number) e);
         held_is = h ∙ ap (λ (u : View). length u.held) e;
         phases_are = ap (λ (u : View). u.phases) (sym e) ∙ p;
@@ -65,13 +65,32 @@ module _ {T : Type 0} (seat_table table : TableId) (key sizes : Sizes) (me : Kno
         position_is = pos ∙ ap (λ (u : View). u.position) e;
         given_is = giv ∙ ap (λ (u : View). u.given) e;
         out_is = o ∙ ap (λ (u : View). u.out) e;
+        draft_is = d ∙ ap (λ (u : View). u.draft) e;
       }
 
-  pub seated_after : (seat_table' : TableId) (me' : Known × List T) (v : View) (held' : ℕ) (phase' : Phase) (retired' noted' : List ℕ) (position' given' : ℕ) (out' : List ℕ)
-      → seat_table' ≡ seat_table → Stepped me.0 v me'.0 → me'.1 ≡ me.1 → v.sizes ≡ me.0.core.sizes → v.active ≡ true → v.number ≡ me.0.core.number
-      → held' ≡ length v.held → v.phases ≡ phase' ∷ [] → retired' ≡ v.retired → noted' ≡ v.noted → position' ≡ v.position → given' ≡ v.given → out' ≡ v.out
-      → IsSeated seat_table' table key sizes me' number held' phase' retired' noted' position' given' out'
-  seated_after seat_table' me' v held' phase' retired' noted' position' given' out' same stepped = seated_with seat_table' me' v held' phase' retired' noted' position' given' out' same stepped.core stepped.known
+  pub seated_after : (seat_table' : TableId) (me' : Known × List (ℕ × S)) (v : View) (held' : ℕ) (phase' : Phase) (retired' noted' : List ℕ) (position' given' : ℕ) (out' : List ℕ) (draft' : Option ℕ)
+      → seat_table' ≡ seat_table → Stepped me.0 v me'.0 → me'.1 ≡ me.1 → v.sizes ≡ me.0.core.sizes → v.active ≡ true → v.number ≡ me.0.core.number → v.hand ≡ me.0.core.hand
+      → held' ≡ length v.held → v.phases ≡ phase' ∷ [] → retired' ≡ v.retired → noted' ≡ v.noted → position' ≡ v.position → given' ≡ v.given → out' ≡ v.out → draft' ≡ v.draft
+      → IsSeated seat_table' table key sizes me' number held' phase' retired' noted' position' given' out' draft'
+  seated_after seat_table' me' v held' phase' retired' noted' position' given' out' draft' same stepped carried size on num hand = seated_with seat_table' me' v held' phase' retired' noted' position' given' out' draft' same stepped.core stepped.known
+      (ap slots_out carried ∙ (is.carries ∙ ap stripes_in (sym hand))) size on num
+
+-- no slot is out where no stripe is in hand
+pub carries_none : {S : Type 0} (me : Known × List (ℕ × S)) → slots_out me.1 ≡ stripes_in me.0.core.hand → me.0.core.hand ≡ None → me.1 ≡ []
+carries_none {S} me is none = go me.1 (is ∙ ap stripes_in none)
+  where
+    go : (xs : List (ℕ × S)) → slots_out xs ≡ [] → xs ≡ []
+    go [] e = refl
+    go (x ∷ xs) e = absurd (cc)
+
+-- the map that is out is that of the stripe in hand
+pub carries_one : {S : Type 0} (me : Known × List (ℕ × S)) (h : Hand) → slots_out me.1 ≡ stripes_in me.0.core.hand → me.0.core.hand ≡ Some h → (m : S) × (me.1 ≡ (h.stripe, m) ∷ [])
+carries_one {S} me h is hand = go me.1 (is ∙ ap stripes_in hand)
+  where
+    go : (xs : List (ℕ × S)) → slots_out xs ≡ h.stripe ∷ [] → (m : S) × (xs ≡ (h.stripe, m) ∷ [])
+    go [] e = absurd (cc)
+    go (x ∷ []) e = let q : x.0 ≡ h.stripe = cc in (x.1, λ i. (q i, x.1) ∷ [])
+    go (x ∷ (y ∷ xs)) e = absurd (cc)
 
 -- as many names less, where each is there as often as it is taken away
 pub length-without_all : (xs ys : List ℕ) → ((y : ℕ) → times y xs ≤ times y ys) → length (without_each xs ys) + length xs ≡ length ys
@@ -89,7 +108,7 @@ length-without_all (x ∷ xs) ys fewer =
     less y some_x (no n) = let f = fewer y in omega (arith, times-without_other y x ys n, times-other y x xs n)
 
 -- the names of a word that may be stored, and how many are held after its swap
-slots_held : (names held : List ℕ) → AreHeld names held → (y : ℕ) → times y (slots_of names) ≤ times y held
+pub slots_held : (names held : List ℕ) → AreHeld names held → (y : ℕ) → times y (slots_of names) ≤ times y held
 slots_held names held are y = go (dec_le 2 y) (dec_le 1 (times y (slots_of names)))
   where
     go : Dec (2 ≤ y) → Dec (1 ≤ times y (slots_of names)) → times y (slots_of names) ≤ times y held

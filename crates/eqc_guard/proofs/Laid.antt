@@ -1,14 +1,14 @@
 -- A word in the row of all words, by its kind.
-use Rattle.std.proofs.Common.{◌≡◌, ℕ, zero, suc, ◌+◌, ◌<◌, List, [], ◌∷◌, ◌++◌, length, set, get_or, ap, ◌∙◌, arith}
+use Rattle.std.proofs.Common.{◌≡◌, ℕ, zero, suc, ◌+◌, ◌*◌, ◌<◌, List, [], ◌∷◌, ◌++◌, length, set, get_or, ap, ◌∙◌, arith}
 use Rattle.std.proofs.lemmas.List.{set-append_left, get_or_append_left}
 use Rattle.eqc_core.specs.declared.sizes.Sizes.{Sizes}
 use Rattle.eqc_core.specs.View.{View}
 use Rattle.eqc_core.specs.Words.{Words, announced_words}
 use Rattle.eqc_core.specs.Tables.{Homes}
 use Rattle.eqc_core.specs.Lawful.{IsSized}
-use Rattle.eqc_core.specs.Moves.{with_announced, with_count, with_cell}
+use Rattle.eqc_core.specs.Moves.{with_announced, with_count, with_node, with_cell, with_lock}
 use Rattle.eqc_guard.specs.Known.{flat}
-use Rattle.eqc_guard.specs.Rule.{cells_from}
+use Rattle.eqc_guard.specs.Rule.{nodes_from, cells_from, locks_from}
 
 -- a write and a read behind n others
 module _ {A : Type 0} where
@@ -43,6 +43,12 @@ behind_announced w = w.counts ++ (w.nodes ++ (w.cells ++ (w.boxes ++ w.locks)))
 place : (n k c : ℕ) → n + (k + k) + c ≡ n + (k + (k + c))
 place n k c = omega arith
 
+node_place : (n k c : ℕ) → n + k + c ≡ n + (k + c)
+node_place n k c = omega arith
+
+lock_place : (n k c b s : ℕ) → n + (k + k) + c + b + s ≡ n + (k + (k + (c + (b + s))))
+lock_place n k c b s = omega arith
+
 module _ (z : Sizes) (w : Words) (hs : Homes) (vs : List View) (sized : IsSized z w hs vs) where
   pub set_announced : (m y : ℕ) → m < announced_words z → set (flat w) m y ≡ flat (with_announced w m y)
   set_announced m y lt = set-append_left w.announced (behind_announced w) m y (let n = sized.announced in omega arith)
@@ -69,3 +75,33 @@ module _ (z : Sizes) (w : Words) (hs : Homes) (vs : List View) (sized : IsSized 
       ∙ (get_behind w.announced (behind_announced w) (announced_words z) (z.names + (z.names + c)) 0 sized.announced
       ∙ (get_behind w.counts (behind_counts w) z.names (z.names + c) 0 sized.counts
       ∙ (get_behind w.nodes (behind_nodes w) z.names c 0 sized.nodes ∙ get_or_append_left w.cells (behind_cells w) 0 c (let n = sized.cells in omega arith))))
+
+  pub set_node : (x y : ℕ) → x < z.names → set (flat w) (nodes_from z + x) y ≡ flat (with_node w x y)
+  set_node x y lt =
+      ap (λ (i : ℕ). set (flat w) i y) (node_place (announced_words z) z.names x)
+      ∙ (set_behind w.announced (behind_announced w) (announced_words z) (z.names + x) y sized.announced
+      ∙ ap (λ l. w.announced ++ l) (set_behind w.counts (behind_counts w) z.names x y sized.counts
+      ∙ ap (λ l. w.counts ++ l) (set-append_left w.nodes (behind_nodes w) x y (let n = sized.nodes in omega arith))))
+
+  pub get_node : (x : ℕ) → x < z.names → get_or (flat w) (nodes_from z + x) 0 ≡ get_or w.nodes x 0
+  get_node x lt =
+      ap (λ (i : ℕ). get_or (flat w) i 0) (node_place (announced_words z) z.names x)
+      ∙ (get_behind w.announced (behind_announced w) (announced_words z) (z.names + x) 0 sized.announced
+      ∙ (get_behind w.counts (behind_counts w) z.names x 0 sized.counts
+      ∙ get_or_append_left w.nodes (behind_nodes w) 0 x (let n = sized.nodes in omega arith)))
+
+  pub set_lock : (s y : ℕ) → set (flat w) (locks_from z + s) y ≡ flat (with_lock w s y)
+  set_lock s y =
+      ap (λ (i : ℕ). set (flat w) i y) (lock_place (announced_words z) z.names z.cells (16 * z.workers) s)
+      ∙ (set_behind w.announced (behind_announced w) (announced_words z) (z.names + (z.names + (z.cells + (16 * z.workers + s)))) y sized.announced
+      ∙ ap (λ l. w.announced ++ l) (set_behind w.counts (behind_counts w) z.names (z.names + (z.cells + (16 * z.workers + s))) y sized.counts
+      ∙ ap (λ l. w.counts ++ l) (set_behind w.nodes (behind_nodes w) z.names (z.cells + (16 * z.workers + s)) y sized.nodes
+      ∙ ap (λ l. w.nodes ++ l) (set_behind w.cells (behind_cells w) z.cells (16 * z.workers + s) y sized.cells ∙ ap (λ l. w.cells ++ l) (set_behind w.boxes w.locks (16 * z.workers) s y sized.boxes)))))
+
+  pub get_lock : (s : ℕ) → get_or (flat w) (locks_from z + s) 0 ≡ get_or w.locks s 0
+  get_lock s =
+      ap (λ (i : ℕ). get_or (flat w) i 0) (lock_place (announced_words z) z.names z.cells (16 * z.workers) s)
+      ∙ (get_behind w.announced (behind_announced w) (announced_words z) (z.names + (z.names + (z.cells + (16 * z.workers + s)))) 0 sized.announced
+      ∙ (get_behind w.counts (behind_counts w) z.names (z.names + (z.cells + (16 * z.workers + s))) 0 sized.counts
+      ∙ (get_behind w.nodes (behind_nodes w) z.names (z.cells + (16 * z.workers + s)) 0 sized.nodes
+      ∙ (get_behind w.cells (behind_cells w) z.cells (16 * z.workers + s) 0 sized.cells ∙ get_behind w.boxes w.locks (16 * z.workers) s 0 sized.boxes))))

@@ -12,13 +12,14 @@ use Rattle.eqc_core.specs.declared.phase.Phase.{Phase}
 use Rattle.eqc_core.specs.declared.phase.Phase.TheVariants.{Idle, Seen, Announced, Confirmed, Missed}
 use Rattle.eqc_core.specs.View.{View, Read}
 use Rattle.eqc_core.specs.Words.{Words, announced_words, times, children, first_of, second_of, result_of}
-use Rattle.eqc_core.specs.Tables.{Homes, IsName, tabled}
+use Rattle.eqc_core.specs.Tables.{Homes, IsName, IsTable, tabled}
 use Rattle.eqc_core.specs.Trees.{IsTree, IsRight, IsFilled}
 use Rattle.eqc_core.specs.Lawful.{IsNamed as IsPlaced, Lawful}
 use Rattle.eqc_core.specs.Facts.{AreTabled, HaveTrees}
 use Rattle.eqc_core.proofs.Names.{times-same, times-other, times-append, times-nil}
 use Rattle.eqc_core.proofs.Known.{are_tabled}
 use Rattle.eqc_core.proofs.Trees.{have_trees, is_tree_one}
+use Rattle.eqc_core.proofs.Claiming.{draft_is}
 use Rattle.eqc_guard.specs.Known.{Known, Knows, KeepsCopy, kept_tree, tree_in, tree_of, names_of, confirmed_name, confirmed_names, read_names, IsHeld, IsNamed, IsCopy, IsKnown}
 use Rattle.eqc_guard.specs.Telling.{IsResult, IsRightHere}
 use Rattle.eqc_guard.proofs.Numbers.{out_few, out_given}
@@ -164,6 +165,12 @@ is_known z w hs vs id k law at on knows copy = record {
   place = let f = law.views id k.core at on in subst (λ (y : Sizes). k.core.position < announced_words y) (sym f.sizes) f.place;
   noted = (law.views id k.core at on).noted;
   phases = λ j p e. let f = law.views id k.core at on in subst (λ (y : Sizes). IsPlaced y p) (sym f.sizes) (f.named j p e);
+  draft = λ d e. let g = draft_is z w hs vs id k.core law at on d e in (g.0, subst (λ (y : Sizes). d < y.names) (sym (law.views id k.core at on).sizes) g.1);
+  hand = (law.views id k.core at on).hand;
+  entries = λ h i e is there.
+      let mine : IsTable hs vs h.stripe h.entries = inr (id, k.core, h, at, is, refl, refl) in
+      let n = law.tables.named e.1 ((are_tabled z w hs vs law).entries h.stripe h.entries i e mine there) in
+      (n.0, subst (λ (y : Sizes). e.1 < y.names) (sym (law.views id k.core at on).sizes) n.1, (law.tables.entries h.stripe h.entries mine i e there).1);
   few = subst (λ (y : Sizes). length k.core.out < y.workers) (sym (law.views id k.core at on).sizes) (out_few z w hs vs id k.core law at on);
   given = λ e. subst (λ (y : Sizes). (length k.core.out < k.core.given) × (k.core.given ≤ y.workers)) (sym (law.views id k.core at on).sizes) (out_given z w hs vs id k.core law at on e);
   word = let f = law.views id k.core at on in let e = f.phases in let some_words = law.sized.some_announcements in omega arith;

@@ -4,6 +4,8 @@ pub mod Learning
 pub mod Stepping
 pub mod Moves
 pub mod Counts
+pub mod Making
+pub mod Locking
 pub mod Seats
 pub mod Stocking
 pub mod Beginning

@@ -69,7 +69,7 @@ no_result word two e = omega arith
 
 module _ {S : Type 0} (z : Sizes) (slots id i : ℕ) (me : Me (HashMap ℕ ℕ S) Known) (on : me.0.core.active ≡ true) where
   -- a step that moves no table and writes no node, from what it owes
-  plain : (f : ℕ → ℕ) (u : ℕ → View) (tells : ℕ → Known → Type 0) → ((n : ℕ) → (u n).active ≡ true)
+  pub plain : (f : ℕ → ℕ) (u : ℕ → View) (tells : ℕ → Known → Type 0) → ((n : ℕ) → (u n).active ≡ true)
       → ((w : Words) (hs : Homes) (vs : List View) → Lawful z w hs vs → get_elem? vs id ≡ some me.0.core → Knows w.nodes me.0 → get_or (flat w) i 0 < 2 ^ 64
       → (w' : Words) × (set (flat w) i (f (get_or (flat w) i 0)) ≡ flat w') × (w'.nodes ≡ w.nodes) × Lawful z w' hs (set vs id (u (get_or (flat w) i 0)))
       × ((k : Known) → k.core ≡ u (get_or (flat w) i 0) → Knows w.nodes k → tells (get_or (flat w) i 0) k))
@@ -90,14 +90,14 @@ module _ {S : Type 0} (z : Sizes) (slots id i : ℕ) (me : Me (HashMap ℕ ℕ S
       ))
 
   -- a load
-  load : (u : ℕ → View) (tells : ℕ → Known → Type 0) → ((n : ℕ) → (u n).active ≡ true)
+  pub load : (u : ℕ → View) (tells : ℕ → Known → Type 0) → ((n : ℕ) → (u n).active ≡ true)
       → ((w : Words) (hs : Homes) (vs : List View) → Lawful z w hs vs → get_elem? vs id ≡ some me.0.core → Knows w.nodes me.0
       → Lawful z w hs (set vs id (u (get_or (flat w) i 0))) × ((k : Known) → k.core ≡ u (get_or (flat w) i 0) → Knows w.nodes k → tells (get_or (flat w) i 0) k))
       → Allows (Held {S = S} z) slots id me i (λ n. n) (λ n after. Told me i n n (u n) after (tells n))
   load u tells live owes = plain (λ n. n) u tells live (λ w hs vs law at knows small. let o = owes w hs vs law at knows in (w, set-get_or (flat w) i 0, refl, o.0, o.1))
 
   -- a store, which does not tell what it found
-  store : (x : ℕ) (v : View) → v.active ≡ true
+  pub store : (x : ℕ) (v : View) → v.active ≡ true
       → ((w : Words) (hs : Homes) (vs : List View) → Lawful z w hs vs → get_elem? vs id ≡ some me.0.core → (w' : Words) × (set (flat w) i x ≡ flat w') × (w'.nodes ≡ w.nodes) × Lawful z w' hs (set vs id v))
       → Allows (Held {S = S} z) slots id me i (λ _. x) (λ _ after. Stored me i x v after)
   store x v live owes s h homes seat small =
@@ -106,14 +106,14 @@ module _ {S : Type 0} (z : Sizes) (slots id i : ℕ) (me : Me (HashMap ℕ ℕ S
       (r.0, r.1, r.2, r.3, (t.0, t.1, t.2.copy))
 
   module _ (w : Words) (hs : Homes) (vs : List View) (law : Lawful z w hs vs) (at : get_elem? vs id ≡ some me.0.core) where
-    fits : Fits z w vs id me.0.core
+    pub fits : Fits z w vs id me.0.core
     fits = law.views id me.0.core at on
 
-    size : me.0.core.sizes ≡ z
+    pub size : me.0.core.sizes ≡ z
     size = fits.sizes
 
     -- the count word that the worker steps on
-    count_here : (x : ℕ) → i ≡ announced_words me.0.core.sizes + x → x < me.0.core.sizes.names → (i ≡ announced_words z + x) × (x < z.names)
+    pub count_here : (x : ℕ) → i ≡ announced_words me.0.core.sizes + x → x < me.0.core.sizes.names → (i ≡ announced_words z + x) × (x < z.names)
     count_here x is lt = (is ∙ ap (λ (y : Sizes). announced_words y + x) size, subst (λ (y : Sizes). x < y.names) size lt)
 
     cell_here : (c : ℕ) → i ≡ cells_from me.0.core.sizes + c → c < me.0.core.sizes.cells → (i ≡ cells_from z + c) × (c < z.cells) × (get_or (flat w) i 0 ≡ get_or w.cells c 0)

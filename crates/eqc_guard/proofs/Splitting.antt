@@ -1,5 +1,5 @@
 -- What two workers know after a split, and that their fields fit.
-use Rattle.std.proofs.Common.{◌≡◌, ℕ, ◌+◌, ◌<◌, List, [], ◌∷◌, ◌++◌, length, max, suc, refl, sym, ap, subst, ◌∙◌, arith, inl, inr, length-append}
+use Rattle.std.proofs.Common.{◌≡◌, ℕ, ◌+◌, ◌<◌, List, [], ◌∷◌, ◌++◌, length, max, suc, Option, None, refl, sym, ap, subst, ◌∙◌, arith, inl, inr, length-append}
 use mathlib.Core.Option.{some}
 use lib.ListN.{get_elem?}
 use Rattle.atomic_table.specs.Seated.{TableId}
@@ -40,6 +40,9 @@ split_left_known k known has = record {
   word = known.word;
   retired = known.retired;
   read = known.read;
+  draft = known.draft;
+  hand = known.hand;
+  entries = known.entries;
   few = let g = known.given has.0 in let h = has.1 in omega (arith, length-append k.core.out (k.core.given ∷ []));
   given = λ e. let g = known.given has.0 in let h = has.1 in (omega (arith, length-append k.core.out (k.core.given ∷ []), more k.core.given), omega (arith, more k.core.given));
 }
@@ -64,6 +67,9 @@ split_off_known z k limits same known has =
       word = subst (λ (y : Sizes). 0 < length (idle y.announcements)) (sym same) all.word;
       retired = omega arith;
       read = λ r e. absurd (cc);
+      draft = λ d e. absurd (cc);
+      hand = λ h e. absurd (cc);
+      entries = λ h i e is there. absurd (cc);
       few = has_some;
       given = λ e. absurd (let g = known.given has.0 in omega arith);
     }
@@ -71,9 +77,9 @@ split_off_known z k limits same known has =
     has_some : 0 < k.core.sizes.workers
     has_some = subst (λ (y : Sizes). 0 < y.workers) (sym same) limits.some_workers
 
-module _ {T : Type 0} (seat_table table : TableId) (key sizes : Sizes) (me : Known × List T) (number held : ℕ) (phase : Phase) (retired noted : List ℕ) (position given : ℕ) (out : List ℕ)
-    (is : IsSeated seat_table table key sizes me number held phase retired noted position given out) (has : HasNumber me.0.core) where
-  pub left_seated : IsSeated seat_table table key sizes (split_left me.0, me.1) number held phase retired noted position (given + 1) (out ++ given ∷ [])
+module _ {S : Type 0} (seat_table table : TableId) (key sizes : Sizes) (me : Known × List (ℕ × S)) (number held : ℕ) (phase : Phase) (retired noted : List ℕ) (position given : ℕ) (out : List ℕ) (draft : Option ℕ)
+    (is : IsSeated seat_table table key sizes me number held phase retired noted position given out draft) (has : HasNumber me.0.core) where
+  pub left_seated : IsSeated seat_table table key sizes (split_left me.0, me.1) number held phase retired noted position (given + 1) (out ++ given ∷ []) draft
   left_seated =
       let old = is.worker in
       record {
@@ -89,7 +95,7 @@ module _ {T : Type 0} (seat_table table : TableId) (key sizes : Sizes) (me : Kno
           number = old.number;
           known = split_left_known me.0 old.known has;
         };
-        carries_none = is.carries_none;
+        carries = is.carries;
         number_is = is.number_is;
         held_is = is.held_is;
         phases_are = is.phases_are;
@@ -98,9 +104,10 @@ module _ {T : Type 0} (seat_table table : TableId) (key sizes : Sizes) (me : Kno
         position_is = is.position_is;
         given_is = omega (arith, is.given_is, more me.0.core.given);
         out_is = λ i. is.out_is i ++ is.given_is i ∷ [];
+        draft_is = is.draft_is;
       }
 
-  pub off_seated : (other : TableId) (key' : Sizes) → other ≡ seat_table → key' ≡ key → IsSeated {T = T} other other key' sizes (split_off me.0, []) given 0 Idle [] [] 0 0 []
+  pub off_seated : (other : TableId) (key' : Sizes) → other ≡ seat_table → key' ≡ key → IsSeated {S = S} other other key' sizes (split_off me.0, []) given 0 Idle [] [] 0 0 [] None
   off_seated other key' same same_key =
       let old = is.worker in
       record {
@@ -116,7 +123,7 @@ module _ {T : Type 0} (seat_table table : TableId) (key sizes : Sizes) (me : Kno
           number = let h = has.1 in let e = ap (λ (y : Sizes). y.workers) old.sizes in omega arith;
           known = split_off_known sizes me.0 old.limits old.sizes old.known has;
         };
-        carries_none = refl;
+        carries = refl;
         number_is = is.given_is;
         held_is = refl;
         phases_are = ap idle (ap (λ (y : Sizes). y.announcements) old.sizes ∙ old.one_word);
@@ -125,4 +132,5 @@ module _ {T : Type 0} (seat_table table : TableId) (key sizes : Sizes) (me : Kno
         position_is = refl;
         given_is = refl;
         out_is = refl;
+        draft_is = refl;
       }

@@ -22,7 +22,7 @@ use Rattle.eqc_guard.specs.Telling.{Copied, Copies, Told, Nothing, Settles, copi
 use Rattle.eqc_guard.specs.Rule.{Held, CopyHolds, homes_of, cores}
 use Rattle.eqc_guard.proofs.Learning.{learn, named_tabled, is_known}
 
-back_map : {A B : Type 0} (f : A → B) (l : List A) (j : ℕ) (u : B) → get_elem? (map f l) j ≡ some u → (a : A) × (get_elem? l j ≡ some a) × (f a ≡ u)
+pub back_map : {A B : Type 0} (f : A → B) (l : List A) (j : ℕ) (u : B) → get_elem? (map f l) j ≡ some u → (a : A) × (get_elem? l j ≡ some a) × (f a ≡ u)
 back_map f [] j u e = absurd (some-ne-none u (sym e))
 back_map f (x ∷ xs) zero u e = (x, refl, some-injective (f x) u e)
 back_map f (x ∷ xs) (suc j) u e = back_map f xs j u e

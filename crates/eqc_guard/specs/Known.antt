@@ -8,8 +8,8 @@ use Rattle.eqc_tree.specs.Tree.{Tree, False, True, IsCanonical}
 use Rattle.eqc_tree.specs.CodedTree.{coded_tree}
 use Rattle.eqc_core.specs.declared.phase.Phase.{Phase}
 use Rattle.eqc_core.specs.declared.phase.Phase.TheVariants.{Idle, Seen, Announced, Confirmed, Missed}
-use Rattle.eqc_core.specs.View.{View, Read, spent}
-use Rattle.eqc_core.specs.Words.{Words, announced_words, times, children}
+use Rattle.eqc_core.specs.View.{View, Hand, Read, spent}
+use Rattle.eqc_core.specs.Words.{Words, announced_words, times, children, stripe_of}
 use Rattle.eqc_core.specs.Tables.{Homes}
 use Rattle.eqc_core.specs.Trees.{IsTree}
 use Rattle.eqc_core.specs.Lawful.{IsNamed as IsPlaced, Lawful}
@@ -109,6 +109,11 @@ pub record IsKnown (k : Known) : Type 0 where
   pub retired : length k.core.retired ≤ 2 * announced_words k.core.sizes
   -- the node last read is held
   pub read : (r : Read) → k.core.read ≡ Some r → 0 < times r.name k.core.held
+  -- a draft is a slot that is there
+  pub draft : (d : ℕ) → k.core.draft ≡ Some d → (2 ≤ d) × (d < k.core.sizes.names)
+  -- a stripe in hand is one of the sixteen, and its table has words of the stripe and slots that are there
+  pub hand : (h : Hand) → k.core.hand ≡ Some h → h.stripe < 16
+  pub entries : (h : Hand) (i : ℕ) (e : ℕ × ℕ) → k.core.hand ≡ Some h → get_elem? h.entries i ≡ some e → (2 ≤ e.1) × (e.1 < k.core.sizes.names) × (stripe_of e.0 ≡ h.stripe)
   -- fewer numbers are out than there are workers, and of those that worker 0 has given
   pub few : length k.core.out < k.core.sizes.workers
   pub given : k.core.number ≡ 0 → (length k.core.out < k.core.given) × (k.core.given ≤ k.core.sizes.workers)

@@ -10,3 +10,5 @@ pub mod Filling
 pub mod Acquiring
 pub mod Sweeping
 pub mod Closing
+pub mod Making
+pub mod Locking

@@ -35,6 +35,9 @@ cells_from z = announced_words z + (z.names + z.names)
 abbrev pub boxes_from : Sizes → ℕ
 boxes_from z = cells_from z + z.cells
 
+abbrev pub locks_from : Sizes → ℕ
+locks_from z = boxes_from z + 16 * z.workers
+
 abbrev pub all_words : Sizes → ℕ
 all_words z = boxes_from z + (16 * z.workers + 16)
 

@@ -1,10 +1,10 @@
 -- A worker as contracts see it: which forest it is of, and what it knows.
-use Rattle.std.specs.Prelude.{◌≡◌, ℕ, List, [], ◌∷◌, length}
+use Rattle.std.specs.Prelude.{◌≡◌, ℕ, List, [], ◌∷◌, length, map, Option, Some, None}
 use base.Stored.{Coded, coded×, coded_via}
 use Rattle.atomic_table.specs.Seated.{TableId, table_id_coded}
 use Rattle.eqc_core.specs.declared.sizes.Sizes.{Sizes}
 use Rattle.eqc_core.specs.declared.phase.Phase.{Phase}
-use Rattle.eqc_core.specs.View.{View}
+use Rattle.eqc_core.specs.View.{View, Hand}
 use Rattle.eqc_guard.specs.Known.{Known, known_coded, Stepped}
 use Rattle.eqc_guard.specs.Rule.{IsWorker}
 
@@ -20,12 +20,21 @@ pub record Steps (old : Standing) (v : View) (new : Standing) : Type 0 where
   pub forest : new.forest ≡ old.forest
   pub known : Stepped old.known v new.known
 
--- what a worker's fields have to do with its seat
-pub record IsSeated {T : Type 0} (seat_table table : TableId) (key sizes : Sizes) (me : Known × List T) (number held : ℕ) (phase : Phase) (retired noted : List ℕ) (position given : ℕ) (out : List ℕ) : Type 0 where
+-- the stripe in hand, if there is one
+abbrev pub stripes_in : Option Hand → List ℕ
+stripes_in None = []
+stripes_in (Some h) = h.stripe ∷ []
+
+-- the slots that are out with a seat
+abbrev pub slots_out : {S : Type 0} → List (ℕ × S) → List ℕ
+slots_out {S} xs = map (λ (x : ℕ × S). x.0) xs
+
+-- what a worker's fields have to do with its seat: the slot of a stripe in hand is out with it
+pub record IsSeated {S : Type 0} (seat_table table : TableId) (key sizes : Sizes) (me : Known × List (ℕ × S)) (number held : ℕ) (phase : Phase) (retired noted : List ℕ) (position given : ℕ) (out : List ℕ) (draft : Option ℕ) : Type 0 where
   pub one_table : seat_table ≡ table
   pub one_key : key ≡ sizes
   pub worker : IsWorker table sizes me
-  pub carries_none : me.1 ≡ []
+  pub carries : slots_out me.1 ≡ stripes_in me.0.core.hand
   pub number_is : number ≡ me.0.core.number
   pub held_is : held ≡ length me.0.core.held
   pub phases_are : me.0.core.phases ≡ phase ∷ []
@@ -34,3 +43,4 @@ pub record IsSeated {T : Type 0} (seat_table table : TableId) (key sizes : Sizes
   pub position_is : position ≡ me.0.core.position
   pub given_is : given ≡ me.0.core.given
   pub out_is : out ≡ me.0.core.out
+  pub draft_is : draft ≡ me.0.core.draft

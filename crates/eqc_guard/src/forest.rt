@@ -37,7 +37,7 @@ fn plant(alloc: Global, origin: Origin) -> Result<Worker, AllocError>
     };
     let table = Arc::new(alloc, table)?;
     let held = u64::from(origin.literals);
-    Ok(Worker::seated(table, seat, origin.sizes, 0, held, 1))
+    Ok(Worker::seated(alloc, table, seat, origin.sizes, 0, held, 1))
 }
 
 // The sizes of a forest, in which each worker has one announcement word.

@@ -14,12 +14,14 @@
 //!   `specs/Splitting.antt`, `specs/Acquiring.antt`, `specs/Filling.antt`, `specs/Sweeping.antt` and
 //!   `specs/Closing.antt` have the words of its contracts. `names` has the lists of names of fixed
 //!   size that it keeps
+//! - in `worker`: `nodes`, with `specs/Making.antt`, the steps on slots and nodes; `stripes`, with
+//!   `specs/Locking.antt`, the locks of the unique table, whose maps alone leave their slots
 //! - `forest`, a new table with its worker 0; `origin`, how it begins, and `stock`, its first words
 //!   and tables; `reference`, `filled`, `fault` and `tally`, what calls take and give
 //!
 //! In `proofs`: `Stepping` has the one combinator, by which a step owes its new words, its lawful
-//! state and what it tells (`allows`); trees and copies follow there. `Moves` has what each step
-//! owes. `Learning` gives `IsKnown` from a lawful state, and `Seats` that splits and joins keep the
+//! state and what it tells (`allows`); trees and copies follow there. `Moves`, `Making` and `Locking`
+//! have what each step owes. `Learning` gives `IsKnown` from a lawful state, and `Seats` that splits and joins keep the
 //! rule. After a join a load that leaves the view (`settle_allows`) says again what is known.
 #![tactic(auto)]
 

@@ -30,6 +30,23 @@ pub(crate) fn held_after(held: u64, new: u64, old: u64) -> u64
     held - given + taken
 }
 
+// How many names a worker holds that held so many, and gave the children of a node to it.
+pub(crate) fn held_with_node(held: u64, low: u32, high: u32) -> u64
+    requires enough { length (slots_of (low ∷ high ∷ [])) ≤ held }
+    requires room { held ≤ 2 ^ 40 }
+    ensures { result + length (slots_of (low ∷ high ∷ [])) ≡ held + 1 }
+{
+    held - (slots_in(low) + slots_in(high)) + 1
+}
+
+// How many names a worker holds that held so many, and has the children of a node from it.
+pub(crate) fn held_with_children(held: u64, low: u32, high: u32) -> u64
+    requires { held ≤ 2 ^ 40 }
+    ensures { result ≡ held + length (slots_of (low ∷ high ∷ [])) }
+{
+    held + slots_in(low) + slots_in(high)
+}
+
 // Keeps the result of a cell's old word for later.
 #[tactic(auto, unfolding(eqc_core::specs::Words::result_of))]
 pub(crate) fn retire(retired: &mut ArrayVec<u32, 128>, old: u64)

@@ -6,10 +6,13 @@ ghost use Rattle.eqc_core.specs.Announcing.{looked, announced, rechecked};
 ghost use Rattle.eqc_core.specs.Counting.{upped, downed};
 ghost use Rattle.eqc_core.specs.Caching.{swapped};
 ghost use Rattle.eqc_core.specs.Scanning.{scanned};
+ghost use Rattle.eqc_core.specs.Making.{unclaimed, read_node};
 ghost use Rattle.eqc_guard.specs.Known.{Known, nobody};
 ghost use Rattle.eqc_guard.specs.Seats.{split_left, split_off, both};
 ghost use Rattle.eqc_guard.specs.Telling.{Copied, Told, Stored, Nothing, Looks, Rechecks, Settles};
-ghost use Rattle.eqc_guard.specs.Rule.{Held, beginner, cells_from};
+ghost use Rattle.eqc_guard.specs.Making.{Claims, Writes, Reads, Reclaims};
+ghost use Rattle.eqc_guard.specs.Locking.{Locks, Unlocks};
+ghost use Rattle.eqc_guard.specs.Rule.{Held, beginner, nodes_from, cells_from, locks_from};
 
 use crate::origin::Origin;
 use crate::view::View;
@@ -114,4 +117,53 @@ pub struct ScanOne;
 
 impl Play<Stripe, View> for ScanOne {
     ghost then = { λ s me n after. Told me s.word n n (scanned me.0.core n) after (Nothing n) };
+}
+
+/// A slot was tried to be claimed.
+pub struct Claim;
+
+impl Play<Stripe, View> for Claim {
+    ghost then = { λ s me n after. Claims me s.word (s.word - announced_words me.0.core.sizes) n after };
+}
+
+/// A draft was given up.
+pub struct Unclaim;
+
+impl Play<Stripe, View> for Unclaim {
+    ghost then = { λ s me n after. Stored me s.word s.first (unclaimed me.0.core) after };
+}
+
+/// A node was written.
+pub struct WriteNode;
+
+impl Play<Stripe, View> for WriteNode {
+    ghost then = { λ s me n after. Writes me s.word s.first after };
+}
+
+/// A node was read.
+pub struct ReadNode;
+
+impl Play<Stripe, View> for ReadNode {
+    ghost then = { λ s me n after. Told me s.word n n (read_node me.0.core (s.word - nodes_from me.0.core.sizes) n) after (Reads me.0 (s.word - nodes_from me.0.core.sizes) n) };
+}
+
+/// A node was tried to be taken back.
+pub struct Reclaim;
+
+impl Play<Stripe, View> for Reclaim {
+    ghost then = { λ s me n after. Reclaims me s.word (s.word - announced_words me.0.core.sizes) n after };
+}
+
+/// A stripe was tried to be locked.
+pub struct Lock;
+
+impl Play<Stripe, View> for Lock {
+    ghost then = { λ s me n after. Locks me s.word (s.word - locks_from me.0.core.sizes) n after };
+}
+
+/// A stripe was unlocked.
+pub struct Unlock;
+
+impl Play<Stripe, View> for Unlock {
+    ghost then = { λ s me n after. Unlocks me s.word s.first after };
 }

@@ -3,6 +3,9 @@ ghost use Rattle.std.specs.Prelude.{◌≡◌, ◌+◌, ◌<◌};
 ghost use Rattle.std.specs.Arc.{arc_value};
 ghost use Rattle.eqc_guard.specs.Standing.{Standing, standing_coded, IsSeated};
 
+mod nodes;
+mod stripes;
+
 use crate::fault::SplitFault;
 use crate::filled::{self, Filled};
 use crate::names;
@@ -40,6 +43,10 @@ pub struct Worker {
     given: u32,
     // The numbers that are out, at worker 0, and those taken in, at any other.
     out: ArrayVec<u64, 64>,
+    // A slot that was claimed and has no node yet.
+    draft: Option<u32>,
+    // What an empty map is made with. It takes no memory.
+    alloc: Global,
 }
 
 impl Model for Worker {
@@ -49,7 +56,7 @@ impl Model for Worker {
 
     ghost view = { λ w. record { forest = w.seat.table_id; known = w.seat.me.0 } };
 
-    ghost invariant = { λ w. IsSeated w.seat.table_id (arc_value w.table).shared.table_id (arc_value w.table).shared.key.sizes w.sizes w.seat.me w.number w.held w.phase w.retired.items w.noted.items w.position w.given w.out.items };
+    ghost invariant = { λ w. IsSeated w.seat.table_id (arc_value w.table).shared.table_id (arc_value w.table).shared.key.sizes w.sizes w.seat.me w.number w.held w.phase w.retired.items w.noted.items w.position w.given w.out.items w.draft };
 }
 
 impl Worker {
@@ -77,6 +84,7 @@ impl Worker {
 
     // A worker at rest that holds so many names, on a seat of the table.
     pub(crate) fn seated(
+        alloc: Global,
         table: Arc<Table<Stripe, View, Origin, Rule, Global>>,
         seat: Seat<Stripe, View>,
         sizes: Sizes,
@@ -84,7 +92,7 @@ impl Worker {
         held: u64,
         given: u32,
     ) -> Worker
-        requires { IsSeated seat.table_id (arc_value table).shared.table_id (arc_value table).shared.key.sizes sizes seat.me number held Phase.Idle [] [] 0 given [] }
+        requires { IsSeated seat.table_id (arc_value table).shared.table_id (arc_value table).shared.key.sizes sizes seat.me number held Phase.Idle [] [] 0 given [] None }
         ensures forest { result.forest ≡ seat.table_id }
         ensures known { result.known ≡ seat.me.0 }
     {
@@ -100,6 +108,8 @@ impl Worker {
             position: 0,
             given,
             out: ArrayVec::new(),
+            draft: None,
+            alloc,
         }
     }
 
@@ -320,7 +330,7 @@ impl Worker {
         let seat = self.table.shared.split_seat::<SplitOff>(&mut self.seat);
         self.given += 1;
         self.out.push(u64::from(number));
-        Worker::seated(table, seat, self.sizes, number, 0, 0)
+        Worker::seated(self.alloc, table, seat, self.sizes, number, 0, 0)
     }
 
     /// Splits off a worker of the same forest, which holds nothing: it has the next number.
@@ -361,6 +371,8 @@ impl Worker {
             position: _,
             given: _,
             out,
+            draft: _,
+            alloc: _,
         } = other;
         self.table.shared.join_seat::<JoinUp>(&mut self.seat, seat);
         self.table.shared.load::<Settle>(&mut self.seat, 0);

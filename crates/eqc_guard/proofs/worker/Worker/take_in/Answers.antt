@@ -6,6 +6,7 @@ use Rattle.eqc_guard.specs.Splitting.{IsJoined}
 use Rattle.eqc_guard.specs.Standing.{Standing}
 use Rattle.eqc_guard.specs.Telling.{Settles}
 use Rattle.eqc_guard.proofs.Joining.{my_trees, their_trees}
+use Rattle.eqc_guard.proofs.Counts.{carries_none}
 use Rattle.eqc_guard.proofs.Seats.{joins_allowed}
 use Rattle.eqc_guard.proofs.Stepping.{settle_allows}
 use Rattle.eqc_guard.proofs.worker.Worker.take_in.Goals as goal
@@ -21,7 +22,7 @@ join_seat-requires c =
     subst (λ (s : Standing). length w.seat.me.0.core.held + length s.known.core.held ≤ 2 ^ 39) (sym c.other.view_is) (subst (λ (s : Standing). length s.known.core.held + length c.args.other.known.core.held ≤ 2 ^ 39) (sym c.self.view_is) c.requires.room) in (
       rw c.deref.ensures is.one_table,
       rw c.deref.ensures (same ∙ is.one_table),
-      c.other.invariant.carries_none,
+      carries_none o.seat.me c.other.invariant.carries may.3.no_hand,
       rw (c.deref.ensures, is.worker.words) (omega arith),
       joins_allowed c.deref.result.now.shared.key.sizes w.seat.id o.seat.id w.seat.me.0 o.seat.me.0 is.worker.active may (omega (arith, length-append w.seat.me.0.core.held o.seat.me.0.core.held)),
     )
