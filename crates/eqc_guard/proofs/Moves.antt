@@ -11,7 +11,7 @@ use Rattle.eqc_core.specs.declared.sizes.Sizes.{Sizes}
 use Rattle.eqc_core.specs.declared.phase.Phase.{Phase}
 use Rattle.eqc_core.specs.declared.phase.Phase.TheVariants.{Idle, Seen, Announced, Confirmed, Missed}
 use Rattle.eqc_core.specs.View.{View, phase_at}
-use Rattle.eqc_core.specs.Words.{Words, announced_words, word_at, times, cell_names, operands, slots_of, first_of, second_of, result_of}
+use Rattle.eqc_core.specs.Words.{Words, announced_words, word_at, times, cell_names, operands, slots_of, variable_of, low_of, high_of, first_of, second_of, result_of}
 use Rattle.eqc_core.specs.Tables.{Homes}
 use Rattle.eqc_core.specs.Trees.{IsFilled, IsRight, IsTree}
 use Rattle.eqc_core.specs.Lawful.{IsNamed, Fits, Lawful}
@@ -22,7 +22,8 @@ use Rattle.eqc_core.specs.Counting.{MayUp, upped, MayDown, downed}
 use Rattle.eqc_core.specs.Caching.{swapped}
 use Rattle.eqc_core.specs.Scanning.{MayScan, scan_on, scan_end, scanned}
 use Rattle.eqc_core.proofs.Lists.{at_below, get_at, set_here}
-use Rattle.eqc_core.proofs.Names.{names_first, names_second, names_result, length-without_each, length-slots_of}
+use Rattle.eqc_core.proofs.Names.{times-append, times-same, names_first, names_second, names_result, length-without_each, length-slots_of}
+use Rattle.eqc_core.proofs.Trees.{is_tree_one}
 use Rattle.eqc_core.proofs.Places.{below}
 use Rattle.eqc_core.proofs.Known.{are_tabled, held_counted}
 use Rattle.eqc_core.proofs.Bounds.{scans_keep_names}
@@ -33,9 +34,10 @@ use Rattle.eqc_core.proofs.Caching.{swap_keeps}
 use Rattle.eqc_core.proofs.Scanning.{scan_keeps}
 use Rattle.eqc_guard.specs.Known.{flat, Known, Knows, IsHeld, tree_of}
 use Rattle.eqc_guard.specs.Telling.{Told, Stored, Nothing, IsResult, IsRightHere, Looks, Rechecks, Shown, MayFill}
+use Rattle.eqc_guard.specs.Making.{node_tree, IsEntry, Ups}
 use Rattle.eqc_guard.specs.Rule.{Held, homes_of, cells_from}
 use Rattle.eqc_guard.proofs.Laid.{set_announced, get_announced, set_count, get_count, set_cell, get_cell}
-use Rattle.eqc_guard.proofs.Learning.{confirmed_named, held_tree, known_right, filled_result}
+use Rattle.eqc_guard.proofs.Learning.{confirmed_named, held_named, held_tree, known_right, filled_result}
 use Rattle.eqc_guard.proofs.Stepping.{allows}
 
 -- one count less, as the word has it
@@ -143,6 +145,18 @@ module _ {S : Type 0} (z : Sizes) (slots id i : ℕ) (me : Me (HashMap ℕ ℕ S
       constant = λ small. filled_result w.nodes me.0 (get_or w.cells c 0) (tree_of me.0 (result_of (get_or w.cells c 0))) knows (cell_right c lt nz) (held_tree w.nodes me.0 (result_of (get_or w.cells c 0)) knows (inl small));
     }
 
+    -- the slot of an entry in hand that is counted up has the tree of its word
+    entry_tree : Knows w.nodes me.0 → (x word : ℕ) → 2 ≤ x → IsEntry me.0.core word x → IsHeld me.0.core (low_of word) → IsHeld me.0.core (high_of word) → (k : Known) → k.core ≡ upped me.0.core x → Knows w.nodes k → tree_of k x ≡ node_tree me.0 word
+    entry_tree knows x word two entry low high k e known =
+        let g = law.tables.entries entry.0.stripe entry.0.entries (inr (id, me.0.core, entry.0, at, entry.2, refl, refl)) entry.1 (word, x) entry.3 in
+        let held : 0 < times x k.core.held = subst (λ (v : View). 0 < times x v.held) (sym e) (omega (arith, times-append x me.0.core.held (x ∷ []), times-same x x [] refl)) in
+        is_tree_one w.nodes (tree_of k x) (node_tree me.0 word) x (known x two (held_named k.core x held)) (
+          two,
+          ap variable_of g.0,
+          subst (λ (n : ℕ). IsTree w.nodes (tree_of me.0 (low_of word)) (low_of n)) (sym g.0) (held_tree w.nodes me.0 (low_of word) knows low),
+          subst (λ (n : ℕ). IsTree w.nodes (tree_of me.0 (high_of word)) (high_of n)) (sym g.0) (held_tree w.nodes me.0 (high_of word) knows high),
+        )
+
     scan_room : length me.0.core.held ≤ 2 ^ 39 → (name : ℕ) → length (scanned me.0.core name).held ≤ 2 ^ 40
     scan_room room name = let k = (scans_keep_names me.0.core name).lengths in let few = fits.few in let most = law.sized.few_announced in omega arith
 
@@ -150,8 +164,8 @@ module _ {S : Type 0} (z : Sizes) (slots id i : ℕ) (me : Me (HashMap ℕ ℕ S
     swap_room room old word = omega (arith, length-append (without_each (slots_of (cell_names word)) me.0.core.held) (slots_of (operands old)), length-without_each (slots_of (cell_names word)) me.0.core.held, length-slots_of (operands old))
 
   pub up_allows : (x : ℕ) → i ≡ announced_words me.0.core.sizes + x → MayUp me.0.core x
-      → Allows (Held {S = S} z) slots id me i (λ n. (n + 1) % 2 ^ 64) (λ n after. Told me i n ((n + 1) % 2 ^ 64) (upped me.0.core (i - announced_words me.0.core.sizes)) after (Nothing n))
-  up_allows x is may = plain (λ n. (n + 1) % 2 ^ 64) (λ n. upped me.0.core (i - announced_words me.0.core.sizes)) Nothing (λ n. on) (λ w hs vs law at knows small.
+      → Allows (Held {S = S} z) slots id me i (λ n. (n + 1) % 2 ^ 64) (λ n after. Told me i n ((n + 1) % 2 ^ 64) (upped me.0.core (i - announced_words me.0.core.sizes)) after (Ups me.0 (i - announced_words me.0.core.sizes)))
+  up_allows x is may = plain (λ n. (n + 1) % 2 ^ 64) (λ n. upped me.0.core (i - announced_words me.0.core.sizes)) (λ n. Ups me.0 (i - announced_words me.0.core.sizes)) (λ n. on) (λ w hs vs law at knows small.
       let h = count_here w hs vs law at x is may.2 in
       let back : x ≡ i - announced_words me.0.core.sizes = omega arith in
       let found : get_or (flat w) i 0 ≡ get_or w.counts x 0 = ap (λ (k : ℕ). get_or (flat w) k 0) h.0 ∙ get_count z w hs vs law.sized x h.1 in
@@ -161,7 +175,7 @@ module _ {S : Type 0} (z : Sizes) (slots id i : ℕ) (me : Me (HashMap ℕ ℕ S
         ap (λ (n : ℕ). set (flat w) i n) next ∙ (ap (λ (k : ℕ). set (flat w) k (get_or w.counts x 0 + 1)) h.0 ∙ set_count z w hs vs law.sized x (get_or w.counts x 0 + 1) h.1),
         refl,
         subst (λ (k : ℕ). Lawful z (with_count w x (get_or w.counts x 0 + 1)) hs (set vs id (upped me.0.core k))) back (up_keeps z w hs vs id me.0.core law at on x may room),
-        λ k e known. tt,
+        λ k e known word entry low high. entry_tree w hs vs law at knows (i - announced_words me.0.core.sizes) word (let two = may.1 in omega arith) entry low high k e known,
       ))
 
   pub down_allows : (x : ℕ) → i ≡ announced_words me.0.core.sizes + x → MayDown me.0.core x

@@ -9,7 +9,7 @@ use Rattle.eqc_core.specs.Words.{variable_of, low_of, high_of}
 use Rattle.eqc_core.specs.Stripes.{HasRoom}
 use Rattle.eqc_core.specs.Moves.{IsReady, AreHeld}
 use Rattle.eqc_core.specs.Making.{claimed, found_taken, wrote, reclaimed}
-use Rattle.eqc_guard.specs.Known.{Known, Stepped, tree_of}
+use Rattle.eqc_guard.specs.Known.{Known, Stepped, IsHeld, tree_of}
 use Rattle.eqc_guard.specs.Telling.{Told, Nothing, copied}
 
 -- a try to claim the slot x, that found its count n: it is won where that is 0
@@ -51,6 +51,10 @@ pub record Reads (me : Known) (x n : ℕ) (k : Known) : Type 0 where
 -- the word with the slot is an entry of the table in hand
 abbrev pub IsEntry : View → ℕ → ℕ → Type 0
 IsEntry v word x = (h : Hand) × (i : ℕ) × (v.hand ≡ Some h) × (get_elem? h.entries i ≡ some (word, x))
+
+-- what one count more of an entry's slot tells: the tree of its node, where the worker holds the children
+abbrev pub Ups : Known → ℕ → Known → Type 0
+Ups me x k = (word : ℕ) → IsEntry me.core word x → IsHeld me.core (low_of word) → IsHeld me.core (high_of word) → tree_of k x ≡ node_tree me word
 
 -- the slot is in no table any longer, and the children in its word are held
 abbrev pub taken_back : View → ℕ → ℕ → View

@@ -10,7 +10,7 @@ ghost use Rattle.eqc_core.specs.Making.{unclaimed, read_node};
 ghost use Rattle.eqc_guard.specs.Known.{Known, nobody};
 ghost use Rattle.eqc_guard.specs.Seats.{split_left, split_off, both};
 ghost use Rattle.eqc_guard.specs.Telling.{Copied, Told, Stored, Nothing, Looks, Rechecks, Settles};
-ghost use Rattle.eqc_guard.specs.Making.{Claims, Writes, Reads, Reclaims};
+ghost use Rattle.eqc_guard.specs.Making.{Claims, Writes, Reads, Reclaims, Ups};
 ghost use Rattle.eqc_guard.specs.Locking.{Locks, Unlocks};
 ghost use Rattle.eqc_guard.specs.Rule.{Held, beginner, nodes_from, cells_from, locks_from};
 
@@ -56,7 +56,7 @@ impl Play<Stripe, View> for Recheck {
 pub struct Up;
 
 impl Play<Stripe, View> for Up {
-    ghost then = { λ s me n after. Told me s.word n ((n + 1) % 2 ^ 64) (upped me.0.core (s.word - announced_words me.0.core.sizes)) after (Nothing n) };
+    ghost then = { λ s me n after. Told me s.word n ((n + 1) % 2 ^ 64) (upped me.0.core (s.word - announced_words me.0.core.sizes)) after (Ups me.0 (s.word - announced_words me.0.core.sizes)) };
 }
 
 /// A name was counted down.

@@ -81,6 +81,7 @@ impl Worker {
     ghost use Rattle.eqc_guard.specs.Filling.{MaySwap, word_of};
     ghost use Rattle.eqc_guard.specs.Sweeping.{IsSwept, IsScanned};
     ghost use Rattle.eqc_guard.specs.Telling.{Copies, copied, HasFound, Looks, Rechecks, MayFill};
+    ghost use Rattle.eqc_guard.specs.Making.{Ups};
 
     // A worker at rest that holds so many names, on a seat of the table.
     pub(crate) fn seated(
@@ -172,6 +173,7 @@ impl Worker {
     fn count_up(&mut self, x: u32)
         requires { MayUp self.old.known.core x }
         ensures step { Steps self.old (upped self.old.known.core x) self.new }
+        ensures tells { Ups self.old.known x self.new.known }
         ensures copies { (n : ℕ) × Copies self.old.known (announced_words self.old.known.core.sizes + x) n ((n + 1) % 2 ^ 64) self.new.known }
     {
         let word = self.count_word(x);
@@ -187,6 +189,7 @@ impl Worker {
         requires known { Knows self.old.known.core x }
         ensures name { IfOk result (λ r. r.number ≡ x) }
         ensures step { OnOk result (Steps self.old (upped self.old.known.core x) self.new) }
+        ensures tells { OnOk result (Ups self.old.known x self.new.known) }
         ensures copies { OnOk result ((n : ℕ) × Copies self.old.known (announced_words self.old.known.core.sizes + x) n ((n + 1) % 2 ^ 64) self.new.known) }
         ensures room { OnOk result (length self.old.known.core.held < 2 ^ 32 - 1) }
         ensures still { OnErr result (self.new ≡ self.old) }
