@@ -352,3 +352,10 @@ drafted_length k variable low high n n' known may is next =
     let l = length-without_all (slots_of (low ∷ high ∷ [])) k.core.held (slots_held (low ∷ high ∷ []) k.core.held may.held) in
     let m : n' ≡ length (without_each (slots_of (low ∷ high ∷ [])) k.core.held ++ draft_of k.core.draft ∷ []) = omega (arith, length-append (without_each (slots_of (low ∷ high ∷ [])) k.core.held) (draft_of k.core.draft ∷ [])) in
     m ∙ ap (λ (xs : List ℕ). length (without_each (slots_of xs) k.core.held ++ draft_of k.core.draft ∷ [])) names
+
+-- the tree of the node that they make
+pub made_tree : (k : Known) (variable low high : ℕ) → IsKnown k → MayMake k variable low high → node_tree k (node_word variable low high) ≡ Node variable (tree_of k low) (tree_of k high)
+made_tree k variable low high known may =
+    let small = child_small k variable low high known may in
+    let f = fields variable low high small.0 small.1 in
+    λ i. Node (f.variable_is i) (tree_of k (f.low_is i)) (tree_of k (f.high_is i))

@@ -8,6 +8,7 @@ use eqc_tree::{pack_node, unpack_node};
 
 impl Worker {
     ghost use Rattle.std.specs.Prelude.{◌≡◌, ◌≢◌, ◌↔◌, ◌+◌, ◌*◌, ◌^◌, ◌<◌, ◌≤◌, ℕ, length, if◌then◌else◌, eqb, IsTrue, IfSome, Some, None, false};
+    ghost use Rattle.eqc_tree.specs.Tree.{Node};
     ghost use Rattle.eqc_tree.specs.Word.{node_word};
     ghost use Rattle.eqc_core.specs.View.{draft_of};
     ghost use Rattle.eqc_core.specs.Words.{announced_words, times, low_of, high_of};
@@ -17,7 +18,7 @@ impl Worker {
     ghost use Rattle.eqc_guard.specs.Rule.{nodes_from};
     ghost use Rattle.eqc_guard.specs.Standing.{Steps};
     ghost use Rattle.eqc_guard.specs.Telling.{Copies, copied};
-    ghost use Rattle.eqc_guard.specs.Making.{drafted, node_tree, MayMake, Reads, IsEntry, taken_back};
+    ghost use Rattle.eqc_guard.specs.Making.{drafted, MayMake, Reads, IsEntry, taken_back};
 
     /// How many slots the forest has for nodes: the first one has the number 2.
     pub fn slots(&self) -> u32
@@ -78,7 +79,7 @@ impl Worker {
         requires may { MayMake self.old.known var low high }
         requires draft { self.old.known.core.draft ≡ Some slot }
         ensures step { Steps self.old (drafted self.old.known.core (node_word var low high)) self.new }
-        ensures tree { tree_of self.new.known slot ≡ node_tree self.old.known (node_word var low high) }
+        ensures tree { tree_of self.new.known slot ≡ Node var (tree_of self.old.known low) (tree_of self.old.known high) }
         ensures copies { self.new.known.copy ≡ copied self.old.known.copy (nodes_from self.old.known.core.sizes + slot) (node_word var low high) }
     {
         let place = self.node_word(slot);
@@ -100,7 +101,7 @@ impl Worker {
         requires { MayMake self.old.known var low.number high.number }
         ensures step { Steps self.old (drafted self.old.known.core (node_word var low.number high.number)) self.new }
         ensures name { self.old.known.core.draft ≡ Some result.number }
-        ensures tree { tree_of self.new.known result.number ≡ node_tree self.old.known (node_word var low.number high.number) }
+        ensures tree { tree_of self.new.known result.number ≡ Node var (tree_of self.old.known low.number) (tree_of self.old.known high.number) }
         ensures copies { self.new.known.copy ≡ copied self.old.known.copy (nodes_from self.old.known.core.sizes + result.number) (node_word var low.number high.number) }
     {
         let Ref { number: low } = low;

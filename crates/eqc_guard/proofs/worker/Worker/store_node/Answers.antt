@@ -1,12 +1,14 @@
 use Rattle.std.proofs.Common.{◌≡◌, ◌+◌, ◌∙◌, ℕ, [], ◌∷◌, Option, Some, None, length, ap, refl, sym, subst, arith}
 use Rattle.std.specs.Arc.{arc_value}
+use Rattle.eqc_tree.specs.Tree.{Node}
 use Rattle.eqc_core.specs.declared.sizes.Sizes.{Sizes}
-use Rattle.eqc_core.specs.View.{Hand, hand_of}
+use Rattle.eqc_core.specs.View.{Hand, draft_of, hand_of}
 use Rattle.eqc_core.specs.Words.{announced_words}
+use Rattle.eqc_guard.specs.Known.{tree_of}
 use Rattle.eqc_guard.specs.Rule.{nodes_from}
 use Rattle.eqc_guard.specs.Standing.{Standing, slots_out, stripes_in}
-use Rattle.eqc_guard.specs.Making.{MayMake, drafted}
-use Rattle.eqc_guard.proofs.Making.{write_allows, child_small, given_enough, drafted_length}
+use Rattle.eqc_guard.specs.Making.{MayMake, drafted, node_tree}
+use Rattle.eqc_guard.proofs.Making.{write_allows, child_small, given_enough, drafted_length, made_tree}
 use Rattle.eqc_guard.proofs.Counts.{seated_with}
 use Rattle.eqc_guard.proofs.worker.Worker.store_node.Goals as goal
 
@@ -52,3 +54,14 @@ invariant_of-self c =
     seated_with w.seat.table_id (arc_value w.table).shared.table_id (arc_value w.table).shared.key.sizes w.sizes me w.number w.held w.phase w.retired.items w.noted.items w.position w.given w.out.items w.draft is
     c.store.new.seat.table_id c.store.new.seat.me (drafted me.0.core c.pack_node-word.result) c.held_with_node-self-inside.result w.phase w.retired.items w.noted.items w.position w.given w.out.items None
     c.store.ensures.0 told.0.core told.0.known carried refl is.worker.active refl l is.phases_are is.retired_are is.noted_are is.position_is is.given_is is.out_is refl
+
+pub returns-clause-tree : goal.returns-clause-tree
+returns-clause-tree c =
+    let is = c.self.invariant in
+    let me = c.self.inside.seat.me in
+    let v = sym c.self.view_is in
+    let draft : me.0.core.draft ≡ Some c.args.slot = subst (λ (s : Standing). s.known.core.draft ≡ Some c.args.slot) v c.requires.draft in
+    let may : MayMake me.0 c.args.var c.args.low c.args.high = subst (λ (s : Standing). MayMake s.known c.args.var c.args.low c.args.high) v c.requires.may in
+    let tree : tree_of c.store.new.seat.me.0 c.args.slot ≡ Node c.args.var (tree_of me.0 c.args.low) (tree_of me.0 c.args.high) =
+    ap (λ (o : Option ℕ). tree_of c.store.new.seat.me.0 (draft_of o)) (sym draft) ∙ (c.store.ensures.2.3 ∙ (ap (node_tree me.0) c.pack_node-word.ensures ∙ made_tree me.0 c.args.var c.args.low c.args.high is.worker.known may)) in
+    subst (λ (s : Standing). tree_of c.store.new.seat.me.0 c.args.slot ≡ Node c.args.var (tree_of s.known c.args.low) (tree_of s.known c.args.high)) c.self.view_is tree
