@@ -119,10 +119,8 @@ impl Worker {
         requires { cell < self.now.known.core.sizes.cells }
         ensures { result ≡ cells_from self.now.known.core.sizes + cell }
     {
-        // A worker has one announcement word.
-        let announced = self.sizes.workers as usize;
         let names = self.sizes.names as usize;
-        announced + (names + names) + cell as usize
+        self.announcement_words() as usize + (names + names) + cell as usize
     }
 
     // The word of a count.
@@ -130,8 +128,7 @@ impl Worker {
         requires { name < self.now.known.core.sizes.names }
         ensures { result ≡ announced_words self.now.known.core.sizes + name }
     {
-        // A worker has one announcement word.
-        self.sizes.workers as usize + name as usize
+        self.announcement_words() as usize + name as usize
     }
 
     // The worker's announcement word.
@@ -635,7 +632,8 @@ impl Worker {
     pub fn announcement_words(&self) -> u32
         ensures { result ≡ announced_words self.now.known.core.sizes }
     {
-        self.sizes.workers * self.sizes.announcements
+        // Each worker has one.
+        self.sizes.workers
     }
 
     /// The worker's number.

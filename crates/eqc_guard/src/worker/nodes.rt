@@ -32,8 +32,7 @@ impl Worker {
         requires { slot < self.now.known.core.sizes.names }
         ensures { result ≡ nodes_from self.now.known.core.sizes + slot }
     {
-        let announced = self.sizes.workers as usize * self.sizes.announcements as usize;
-        announced + self.sizes.names as usize + slot as usize
+        self.announcement_words() as usize + self.sizes.names as usize + slot as usize
     }
 
     /// Tries to claim a slot, and says whether it was won: the slot was free then, and is this

@@ -20,9 +20,10 @@ impl Worker {
         requires { stripe < 16 }
         ensures { result ≡ locks_from self.now.known.core.sizes + stripe }
     {
-        let announced = self.sizes.workers as usize * self.sizes.announcements as usize;
         let names = self.sizes.names as usize;
-        let cells = announced + (names + names) + self.sizes.cells as usize;
+        let cells = self.announcement_words() as usize
+            + (names + names)
+            + self.sizes.cells as usize;
         cells + 16 * self.sizes.workers as usize + stripe as usize
     }
 
