@@ -9,6 +9,9 @@
 //! - `messages`, of the errors of all crates; `streams`, the readers, writers and files that fail
 //!
 //! In the texts of `pairs` and of what comes after it `;` stands for LF.
+//!
+//! A test ends by `holds` or `same`, which alone have the branches and the words of a failed row: a test that has them itself
+//! is proved at each of its branches, with all that it holds there.
 
 mod cached_results;
 mod compared_hierarchies;
@@ -38,6 +41,8 @@ mod words;
 mod workers;
 
 use std::alloc::{AllocError, Global};
+use std::fmt::{Debug, Display};
+use std::process::Abort;
 
 /// Conjunctions, one by its rows for 1 and one by those for 0.
 const EQUAL: &str =
@@ -73,4 +78,56 @@ fn is_text(bytes: &[u8], text: &str) -> bool {
             .iter()
             .zip(text.as_bytes())
             .all(|(b, t)| *b == if *t == b';' { b'\n' } else { *t })
+}
+
+/// Ends the test, and names the row and its turn, where the row doesn't hold.
+fn holds_at(
+    rt: &impl Abort,
+    found: Result<bool, AllocError>,
+    row: impl Display + Copy,
+    turn: impl Display + Copy,
+) {
+    match found {
+        Ok(true) => {}
+        Ok(false) => panic!(rt; "{row} {turn}"),
+        Err(_) => panic!(rt; "no memory: {row} {turn}"),
+    }
+}
+
+/// Ends the test, and names the row, where it doesn't hold.
+fn holds(rt: &impl Abort, found: Result<bool, AllocError>, row: impl Display + Copy) {
+    holds_at(rt, found, row, "");
+}
+
+/// Ends the test, and names the row, where something else is found there.
+fn same<T: PartialEq + Debug + Copy>(
+    rt: &impl Abort,
+    found: T,
+    wanted: T,
+    row: impl Display + Copy,
+) {
+    assert_eq!(rt; found, wanted, "{row}");
+}
+
+/// The names of so many inputs, each behind a blank.
+fn input_names(alloc: Global, count: u32) -> Result<String, AllocError> {
+    let mut names = String::new(alloc);
+    for k in 0..count {
+        let name = format!(in alloc; " i{k}")?;
+        names.push_str(&name)?;
+    }
+    Ok(names)
+}
+
+/// So many models, `m1` and those that follow it, each but the head of the last with two instances of the next one.
+fn doubling(alloc: Global, models: u32) -> Result<String, AllocError> {
+    let mut text = String::new(alloc);
+    for k in 1..models {
+        let next = k + 1;
+        let model = format!(in alloc; ".model m{k};.subckt m{next};.subckt m{next};.end;")?;
+        text.push_str(&model)?;
+    }
+    let last = format!(in alloc; ".model m{models};")?;
+    text.push_str(&last)?;
+    Ok(text)
 }

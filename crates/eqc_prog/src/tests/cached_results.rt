@@ -2,6 +2,7 @@
 ghost use Rattle.std.specs.Prelude.{◌≡◌};
 
 use crate::tests::drivers::{Driver, stocked};
+use crate::tests::same;
 use std::process::Abort;
 use std::thread::{Threads, join_mut};
 
@@ -11,15 +12,15 @@ const TURNS: u32 = 10_000;
 #[test]
 fn a_result_is_found_until_it_is_cleared(rt: HostRuntime) {
     let mut driver = stocked(&rt, 1, 4, 8);
-    assert_eq!(rt; driver.worker.held(), 4);
-    assert_eq!(rt; driver.up(&rt, 0), Some(2));
-    assert!(rt; driver.store(0));
-    assert_eq!(rt; driver.worker.held(), 5);
-    assert_eq!(rt; driver.lookup(&rt, 0), Some(2));
-    assert_eq!(rt; driver.worker.held(), 6);
-    assert!(rt; driver.clear());
-    assert_eq!(rt; driver.lookup(&rt, 0), None);
-    assert_eq!(rt; driver.close(&rt), 4);
+    same(&rt, driver.worker.held(), 4, "held at first");
+    same(&rt, driver.up(&rt, 0), Some(2), "up");
+    same(&rt, driver.store(0), true, "store");
+    same(&rt, driver.worker.held(), 5, "held beside the result");
+    same(&rt, driver.lookup(&rt, 0), Some(2), "lookup");
+    same(&rt, driver.worker.held(), 6, "held with the result");
+    same(&rt, driver.clear(), true, "clear");
+    same(&rt, driver.lookup(&rt, 0), None, "lookup after clear");
+    same(&rt, driver.close(&rt), 4, "close");
 }
 
 /// Stores the and of a name with itself and clears the cache, over and over.
@@ -53,9 +54,9 @@ fn take(rt: &impl Abort, driver: &mut Driver)
     ensures { driver.new.worker.forest ≡ driver.old.worker.forest }
 {
     driver.look(0);
-    assert_eq!(rt; driver.announce(), Some(2));
-    assert_eq!(rt; driver.recheck(), Some(true));
-    assert_eq!(rt; driver.up_confirmed(rt), Some(2));
+    same(rt, driver.announce(), Some(2), "announce");
+    same(rt, driver.recheck(), Some(true), "recheck");
+    same(rt, driver.up_confirmed(rt), Some(2), "up confirmed");
     driver.release();
 }
 
@@ -63,14 +64,14 @@ fn take(rt: &impl Abort, driver: &mut Driver)
 fn results_are_stored_and_found_at_once(rt: HostRuntime) {
     let mut first = stocked(&rt, 2, 4, 1);
     let mut second = first.another(&rt);
-    assert_eq!(rt; first.fill(&rt, 0, 0), Some(2));
+    same(&rt, first.fill(&rt, 0, 0), Some(2), "fill");
     take(&rt, &mut second);
     let (_, wrong) = join_mut(
         &rt,
         &mut || store_and_clear(&mut first),
         &mut || look_up(&rt, &mut second),
     );
-    assert_eq!(rt; wrong, 0);
+    same(&rt, wrong, 0, "wrong");
     first.absorb(&rt, second);
-    assert_eq!(rt; first.close(&rt), 4);
+    same(&rt, first.close(&rt), 4, "close");
 }

@@ -2,6 +2,7 @@
 
 use super::program::{check_texts, reports};
 use super::streams::Feed;
+use super::{doubling, holds, input_names};
 use std::alloc::{AllocError, Global};
 use std::sync::Wait;
 use std::thread::Threads;
@@ -104,48 +105,35 @@ static ROWS: [(&str, &str, u8); 17] = [
 ];
 
 #[test]
-fn hierarchies_are_compared(rt: HostRuntime) -> Result<(), AllocError> {
-    check_texts(&rt, &ROWS)
+fn hierarchies_are_compared(rt: HostRuntime) {
+    check_texts(&rt, &ROWS);
 }
 
 #[test]
-fn a_small_store_stops_covers_of_covers(rt: HostRuntime) -> Result<(), AllocError> {
+fn a_small_store_stops_covers_of_covers(rt: HostRuntime) {
     let line = "eqc --nodes 2";
-    let found = reports(&rt, line, Feed::whole(PARITY), "stopped 71;", 3)?;
-    assert!(rt; found, "{line}");
-    Ok(())
+    holds(
+        &rt,
+        reports(&rt, line, Feed::whole(PARITY), "stopped 71;", 3),
+        line,
+    );
 }
 
 /// A main model of two instances, each of two instances, and so on, twenty models below one another; and an empty one.
 fn doubled(alloc: Global) -> Result<String, AllocError> {
-    let mut text = String::from_str(alloc, ".model f;.subckt m1;.subckt m1;.end;.model g;.end;")?;
-    for (k, below) in (1..20).zip(2..21) {
-        let model = format!(in alloc; ".model m{k};.subckt m{below};.subckt m{below};.end;")?;
-        text.push_str(&model)?;
-    }
-    text.push_str(".model m20;.end;")?;
-    Ok(text)
-}
-
-/// The names of so many inputs, each behind a blank.
-fn inputs(alloc: Global, count: u32) -> Result<String, AllocError> {
-    let mut names = String::new(alloc);
-    for k in 0..count {
-        let name = format!(in alloc; " i{k}")?;
-        names.push_str(&name)?;
-    }
-    Ok(names)
+    let models = doubling(alloc, 20)?;
+    format!(in alloc; ".model f;.subckt m1;.subckt m1;.end;.model g;.end;{models}.end;")
 }
 
 /// A main model with one input more than there may be.
 fn too_many_inputs(alloc: Global) -> Result<String, AllocError> {
-    let names = inputs(alloc, 2_049)?;
+    let names = input_names(alloc, 2_049)?;
     format!(in alloc; ".model f;.inputs{names};.end;.model g;.end;")
 }
 
 /// Two models with as many inputs as there may be.
 fn most_inputs(alloc: Global) -> Result<String, AllocError> {
-    let names = inputs(alloc, 2_048)?;
+    let names = input_names(alloc, 2_048)?;
     format!(in alloc; ".model f;.inputs{names};.end;.model g;.inputs{names};.end;")
 }
 
@@ -163,10 +151,21 @@ fn is_reported(
 }
 
 #[test]
-fn limits_of_hierarchies_are_told(rt: HostRuntime) -> Result<(), AllocError> {
+fn limits_of_hierarchies_are_told(rt: HostRuntime) {
     let alloc = rt.alloc();
-    assert!(rt; is_reported(&rt, doubled(alloc), "refused first 0 29;", 2)?);
-    assert!(rt; is_reported(&rt, too_many_inputs(alloc), "refused first 0 30;", 2)?);
-    assert!(rt; is_reported(&rt, most_inputs(alloc), "equivalent;", 0)?);
-    Ok(())
+    holds(
+        &rt,
+        is_reported(&rt, doubled(alloc), "refused first 0 29;", 2),
+        "signals",
+    );
+    holds(
+        &rt,
+        is_reported(&rt, too_many_inputs(alloc), "refused first 0 30;", 2),
+        "inputs",
+    );
+    holds(
+        &rt,
+        is_reported(&rt, most_inputs(alloc), "equivalent;", 0),
+        "most inputs",
+    );
 }

@@ -3,6 +3,7 @@
 
 use super::program::reports;
 use super::streams::Feed;
+use super::{doubling, holds, input_names};
 use std::alloc::{AllocError, Global};
 
 /// Appends a part so many times.
@@ -16,13 +17,8 @@ fn repeat(text: &mut String, part: &str, count: u32) -> Result<(), AllocError> {
 /// A main model of two instances, each of two instances, and so on, sixteen models below one another, and the head of
 /// the one below them, which has 131,072 instances; and an empty main model.
 fn doubled(alloc: Global) -> Result<String, AllocError> {
-    let mut text = String::from_str(alloc, ".model f;.subckt m1;.subckt m1;.end;.model g;.end;")?;
-    for (k, below) in (1..17).zip(2..18) {
-        let model = format!(in alloc; ".model m{k};.subckt m{below};.subckt m{below};.end;")?;
-        text.push_str(&model)?;
-    }
-    text.push_str(".model m17;")?;
-    Ok(text)
+    let models = doubling(alloc, 17)?;
+    format!(in alloc; ".model f;.subckt m1;.subckt m1;.end;.model g;.end;{models}")
 }
 
 #[test]
@@ -30,7 +26,11 @@ fn a_signal_driven_by_many_covers_is_refused(rt: HostRuntime) -> Result<(), Allo
     let alloc = rt.alloc();
     let mut text = doubled(alloc)?;
     repeat(&mut text, ".names z;", 3_000)?;
-    assert!(rt; reports(&rt, "eqc", Feed::whole(&text), "refused first 0 26;", 2)?);
+    holds(
+        &rt,
+        reports(&rt, "eqc", Feed::whole(&text), "refused first 0 26;", 2),
+        "the report",
+    );
     Ok(())
 }
 
@@ -41,15 +41,11 @@ fn a_cover_of_many_columns_may_have_many_instances(rt: HostRuntime) -> Result<()
     text.push_str(".names s;.names")?;
     repeat(&mut text, " s", 1_000)?;
     text.push_str(" z;")?;
-    assert!(rt; reports(&rt, "eqc", Feed::whole(&text), "equivalent;", 0)?);
-    Ok(())
-}
-
-/// The names of so many inputs, each behind a blank.
-fn names(alloc: Global, text: &mut String, count: u32) -> Result<(), AllocError> {
-    for k in 0..count {
-        text.push_str(&format!(in alloc; " i{k}")?)?;
-    }
+    holds(
+        &rt,
+        reports(&rt, "eqc", Feed::whole(&text), "equivalent;", 0),
+        "the report",
+    );
     Ok(())
 }
 
@@ -61,42 +57,46 @@ fn row_of_one(text: &mut String, place: u32, value: &str) -> Result<(), AllocErr
     text.push_str(" 1;")
 }
 
+/// Rows of twenty columns that ask for each value of each column.
+fn rows_of_each(alloc: Global) -> Result<String, AllocError> {
+    let mut text = String::new(alloc);
+    for place in 0..20 {
+        row_of_one(&mut text, place, "1")?;
+        row_of_one(&mut text, place, "0")?;
+    }
+    Ok(text)
+}
+
 /// Two models of twenty inputs: a cover of 4,080 rows that ask for one value each, both values of each column among
 /// them, and the constant 1.
 fn rows_of_one(alloc: Global) -> Result<String, AllocError> {
-    let mut text = String::from_str(alloc, ".model f;.inputs")?;
-    names(alloc, &mut text, 20)?;
-    text.push_str(";.outputs z;.names")?;
-    names(alloc, &mut text, 20)?;
-    text.push_str(" z;")?;
-    for _k in 0..102 {
-        for place in 0..20 {
-            row_of_one(&mut text, place, "1")?;
-            row_of_one(&mut text, place, "0")?;
-        }
-    }
-    text.push_str(".end;.model g;.inputs")?;
-    names(alloc, &mut text, 20)?;
-    text.push_str(";.outputs z;.names z;1;")?;
-    Ok(text)
+    let names = input_names(alloc, 20)?;
+    let rows = rows_of_each(alloc)?;
+    let mut all = String::new(alloc);
+    repeat(&mut all, &rows, 102)?;
+    format!(in alloc;
+        ".model f;.inputs{names};.outputs z;.names{names} z;{all}.end;.model g;.inputs{names};.outputs z;.names z;1;"
+    )
 }
 
 #[test]
 fn a_cover_of_dashes_is_built(rt: HostRuntime) -> Result<(), AllocError> {
     let alloc = rt.alloc();
     let text = rows_of_one(alloc)?;
-    assert!(rt; reports(&rt, "eqc", Feed::whole(&text), "equivalent;", 0)?);
+    holds(
+        &rt,
+        reports(&rt, "eqc", Feed::whole(&text), "equivalent;", 0),
+        "the report",
+    );
     Ok(())
 }
 
 /// The constant 0 and the last of 362 inputs.
 fn last_of_many(alloc: Global) -> Result<String, AllocError> {
-    let mut text = String::from_str(alloc, ".model f;.inputs")?;
-    names(alloc, &mut text, 362)?;
-    text.push_str(";.outputs z;.names z;.end;.model g;.inputs")?;
-    names(alloc, &mut text, 362)?;
-    text.push_str(";.outputs z;.names i361 z;1 1;")?;
-    Ok(text)
+    let names = input_names(alloc, 362)?;
+    format!(in alloc;
+        ".model f;.inputs{names};.outputs z;.names z;.end;.model g;.inputs{names};.outputs z;.names i361 z;1 1;"
+    )
 }
 
 /// The report that they differ where that input alone is 1.
@@ -114,6 +114,10 @@ fn the_least_assignment_of_many_inputs_needs_few_nodes(rt: HostRuntime) -> Resul
     let alloc = rt.alloc();
     let text = last_of_many(alloc)?;
     let report = difference_of_last(alloc)?;
-    assert!(rt; reports(&rt, "eqc --nodes 5000", Feed::whole(&text), &report, 1)?);
+    holds(
+        &rt,
+        reports(&rt, "eqc --nodes 5000", Feed::whole(&text), &report, 1),
+        "the report",
+    );
     Ok(())
 }

@@ -2,7 +2,7 @@
 
 use super::program::{LEAF_FIRST, words_of, writes, written_by};
 use super::streams::{Drain, Endless, Feed, NEVER};
-use super::{PERMUTED, UNEQUAL, is_text};
+use super::{PERMUTED, UNEQUAL, doubling, holds, holds_at, input_names, is_text, same};
 use eqc_check::{Diagnostics, Options};
 use eqc_command::{Request, explanation_for, program};
 use eqc_tree::Stop;
@@ -298,48 +298,34 @@ fn explained_status(
     told_status(rt, &line, row)
 }
 
+/// Whether a row ends with one status, with its explanation and without.
+fn is_told(rt: &(impl AllocGlobal + Threads + Wait + Sync), row: &Row) -> Result<bool, AllocError> {
+    let plain = plain_status(rt, row)?;
+    let explained = explained_status(rt, row)?;
+    Ok(plain.is_some() && explained == plain)
+}
+
 /// Each row is reported as ever, with the lines of its explanation where `--explain` asks for them, and with none where it
 /// doesn't.
-fn check_rows(
-    rt: &(impl Abort + AllocGlobal + Threads + Wait + Sync),
-    rows: &[Row],
-) -> Result<(), AllocError> {
+fn check_rows(rt: &(impl Abort + AllocGlobal + Threads + Wait + Sync), rows: &[Row]) {
     for row in rows {
-        let plain = plain_status(rt, row)?;
-        let explained = explained_status(rt, row)?;
-        assert!(rt;
-            plain.is_some() && explained == plain,
-            "{}: {}",
-            row.0,
-            row.1
-        );
+        holds_at(rt, is_told(rt, row), row.0, row.1);
     }
-    Ok(())
 }
 
 #[test]
-fn texts_at_fault_are_explained(rt: HostRuntime) -> Result<(), AllocError> {
-    check_rows(&rt, READING.as_slice())
+fn texts_at_fault_are_explained(rt: HostRuntime) {
+    check_rows(&rt, READING.as_slice());
 }
 
 #[test]
-fn hierarchies_at_fault_are_explained(rt: HostRuntime) -> Result<(), AllocError> {
-    check_rows(&rt, FLATTENING.as_slice())
+fn hierarchies_at_fault_are_explained(rt: HostRuntime) {
+    check_rows(&rt, FLATTENING.as_slice());
 }
 
 #[test]
-fn runs_without_a_verdict_are_explained(rt: HostRuntime) -> Result<(), AllocError> {
-    check_rows(&rt, COMPARING.as_slice())
-}
-
-/// The names of so many inputs, each behind a blank.
-fn input_names(alloc: Global, count: u32) -> Result<String, AllocError> {
-    let mut names = String::new(alloc);
-    for k in 0..count {
-        let name = format!(in alloc; " i{k}")?;
-        names.push_str(&name)?;
-    }
-    Ok(names)
+fn runs_without_a_verdict_are_explained(rt: HostRuntime) {
+    check_rows(&rt, COMPARING.as_slice());
 }
 
 /// A main model with so many inputs.
@@ -348,22 +334,10 @@ fn many_inputs(alloc: Global, count: u32) -> Result<String, AllocError> {
     format!(in alloc; ".model f;.inputs{names};.end;.model g;")
 }
 
-/// Models without names on this many levels below the first one, each with two instances of the next one, and the start
-/// of the one below them.
-fn levels_above(alloc: Global, levels: u32) -> Result<String, AllocError> {
-    let mut text = String::new(alloc);
-    for k in 0..levels {
-        let next = k + 1;
-        let model = format!(in alloc; ".model m{k};.subckt m{next};.subckt m{next};.end;")?;
-        text.push_str(&model)?;
-    }
-    Ok(text)
-}
-
-/// The same, with the one below them.
-fn doubling(alloc: Global, levels: u32) -> Result<String, AllocError> {
-    let above = levels_above(alloc, levels)?;
-    format!(in alloc; "{above}.model m{levels};.end;")
+/// Models on so many levels below the first one, each but the last with two instances of the next one.
+fn levels_below(alloc: Global, levels: u32) -> Result<String, AllocError> {
+    let models = doubling(alloc, levels.saturating_add(1))?;
+    format!(in alloc; "{models}.end;")
 }
 
 /// Whether a text is refused by its hierarchy's size, with this explanation.
@@ -395,9 +369,8 @@ fn sizes_are_counted_as_far_as_they_go(rt: HostRuntime) -> Result<(), AllocError
             "eqc: standard input: the main model has over 18446744073709551615 signals and instances in all, and may have 1048576 (29);",
         ),
     ] {
-        let text = doubling(rt.alloc(), levels)?;
-        let found = is_too_large(&rt, &text, said)?;
-        assert!(rt; found, "{levels}");
+        let text = levels_below(rt.alloc(), levels)?;
+        holds(&rt, is_too_large(&rt, &text, said), levels);
     }
     Ok(())
 }
@@ -440,10 +413,9 @@ fn has_many_bytes(
 #[test]
 fn too_many_inputs_and_bytes_are_explained(rt: HostRuntime) -> Result<(), AllocError> {
     let text = many_inputs(rt.alloc(), 2049)?;
-    let inputs = has_many_inputs(&rt, &text)?;
-    assert!(rt; inputs);
+    holds(&rt, has_many_inputs(&rt, &text), "inputs");
     let words = words_of(rt.alloc(), "eqc --explain")?;
-    assert!(rt; has_many_bytes(&rt, &words));
+    same(&rt, has_many_bytes(&rt, &words), true, "bytes");
     Ok(())
 }
 
@@ -470,8 +442,7 @@ fn a_failed_write_is_explained(rt: HostRuntime) -> Result<(), AllocError> {
         ),
     ] {
         let words = words_of(rt.alloc(), line)?;
-        let found = is_write_fault(&rt, &words, said);
-        assert!(rt; found, "{line}");
+        same(&rt, is_write_fault(&rt, &words, said), true, line);
     }
     Ok(())
 }
@@ -510,6 +481,6 @@ fn is_said_of(alloc: Global, stop: Stop, said: &str) -> bool {
 #[test]
 fn stops_are_explained(rt: HostRuntime) {
     for (stop, said) in &STOPS {
-        assert!(rt; is_said_of(rt.alloc(), *stop, said));
+        same(&rt, is_said_of(rt.alloc(), *stop, said), true, said);
     }
 }

@@ -1,10 +1,10 @@
 //! What is at fault in a hierarchy that is refused, worked out by hand.
 
+use super::{input_names, same};
 use eqc_blif::{Library, read};
 use eqc_flat::{Circle, Finding, FoundFormal, FoundInstance, HierarchicalName, explain};
-use std::alloc::Global;
+use std::alloc::{AllocError, Global};
 use std::process::Abort;
-use std::test::Fail;
 
 /// A signal that is wanted: the position and the model of each instance on the way to it, from its own up, and its name.
 #[derive(Clone, Copy)]
@@ -138,35 +138,30 @@ fn is_found(finding: &Finding<'_>, wanted: &Wanted) -> bool {
 }
 
 /// Whether this is at fault below the main model of a library.
-fn library_has(alloc: Global, library: &Library, wanted: &Wanted) -> Result<bool, Fail> {
+fn library_has(alloc: Global, library: &Library, wanted: &Wanted) -> bool {
     if library.models() == 0 {
-        return Err(Fail::from("no model"));
+        return false;
     }
     match explain(alloc, library, 0) {
-        Ok(Some(finding)) => Ok(is_found(&finding, wanted)),
-        Ok(None) => Ok(matches!(wanted, Wanted::Nothing)),
-        Err(_) => Err(Fail::from("no memory")),
+        Ok(Some(finding)) => is_found(&finding, wanted),
+        Ok(None) => matches!(wanted, Wanted::Nothing),
+        Err(_) => false,
     }
 }
 
 /// Whether this is at fault below the main model of a text.
-fn has(alloc: Global, text: &[u8], wanted: &Wanted) -> Result<bool, Fail> {
+fn has(alloc: Global, text: &[u8], wanted: &Wanted) -> bool {
     match read(alloc, text) {
         Ok(library) => library_has(alloc, &library, wanted),
-        Err(_) => Err(Fail::from("refused")),
+        Err(_) => false,
     }
 }
 
 /// In each text this is at fault.
-fn check_rows(
-    rt: &(impl Abort + AllocGlobal),
-    rows: &[(&'static [u8], Wanted)],
-) -> Result<(), Fail> {
+fn check_rows(rt: &(impl Abort + AllocGlobal), rows: &[(&'static [u8], Wanted)]) {
     for (k, (text, wanted)) in rows.iter().enumerate() {
-        let found = has(rt.alloc(), text, wanted)?;
-        assert!(rt; found, "text {k}");
+        same(rt, has(rt.alloc(), text, wanted), true, k);
     }
-    Ok(())
 }
 
 /// Texts with an undriven signal.
@@ -195,8 +190,8 @@ static UNDRIVEN: [(&[u8], Wanted); 3] = [
 ];
 
 #[test]
-fn names_a_signal_without_a_driver(rt: HostRuntime) -> Result<(), Fail> {
-    check_rows(&rt, UNDRIVEN.as_slice())
+fn names_a_signal_without_a_driver(rt: HostRuntime) {
+    check_rows(&rt, UNDRIVEN.as_slice());
 }
 
 /// Texts with a signal that has two drivers.
@@ -218,8 +213,8 @@ static DRIVEN_TWICE: [(&[u8], Wanted); 2] = [
 ];
 
 #[test]
-fn names_a_signal_with_two_drivers(rt: HostRuntime) -> Result<(), Fail> {
-    check_rows(&rt, DRIVEN_TWICE.as_slice())
+fn names_a_signal_with_two_drivers(rt: HostRuntime) {
+    check_rows(&rt, DRIVEN_TWICE.as_slice());
 }
 
 static ACCEPTED: [(&[u8], Wanted); 1] = [(
@@ -228,8 +223,8 @@ static ACCEPTED: [(&[u8], Wanted); 1] = [(
 )];
 
 #[test]
-fn names_nothing_in_an_accepted_hierarchy(rt: HostRuntime) -> Result<(), Fail> {
-    check_rows(&rt, ACCEPTED.as_slice())
+fn names_nothing_in_an_accepted_hierarchy(rt: HostRuntime) {
+    check_rows(&rt, ACCEPTED.as_slice());
 }
 
 /// A text in which a model `o` is missing, which the second instance of model 1 asks for.
@@ -243,8 +238,8 @@ static MISSING: [(&[u8], Wanted); 1] = [(
 )];
 
 #[test]
-fn names_a_missing_model_and_who_asks_for_it(rt: HostRuntime) -> Result<(), Fail> {
-    check_rows(&rt, MISSING.as_slice())
+fn names_a_missing_model_and_who_asks_for_it(rt: HostRuntime) {
+    check_rows(&rt, MISSING.as_slice());
 }
 
 /// Main models with two instances of a model with the inputs `x` and `v` and the output `z`.
@@ -268,8 +263,8 @@ static FORMALS: [(&[u8], Wanted); 4] = [
 ];
 
 #[test]
-fn names_the_formal_at_fault(rt: HostRuntime) -> Result<(), Fail> {
-    check_rows(&rt, FORMALS.as_slice())
+fn names_the_formal_at_fault(rt: HostRuntime) {
+    check_rows(&rt, FORMALS.as_slice());
 }
 
 static RECURSIVE: [(&[u8], Wanted); 1] = [(
@@ -278,32 +273,26 @@ static RECURSIVE: [(&[u8], Wanted); 1] = [(
 )];
 
 #[test]
-fn names_the_chain_of_a_recursion(rt: HostRuntime) -> Result<(), Fail> {
-    check_rows(&rt, RECURSIVE.as_slice())
-}
-
-/// The names of so many inputs, each behind a blank.
-fn input_names(alloc: Global, count: u32) -> Result<String, Fail> {
-    let mut names = String::new(alloc);
-    for k in 0..count {
-        let name = format!(in alloc; " i{k}")?;
-        names.push_str(&name)?;
-    }
-    Ok(names)
+fn names_the_chain_of_a_recursion(rt: HostRuntime) {
+    check_rows(&rt, RECURSIVE.as_slice());
 }
 
 /// A main model with so many inputs.
-fn many_inputs(alloc: Global, count: u32) -> Result<String, Fail> {
+fn many_inputs(alloc: Global, count: u32) -> Result<String, AllocError> {
     let names = input_names(alloc, count)?;
-    Ok(format!(in alloc; ".model m\n.inputs{names}\n.end\n")?)
+    format!(in alloc; ".model m\n.inputs{names}\n.end\n")
 }
 
 #[test]
-fn names_the_number_of_inputs(rt: HostRuntime) -> Result<(), Fail> {
+fn names_the_number_of_inputs(rt: HostRuntime) -> Result<(), AllocError> {
     let text = many_inputs(rt.alloc(), 2_049)?;
     let wanted = Wanted::ManyInputs(2_049, 2_048);
-    let found = has(rt.alloc(), text.as_bytes(), &wanted)?;
-    assert!(rt; found);
+    same(
+        &rt,
+        has(rt.alloc(), text.as_bytes(), &wanted),
+        true,
+        "inputs",
+    );
     Ok(())
 }
 
@@ -320,6 +309,6 @@ static CIRCLES: [(&[u8], Wanted); 2] = [
 ];
 
 #[test]
-fn names_the_signals_of_a_circle(rt: HostRuntime) -> Result<(), Fail> {
-    check_rows(&rt, CIRCLES.as_slice())
+fn names_the_signals_of_a_circle(rt: HostRuntime) {
+    check_rows(&rt, CIRCLES.as_slice());
 }

@@ -3,28 +3,29 @@
 
 ghost use Rattle.std.specs.Prelude.{◌<◌, length};
 
+use super::{holds, same};
 use eqc_blif::{Library, read};
 use eqc_flat::{Driver, Flat, Signals, eval, flatten};
 use std::alloc::{AllocError, Global};
 use std::process::Abort;
 use std::test::Fail;
 
-/// The code of the first fault below the main model of a library, or none.
-fn library_code(alloc: Global, library: &Library) -> Result<Option<u8>, Fail> {
+/// Whether this is the code of the first fault below the main model of a library.
+fn library_has_code(alloc: Global, library: &Library, code: Option<u8>) -> bool {
     if library.models() == 0 {
-        return Err(Fail::from("no model"));
+        return false;
     }
     match flatten(alloc, library, 0) {
-        Ok(_) => Ok(None),
-        Err(fault) => Ok(Some(fault.code)),
+        Ok(_) => code.is_none(),
+        Err(fault) => code == Some(fault.code),
     }
 }
 
-/// The code of the first fault below the main model of a text, or none.
-fn code(alloc: Global, text: &[u8]) -> Result<Option<u8>, Fail> {
+/// Whether this is the code of the first fault below the main model of a text.
+fn has_code(alloc: Global, text: &[u8], code: Option<u8>) -> bool {
     match read(alloc, text) {
-        Ok(library) => library_code(alloc, &library),
-        Err(_) => Err(Fail::from("refused")),
+        Ok(library) => library_has_code(alloc, &library, code),
+        Err(_) => false,
     }
 }
 
@@ -56,12 +57,10 @@ static CODES: [(&[u8], Option<u8>); 7] = [
 ];
 
 #[test]
-fn tells_the_first_code_of_the_models(rt: HostRuntime) -> Result<(), Fail> {
-    for (text, want) in CODES.iter() {
-        let found = code(rt.alloc(), text)?;
-        assert_eq!(rt; found, *want);
+fn tells_the_first_code_of_the_models(rt: HostRuntime) {
+    for (k, (text, code)) in CODES.iter().enumerate() {
+        same(&rt, has_code(rt.alloc(), text, *code), true, k);
     }
-    Ok(())
 }
 
 /// Model `m` of a library, flat, or none where it isn't there or is refused.
@@ -100,9 +99,14 @@ fn flat_gives(
     signals: usize,
     inputs: &[bool],
     outputs: &[bool],
-) -> Result<bool, Fail> {
-    let values = output_values(alloc, flat, inputs)?;
-    Ok(flat.steps().len() == signals && values.as_slice() == outputs)
+) -> bool {
+    if flat.steps().len() != signals || flat.inputs().len() != inputs.len() {
+        return false;
+    }
+    match eval(alloc, flat, inputs) {
+        Ok(values) => values.as_slice() == outputs,
+        Err(_) => false,
+    }
 }
 
 /// Whether the main model of a library does.
@@ -112,22 +116,21 @@ fn library_gives(
     signals: usize,
     inputs: &[bool],
     outputs: &[bool],
-) -> Result<bool, Fail> {
+) -> bool {
     match flat_of(alloc, library, 0) {
         Some(flat) => flat_gives(alloc, &flat, signals, inputs, outputs),
-        None => Err(Fail::from("refused hierarchy")),
+        None => false,
     }
 }
 
 /// Whether a text has so many models, and its main model does.
-fn gives(alloc: Global, row: &Row) -> Result<bool, Fail> {
+fn gives(alloc: Global, row: &Row) -> bool {
     let (text, models, signals, inputs, outputs) = *row;
     match read(alloc, text) {
         Ok(library) => {
-            let given = library_gives(alloc, &library, signals, inputs, outputs)?;
-            Ok(given && library.models() == models)
+            library.models() == models && library_gives(alloc, &library, signals, inputs, outputs)
         }
-        Err(_) => Err(Fail::from("refused")),
+        Err(_) => false,
     }
 }
 
@@ -140,12 +143,10 @@ type Row = (
     &'static [bool],
 );
 
-fn check_values(rt: &(impl Abort + AllocGlobal), rows: &[Row]) -> Result<(), Fail> {
+fn check_values(rt: &(impl Abort + AllocGlobal), rows: &[Row]) {
     for (k, row) in rows.iter().enumerate() {
-        let found = gives(rt.alloc(), row)?;
-        assert!(rt; found, "row {k}");
+        same(rt, gives(rt.alloc(), row), true, k);
     }
-    Ok(())
 }
 
 static COVERS: [Row; 1] = [(
@@ -157,8 +158,8 @@ static COVERS: [Row; 1] = [(
 )];
 
 #[test]
-fn evaluates_covers(rt: HostRuntime) -> Result<(), Fail> {
-    check_values(&rt, COVERS.as_slice())
+fn evaluates_covers(rt: HostRuntime) {
+    check_values(&rt, COVERS.as_slice());
 }
 
 /// Two not-ands in series, the second over the first's output twice, are a conjunction.
@@ -173,8 +174,8 @@ static INSTANCES: [Row; 4] = [
 ];
 
 #[test]
-fn evaluates_hierarchies(rt: HostRuntime) -> Result<(), Fail> {
-    check_values(&rt, INSTANCES.as_slice())
+fn evaluates_hierarchies(rt: HostRuntime) {
+    check_values(&rt, INSTANCES.as_slice());
 }
 
 /// A name as text.
@@ -242,18 +243,18 @@ fn flat_word(alloc: Global, flat: &Flat<'_>) -> Result<String, AllocError> {
 }
 
 /// Whether the signals of a library's main model are these.
-fn library_has(alloc: Global, library: &Library, signals: &str) -> Result<bool, Fail> {
+fn library_has(alloc: Global, library: &Library, signals: &str) -> Result<bool, AllocError> {
     match flat_of(alloc, library, 0) {
         Some(flat) => Ok(flat_word(alloc, &flat)?.as_str() == signals),
-        None => Err(Fail::from("refused hierarchy")),
+        None => Ok(false),
     }
 }
 
 /// Whether the signals of a text's main model are these.
-fn has_signals(alloc: Global, text: &[u8], signals: &str) -> Result<bool, Fail> {
+fn has_signals(alloc: Global, text: &[u8], signals: &str) -> Result<bool, AllocError> {
     match read(alloc, text) {
         Ok(library) => library_has(alloc, &library, signals),
-        Err(_) => Err(Fail::from("refused")),
+        Err(_) => Ok(false),
     }
 }
 
@@ -269,10 +270,8 @@ static SIGNALS: [(&[u8], &str); 2] = [
 ];
 
 #[test]
-fn signals_have_names_places_and_drivers(rt: HostRuntime) -> Result<(), Fail> {
+fn signals_have_names_places_and_drivers(rt: HostRuntime) {
     for (text, want) in SIGNALS.iter() {
-        let found = has_signals(rt.alloc(), text, want)?;
-        assert!(rt; found, "{want}");
+        holds(&rt, has_signals(rt.alloc(), text, want), want);
     }
-    Ok(())
 }

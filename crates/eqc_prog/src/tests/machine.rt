@@ -4,6 +4,7 @@
 //! No core is held where something is asserted: what is read of it is a few numbers, or why there is none.
 ghost use Rattle.std.specs.Prelude.{◌≡◌, IfOk};
 
+use super::same;
 use eqc_core::{Core, Event, ReplayFault, Step, replay};
 use std::alloc::{AllocError, Global};
 
@@ -84,10 +85,18 @@ fn readings_after(
 
 #[test]
 fn a_stocked_core_is_read(rt: HostRuntime) {
-    let same = readings_after(rt.alloc(), &[], &[]);
-    assert_eq!(rt; same, Ok([0, 0, 2, 1, 0]));
-    let look = readings_after(rt.alloc(), &[], &[(0, Step::Look(1))]);
-    assert_eq!(rt; look, Err(ReplayFault::Event(0)));
+    same(
+        &rt,
+        readings_after(rt.alloc(), &[], &[]),
+        Ok([0, 0, 2, 1, 0]),
+        "same",
+    );
+    same(
+        &rt,
+        readings_after(rt.alloc(), &[], &[(0, Step::Look(1))]),
+        Err(ReplayFault::Event(0)),
+        "look",
+    );
 }
 
 /// A worker announces a name that was scanned before.
@@ -107,10 +116,18 @@ static MISSED: [(u32, Step); 11] = [
 
 #[test]
 fn a_name_that_was_scanned_is_missed(rt: HostRuntime) {
-    let last = readings_after(rt.alloc(), &MISSED, &[]);
-    assert_eq!(rt; last, Ok([0, 2, 5, 4, 0]));
-    let more = readings_after(rt.alloc(), &MISSED, &[(1, Step::Up(2))]);
-    assert_eq!(rt; more, Err(ReplayFault::Event(11)));
+    same(
+        &rt,
+        readings_after(rt.alloc(), &MISSED, &[]),
+        Ok([0, 2, 5, 4, 0]),
+        "last",
+    );
+    same(
+        &rt,
+        readings_after(rt.alloc(), &MISSED, &[(1, Step::Up(2))]),
+        Err(ReplayFault::Event(11)),
+        "more",
+    );
 }
 
 /// A worker announces and confirms a name before it is scanned.
@@ -133,12 +150,24 @@ static CONFIRMED: [(u32, Step); 14] = [
 
 #[test]
 fn a_name_that_is_confirmed_stays(rt: HostRuntime) {
-    let last = readings_after(rt.alloc(), &CONFIRMED, &[]);
-    assert_eq!(rt; last, Ok([0, 2, 2, 0, 1]));
-    let down = readings_after(rt.alloc(), &CONFIRMED, &[(0, Step::Down(2))]);
-    assert_eq!(rt; down, Err(ReplayFault::Event(14)));
-    let up = readings_after(rt.alloc(), &CONFIRMED, &[(1, Step::Up(2))]);
-    assert_eq!(rt; up, Ok([0, 2, 3, 0, 1]));
+    same(
+        &rt,
+        readings_after(rt.alloc(), &CONFIRMED, &[]),
+        Ok([0, 2, 2, 0, 1]),
+        "last",
+    );
+    same(
+        &rt,
+        readings_after(rt.alloc(), &CONFIRMED, &[(0, Step::Down(2))]),
+        Err(ReplayFault::Event(14)),
+        "down",
+    );
+    same(
+        &rt,
+        readings_after(rt.alloc(), &CONFIRMED, &[(1, Step::Up(2))]),
+        Ok([0, 2, 3, 0, 1]),
+        "up",
+    );
 }
 
 /// The name that was missed is given back, its slot taken back, and claimed: the announcement of it isn't confirmed.
@@ -155,17 +184,29 @@ static TAKEN_BACK: [(u32, Step); 8] = [
 
 #[test]
 fn a_name_that_was_missed_is_taken_back(rt: HostRuntime) {
-    let last = readings_after(rt.alloc(), &MISSED, &TAKEN_BACK);
-    assert_eq!(rt; last, Ok([0, 2, 2, 0, 0]));
+    same(
+        &rt,
+        readings_after(rt.alloc(), &MISSED, &TAKEN_BACK),
+        Ok([0, 2, 2, 0, 0]),
+        "last",
+    );
 }
 
 #[test]
 fn a_name_that_is_confirmed_is_not_taken_back(rt: HostRuntime) {
     let lock = (0, Step::Lock(1, true));
-    let reclaimed = readings_after(rt.alloc(), &CONFIRMED, &[lock, (0, Step::Reclaim(2))]);
-    assert_eq!(rt; reclaimed, Err(ReplayFault::Event(15)));
-    let claimed = readings_after(rt.alloc(), &CONFIRMED, &[lock, (0, Step::Claim(2, true))]);
-    assert_eq!(rt; claimed, Err(ReplayFault::Event(15)));
+    same(
+        &rt,
+        readings_after(rt.alloc(), &CONFIRMED, &[lock, (0, Step::Reclaim(2))]),
+        Err(ReplayFault::Event(15)),
+        "reclaimed",
+    );
+    same(
+        &rt,
+        readings_after(rt.alloc(), &CONFIRMED, &[lock, (0, Step::Claim(2, true))]),
+        Err(ReplayFault::Event(15)),
+        "claimed",
+    );
 }
 
 /// All readings of a core with 3 workers, 4 nodes and 2 cells, in one number.
@@ -246,11 +287,19 @@ static FIRST: [(u32, Step); 40] = [
 
 #[test]
 fn the_first_random_list_ends_as_elsewhere(rt: HostRuntime) {
-    let last = digest_after(rt.alloc(), &FIRST, &[]);
-    assert_eq!(rt; last, Ok(8636760986609832085));
+    same(
+        &rt,
+        digest_after(rt.alloc(), &FIRST, &[]),
+        Ok(8636760986609832085),
+        "last",
+    );
     let forbidden = (1, Step::SwapCell(0, 3458764513822638082));
-    let more = digest_after(rt.alloc(), &FIRST, &[forbidden]);
-    assert_eq!(rt; more, Err(ReplayFault::Event(40)));
+    same(
+        &rt,
+        digest_after(rt.alloc(), &FIRST, &[forbidden]),
+        Err(ReplayFault::Event(40)),
+        "more",
+    );
 }
 
 /// Another list by chance.
@@ -299,11 +348,19 @@ static SECOND: [(u32, Step); 40] = [
 
 #[test]
 fn the_second_random_list_ends_as_elsewhere(rt: HostRuntime) {
-    let last = digest_after(rt.alloc(), &SECOND, &[]);
-    assert_eq!(rt; last, Ok(3781607041970279465));
+    same(
+        &rt,
+        digest_after(rt.alloc(), &SECOND, &[]),
+        Ok(3781607041970279465),
+        "last",
+    );
     let forbidden = (2, Step::SwapCell(0, 1152923703631151106));
-    let more = digest_after(rt.alloc(), &SECOND, &[forbidden]);
-    assert_eq!(rt; more, Err(ReplayFault::Event(40)));
+    same(
+        &rt,
+        digest_after(rt.alloc(), &SECOND, &[forbidden]),
+        Err(ReplayFault::Event(40)),
+        "more",
+    );
 }
 
 /// A list by chance with steps on stripes, drafts and nodes.
@@ -372,11 +429,19 @@ static THIRD: [(u32, Step); 60] = [
 
 #[test]
 fn the_third_random_list_ends_as_elsewhere(rt: HostRuntime) {
-    let last = digest_after(rt.alloc(), &THIRD, &[]);
-    assert_eq!(rt; last, Ok(15425200296797180857));
+    same(
+        &rt,
+        digest_after(rt.alloc(), &THIRD, &[]),
+        Ok(15425200296797180857),
+        "last",
+    );
     let forbidden = (0, Step::SwapCell(1, 2305848506771832837));
-    let more = digest_after(rt.alloc(), &THIRD, &[forbidden]);
-    assert_eq!(rt; more, Err(ReplayFault::Event(60)));
+    same(
+        &rt,
+        digest_after(rt.alloc(), &THIRD, &[forbidden]),
+        Err(ReplayFault::Event(60)),
+        "more",
+    );
 }
 
 /// Another such list.
@@ -445,9 +510,17 @@ static FOURTH: [(u32, Step); 60] = [
 
 #[test]
 fn the_fourth_random_list_ends_as_elsewhere(rt: HostRuntime) {
-    let last = digest_after(rt.alloc(), &FOURTH, &[]);
-    assert_eq!(rt; last, Ok(4023163620145408469));
+    same(
+        &rt,
+        digest_after(rt.alloc(), &FOURTH, &[]),
+        Ok(4023163620145408469),
+        "last",
+    );
     let forbidden = (1, Step::SwapCell(0, 4611688217452740608));
-    let more = digest_after(rt.alloc(), &FOURTH, &[forbidden]);
-    assert_eq!(rt; more, Err(ReplayFault::Event(60)));
+    same(
+        &rt,
+        digest_after(rt.alloc(), &FOURTH, &[forbidden]),
+        Err(ReplayFault::Event(60)),
+        "more",
+    );
 }

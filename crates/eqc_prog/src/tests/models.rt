@@ -1,8 +1,8 @@
 //! Which models are compared, by their names or their places, and the warnings on models that others contain.
 
-use super::is_text;
 use super::program::{LEAF_FIRST, words_of, writes, written_by};
 use super::streams::{Drain, Feed};
+use super::{holds, is_text};
 use eqc_command::program;
 use std::alloc::AllocError;
 use std::rt::Files;
@@ -97,13 +97,15 @@ static NAMED: [(&str, &str, u8, &str); 15] = [
 ];
 
 #[test]
-fn models_are_chosen_and_warned_of(rt: HostRuntime) -> Result<(), AllocError> {
+fn models_are_chosen_and_warned_of(rt: HostRuntime) {
     for (line, report, status, warnings) in &NAMED {
         let input = Feed::whole("");
-        let found = writes(&rt, line, input, *status, report, warnings)?;
-        assert!(rt; found, "{line}");
+        holds(
+            &rt,
+            writes(&rt, line, input, *status, report, warnings),
+            line,
+        );
     }
-    Ok(())
 }
 
 /// Texts on standard input, and the warnings on them: a container that is compared is none to warn of.
@@ -133,12 +135,10 @@ fn is_warned_of(
 }
 
 #[test]
-fn containers_are_named(rt: HostRuntime) -> Result<(), AllocError> {
+fn containers_are_named(rt: HostRuntime) {
     for (text, warnings) in &CONTAINED {
-        let found = is_warned_of(&rt, text, warnings)?;
-        assert!(rt; found, "{text}");
+        holds(&rt, is_warned_of(&rt, text, warnings), text);
     }
-    Ok(())
 }
 
 /// Whether these leaves are equivalent, with as much of a warning as standard error takes.
@@ -165,14 +165,16 @@ const ON_AND_IN_THIRD: &str =
     "eqc: warning: standard input: model 'f' is compared, which model 'h' contains;";
 
 #[test]
-fn a_stop_is_not_warned_of(rt: HostRuntime) -> Result<(), AllocError> {
+fn a_stop_is_not_warned_of(rt: HostRuntime) {
     for (line, status, report, warnings) in [
         ("eqc --nodes 1", 3, "stopped 71;", ""),
         ("eqc", 0, "equivalent;", ON_AND_IN_THIRD),
     ] {
         let input = Feed::whole(AND_IN_THIRD);
-        let found = writes(&rt, line, input, status, report, warnings)?;
-        assert!(rt; found, "{line}");
+        holds(
+            &rt,
+            writes(&rt, line, input, status, report, warnings),
+            line,
+        );
     }
-    Ok(())
 }

@@ -1,7 +1,7 @@
 //! What is at fault in two netlists that make no pair, and in an order text, worked out by hand.
 
 use super::hierarchies::two_flats;
-use super::{EQUAL, lines};
+use super::{EQUAL, holds, lines};
 use eqc_blif::{Library, read};
 use eqc_check::{Finding, Unmatched, explain_pair};
 use eqc_flat::Flat;
@@ -145,12 +145,10 @@ static PAIRS: [(&str, &str, &str); 7] = [
 ];
 
 #[test]
-fn names_what_one_netlist_lacks(rt: HostRuntime) -> Result<(), AllocError> {
+fn names_what_one_netlist_lacks(rt: HostRuntime) {
     for (name, text, wanted) in &PAIRS {
-        let found = found(rt.alloc(), text, None, wanted)?;
-        assert!(rt; found, "{name}");
+        holds(&rt, found(rt.alloc(), text, None, wanted), name);
     }
-    Ok(())
 }
 
 /// Order texts for the inputs `x` and `y`, each with its name and with what is at fault.
@@ -165,18 +163,19 @@ static ORDERS: [(&str, &str, &str); 7] = [
 ];
 
 #[test]
-fn names_what_an_order_text_has_wrong(rt: HostRuntime) -> Result<(), AllocError> {
+fn names_what_an_order_text_has_wrong(rt: HostRuntime) {
     for (name, order, wanted) in &ORDERS {
-        let found = found_in_order(rt.alloc(), order, wanted)?;
-        assert!(rt; found, "{name}");
+        holds(&rt, found_in_order(rt.alloc(), order, wanted), name);
     }
-    Ok(())
 }
 
 #[test]
 fn names_the_size_of_a_long_order_text(rt: HostRuntime) -> Result<(), AllocError> {
     let order = vec![in rt.alloc(); b'\n'; 16_777_217]?;
-    let found = found(rt.alloc(), EQUAL, Some(&order), "2 16777217 16777216")?;
-    assert!(rt; found);
+    holds(
+        &rt,
+        found(rt.alloc(), EQUAL, Some(&order), "2 16777217 16777216"),
+        "names the size of a long order text",
+    );
     Ok(())
 }

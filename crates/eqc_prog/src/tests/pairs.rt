@@ -6,7 +6,7 @@ ghost use Rattle.std.specs.Prelude.{◌<◌, ◌≤◌, IsTrue, length};
 ghost use Rattle.eqc_tree.specs.Holding.{Keeps};
 
 use super::hierarchies::two_flats;
-use super::{DIFFERENCE, EQUAL, UNEQUAL, lines};
+use super::{DIFFERENCE, EQUAL, UNEQUAL, holds, holds_at, input_names, lines, same};
 use eqc_blif::{Library, read};
 use eqc_check::{Pair, Report, check_plain, compare_output, least_assignment, pair, write_report};
 use eqc_flat::Flat;
@@ -303,13 +303,16 @@ static OUTPUTS: [(&str, &str, usize, u32, &str); 10] = [
 ];
 
 #[test]
-fn outputs_are_compared_one_by_one(rt: HostRuntime) -> Result<(), AllocError> {
+fn outputs_are_compared_one_by_one(rt: HostRuntime) {
     for (text, order, output, nodes, answer) in &OUTPUTS {
         let ask = Ask::Output(*output, *nodes);
-        let found = answers(&rt, rt.alloc(), text, order, ask, answer)?;
-        assert!(rt; found, "{output} {order}");
+        holds_at(
+            &rt,
+            answers(&rt, rt.alloc(), text, order, ask, answer),
+            output,
+            order,
+        );
     }
-    Ok(())
 }
 
 /// Order texts and variables of a pair with the inputs `x` and `y`, and the least assignment that makes the variable true.
@@ -321,31 +324,26 @@ static LITERALS: [(&str, u16, &str); 4] = [
 ];
 
 #[test]
-fn least_assignments_go_by_inputs(rt: HostRuntime) -> Result<(), AllocError> {
+fn least_assignments_go_by_inputs(rt: HostRuntime) {
     for (order, variable, answer) in &LITERALS {
         let ask = Ask::Literal(*variable);
-        let found = answers(&rt, rt.alloc(), EQUAL, order, ask, answer)?;
-        assert!(rt; found, "{variable} {order}");
+        holds_at(
+            &rt,
+            answers(&rt, rt.alloc(), EQUAL, order, ask, answer),
+            variable,
+            order,
+        );
     }
-    Ok(())
 }
 
 /// The variables have the inputs in the opposite order, and the least assignment is that of the inputs all the same.
 #[test]
-fn positions_decide_and_not_variables(rt: HostRuntime) -> Result<(), AllocError> {
-    let found = answers(&rt, rt.alloc(), EQUAL, "y x", Ask::Either, "01")?;
-    assert!(rt; found);
-    Ok(())
-}
-
-/// The names of 512 inputs.
-fn input_names(alloc: Global) -> Result<String, AllocError> {
-    let mut names = String::new(alloc);
-    for k in 0..512 {
-        let name = format!(in alloc; " i{k}")?;
-        names.push_str(&name)?;
-    }
-    Ok(names)
+fn positions_decide_and_not_variables(rt: HostRuntime) {
+    holds(
+        &rt,
+        answers(&rt, rt.alloc(), EQUAL, "y x", Ask::Either, "01"),
+        "positions decide and not variables",
+    );
 }
 
 /// Two characters, 256 times.
@@ -359,7 +357,7 @@ fn repeated(alloc: Global, two: &str) -> Result<String, AllocError> {
 
 /// The constant 0, and the conjunction of every second of 512 inputs.
 fn every_second(alloc: Global) -> Result<String, AllocError> {
-    let names = input_names(alloc)?;
+    let names = input_names(alloc, 512)?;
     let row = repeated(alloc, "1-")?;
     format!(in alloc;
         ".model f;.inputs{names};.outputs z;.names z;.end;.model g;.inputs{names};.outputs z;.names{names} z;{row} 1;"
@@ -402,17 +400,19 @@ fn are_least_of_many<R>(rt: &R, alloc: Global, text: &str) -> Result<(bool, bool
 fn least_assignments_of_many_ones_take_no_nodes(rt: HostRuntime) -> Result<(), AllocError> {
     let text = every_second(rt.alloc())?;
     let found = are_least_of_many(&rt, rt.alloc(), &text)?;
-    assert_eq!(rt; found, (true, true));
+    same(&rt, found, (true, true), "onwards and back");
     Ok(())
 }
 
 /// An order text of three words, which are those of the inputs, behind blanks and between comments.
 #[test]
-fn an_order_text_has_words(rt: HostRuntime) -> Result<(), AllocError> {
+fn an_order_text_has_words(rt: HostRuntime) {
     let order = "  x1\ty # z\r;#;x2\r#w";
-    let found = answers(&rt, rt.alloc(), THREE, order, Ask::Order, "2;1;0;")?;
-    assert!(rt; found);
-    Ok(())
+    holds(
+        &rt,
+        answers(&rt, rt.alloc(), THREE, order, Ask::Order, "2;1;0;"),
+        "an order text has words",
+    );
 }
 
 /// Texts with order texts, and their reports on a store of so many nodes.
@@ -428,11 +428,14 @@ static REPORTS: [(&str, &str, u32, &str); 8] = [
 ];
 
 #[test]
-fn pairs_are_reported(rt: HostRuntime) -> Result<(), AllocError> {
+fn pairs_are_reported(rt: HostRuntime) {
     for (text, order, nodes, answer) in &REPORTS {
         let ask = Ask::Report(*nodes);
-        let found = answers(&rt, rt.alloc(), text, order, ask, answer)?;
-        assert!(rt; found, "{order} {nodes}");
+        holds_at(
+            &rt,
+            answers(&rt, rt.alloc(), text, order, ask, answer),
+            order,
+            nodes,
+        );
     }
-    Ok(())
 }

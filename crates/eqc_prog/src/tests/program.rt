@@ -2,7 +2,7 @@
 //! hand from the rules of the format and of the command line.
 
 use super::streams::{Disk, Feed, NEVER};
-use super::{DIFFERENCE, EQUAL, PERMUTED, UNEQUAL, XOR, is_text};
+use super::{DIFFERENCE, EQUAL, PERMUTED, UNEQUAL, XOR, holds, holds_at, is_text};
 use eqc_command::program;
 use std::alloc::{AllocError, Global};
 use std::process::Abort;
@@ -102,14 +102,17 @@ pub fn reports<RT: AllocGlobal + Threads + Wait + Sync>(
 pub fn check_texts(
     rt: &(impl Abort + AllocGlobal + Threads + Wait + Sync),
     rows: &[(&str, &str, u8)],
-) -> Result<(), AllocError> {
+) {
     for (text, report, status) in rows {
         for line in ["eqc --workers 1", "eqc", "eqc --workers 8"] {
-            let found = reports(rt, line, Feed::whole(text), report, *status)?;
-            assert!(rt; found, "{line}: {text}");
+            holds_at(
+                rt,
+                reports(rt, line, Feed::whole(text), report, *status),
+                line,
+                text,
+            );
         }
     }
-    Ok(())
 }
 
 /// Each command line, which is the first in its row, gives its report and status, where standard input has this text, or
@@ -119,13 +122,11 @@ fn check_lines(
     text: &str,
     fails_at: usize,
     rows: &[(&str, &str, u8)],
-) -> Result<(), AllocError> {
+) {
     for (line, report, status) in rows {
         let input = Feed::new(text, NEVER, fails_at);
-        let found = reports(rt, line, input, report, *status)?;
-        assert!(rt; found, "{line}");
+        holds(rt, reports(rt, line, input, report, *status), line);
     }
-    Ok(())
 }
 
 /// Texts on standard input with their reports and statuses.
@@ -161,8 +162,8 @@ static COMPARED: [(&str, &str, u8); 8] = [
 ];
 
 #[test]
-fn texts_are_compared(rt: HostRuntime) -> Result<(), AllocError> {
-    check_texts(&rt, &COMPARED)
+fn texts_are_compared(rt: HostRuntime) {
+    check_texts(&rt, &COMPARED);
 }
 
 /// Texts on standard input with their refusals, whose status is 2.
@@ -216,8 +217,8 @@ static REFUSED: [(&str, &str, u8); 18] = [
 ];
 
 #[test]
-fn texts_are_refused(rt: HostRuntime) -> Result<(), AllocError> {
-    check_texts(&rt, &REFUSED)
+fn texts_are_refused(rt: HostRuntime) {
+    check_texts(&rt, &REFUSED);
 }
 
 /// Command lines with an order text, and texts on standard input.
@@ -230,14 +231,14 @@ static ORDERED: [(&str, &str, &str, u8); 5] = [
 ];
 
 #[test]
-fn an_order_changes_no_answer(rt: HostRuntime) -> Result<(), AllocError> {
+fn an_order_changes_no_answer(rt: HostRuntime) {
     for (line, text, report, status) in &ORDERED {
-        assert!(rt;
-            reports(&rt, line, Feed::whole(text), report, *status)?,
-            "{line}"
+        holds(
+            &rt,
+            reports(&rt, line, Feed::whole(text), report, *status),
+            line,
         );
     }
-    Ok(())
 }
 
 /// Command lines with numbers.
@@ -262,8 +263,8 @@ static NUMBERED: [(&str, &str, u8); 9] = [
 ];
 
 #[test]
-fn numbers_are_options(rt: HostRuntime) -> Result<(), AllocError> {
-    check_lines(&rt, UNEQUAL, NEVER, &NUMBERED)
+fn numbers_are_options(rt: HostRuntime) {
+    check_lines(&rt, UNEQUAL, NEVER, &NUMBERED);
 }
 
 /// Command lines with files.
@@ -296,7 +297,7 @@ static MIXED: [(&str, &str, u8); 7] = [
 
 /// Standard input fails here, and isn't read.
 #[test]
-fn files_are_compared(rt: HostRuntime) -> Result<(), AllocError> {
-    check_lines(&rt, "", 0, &FILED)?;
-    check_lines(&rt, "", 0, &MIXED)
+fn files_are_compared(rt: HostRuntime) {
+    check_lines(&rt, "", 0, &FILED);
+    check_lines(&rt, "", 0, &MIXED);
 }

@@ -2,7 +2,7 @@
 
 use super::program::{reports, words_of, writes, written_by};
 use super::streams::{Drain, Endless, Feed, NEVER};
-use super::{DIFFERENCE, EQUAL, UNEQUAL, is_text};
+use super::{DIFFERENCE, EQUAL, UNEQUAL, holds, holds_at, is_text};
 use eqc_command::program;
 use std::alloc::{AllocError, Global};
 use std::process::Abort;
@@ -26,12 +26,14 @@ static FAULTS: [&str; 11] = [
 ];
 
 #[test]
-fn files_that_fail_are_faults(rt: HostRuntime) -> Result<(), AllocError> {
+fn files_that_fail_are_faults(rt: HostRuntime) {
     for line in FAULTS.iter() {
-        let found = writes(&rt, line, Feed::whole(EQUAL), 4, "", "fault 91;")?;
-        assert!(rt; found, "{line}");
+        holds(
+            &rt,
+            writes(&rt, line, Feed::whole(EQUAL), 4, "", "fault 91;"),
+            line,
+        );
     }
-    Ok(())
 }
 
 /// Bad command lines.
@@ -65,12 +67,10 @@ fn is_told(
 }
 
 #[test]
-fn bad_command_lines_are_told(rt: HostRuntime) -> Result<(), AllocError> {
+fn bad_command_lines_are_told(rt: HostRuntime) {
     for line in BAD_WORDS.iter() {
-        let told = is_told(&rt, line)?;
-        assert!(rt; told, "{line}");
+        holds(&rt, is_told(&rt, line), line);
     }
-    Ok(())
 }
 
 /// The numbers of all refusals, stops and faults.
@@ -105,19 +105,16 @@ static OPTIONS: [&str; 9] = [
 ];
 
 /// Each number, each status and each option stands in the help.
-fn check_help(rt: &(impl Abort + AllocGlobal), help: &str) -> Result<(), AllocError> {
+fn check_help(rt: &(impl Abort + AllocGlobal), help: &str) {
     for number in NUMBERS.iter() {
-        let found = has_number(rt.alloc(), help, *number)?;
-        assert!(rt; found, "{number}");
+        holds(rt, has_number(rt.alloc(), help, *number), number);
     }
     for status in 0..=5 {
-        let found = has_status(rt.alloc(), help, status)?;
-        assert!(rt; found, "{status}");
+        holds(rt, has_status(rt.alloc(), help, status), status);
     }
     for option in OPTIONS.iter() {
-        assert!(rt; help.contains(option), "{option}");
+        holds(rt, Ok(help.contains(option)), option);
     }
-    Ok(())
 }
 
 /// What is written on standard output, where nothing else is and the status is 0.
@@ -147,7 +144,8 @@ fn answer_text(
 fn help_has_every_number(rt: HostRuntime) -> Result<(), AllocError> {
     let help = answer_text(&rt, "eqc --nodes 5 --help")?;
     let help = help.expect(&rt, "a text");
-    check_help(&rt, help.as_str())
+    check_help(&rt, help.as_str());
+    Ok(())
 }
 
 /// Whether a text names the program, the toolchain and what is proved.
@@ -169,12 +167,10 @@ fn tells_version(
 }
 
 #[test]
-fn the_version_says_what_is_proved(rt: HostRuntime) -> Result<(), AllocError> {
+fn the_version_says_what_is_proved(rt: HostRuntime) {
     for line in ["eqc --version", "eqc -V", "eqc or --version"] {
-        let told = tells_version(&rt, line)?;
-        assert!(rt; told, "{line}");
+        holds(&rt, tells_version(&rt, line), line);
     }
-    Ok(())
 }
 
 /// Command lines, and for a writer how many bytes it takes at most, which write fails and whether it flushes; then
@@ -207,7 +203,7 @@ fn a_failed_write_is_a_fault(rt: HostRuntime) -> Result<(), AllocError> {
     for (line, step, fails_at, flushes, written) in CUT_OFF.iter() {
         let words = words_of(rt.alloc(), line)?;
         let found = is_write_fault(&rt, &words, *step, *fails_at, *flushes, written);
-        assert!(rt; found, "{line}, {step}, {fails_at}");
+        holds_at(&rt, Ok(found), step, written);
     }
     Ok(())
 }
@@ -235,7 +231,7 @@ fn a_failed_line_on_standard_error_changes_nothing(rt: HostRuntime) -> Result<()
 }
 
 #[test]
-fn a_failed_read_writes_nothing(rt: HostRuntime) -> Result<(), AllocError> {
+fn a_failed_read_writes_nothing(rt: HostRuntime) {
     let short = ".model f;.end;.model g;.end;";
     let reads = short.len() + 1;
     for call in 0..=reads {
@@ -244,19 +240,26 @@ fn a_failed_read_writes_nothing(rt: HostRuntime) -> Result<(), AllocError> {
         } else {
             (0, "equivalent;", "")
         };
-        let found = writes(&rt, "eqc", Feed::new(short, 1, call), status, out, err)?;
-        assert!(rt; found, "at {call}");
+        holds(
+            &rt,
+            writes(&rt, "eqc", Feed::new(short, 1, call), status, out, err),
+            call,
+        );
     }
-    let found = writes(&rt, "eqc", Feed::new(UNEQUAL, 70, 1), 4, "", "fault 91;")?;
-    assert!(rt; found);
-    Ok(())
+    holds(
+        &rt,
+        writes(&rt, "eqc", Feed::new(UNEQUAL, 70, 1), 4, "", "fault 91;"),
+        "a failed read writes nothing",
+    );
 }
 
 #[test]
-fn a_text_may_come_byte_by_byte(rt: HostRuntime) -> Result<(), AllocError> {
-    let found = reports(&rt, "eqc", Feed::new(UNEQUAL, 1, NEVER), DIFFERENCE, 1)?;
-    assert!(rt; found);
-    Ok(())
+fn a_text_may_come_byte_by_byte(rt: HostRuntime) {
+    holds(
+        &rt,
+        reports(&rt, "eqc", Feed::new(UNEQUAL, 1, NEVER), DIFFERENCE, 1),
+        "a text may come byte by byte",
+    );
 }
 
 /// Whether a reader without end is refused, and nothing else is told.

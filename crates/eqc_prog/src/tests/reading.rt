@@ -10,12 +10,12 @@
 //! where `mux.v` has a module `top` with one instance of `mux4`, whose body is `assign y = d[s]; assign n = ~s;`.
 ghost use Rattle.std.specs.Prelude.{◌<◌, length};
 
+use super::{holds, same};
 use eqc_blif::{
     Cover, Instance, Library, Name, Rows, allows, cover_value, is_on, is_on_set, read, row_matches,
 };
 use std::alloc::{AllocError, Global};
 use std::process::Abort;
-use std::test::Fail;
 
 type Row = (&'static str, &'static [u8], &'static [u8]);
 
@@ -339,30 +339,30 @@ fn answer(alloc: Global, text: &[u8]) -> Result<Vec<u8>, AllocError> {
     }
 }
 
+/// Whether a text gives this answer.
+fn gives(alloc: Global, text: &[u8], want: &[u8]) -> Result<bool, AllocError> {
+    Ok(answer(alloc, text)?.as_slice() == want)
+}
+
 /// Each text gives its answer.
-fn check_rows(rt: &(impl Abort + AllocGlobal), rows: &[Row]) -> Result<(), AllocError> {
+fn check_rows(rt: &(impl Abort + AllocGlobal), rows: &[Row]) {
     for (name, text, want) in rows {
-        assert_eq!(rt; answer(rt.alloc(), text)?.as_slice(), *want, "{name}");
+        holds(rt, gives(rt.alloc(), text, want), name);
     }
-    Ok(())
 }
 
 #[test]
-fn reads_each_rule(rt: HostRuntime) -> Result<(), AllocError> {
-    check_rows(&rt, ROWS.as_slice())
+fn reads_each_rule(rt: HostRuntime) {
+    check_rows(&rt, ROWS.as_slice());
 }
 
 #[test]
-fn reads_what_others_write(rt: HostRuntime) -> Result<(), AllocError> {
-    check_rows(&rt, WRITTEN.as_slice())
+fn reads_what_others_write(rt: HostRuntime) {
+    check_rows(&rt, WRITTEN.as_slice());
 }
 
 /// Each beginning of a text gives the answer of the last step that is not past it.
-fn check_beginnings(
-    rt: &(impl Abort + AllocGlobal),
-    text: &[u8],
-    steps: &[(usize, &[u8])],
-) -> Result<(), AllocError> {
+fn check_beginnings(rt: &(impl Abort + AllocGlobal), text: &[u8], steps: &[(usize, &[u8])]) {
     let mut want: &[u8] = &[];
     for len in 0..text.len() + 1 {
         for (from, answer) in steps.iter() {
@@ -370,44 +370,41 @@ fn check_beginnings(
                 want = *answer;
             }
         }
-        assert_eq!(rt;
-            answer(rt.alloc(), &text[..len])?.as_slice(),
-            want,
-            "the first {len} bytes"
-        );
+        holds(rt, gives(rt.alloc(), &text[..len], want), len);
     }
-    Ok(())
 }
 
 #[test]
-fn reads_each_beginning(rt: HostRuntime) -> Result<(), AllocError> {
-    check_beginnings(&rt, LATCH, LATCH_STEPS.as_slice())?;
-    check_beginnings(&rt, CARRIAGE, CARRIAGE_STEPS.as_slice())
+fn reads_each_beginning(rt: HostRuntime) {
+    check_beginnings(&rt, LATCH, LATCH_STEPS.as_slice());
+    check_beginnings(&rt, CARRIAGE, CARRIAGE_STEPS.as_slice());
 }
 
 #[test]
-fn refuses_a_long_text(rt: HostRuntime) -> Result<(), Fail> {
-    let text = vec![in rt.alloc(); b'\n'; 16_777_217]?;
-    assert_eq!(rt; answer(rt.alloc(), &text)?.as_slice(), b"0 2".as_slice());
-    assert_eq!(rt;
-        answer(rt.alloc(), &text[1..])?.as_slice(),
-        b"0 13".as_slice()
-    );
-    Ok(())
+fn refuses_a_long_text(rt: HostRuntime) {
+    let text = vec![in rt.alloc(); b'\n'; 16_777_217].expect(&rt, "memory");
+    holds(&rt, gives(rt.alloc(), &text, b"0 2"), "too long");
+    holds(&rt, gives(rt.alloc(), &text[1..], b"0 13"), "the longest");
 }
 
-/// Where the library of a text has a model of this name.
-fn found(alloc: Global, text: &[u8], name: &[u8]) -> Result<Option<usize>, Fail> {
-    let library = read(alloc, text).ok().ok_or("refused")?;
-    let name = Name::new(alloc, name)?;
-    Ok(library.find(&name))
+/// Whether the library of a text has a model of this name there.
+fn is_there(alloc: Global, text: &[u8], name: &Name, place: Option<usize>) -> bool {
+    match read(alloc, text) {
+        Ok(library) => library.find(name) == place,
+        Err(_) => false,
+    }
 }
+
+/// Names, and where the library of a text has a model of that name.
+static PLACES: [(&[u8], Option<usize>); 2] = [(b"g", Some(1)), (b"h", None)];
 
 #[test]
-fn finds_models(rt: HostRuntime) -> Result<(), Fail> {
-    let text = b".model f\n.end\n.model g\n";
-    assert_eq!(rt; found(rt.alloc(), text, b"g")?, Some(1));
-    assert_eq!(rt; found(rt.alloc(), text, b"h")?, None);
+fn finds_models(rt: HostRuntime) -> Result<(), AllocError> {
+    for (k, (name, place)) in PLACES.iter().enumerate() {
+        let name = Name::new(rt.alloc(), name)?;
+        let found = is_there(rt.alloc(), b".model f\n.end\n.model g\n", &name, *place);
+        same(&rt, found, true, k);
+    }
     Ok(())
 }
 
@@ -422,11 +419,12 @@ static MATCHES: [(&[u8], [bool; 2], bool, bool); 5] = [
 
 #[test]
 fn rows_match_values(rt: HostRuntime) {
-    for (row, values, matches, on) in MATCHES.iter() {
-        assert_eq!(rt; row_matches(row, values.as_slice()), *matches);
-        assert_eq!(rt; is_on(row), *on);
+    for (k, (row, values, matches, on)) in MATCHES.iter().enumerate() {
+        let found = (row_matches(row, values.as_slice()), is_on(row));
+        same(&rt, found, (*matches, *on), k);
     }
-    assert!(rt; allows(b'-', true) && allows(b'1', true) && !allows(b'0', true));
+    let allowed = (allows(b'-', true), allows(b'1', true), allows(b'0', true));
+    same(&rt, allowed, (true, true, false), "bytes");
 }
 
 /// The value of the one cover of a text under these values of its columns, and whether its rows end in `1`.
@@ -453,8 +451,8 @@ static COVERS: [(&[u8], [bool; 2], bool, bool); 4] = [
 
 #[test]
 fn covers_have_values(rt: HostRuntime) {
-    for (text, values, value, on) in COVERS.iter() {
+    for (k, (text, values, value, on)) in COVERS.iter().enumerate() {
         let found = cover_of(rt.alloc(), text, values.as_slice());
-        assert_eq!(rt; found, Some((*value, *value, *on)));
+        same(&rt, found, Some((*value, *value, *on)), k);
     }
 }

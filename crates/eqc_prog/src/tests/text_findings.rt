@@ -1,9 +1,8 @@
 //! What is at fault in a text that is refused, worked out by hand.
 
+use super::holds;
 use eqc_blif::{Finding, Name, explain};
 use std::alloc::{AllocError, Global};
-use std::process::Abort;
-use std::test::Fail;
 
 /// A code with a name behind it.
 fn named(alloc: Global, code: &[u8], name: &Name) -> Result<Vec<u8>, AllocError> {
@@ -157,19 +156,24 @@ static TEXTS: [(&'static str, &'static [u8], &'static [u8]); 28] = [
     ),
 ];
 
-#[test]
-fn names_what_is_at_fault(rt: HostRuntime) -> Result<(), Fail> {
-    for (_name, text, wanted) in TEXTS.iter() {
-        let out = found(rt.alloc(), text)?;
-        assert_eq!(rt; out.as_slice(), *wanted);
-    }
-    Ok(())
+/// Whether this is at fault in a text.
+fn has(alloc: Global, text: &[u8], wanted: &[u8]) -> Result<bool, AllocError> {
+    Ok(found(alloc, text)?.as_slice() == wanted)
 }
 
 #[test]
-fn names_the_size_of_a_long_text(rt: HostRuntime) -> Result<(), Fail> {
-    let text = vec![in rt.alloc(); b'\n'; 16_777_217]?;
-    let out = found(rt.alloc(), &text)?;
-    assert_eq!(rt; out.as_slice(), b"2 16777217 16777216".as_slice());
-    Ok(())
+fn names_what_is_at_fault(rt: HostRuntime) {
+    for (name, text, wanted) in TEXTS.iter() {
+        holds(&rt, has(rt.alloc(), text, wanted), name);
+    }
+}
+
+#[test]
+fn names_the_size_of_a_long_text(rt: HostRuntime) {
+    let text = vec![in rt.alloc(); b'\n'; 16_777_217].expect(&rt, "memory");
+    holds(
+        &rt,
+        has(rt.alloc(), &text, b"2 16777217 16777216"),
+        "too long",
+    );
 }

@@ -8,7 +8,7 @@ use super::hierarchies::two_flats;
 use super::pairs::report_word;
 use super::program::reports;
 use super::streams::Feed;
-use super::{DIFFERENCE, EQUAL, UNEQUAL, is_text, lines};
+use super::{DIFFERENCE, EQUAL, UNEQUAL, holds, holds_at, is_text, lines};
 use eqc_blif::{Library, read};
 use eqc_check::{
     Gate, NoGate, Options, Pair, Report, Status, Texts, check, check_with, options_fault, pair, run,
@@ -42,14 +42,12 @@ fn are_reported_by(
 }
 
 #[test]
-fn workers_and_forks_change_no_report(rt: HostRuntime) -> Result<(), AllocError> {
+fn workers_and_forks_change_no_report(rt: HostRuntime) {
     for workers in [1, 2, 8, 64] {
         for forks in [0, 16] {
-            let found = are_reported_by(&rt, workers, forks)?;
-            assert!(rt; found, "{workers} {forks}");
+            holds_at(&rt, are_reported_by(&rt, workers, forks), workers, forks);
         }
     }
-    Ok(())
 }
 
 /// Two outputs that differ, which the second netlist declares in another order.
@@ -264,12 +262,14 @@ fn are_compared_at_once<R: Threads + Wait + Sync>(
 }
 
 #[test]
-fn two_outputs_are_compared_at_once(rt: HostRuntime) -> Result<(), AllocError> {
+fn two_outputs_are_compared_at_once(rt: HostRuntime) {
     for way in [Way::Workers(2), Way::Members] {
-        let found = are_compared_at_once(&rt, rt.alloc(), way)?;
-        assert!(rt; found);
+        holds(
+            &rt,
+            are_compared_at_once(&rt, rt.alloc(), way),
+            "two outputs are compared at once",
+        );
     }
-    Ok(())
 }
 
 /// Five outputs. The second, the fourth and the last differ.
