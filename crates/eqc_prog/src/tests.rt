@@ -73,11 +73,16 @@ fn lines(alloc: Global, text: &str) -> Result<Vec<u8>, AllocError> {
 
 /// Whether these are the bytes of a text.
 fn is_text(bytes: &[u8], text: &str) -> bool {
-    bytes.len() == text.len()
-        && bytes
-            .iter()
-            .zip(text.as_bytes())
-            .all(|(b, t)| *b == if *t == b';' { b'\n' } else { *t })
+    if bytes.len() != text.len() {
+        return false;
+    }
+    for (byte, shown) in bytes.iter().zip(text.as_bytes()) {
+        let meant = if *shown == b';' { b'\n' } else { *shown };
+        if *byte != meant {
+            return false;
+        }
+    }
+    true
 }
 
 /// Ends the test, and names the row and its turn, where the row doesn't hold.
