@@ -27,3 +27,4 @@ pub mod TicketCounts
 pub mod TicketSteps
 pub mod ShareLemmas
 pub mod VerdictPlaces
+pub mod AlikeLaws

@@ -18,5 +18,6 @@ pub mod Running
 pub mod AnswerLaws
 pub mod Ticket
 pub mod Verdicts
+pub mod Alike
 pub mod Warning
 pub mod Telling

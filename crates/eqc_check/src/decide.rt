@@ -12,8 +12,7 @@ use crate::choice::{Main, ModelNames, choose, read_main};
 use crate::options::Options;
 use crate::report::Report;
 use crate::warning::{Warnings, warnings_in_one, warnings_in_two};
-use crate::workers::check;
-use crate::workers::gate::NoGate;
+use crate::workers::check_alike;
 use eqc_blif::{Library, Refusal};
 use eqc_flat::{Fault, Flat, flatten};
 use eqc_pair::{Refused, Side, pair, recall_laws};
@@ -47,7 +46,7 @@ fn flat_report<R: Threads + Wait + Sync>(
     ensures stop { IfErr result (MayStop (flat_answer first.now second.now (option_copied order.entry))) }
 {
     match pair(alloc, first, second, order) {
-        Ok(pair) => check(rt, alloc, &pair, options, &NoGate),
+        Ok(pair) => check_alike(rt, alloc, &pair, options),
         Err(Refused { side, line, code }) => refused(side, Refusal { line, code }),
     }
 }

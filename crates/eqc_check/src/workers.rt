@@ -2,6 +2,7 @@
 //! that differs is the same whichever member drew it.
 //!
 //! - `ticket`, the word from which outputs are drawn; `member`, what a member compares with; `gate`, what is told of it
+//! - `task`, what members do; `alike`, outputs for which they need do nothing
 //! - `group`, members that share a seat; `share`, members in threads and what they give back; `verdict`, all of it put in order
 ghost use Rattle.std.specs.Prelude.{◌≡◌, ◌≤◌, None, length, vec_len, IfOk, IfErr};
 ghost use Rattle.std.specs.List.{All};
@@ -10,24 +11,27 @@ ghost use Rattle.eqc_check.specs.Report.{comparison};
 ghost use Rattle.eqc_check.specs.ReportView.{report_of};
 ghost use Rattle.eqc_check.specs.Options.{options_code};
 ghost use Rattle.eqc_check.specs.Comparing.{netlist_of, IsFirstFound};
-ghost use Rattle.eqc_check.specs.Turns.{AreTurns};
+ghost use Rattle.eqc_check.specs.Alike.{AreEqual, IsTask};
 ghost use Rattle.eqc_check.specs.Verdicts.{AreMembers, AreVerdicts, IsShare};
 
+mod alike;
 pub(crate) mod gate;
 mod group;
 mod member;
 mod share;
+pub(crate) mod task;
 mod ticket;
 mod verdict;
 
-use crate::build::moments::Schedules;
 use crate::checking::found_report;
 use crate::compare::schedules_of;
 use crate::options::Options;
 use crate::report::Report;
-use crate::workers::gate::Gate;
+use crate::workers::alike::{alike_or_none, are_all_marked};
+use crate::workers::gate::{Gate, NoGate};
 use crate::workers::group::Group;
 use crate::workers::share::{Share, work_together};
+use crate::workers::task::Task;
 use crate::workers::ticket::{Key, TicketTable, open, settle};
 use crate::workers::verdict::{Verdict, first_of, in_order};
 use eqc_pair::Pair;
@@ -49,17 +53,17 @@ fn verdicts_of(table: TicketTable, pair: &Pair<'_>, share: Share) -> Vec<Verdict
     verdicts
 }
 
-/// The verdicts of all outputs, by these members, where it is known when each signal is used.
+/// The verdicts of all outputs, by these members with this task.
 fn all_verdicts<R: Threads + Wait + Sync, D: Diagrams<R> + Send + Drop, G: Gate<R> + Sync>(
     rt: &R,
     alloc: Global,
     pair: &Pair<'_>,
-    schedules: &Schedules,
+    task: &Task,
     members: Vec<D>,
     gate: &G,
 ) -> Result<Vec<Verdict>, Stop>
     requires members { AreMembers D.holding pair.now members }
-    requires turns { AreTurns pair.now schedules.now }
+    requires task { IsTask pair.now task.now }
     ensures { IfOk result (λ verdicts. AreVerdicts pair.now verdicts.items) }
 {
     let key = Key {
@@ -74,25 +78,28 @@ fn all_verdicts<R: Threads + Wait + Sync, D: Diagrams<R> + Send + Drop, G: Gate<
         seat,
         members,
     };
-    let share = work_together(rt, alloc, pair, schedules, &table.shared, gate, group)?;
+    let share = work_together(rt, alloc, pair, task, &table.shared, gate, group)?;
     Ok(verdicts_of(table, pair, share))
 }
 
-/// The verdicts of all outputs, by these members.
+/// The verdicts of all outputs, by these members. Outputs that are marked as equal are not compared.
 fn scheduled_verdicts<R: Threads + Wait + Sync, D: Diagrams<R> + Send + Drop, G: Gate<R> + Sync>(
     rt: &R,
     alloc: Global,
     pair: &Pair<'_>,
     members: Vec<D>,
+    equal: Vec<bool>,
     gate: &G,
 ) -> Result<Vec<Verdict>, Stop>
     requires members { AreMembers D.holding pair.now members }
+    requires equal { AreEqual pair.now equal.items }
     ensures { IfOk result (λ verdicts. AreVerdicts pair.now verdicts.items) }
 {
-    match schedules_of(alloc, pair) {
-        Ok(schedules) => all_verdicts(rt, alloc, pair, &schedules, members, gate),
-        Err(_) => Err(Stop::Memory),
-    }
+    let Ok(schedules) = schedules_of(alloc, pair) else {
+        return Err(Stop::Memory);
+    };
+    let task = Task { schedules, equal };
+    all_verdicts(rt, alloc, pair, &task, members, gate)
 }
 
 /// The first output that differs, by its position, with its least assignment, as verdicts of all outputs tell it.
@@ -110,19 +117,44 @@ fn first_by(
     }
 }
 
-/// The first output that differs, by its position, with its least assignment.
+/// The first output that differs, by its position, with its least assignment, where outputs that are marked as equal are
+/// not compared.
 fn first_found<R: Threads + Wait + Sync, D: Diagrams<R> + Send + Drop, G: Gate<R> + Sync>(
     rt: &R,
     alloc: Global,
     pair: &Pair<'_>,
     members: Vec<D>,
+    equal: Vec<bool>,
     gate: &G,
 ) -> Result<Option<(usize, Vec<bool>)>, Stop>
     requires members { AreMembers D.holding pair.now members }
+    requires equal { AreEqual pair.now equal.items }
     ensures found { IfOk result (IsFirstFound pair.now) }
 {
-    let verdicts = scheduled_verdicts(rt, alloc, pair, members, gate)?;
+    let verdicts = scheduled_verdicts(rt, alloc, pair, members, equal, gate)?;
     first_by(alloc, pair, verdicts)
+}
+
+/// The report by these members, where outputs that are marked as equal are not compared, or why it stopped.
+fn check_unmarked<R: Threads + Wait + Sync, D: Diagrams<R> + Send + Drop, G: Gate<R> + Sync>(
+    rt: &R,
+    alloc: Global,
+    pair: &Pair<'_>,
+    members: Vec<D>,
+    equal: Vec<bool>,
+    gate: &G,
+) -> Result<Report, Stop>
+    requires some { 1 ≤ vec_len members }
+    requires variables { All (λ d. length pair.now.first.inputs ≤ (D.holding d).variables) members.items }
+    requires equal { AreEqual pair.now equal.items }
+    ensures report { IfOk result (λ report. report_of report ≡ comparison (netlist_of pair.now.first) (netlist_of pair.now.second)) }
+{
+    let most = u32::MAX as usize;
+    if members.len() > most || pair.first().outputs().len() > most {
+        return Err(Stop::Memory);
+    }
+    let found = first_found(rt, alloc, pair, members, equal, gate)?;
+    found_report(alloc, pair, found)
 }
 
 /// Compares a pair by these members, of which each runs in a thread of its own: the report, or why it stopped.
@@ -144,12 +176,7 @@ pub fn check_with<R: Threads + Wait + Sync, D: Diagrams<R> + Send + Drop, G: Gat
     requires variables { All (λ d. length pair.now.first.inputs ≤ (D.holding d).variables) members.items }
     ensures report { IfOk result (λ report. report_of report ≡ comparison (netlist_of pair.now.first) (netlist_of pair.now.second)) }
 {
-    let most = u32::MAX as usize;
-    if members.len() > most || pair.first().outputs().len() > most {
-        return Err(Stop::Memory);
-    }
-    let found = first_found(rt, alloc, pair, members, gate)?;
-    found_report(alloc, pair, found)
+    check_unmarked(rt, alloc, pair, members, Vec::new(alloc), gate)
 }
 
 /// A store of `nodes` nodes for each worker.
@@ -169,6 +196,19 @@ fn stores(alloc: Global, inputs: u16, nodes: u32, workers: u32) -> Result<Vec<Pl
     Ok(all)
 }
 
+/// The stores of the workers that the options ask for, with a variable for each input of a pair.
+fn stores_for(alloc: Global, pair: &Pair<'_>, options: &Options) -> Result<Vec<Plain>, Stop>
+    requires { options_code options.now ≡ None }
+    ensures some { IfOk result (λ all. 1 ≤ vec_len all) }
+    ensures variables { IfOk result (λ all. All (λ p. length pair.now.first.inputs ≤ (⟦<Plain as References>⟧.holding p).variables) all.items) }
+    ensures only { IfErr result (λ s. s ≡ Stop.Memory) }
+{
+    pair.recall_laws();
+    let Options { workers, nodes, .. } = *options;
+    let inputs = pair.first().inputs().len() as u16;
+    stores(alloc, inputs, nodes, workers)
+}
+
 /// Compares a pair by as many workers as the options say, each in a thread of its own with a store of `nodes` nodes: the
 /// report, or why it stopped.
 ///
@@ -185,9 +225,25 @@ pub fn check<R: Threads + Wait + Sync, G: Gate<R> + Sync>(
     requires { options_code options.now ≡ None }
     ensures report { IfOk result (λ report. report_of report ≡ comparison (netlist_of pair.now.first) (netlist_of pair.now.second)) }
 {
-    pair.recall_laws();
-    let Options { workers, nodes, .. } = *options;
-    let inputs = pair.first().inputs().len() as u16;
-    let members = stores(alloc, inputs, nodes, workers)?;
+    let members = stores_for(alloc, pair, options)?;
     check_with(rt, alloc, pair, members, gate)
+}
+
+/// Compares a pair as `check` does, but compares no output whose two signals have one structure: it is equal, and where all
+/// outputs are so, no store and no thread is made. Where memory for structures is refused, every output is compared.
+pub(crate) fn check_alike<R: Threads + Wait + Sync>(
+    rt: &R,
+    alloc: Global,
+    pair: &Pair<'_>,
+    options: &Options,
+) -> Result<Report, Stop>
+    requires { options_code options.now ≡ None }
+    ensures report { IfOk result (λ report. report_of report ≡ comparison (netlist_of pair.now.first) (netlist_of pair.now.second)) }
+{
+    let equal = alike_or_none(alloc, pair);
+    if are_all_marked(pair, &equal) {
+        return found_report(alloc, pair, None);
+    }
+    let members = stores_for(alloc, pair, options)?;
+    check_unmarked(rt, alloc, pair, members, equal, &NoGate)
 }

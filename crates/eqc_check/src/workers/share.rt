@@ -1,13 +1,14 @@
 //! Members that draw outputs and compare them, each in a thread of its own, and what they give back.
 ghost use Rattle.std.specs.Prelude.{◌≡◌, ◌≢◌, ◌+◌, ◌<◌, ◌≤◌, IsTrue, length, vec_len, IfOk, IfErr};
 ghost use Rattle.std.specs.Thread.{IsSync, IsSend};
-ghost use Rattle.eqc_check.specs.Turns.{AreKept, AreTurns};
+ghost use Rattle.eqc_check.specs.Turns.{AreKept};
+ghost use Rattle.eqc_check.specs.Alike.{IsTask};
 ghost use Rattle.eqc_check.specs.Verdicts.{DiffersBefore, IsFoundAt, IsShare, IsFresh, AreSeated};
 
-use crate::build::moments::Schedules;
 use crate::workers::gate::Gate;
 use crate::workers::group::{Group, halves};
 use crate::workers::member::{self, Member};
+use crate::workers::task::{Task, is_marked};
 use crate::workers::ticket::{Drawer, Words, draw, take_in};
 use crate::workers::verdict::{Finding, Verdict};
 use eqc_pair::Pair;
@@ -24,12 +25,13 @@ pub(crate) struct Share {
     pub verdicts: Vec<Verdict>,
 }
 
-/// What a member finds at an output that it drew. Where it knows of a difference before, it need not compare.
+/// What a member finds at an output that it drew. Where it knows of a difference before, or that the output is equal, it
+/// need not compare.
 fn finding<R, D: Diagrams<R>, G: Gate<R>>(
     rt: &R,
     alloc: Global,
     pair: &Pair<'_>,
-    schedules: &Schedules,
+    task: &Task,
     gate: &G,
     worker: u32,
     member: &mut Member<D>,
@@ -37,7 +39,7 @@ fn finding<R, D: Diagrams<R>, G: Gate<R>>(
     behind: bool,
 ) -> Result<Finding, Stop>
     requires kept { AreKept D.entry pair.now (D.holding member.old.diagrams) member.old.tables }
-    requires turns { AreTurns pair.now schedules.now }
+    requires task { IsTask pair.now task.now }
     requires output { output < length pair.now.first.outputs }
     requires knows { IsTrue behind → DiffersBefore pair.now output }
     ensures found { IfOk result (λ found. IsFoundAt pair.now output found) }
@@ -47,8 +49,11 @@ fn finding<R, D: Diagrams<R>, G: Gate<R>>(
     if behind {
         return Ok(Finding::Behind);
     }
+    if is_marked(&task.equal, output as usize) {
+        return Ok(Finding::Equal);
+    }
     gate.enter(rt, worker, output);
-    match member::compare(rt, alloc, member, pair, schedules, output)? {
+    match member::compare(rt, alloc, member, pair, &task.schedules, output)? {
         None => Ok(Finding::Equal),
         Some(values) => Ok(Finding::Differs(values)),
     }
@@ -60,7 +65,7 @@ fn draw_all<R, D: Diagrams<R>, G: Gate<R>>(
     rt: &R,
     alloc: Global,
     pair: &Pair<'_>,
-    schedules: &Schedules,
+    task: &Task,
     words: &Words,
     gate: &G,
     worker: u32,
@@ -69,7 +74,7 @@ fn draw_all<R, D: Diagrams<R>, G: Gate<R>>(
 ) -> Result<Share, Stop>
     requires fresh { IsFresh pair.now words.now.table_id words.now.key 1 seat }
     requires kept { AreKept D.entry pair.now (D.holding member.old.diagrams) member.old.tables }
-    requires turns { AreTurns pair.now schedules.now }
+    requires task { IsTask pair.now task.now }
     ensures share { IfOk result (λ s. IsShare pair.now words.now.table_id 1 s.seat s.verdicts.items) }
     ensures only { IfErr result (λ s. s ≢ Stop.Threads) }
     ensures kept { AreKept D.entry pair.now (D.holding member.new.diagrams) member.new.tables }
@@ -85,9 +90,7 @@ fn draw_all<R, D: Diagrams<R>, G: Gate<R>>(
             break;
         }
         let output = number as u32;
-        let finding = finding(
-            rt, alloc, pair, schedules, gate, worker, member, output, behind,
-        )?;
+        let finding = finding(rt, alloc, pair, task, gate, worker, member, output, behind)?;
         behind = finding.tells_difference();
         let Ok(()) = verdicts.push(Verdict { output, finding }) else {
             return Err(Stop::Memory);
@@ -102,7 +105,7 @@ fn work_alone<R, D: Diagrams<R> + Drop, G: Gate<R>>(
     rt: &R,
     alloc: Global,
     pair: &Pair<'_>,
-    schedules: &Schedules,
+    task: &Task,
     words: &Words,
     gate: &G,
     worker: u32,
@@ -111,7 +114,7 @@ fn work_alone<R, D: Diagrams<R> + Drop, G: Gate<R>>(
 ) -> Result<Share, Stop>
     requires fresh { IsFresh pair.now words.now.table_id words.now.key 1 seat }
     requires variables { length pair.now.first.inputs ≤ (D.holding diagrams).variables }
-    requires turns { AreTurns pair.now schedules.now }
+    requires task { IsTask pair.now task.now }
     ensures share { IfOk result (λ s. IsShare pair.now words.now.table_id 1 s.seat s.verdicts.items) }
     ensures only { IfErr result (λ s. s ≢ Stop.Threads) }
 {
@@ -120,7 +123,7 @@ fn work_alone<R, D: Diagrams<R> + Drop, G: Gate<R>>(
         rt,
         alloc,
         pair,
-        schedules,
+        task,
         words,
         gate,
         worker,
@@ -136,14 +139,14 @@ fn work_only<R, D: Diagrams<R> + Drop, G: Gate<R>>(
     rt: &R,
     alloc: Global,
     pair: &Pair<'_>,
-    schedules: &Schedules,
+    task: &Task,
     words: &Words,
     gate: &G,
     group: Group<D>,
 ) -> Result<Share, Stop>
     requires seated { AreSeated D.holding pair.now words.now.table_id words.now.key group.seat group.worker group.members }
     requires only { vec_len group.members ≡ 1 }
-    requires turns { AreTurns pair.now schedules.now }
+    requires task { IsTask pair.now task.now }
     ensures share { IfOk result (λ s. IsShare pair.now words.now.table_id 1 s.seat s.verdicts.items) }
 {
     let Group {
@@ -154,9 +157,7 @@ fn work_only<R, D: Diagrams<R> + Drop, G: Gate<R>>(
     let Some(diagrams) = members.pop() else {
         unreachable!()
     };
-    work_alone(
-        rt, alloc, pair, schedules, words, gate, worker, seat, diagrams,
-    )
+    work_alone(rt, alloc, pair, task, words, gate, worker, seat, diagrams)
 }
 
 /// Puts two shares together.
@@ -221,29 +222,29 @@ fn work<
     scope: &'s Scope<'s, E>,
     alloc: Global,
     pair: &'s Pair<'s>,
-    schedules: &'s Schedules,
+    task: &'s Task,
     words: &'s Words,
     gate: &'s G,
     group: Group<D>,
 ) -> Result<Share, Stop>
     requires seated { AreSeated D.holding pair.now words.now.table_id words.now.key group.seat group.worker group.members }
-    requires turns { AreTurns pair.now schedules.now }
+    requires task { IsTask pair.now task.now }
     ensures share { IfOk result (λ s. IsShare pair.now words.now.table_id (vec_len group.members) s.seat s.verdicts.items) }
 {
     if group.members.len() == 1 {
-        return work_only(rt, alloc, pair, schedules, words, gate, group);
+        return work_only(rt, alloc, pair, task, words, gate, group);
     }
     let (mine, theirs) = halves(words, pair, group)?;
     let kept = Kept::of(pair, words, theirs.members.len());
     let there = move || -> Result<Share, Stop>
-        requires { IsSync R.row × IsSync G.row × IsSend D.row × AreTurns pair.now schedules.now
+        requires { IsSync R.row × IsSync G.row × IsSend D.row × IsTask pair.now task.now
             × AreSeated D.holding pair.now words.now.table_id words.now.key theirs.seat theirs.worker theirs.members }
         ensures { IfOk result (λ s. IsShare pair.entry.now words.entry.now.table_id (vec_len theirs.members) s.seat s.verdicts.items) }
-    { work(rt, scope, alloc, pair, schedules, words, gate, theirs) };
+    { work(rt, scope, alloc, pair, task, words, gate, theirs) };
     let Ok(child) = scope.spawn_with(kept, there) else {
         return Err(Stop::Threads);
     };
-    let mine = work(rt, scope, alloc, pair, schedules, words, gate, mine);
+    let mine = work(rt, scope, alloc, pair, task, words, gate, mine);
     let theirs = child.join(rt);
     put_together(words, pair, mine?, theirs?)
 }
@@ -257,22 +258,22 @@ pub(crate) fn work_together<
     rt: &R,
     alloc: Global,
     pair: &Pair<'_>,
-    schedules: &Schedules,
+    task: &Task,
     words: &Words,
     gate: &G,
     group: Group<D>,
 ) -> Result<Share, Stop>
     requires seated { AreSeated D.holding pair.now words.now.table_id words.now.key group.seat group.worker group.members }
-    requires turns { AreTurns pair.now schedules.now }
+    requires task { IsTask pair.now task.now }
     ensures share { IfOk result (λ s. IsShare pair.now words.now.table_id (vec_len group.members) s.seat s.verdicts.items) }
 {
     scope(
         scope_env(),
         rt,
         move |scope| -> Result<Share, Stop>
-            requires { AreTurns pair.now schedules.now
+            requires { IsTask pair.now task.now
                 × AreSeated D.holding pair.now words.now.table_id words.now.key group.seat group.worker group.members }
             ensures { IfOk result (λ s. IsShare pair.entry.now words.entry.now.table_id (vec_len group.members) s.seat s.verdicts.items) }
-        { work(rt, scope, alloc, pair, schedules, words, gate, group) },
+        { work(rt, scope, alloc, pair, task, words, gate, group) },
     )
 }
