@@ -4,7 +4,7 @@
 //! - `words`, `operations`, of `eqc_tree`; `diagrams`, of `eqc_plain`; `machine`, of `eqc_core`
 //! - `forests`, of `eqc_guard`; `cached_results`, of `eqc_cache`; `random_steps`, of both; `drivers`, what takes their steps
 //! - `reading` and `text_findings`, of `eqc_blif`; `hierarchies`, `random_hierarchies` and `explanations`, of `eqc_flat`
-//! - `pair_findings`, of `eqc_pair`; `pairs`, `workers`, `reports`, `runs`, of `eqc_check`
+//! - `pair_findings`, of `eqc_pair`; `pairs`, `workers`, `structures`, `reports`, `runs`, of `eqc_check`
 //! - `program`, `program_ends`, `models`, `explained_runs`, `compared_hierarchies`, `costs`, of `eqc_command` and the program
 //! - `messages`, of the errors of all crates; `streams`, the readers, writers and files that fail
 //!
@@ -36,6 +36,7 @@ mod reading;
 mod reports;
 mod runs;
 mod streams;
+mod structures;
 mod text_findings;
 mod words;
 mod workers;

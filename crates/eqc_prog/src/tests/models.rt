@@ -158,7 +158,7 @@ fn a_warning_that_is_cut_off_changes_nothing(rt: HostRuntime) -> Result<(), Allo
 
 /// Two conjunctions, one of which a third model contains.
 const AND_IN_THIRD: &str =
-    ".model f;.inputs x y;.outputs z;.names x y z;11 1;.end;.model g;.inputs x y;.outputs z;.names x y z;11 1;.end;.model h;.subckt f x=a y=b z=c;.end;";
+    ".model f;.inputs x y;.outputs z;.names x y z;11 1;.end;.model g;.inputs x y;.outputs z;.names y x z;11 1;.end;.model h;.subckt f x=a y=b z=c;.end;";
 
 /// The warning on them.
 const ON_AND_IN_THIRD: &str =

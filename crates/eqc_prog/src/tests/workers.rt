@@ -119,7 +119,7 @@ fn two_stores(alloc: Global, inputs: u16) -> Result<Vec<Plain>, Stop>
 
 /// How a pair is compared.
 #[derive(Clone, Copy)]
-enum Way {
+pub enum Way {
     /// By so many workers, with a store of 16 nodes each.
     Workers(u32),
     /// By two members over stores of 16 nodes.
@@ -215,7 +215,7 @@ fn is_word_of<R: Threads + Wait + Sync, G: Gate<R> + Sync>(
 }
 
 /// The same, where `;` stands for LF.
-fn gives<R: Threads + Wait + Sync, G: Gate<R> + Sync>(
+pub fn gives<R: Threads + Wait + Sync, G: Gate<R> + Sync>(
     rt: &R,
     alloc: Global,
     text: &str,

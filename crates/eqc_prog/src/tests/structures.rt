@@ -1,0 +1,226 @@
+//! Netlists that are driven alike, down to the inputs: a store of one node, which no cover of two columns fits, is enough for
+//! them. Covers that only mean the same are not looked into.
+
+use super::program::reports;
+use super::streams::Feed;
+use super::workers::{Way, gives};
+use eqc_check::NoGate;
+use std::alloc::{AllocError, Global};
+use std::sync::Wait;
+use std::thread::Threads;
+
+/// What a text gives, with a store of one node for each worker: its report, with a status.
+type Row = (&'static str, &'static str, &'static str, u8);
+
+/// What is compared, its text, and its report with one node.
+static ROWS: [Row; 15] = [
+    (
+        "a netlist with itself",
+        ".model f;.inputs x y;.outputs z;.names x y z;11 1;.end;.model g;.inputs x y;.outputs z;.names x y z;11 1;.end;",
+        "equivalent;",
+        0,
+    ),
+    (
+        "inputs and outputs in another order",
+        ".model f;.inputs x y;.outputs z w;.names x y z;10 1;.names y x w;10 1;.end;.model g;.inputs y x;.outputs w z;.names y x w;10 1;.names x y z;10 1;.end;",
+        "equivalent;",
+        0,
+    ),
+    (
+        "covers in another order, under other names",
+        ".model f;.inputs x y;.outputs z;.names s t z;1- 1;-1 1;.names x y s;11 1;.names x y t;00 1;.end;.model g;.inputs x y;.outputs z;.names x y b;00 1;.names x y a;11 1;.names a b z;1- 1;-1 1;.end;",
+        "equivalent;",
+        0,
+    ),
+    (
+        "covers that pass their column on, by a row for 1 and by one for 0",
+        ".model f;.inputs x y;.outputs z;.names x y z;11 1;.end;.model g;.inputs x y;.outputs z;.names x s;1 1;.names y t;0 0;.names s t u;11 1;.names u z;1 1;.end;",
+        "equivalent;",
+        0,
+    ),
+    (
+        "an instance of a model",
+        ".model f;.inputs x y;.outputs z;.names x y z;11 1;.end;.model g;.inputs x y;.outputs z;.subckt h a=x b=y o=z;.end;.model h;.inputs a b;.outputs o;.names a b o;11 1;.end;",
+        "equivalent;",
+        0,
+    ),
+    (
+        "constants by no row, and by no column",
+        ".model f;.inputs x y;.outputs z;.names x c;.names c y z;01 1;.end;.model g;.inputs x y;.outputs z;.names c;.names c y z;01 1;.end;",
+        "equivalent;",
+        0,
+    ),
+    (
+        "constants that differ",
+        ".model f;.inputs x y;.outputs z;.names c;.names c y z;01 1;.end;.model g;.inputs x y;.outputs z;.names c;1;.names c y z;01 1;.end;",
+        "differs at z;x=0;y=1;first=1;second=0;",
+        1,
+    ),
+    (
+        "columns in another order",
+        ".model f;.inputs x y;.outputs z;.names x y z;11 1;.end;.model g;.inputs x y;.outputs z;.names y x z;11 1;.end;",
+        "stopped 71;",
+        3,
+    ),
+    (
+        "rows in another order",
+        ".model f;.inputs x y;.outputs z;.names x y z;10 1;01 1;.end;.model g;.inputs x y;.outputs z;.names x y z;01 1;10 1;.end;",
+        "stopped 71;",
+        3,
+    ),
+    (
+        "rows that differ in the last byte",
+        ".model f;.inputs x y;.outputs z;.names x y z;11 1;.end;.model g;.inputs x y;.outputs z;.names x y z;11 0;.end;",
+        "stopped 71;",
+        3,
+    ),
+    (
+        "one row more",
+        ".model f;.inputs x y;.outputs z;.names x y z;10 1;.end;.model g;.inputs x y;.outputs z;.names x y z;10 1;01 1;.end;",
+        "stopped 71;",
+        3,
+    ),
+    (
+        "inverters of one column",
+        ".model f;.inputs x y;.outputs z;.names x s;0 1;.names s y z;11 1;.end;.model g;.inputs x y;.outputs z;.names x s;1 0;.names s y z;11 1;.end;",
+        "stopped 71;",
+        3,
+    ),
+    (
+        "one of two outputs",
+        ".model f;.inputs x y;.outputs z w;.names x y z;11 1;.names x y w;11 1;.end;.model g;.inputs x y;.outputs z w;.names x y z;11 1;.names y x w;11 1;.end;",
+        "stopped 71;",
+        3,
+    ),
+    (
+        "an output that differs behind one that does not",
+        ".model f;.inputs x y;.outputs z w;.names x y z;11 1;.names x w;1 1;.end;.model g;.inputs x y;.outputs z w;.names x y z;11 1;.names w;.end;",
+        "differs at w;x=1;y=0;first=1;second=0;",
+        1,
+    ),
+    (
+        "inputs of one place and another name",
+        ".model f;.inputs x y;.outputs z;.names x z;1 1;.end;.model g;.inputs y x;.outputs z;.names y z;1 1;.end;",
+        "stopped 71;",
+        3,
+    ),
+];
+
+#[test]
+fn one_node_is_enough_where_structures_are_equal(rt: HostRuntime) -> Result<(), AllocError> {
+    for (case, text, report, status) in &ROWS {
+        for line in ["eqc --nodes 1 --workers 1", "eqc --nodes 1"] {
+            let found = reports(&rt, line, Feed::whole(text), report, *status)?;
+            assert!(rt; found, "{line}: {case}");
+        }
+    }
+    Ok(())
+}
+
+/// Declares the bits of two numbers as inputs and those of a result as outputs, and drives the first carry.
+fn ports(alloc: Global, text: &mut String, bits: u32) -> Result<(), AllocError> {
+    text.push_str(".inputs s1 s0")?;
+    for name in ["a", "b"] {
+        for k in 0..bits {
+            text.push_str(&format!(in alloc; " {name}{k}")?)?;
+        }
+    }
+    text.push_str(";.outputs")?;
+    for k in 0..bits {
+        text.push_str(&format!(in alloc; " r{k}")?)?;
+    }
+    text.push_str(";.names c0;")
+}
+
+/// A bit of an arithmetic unit, which adds or gives a conjunction, a disjunction or an exclusive or. It ends with this row.
+fn bit(alloc: Global, text: &mut String, k: u32, last_row: &str) -> Result<(), AllocError> {
+    let next = k + 1;
+    text.push_str(&format!(in alloc;
+        ".names a{k} b{k} x{k};10 1;01 1;.names a{k} b{k} g{k};11 1;"
+    )?)?;
+    text.push_str(&format!(in alloc;
+        ".names x{k} c{k} t{k};10 1;01 1;.names g{k} x{k} c{k} c{next};1-- 1;-11 1;"
+    )?)?;
+    text.push_str(&format!(in alloc;
+        ".names s1 s0 t{k} g{k} x{k} r{k};001-- 1;01-1- 1;10-1- 1;10--1 1;"
+    )?)?;
+    text.push_str(last_row)
+}
+
+/// A model of a unit of so many bits, whose last bit ends with this row.
+fn unit(
+    alloc: Global,
+    text: &mut String,
+    name: &str,
+    bits: u32,
+    last_row: &str,
+) -> Result<(), AllocError> {
+    text.push_str(&format!(in alloc; ".model {name};")?)?;
+    ports(alloc, text, bits)?;
+    for k in 0..bits {
+        let row = if k + 1 == bits { last_row } else { "11--1 1;" };
+        bit(alloc, text, k, row)?;
+    }
+    text.push_str(".end;")
+}
+
+/// Two units of 32 bits, whose last bits end with these rows. In the order of their inputs the sums fill a store.
+fn units(alloc: Global, first: &str, second: &str) -> Result<String, AllocError> {
+    let mut text = String::new(alloc);
+    unit(alloc, &mut text, "f", 32, first)?;
+    unit(alloc, &mut text, "g", 32, second)?;
+    Ok(text)
+}
+
+#[test]
+fn a_unit_is_compared_with_itself(rt: HostRuntime) -> Result<(), AllocError> {
+    let alloc = rt.alloc();
+    let text = units(alloc, "11--1 1;", "11--1 1;")?;
+    assert!(rt; reports(&rt, "eqc --nodes 1", Feed::whole(&text), "equivalent;", 0)?);
+    let text = units(alloc, "11--1 1;", "11--0 1;")?;
+    assert!(rt;
+        reports(
+            &rt,
+            "eqc --nodes 1000",
+            Feed::whole(&text),
+            "stopped 71;",
+            3
+        )?
+    );
+    Ok(())
+}
+
+/// The report on two units of four bits that differ in their last bit: the exclusive or of 0 and 0.
+const LAST_BIT: &str =
+    "differs at r3;s1=1;s0=1;a0=0;a1=0;a2=0;a3=0;b0=0;b1=0;b2=0;b3=0;first=0;second=1;";
+
+#[test]
+fn outputs_before_a_changed_one_need_no_node(rt: HostRuntime) -> Result<(), AllocError> {
+    let alloc = rt.alloc();
+    let mut text = String::new(alloc);
+    unit(alloc, &mut text, "f", 4, "11--1 1;")?;
+    unit(alloc, &mut text, "g", 4, "11--0 1;")?;
+    assert!(rt; reports(&rt, "eqc", Feed::whole(&text), LAST_BIT, 1)?);
+    Ok(())
+}
+
+/// Whether a pair of units of six bits, which need more than the 16 nodes of a store, is stopped.
+fn is_stopped<R: Threads + Wait + Sync>(
+    rt: &R,
+    alloc: Global,
+    way: Way,
+) -> Result<bool, AllocError> {
+    let mut text = String::new(alloc);
+    unit(alloc, &mut text, "f", 6, "11--1 1;")?;
+    unit(alloc, &mut text, "g", 6, "11--1 1;")?;
+    gives(rt, alloc, text.as_str(), way, &NoGate, "stopped 71;")
+}
+
+#[test]
+fn calls_on_pairs_build_diagrams_of_equal_structures(rt: HostRuntime) -> Result<(), AllocError> {
+    for way in [Way::Workers(1), Way::Workers(2), Way::Members] {
+        let stopped = is_stopped(&rt, rt.alloc(), way)?;
+        assert!(rt; stopped);
+    }
+    Ok(())
+}
