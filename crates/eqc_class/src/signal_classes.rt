@@ -91,7 +91,8 @@ fn classes_over(
 /// signals of both. `variables` has the variable of each input of the first netlist, `others` of the second, in their
 /// orders; inputs with one variable are one class. Time is expected to be in proportion to the netlists' drivers and their
 /// rows, memory to their signals and rows and to the columns of covers that are of no earlier class. Fails where memory is
-/// refused, and where these columns are more than 16,777,216, which happens in hierarchies alone: a report tells both by 72.
+/// refused, and where these columns are more than 16,777,216, which happens in hierarchies alone: then nothing is known of the
+/// signals, and each may be taken for a class of its own.
 pub fn classes<'a>(
     alloc: Global,
     first: &'a Flat<'a>,
