@@ -3,8 +3,9 @@
 
 usage: costs.py [covers|least] [PROGRAM ..]
 
-`covers` compares two netlists of one cover each and prints for each kind of cover the processor time (the least of three
-runs), the time per byte of cover, and its ratio to that of random covers of eight columns. `least` prints how many nodes the
+`covers` compares two netlists with the same rows in opposite orders, since two with one structure need no diagram, and prints
+for each kind of cover the processor time (the least of three runs), the time per byte of cover, and its ratio to that of
+random covers of eight columns. Where all rows of a cover are alike no diagram is built. `least` prints how many nodes the
 least assignment needs where a constant 0 is compared with a conjunction of some of the inputs. Without a program it takes
 the one that `./eqc` has built; with several, each has its column.
 """
@@ -87,7 +88,9 @@ def model(name, columns, netlist):
 def measure_covers(programs):
     narrow = {}
     for name, columns, netlist in covers():
-        (first, size), (second, _) = model("f", columns, netlist), model("g", columns, netlist)
+        # Rows in another order make another structure, so that diagrams are built for both netlists.
+        turned = [rows[::-1] for rows in netlist]
+        (first, size), (second, _) = model("f", columns, netlist), model("g", columns, turned)
         cells = []
         for program in programs:
             runs = [run(program, first + second, MOST) for _ in range(3)]

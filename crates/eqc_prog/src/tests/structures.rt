@@ -1,5 +1,6 @@
 //! Netlists that are driven alike, down to the inputs: a store of one node, which no cover of two columns fits, is enough for
 //! them. Covers that only mean the same are not looked into.
+ghost use Rattle.std.specs.Prelude.{◌+◌, ◌<◌, ◌^◌};
 
 use super::program::reports;
 use super::streams::Feed;
@@ -133,7 +134,9 @@ fn ports(alloc: Global, text: &mut String, bits: u32) -> Result<(), AllocError> 
 }
 
 /// A bit of an arithmetic unit, which adds or gives a conjunction, a disjunction or an exclusive or. It ends with this row.
-fn bit(alloc: Global, text: &mut String, k: u32, last_row: &str) -> Result<(), AllocError> {
+fn bit(alloc: Global, text: &mut String, k: u32, last_row: &str) -> Result<(), AllocError>
+    requires { k + 1 < 2 ^ 32 }
+{
     let next = k + 1;
     text.push_str(&format!(in alloc;
         ".names a{k} b{k} x{k};10 1;01 1;.names a{k} b{k} g{k};11 1;"
