@@ -157,6 +157,28 @@ cofactors_alike ((byte ∷ row) ∷ rows) h =
     let tests = or_parts (byte == 48) (byte == 49) here.0 in
     rw (tests.0, tests.1) (ap (λ rs. row ∷ rs) (cofactors_alike rows parts.1))
 
+-- one more row
+pub constrains_more : (i : ℕ) (rows : List (Bor (List ℕ))) (d : Bor (List ℕ)) (old new : Bool) → i < length rows → old ≡ constrains_first (map (λ r. r.now) (take i rows)) → new ≡ (old || list_any is_literal (take 1 (get_or rows i d).now))
+    → new ≡ constrains_first (map (λ r. r.now) (take (i + 1) rows))
+constrains_more i rows d old new h o n =
+    n ∙ (ap (λ b. b || list_any is_literal (take 1 (get_or rows i d).now)) o
+    ∙ (ap (λ b. constrains_first (map (λ (r : Bor (List ℕ)). r.now) (take i rows)) || b) (sym (or_false (list_any is_literal (take 1 (get_or rows i d).now))))
+    ∙ (sym (list_any-append (λ r. list_any is_literal (take 1 r)) (map (λ (r : Bor (List ℕ)). r.now) (take i rows)) ((get_or rows i d).now ∷ []))
+    ∙ ap constrains_first (sym (ap (map (λ (r : Bor (List ℕ)). r.now)) (take_more rows i d h) ∙ map-append (λ (r : Bor (List ℕ)). r.now) (take i rows) (get_or rows i d ∷ []))))))
+  where
+    or_false : (b : Bool) → (b || false) ≡ b
+    or_false true = refl
+    or_false false = refl
+
+pub asks_now : (old new asks lit : Bool) → old ≡ false → new ≡ asks → asks ≡ lit → new ≡ (old || lit)
+asks_now old new asks lit was is told = is ∙ (told ∙ ap (λ b. b || lit) (sym was))
+
+pub constrains_still : (i : ℕ) (rows : List (Bor (List ℕ))) (old new : Bool) → i < length rows → old ≡ constrains_first (map (λ r. r.now) (take i rows)) → old ≡ true → new ≡ true
+    → new ≡ constrains_first (map (λ r. r.now) (take (i + 1) rows))
+constrains_still i [] old new h o was is = absurd (omega arith)
+constrains_still i (row ∷ rows) old new h o was is =
+    constrains_more i (row ∷ rows) row old new h o (is ∙ ap (λ b. b || list_any is_literal (take 1 (get_or (row ∷ rows) i row).now)) (sym was))
+
 -- the column plays no part
 pub unconstrained_said : {X : Type 0} (entry : X → Entry) (on : Bool) (rows rest : List (Bor (List ℕ))) (x : Bor X) (columns others : List (Bor X)) (a : ℕ → Bool) → columns ≡ x ∷ others
     → constrains_first (map (λ (r : Bor (List ℕ)). r.now) rows) ≡ false → map (λ (r : Bor (List ℕ)). r.now) rest ≡ cofactor true (map (λ (r : Bor (List ℕ)). r.now) rows)

@@ -1,5 +1,5 @@
 -- Rows of a cover under the value of their first column, and the columns of a cover as diagrams.
-use Rattle.std.specs.Prelude.{◌≡◌, ℕ, Bool, true, false, List, [], ◌∷◌, length, map, take, not, ◌||◌, ◌==◌, ◌≤◌, if◌then◌else◌, ◌+◌}
+use Rattle.std.specs.Prelude.{◌≡◌, ℕ, Bool, true, false, List, [], ◌∷◌, length, map, take, ◌||◌, ◌==◌, ◌≤◌, if◌then◌else◌, ◌+◌}
 use Rattle.std.specs.List.{list_any, AllByRecursion}
 use Rattle.std.specs.Borrow.{Bor}
 use Rattle.eqc_blif.specs.Cover.{allows, row_matches}

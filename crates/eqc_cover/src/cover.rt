@@ -5,7 +5,7 @@ ghost use Rattle.eqc_cover.specs.Matching.{some_match, cofactor, agrees, AreHeld
 ghost use Rattle.eqc_cover.specs.Making.{Makes};
 
 use crate::making::{chosen, inverted, joined};
-use crate::rows::{cofactor, constrains_first, has_free_row, plan_cover, some_match};
+use crate::rows::{cofactors, has_free_row, plan_cover, some_match};
 use eqc_blif::{Rows, is_on_set};
 use eqc_tree::{Diagrams, Op, References, Stop};
 use std::alloc::Global;
@@ -105,23 +105,17 @@ fn by_columns<R, D: Diagrams<R>>(
     if has_free_row(rows) {
         return d.constant(on);
     }
-    if !constrains_first(rows) {
-        let Ok(rest) = cofactor(alloc, rows, true) else {
-            return Err(Stop::Memory);
-        };
-        return by_columns(alloc, rt, d, others, &rest, on);
-    }
     if let [second] = others {
         return by_two_columns(rt, d, column, second, rows, on);
     }
-    let Ok(when_true) = cofactor(alloc, rows, true) else {
+    let Ok(both) = cofactors(alloc, rows) else {
         return Err(Stop::Memory);
     };
-    let Ok(when_false) = cofactor(alloc, rows, false) else {
-        return Err(Stop::Memory);
-    };
-    let high = by_columns(alloc, rt, d, others, &when_true, on)?;
-    let low = by_columns(alloc, rt, d, others, &when_false, on);
+    if !both.differ {
+        return by_columns(alloc, rt, d, others, &both.when_true, on);
+    }
+    let high = by_columns(alloc, rt, d, others, &both.when_true, on)?;
+    let low = by_columns(alloc, rt, d, others, &both.when_false, on);
     chosen(rt, d, column, high, low)
 }
 

@@ -1,5 +1,5 @@
 //! The rows of a cover: which of them match, their cofactors, and what an expansion of them costs.
-ghost use Rattle.std.specs.Prelude.{◌≡◌, ℕ, Bool, List, [], ◌∷◌, true, length, map, take, IfOk, option_to_list};
+ghost use Rattle.std.specs.Prelude.{◌≡◌, ℕ, Bool, List, [], ◌∷◌, ◌++◌, true, false, length, map, take, IfOk, OnOk, option_to_list};
 ghost use Rattle.std.specs.List.{list_any};
 ghost use Rattle.std.specs.Option.{option_copied};
 ghost use Rattle.eqc_cover.specs.Matching.{some_match, cofactor, is_literal, has_free_row, constrains_first, RowsAlike, MatchAlike};
@@ -47,23 +47,6 @@ fn without_first<'a>(row: &'a [u8], value: bool) -> Option<&'a [u8]>
     }
 }
 
-/// The rows that allow this value of their first column, without it.
-pub(crate) fn cofactor<'a>(
-    alloc: Global,
-    rows: &[&'a [u8]],
-    value: bool,
-) -> Result<Vec<&'a [u8]>, AllocError>
-    ensures { IfOk result (λ kept. map (λ r. r.now) kept.items ≡ cofactor value (map (λ r. r.now) rows.now)) }
-{
-    let mut kept = Vec::with_capacity(alloc, rows.len())?;
-    for row in rows {
-        if let Some(rest) = without_first(row, value) {
-            kept.push(rest)?;
-        }
-    }
-    Ok(kept)
-}
-
 fn is_literal(byte: u8) -> bool
     ensures { result ≡ is_literal byte }
 {
@@ -94,16 +77,56 @@ pub(crate) fn has_free_row(rows: &[&[u8]]) -> bool
     false
 }
 
-/// Whether one of the rows asks for a value of its first column.
-pub(crate) fn constrains_first(rows: &[&[u8]]) -> bool
-    ensures { result ≡ constrains_first (map (λ r. r.now) rows.now) }
+/// Puts a row without its first column behind those that are kept, where that allows the value.
+fn keep<'a>(kept: &mut Vec<&'a [u8]>, row: &'a [u8], value: bool) -> Result<(), AllocError>
+    ensures { OnOk result (map (λ r. r.now) kept.new.items ≡ map (λ r. r.now) kept.old.items ++ cofactor value (row.now ∷ [])) }
 {
-    for row in rows {
-        if has_literal(&row[..row.len().min(1)]) {
-            return true;
-        }
+    if let Some(rest) = without_first(row, value) {
+        kept.push(rest)?;
     }
-    false
+    Ok(())
+}
+
+/// Whether a row asks for a value of its first column.
+fn constrains(row: &[u8]) -> bool
+    ensures { result ≡ list_any is_literal (take 1 row.now) }
+{
+    has_literal(&row[..row.len().min(1)])
+}
+
+/// The rows under each value of their first column, without it.
+#[derive(Drop)]
+pub(crate) struct BothCofactors<'a> {
+    /// Those that allow it to be true.
+    pub(crate) when_true: Vec<&'a [u8]>,
+    /// Those that allow it to be false.
+    pub(crate) when_false: Vec<&'a [u8]>,
+    /// Whether one of the rows asks for a value of it. Else both lists are equal.
+    pub(crate) differ: bool,
+}
+
+/// Both cofactors of the rows, in one pass over them. Fails where memory is refused.
+pub(crate) fn cofactors<'a>(
+    alloc: Global,
+    rows: &[&'a [u8]],
+) -> Result<BothCofactors<'a>, AllocError>
+    ensures when_true { IfOk result (λ both. map (λ r. r.now) both.when_true.items ≡ cofactor true (map (λ r. r.now) rows.now)) }
+    ensures when_false { IfOk result (λ both. map (λ r. r.now) both.when_false.items ≡ cofactor false (map (λ r. r.now) rows.now)) }
+    ensures differ { IfOk result (λ both. both.differ ≡ constrains_first (map (λ r. r.now) rows.now)) }
+{
+    let mut when_true = Vec::with_capacity(alloc, rows.len())?;
+    let mut when_false = Vec::with_capacity(alloc, rows.len())?;
+    let mut differ = false;
+    for row in rows {
+        keep(&mut when_true, row, true)?;
+        keep(&mut when_false, row, false)?;
+        differ = differ || constrains(row);
+    }
+    Ok(BothCofactors {
+        when_true,
+        when_false,
+        differ,
+    })
 }
 
 /// A row's places for so many columns, up to the last of them that asks for a value: a row that asks for none is empty.
@@ -169,15 +192,14 @@ fn left_after(
     if columns <= 2 || rows.is_empty() || has_free_row(rows) {
         return Ok(Some(left));
     }
-    let with_one = cofactor(alloc, rows, true)?;
-    let Some(left) = left_after(alloc, &with_one, columns - 1, left)? else {
+    let both = cofactors(alloc, rows)?;
+    let Some(left) = left_after(alloc, &both.when_true, columns - 1, left)? else {
         return Ok(None);
     };
-    if !constrains_first(rows) {
+    if !both.differ {
         return Ok(Some(left));
     }
-    let with_zero = cofactor(alloc, rows, false)?;
-    left_after(alloc, &with_zero, columns - 1, left)
+    left_after(alloc, &both.when_false, columns - 1, left)
 }
 
 /// A number of visits that no expansion of the rows over so many columns exceeds: a row stands in each cofactor that

@@ -1,4 +1,4 @@
-use Rattle.std.proofs.Common.{refl, sym, ◌∙◌, length, arith, inl, inr}
+use Rattle.std.proofs.Common.{refl, sym, ◌∙◌, arith, inl, inr}
 use Rattle.std.proofs.lemmas.Bool.{cases_lt}
 use Rattle.eqc_cover.proofs.RowLaws.{cut_alike, last_alike}
 use Rattle.eqc_cover.proofs.rows.up_to_last_literal.Goals as goal
