@@ -15,8 +15,9 @@ use eqc_guard::filled::Filled;
 use eqc_guard::forest::Forest;
 use eqc_guard::reference::Ref;
 use eqc_guard::worker::Worker;
-use eqc_tree::{Op, unpack_cell};
+use eqc_tree::{Op, unpack_cell, unpack_node};
 use std::process::Abort;
+use std::sync::Wait;
 
 /// So many names are held at most where a step asks for room.
 const MOST_HELD: u64 = 1 << 30;
@@ -419,6 +420,52 @@ impl Driver {
         let word = self.worker.look(0);
         self.phase = Phase::Seen(0, word);
         true
+    }
+
+    /// Claims a slot, and gives it up again where it was won.
+    pub(super) fn claim_for_a_while(&mut self, slot: u32) -> Option<bool>
+        ensures { self.new.worker.forest ≡ self.old.worker.forest }
+    {
+        if self.position != 0 || slot < 2 || slot - 2 >= self.worker.slots() {
+            return None;
+        }
+        let won = self.worker.claim(slot);
+        if won {
+            self.worker.unclaim();
+        }
+        Some(won)
+    }
+
+    /// Locks a stripe and unlocks it with the map that came: how many entries it has, and which slot a word has there.
+    pub(super) fn visit(
+        &mut self,
+        rt: &impl Wait,
+        stripe: u32,
+        word: u64,
+    ) -> Option<(usize, Option<u32>)>
+        ensures { self.new.worker.forest ≡ self.old.worker.forest }
+    {
+        if self.position != 0 || stripe >= 16 {
+            return None;
+        }
+        let map = self.worker.lock_stripe(rt, stripe);
+        let found = (map.len(), map.get(&word).copied());
+        self.worker.unlock_stripe(stripe, map);
+        Some(found)
+    }
+
+    /// Reads the node of a reference: its variable and its children.
+    pub(super) fn children(&mut self, k: usize) -> Option<(u16, u32, u32)>
+        ensures { self.new.worker.forest ≡ self.old.worker.forest }
+    {
+        if self.position != 0 || k >= self.references.len() {
+            return None;
+        }
+        let node = &self.references[k];
+        if node.number() < 2 {
+            return None;
+        }
+        Some(unpack_node(self.worker.read_node(node)))
     }
 
     /// Closes the forest in vain, since another worker is out.
