@@ -11,7 +11,7 @@ use Rattle.eqc_blif.specs.Names.{is_named}
 use Rattle.eqc_blif.proofs.CodeLemmas.{alone}
 use Rattle.eqc_flat.specs.Graph.{DriverOf, input, tie, cover, dependencies}
 use Rattle.eqc_flat.specs.HierarchyLaws.{needed}
-use Rattle.eqc_flat.specs.Ordering.{signal_deps, IsOrder, IsTrail}
+use Rattle.eqc_flat.specs.Ordering.{signal_deps, IsTrail, HasNoOrder}
 use Rattle.eqc_flat.specs.Walks.{IsWalk, from_on}
 use Rattle.eqc_flat.specs.Hierarchy.{model, model_number, model_at, reached, paths_within, paths}
 use Rattle.eqc_flat.specs.Signals.{SignalOf, needs, names_of, signals, sources, drivings}
@@ -478,10 +478,9 @@ walk_inside library top drivers walk driven (root, rooted, back) k inside =
     omega (arith, bound, driven.size, length-map drivers (λ (d : DriverOf). Some d))
 
 -- the signals of a hierarchy that is refused by 28 have no order
-pub circle_left : (library : List ModelOf) (top : ℕ) (drivers : List DriverOf) (order : List ℕ) (ended : Bool) → IsNumbered library top 28 → IsDriven library top drivers → (ended ≡ true → IsOrder drivers order) → ended ≡ false
-circle_left library top drivers order false h driven sorted = refl
-circle_left library top drivers order true h driven sorted =
-    absurd (true≢false (sym (told_28 (is_driven_twice library top) (is_undriven library top) (is_cyclic library top) h.left).2 ∙ in_order_not_cyclic library top drivers order driven (sorted refl)))
+pub circle_left : (library : List ModelOf) (top : ℕ) (drivers : List DriverOf) → IsNumbered library top 28 → IsDriven library top drivers → HasNoOrder drivers
+circle_left library top drivers h driven order sorted =
+    true≢false (sym (told_28 (is_driven_twice library top) (is_undriven library top) (is_cyclic library top) h.left).2 ∙ in_order_not_cyclic library top drivers order driven sorted)
 
 -- a hierarchy that isn't too large is there
 pub hierarchy_there : (library : List ModelOf) (top : ℕ) (o : Option (List ModelOf × ℕ)) → is_too_large library top ≡ false → MatchOption o (is_too_large library top ≡ true) (λ (h : List ModelOf × ℕ). (is_too_large library top ≡ false) × (h ≡ (library, top))) → IsSome o

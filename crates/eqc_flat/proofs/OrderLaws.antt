@@ -1,12 +1,12 @@
 -- An order that has each of n signals and no more than n places has each once.
-use Rattle.std.proofs.Common.{◌==◌, ◌≡◌, ℕ, zero, suc, ◌+◌, ◌<◌, ◌≤◌, inl, inr, Bool, true, List, [], ◌∷◌, ◌++◌, length, take, drop, get_or, refl, sym, ◌∙◌, ap, subst, arith, nat_lt}
+use Rattle.std.proofs.Common.{◌==◌, ◌≡◌, ℕ, zero, suc, ◌+◌, ◌<◌, ◌≤◌, inl, inr, Bool, true, false, List, [], ◌∷◌, ◌++◌, length, take, drop, get_or, refl, sym, ◌∙◌, ap, subst, arith, nat_lt}
 use Rattle.std.specs.List.{range_with_len, list_all}
 use Rattle.std.proofs.lemmas.Bool.{and_parts, true≢false, or_cases, eqb-true, cases_lt, cases_eq, ltb-true, lt-ltb}
 use Rattle.std.proofs.lemmas.List.{length-append, length-take-le, length-drop}
 use Rattle.std.proofs.lemmas.List.FromFn.{length-range_with_len}
 use Rattle.eqc_flat.specs.Graph.{DriverOf, among}
 use Rattle.eqc_flat.specs.Searching.{IsSearch}
-use Rattle.eqc_flat.specs.Ordering.{signal_deps, IsOrder}
+use Rattle.eqc_flat.specs.Ordering.{signal_deps, IsOrder, HasNoOrder}
 use Rattle.eqc_flat.specs.declared.search.Stage.{Stage}
 use Rattle.eqc_flat.proofs.Depth.{all_more}
 use Rattle.eqc_flat.proofs.Distinct.{Member, Distinct, member_append, member_left, member_right, distinct_range}
@@ -100,3 +100,8 @@ search_order drivers n stages order h size all = record {
 
 pub small_order : (deps : ℕ → List ℕ) (n : ℕ) (stages : List Stage) (order : List ℕ) → IsSearch deps n stages [] order → n ≤ 1048576 → list_all (λ x. nat_lt x 1048576) order ≡ true
 small_order deps n stages order h few = all_more (λ s. nat_lt s n) (λ x. nat_lt x 1048576) order (λ x e. let less = ltb-true x n e in lt-ltb x 1048576 (omega (arith, less, few))) h.order_within
+
+-- a search that would come to an end only with an order comes to none where there is no order
+pub not_ended : (drivers : List DriverOf) (order : List ℕ) (ended : Bool) → HasNoOrder drivers → (ended ≡ true → IsOrder drivers order) → ended ≡ false
+not_ended drivers order false none sorted = refl
+not_ended drivers order true none sorted = absurd (none order (sorted refl))

@@ -1,11 +1,11 @@
 -- For the proofs alone: the faults of the models that a main model reaches, told before any signal is numbered.
-use Rattle.std.specs.Prelude.{◌≡◌, ℕ, ◌+◌, ◌==◌, Bool, false, not, List, ◌++◌, length, map}
+use Rattle.std.specs.Prelude.{◌≡◌, ◌⊎◌, ℕ, ◌+◌, ◌==◌, ◌≤◌, Bool, false, not, List, ◌++◌, length, map, Some}
 use Rattle.std.specs.List.{list_any, range_with_len}
 use Rattle.eqc_blif.specs.Netlist.{ModelOf, InstanceOf}
 use Rattle.eqc_blif.specs.Names.{is_named, has_twice}
 use Rattle.eqc_flat.specs.Hierarchy.{model, model_number}
 use Rattle.eqc_flat.specs.Signals.{once_each}
-use Rattle.eqc_flat.specs.Codes.{formals, has_no_such_model, is_recursive, has_unknown_formal, has_formal_twice, has_missing_formal}
+use Rattle.eqc_flat.specs.Codes.{formals, has_no_such_model, is_recursive, has_unknown_formal, has_formal_twice, has_missing_formal, is_too_large, flat_code}
 
 -- the conditions on an instance
 abbrev pub names_no_model : List ModelOf → InstanceOf → Bool
@@ -36,3 +36,13 @@ pub record HasNoModelFault (library : List ModelOf) (top : ℕ) : Type 0 where
   pub formals_known : has_unknown_formal library top ≡ false
   pub formals_once : has_formal_twice library top ≡ false
   pub inputs_given : has_missing_formal library top ≡ false
+
+-- whether its signals can be numbered and their drivers told: nor is the hierarchy too large, or has too many inputs
+pub record IsNumberable (library : List ModelOf) (top : ℕ) : Type 0 where
+  pub models : HasNoModelFault library top
+  pub small : is_too_large library top ≡ false
+  pub few : length (model library top).inputs ≤ 2048
+
+-- memory was refused, or the hierarchy is refused by a code
+abbrev pub IsFlatFault : List ModelOf → ℕ → ℕ → Type 0
+IsFlatFault library top code = (code ≡ 72) ⊎ (flat_code library top ≡ Some code)

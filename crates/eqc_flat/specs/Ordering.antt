@@ -1,5 +1,7 @@
 -- For the proofs alone: an order of numbered signals in which each stands after those that it depends on, and circles.
 use Rattle.std.specs.Prelude.{◌≡◌, ℕ, ◌<◌, true, false, List, [], length, slice_index_or}
+use Rattle.eqc_blif.specs.Netlist.{ModelOf}
+use Rattle.eqc_flat.specs.DriverTable.{IsDriven}
 use Rattle.eqc_flat.specs.Walks.{WalksBack}
 use Rattle.eqc_flat.specs.Graph.{DriverOf, input, dependencies, among, in_order, ends_within}
 
@@ -22,3 +24,11 @@ IsCircular drivers = (s : ℕ) × (s < length drivers) × ((steps : ℕ) → end
 -- a walk along dependencies that comes back
 abbrev pub IsTrail : List DriverOf → List ℕ → Type 0
 IsTrail drivers trail = (root : ℕ) × (root < length drivers) × WalksBack (signal_deps drivers) root trail
+
+-- no order has each signal behind those that it depends on
+abbrev pub HasNoOrder : List DriverOf → Type 0
+HasNoOrder drivers = (steps : List ℕ) → IsOrder drivers steps → ⊥
+
+-- the same along the drivers of a hierarchy
+abbrev pub IsTrailBelow : List ModelOf → ℕ → List ℕ → Type 0
+IsTrailBelow library top trail = (drivers : List DriverOf) × IsDriven library top drivers × IsTrail drivers trail

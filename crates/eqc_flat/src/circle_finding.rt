@@ -4,15 +4,16 @@ ghost use Rattle.eqc_flat.specs.Flattened.{signal_at};
 ghost use Rattle.eqc_flat.specs.Signals.{signals};
 ghost use Rattle.eqc_flat.specs.Walks.{from_on};
 ghost use Rattle.eqc_flat.specs.Finding.{hierarchical_name, IsCircle};
+ghost use Rattle.eqc_flat.specs.StoredDrivers.{all_columns};
+ghost use Rattle.eqc_flat.specs.Ordering.{IsTrailBelow};
 
-use crate::calls::Calls;
 use crate::circle::Circle;
+use crate::driver_findings::expanded_below;
 use crate::driver_table::drivers_of;
 use crate::hierarchical_name::HierarchicalName;
 use crate::hierarchy::Hierarchy;
-use crate::naming::Naming;
 use crate::row_table::RowTable;
-use crate::signal_order::search_all;
+use crate::signal_order::trail_of;
 use eqc_blif::Library;
 use std::alloc::{AllocError, Global};
 
@@ -65,6 +66,28 @@ fn named_circle<'a>(
     Ok(Circle::new(names, members.len()))
 }
 
+/// A way into a circle of signals, in a hierarchy with these places of columns that is refused for one. Fails where memory
+/// is refused.
+fn trail_in(
+    alloc: Global,
+    library: &Library,
+    hierarchy: &Hierarchy<'_>,
+    columns: Vec<Vec<u32>>,
+) -> Result<Vec<usize>, AllocError>
+    requires same { library.now ≡ hierarchy.now.0 }
+    requires refused { flat_code hierarchy.now.0 hierarchy.now.1 ≡ Some 28 }
+    requires columns { map (λ c. c.items) columns.items ≡ all_columns hierarchy.now.0 }
+    ensures { IfOk result (λ trail. IsTrailBelow hierarchy.now.0 hierarchy.now.1 trail.items) }
+{
+    let rows = RowTable::of(alloc, library)?;
+    // Each signal has one driver, so that nothing but memory can be refused.
+    let Ok(drivers) = drivers_of(alloc, hierarchy, &rows, columns) else {
+        return Err(AllocError);
+    };
+    let trail = trail_of(alloc, &drivers)?;
+    Ok(trail)
+}
+
 /// A circle of signals, in a hierarchy that is refused for one. Fails where memory is refused.
 pub(crate) fn circle_below(
     alloc: Global,
@@ -75,17 +98,8 @@ pub(crate) fn circle_below(
     requires refused { flat_code library.now top ≡ Some 28 }
     ensures { IfOk result (λ circle. IsCircle library.now top circle) }
 {
-    let calls = Calls::of(alloc, library)?;
-    let (naming, columns) = Naming::of(alloc, library)?;
-    let found = Hierarchy::of(alloc, calls, naming, top)?;
-    let hierarchy = found.unwrap();
-    let rows = RowTable::of(alloc, library)?;
-    // Each signal has one driver, so that nothing but memory can be refused.
-    let Ok(drivers) = drivers_of(alloc, &hierarchy, &rows, columns) else {
-        return Err(AllocError);
-    };
-    let (_, search) = search_all(alloc, &drivers)?;
-    let walk = search.into_trail();
-    let circle = named_circle(alloc, &hierarchy, &walk)?;
+    let (hierarchy, columns) = expanded_below(alloc, library, top)?;
+    let trail = trail_in(alloc, library, &hierarchy, columns)?;
+    let circle = named_circle(alloc, &hierarchy, &trail)?;
     Ok(circle)
 }

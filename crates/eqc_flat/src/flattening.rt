@@ -1,9 +1,12 @@
-ghost use Rattle.std.specs.Prelude.{◌≡◌, ◌⊎◌, ◌<◌, ◌≤◌, length, None, Some, IfOk, IfErr};
+ghost use Rattle.std.specs.Prelude.{◌≡◌, ◌⊎◌, ◌<◌, ◌≤◌, length, map, None, Some, IfOk, IfErr};
 ghost use Rattle.eqc_flat.specs.Hierarchy.{model};
 ghost use Rattle.eqc_flat.specs.Codes.{flat_code};
 ghost use Rattle.eqc_flat.specs.DriverTable.{IsDriven};
 ghost use Rattle.eqc_flat.specs.Ordering.{IsOrder};
 ghost use Rattle.eqc_flat.specs.Flattened.{IsFlatOf};
+ghost use Rattle.eqc_flat.specs.Instances.{IsExpansion};
+ghost use Rattle.eqc_flat.specs.StoredDrivers.{all_columns};
+ghost use Rattle.eqc_flat.specs.ModelFaults.{HasNoModelFault, IsNumberable, IsFlatFault};
 
 use crate::calls::Calls;
 use crate::driver_table::{drivers_of, signals_of};
@@ -12,7 +15,6 @@ use crate::fault::Fault;
 use crate::flat::Flat;
 use crate::hierarchy::Hierarchy;
 use crate::model_faults::first_model_fault;
-use crate::naming::Naming;
 use crate::row_table::RowTable;
 use crate::rule::Rule;
 use crate::signal_order::order_of;
@@ -56,6 +58,75 @@ fn put_together<'a>(
     ))
 }
 
+/// The drivers of a hierarchy's signals and an order of them, or code 26 for a signal that is driven twice, 27 for one that
+/// nothing drives, 28 for one that depends on itself. 72 where memory is refused.
+fn ordered_drivers(
+    alloc: Global,
+    hierarchy: &Hierarchy<'_>,
+    rows: &RowTable<'_>,
+    columns: Vec<Vec<u32>>,
+) -> Result<(Drivers, Vec<u32>), Fault>
+    requires same { rows.now ≡ hierarchy.now.0 }
+    requires numbered { IsNumberable hierarchy.now.0 hierarchy.now.1 }
+    requires columns { map (λ c. c.items) columns.items ≡ all_columns hierarchy.now.0 }
+    ensures ordered { IfOk result (λ found. IsDriven hierarchy.now.0 hierarchy.now.1 found.0 × IsOrder found.0 found.1.items) }
+    ensures refused { IfErr result (λ fault. IsFlatFault hierarchy.now.0 hierarchy.now.1 fault.code) }
+{
+    let drivers = match drivers_of(alloc, hierarchy, rows, columns) {
+        Ok(drivers) => drivers,
+        Err(fault) => return Err(fault),
+    };
+    let Some(steps) = order_of(alloc, &drivers)? else {
+        return Err(Rule::Circle.fault());
+    };
+    Ok((drivers, steps))
+}
+
+/// The flat netlist of a hierarchy with these places of columns, or a code from 26 to 28. 72 where memory is refused.
+fn netlist<'a>(
+    alloc: Global,
+    library: &'a Library,
+    hierarchy: Hierarchy<'a>,
+    columns: Vec<Vec<u32>>,
+) -> Result<Flat<'a>, Fault>
+    requires same { library.now ≡ hierarchy.0 }
+    requires numbered { IsNumberable hierarchy.0 hierarchy.1 }
+    requires columns { map (λ c. c.items) columns.items ≡ all_columns hierarchy.0 }
+    ensures accepted { IfOk result (λ flat. flat_code hierarchy.entry.0 hierarchy.entry.1 ≡ None) }
+    ensures flat { IfOk result (λ flat. IsFlatOf hierarchy.entry.0 hierarchy.entry.1 flat) }
+    ensures refused { IfErr result (λ fault. IsFlatFault hierarchy.entry.0 hierarchy.entry.1 fault.code) }
+{
+    let rows = RowTable::of(alloc, library)?;
+    let (drivers, steps) = match ordered_drivers(alloc, &hierarchy, &rows, columns) {
+        Ok(ordered) => ordered,
+        Err(fault) => return Err(fault),
+    };
+    let flat = put_together(alloc, hierarchy, rows, drivers, steps)?;
+    Ok(flat)
+}
+
+/// The hierarchy below model `top` and the places of the columns of each cover, or a code from 21 to 25, or 29. 72 where
+/// memory is refused.
+fn expanded(
+    alloc: Global,
+    library: &Library,
+    top: usize,
+) -> Result<(Hierarchy<'_>, Vec<Vec<u32>>), Fault>
+    requires { top < length library.now }
+    ensures models { IfOk result (λ made. HasNoModelFault library.now top) }
+    ensures made { IfOk result (λ made. IsExpansion library.now top made.0 (map (λ c. c.items) made.1.items)) }
+    ensures refused { IfErr result (λ fault. IsFlatFault library.now top fault.code) }
+{
+    let calls = Calls::of(alloc, library)?;
+    if let Some(code) = first_model_fault(alloc, &calls, top)? {
+        return Err(Fault { code });
+    }
+    let Some(made) = Hierarchy::of(alloc, calls, top)? else {
+        return Err(Rule::TooLarge.fault());
+    };
+    Ok(made)
+}
+
 /// The flat netlist of the hierarchy below model `top` of a library, which is below the number of models: one list of
 /// signals, each with what drives it, in an order in which each stands after those that it depends on.
 ///
@@ -71,25 +142,12 @@ pub fn flatten(alloc: Global, library: &Library, top: usize) -> Result<Flat<'_>,
     ensures flat { IfOk result (λ flat. IsFlatOf library.now top flat) }
     ensures refused { IfErr result (λ fault. (fault.code ≡ 72) ⊎ (flat_code library.now top ≡ Some fault.code)) }
 {
-    let calls = Calls::of(alloc, library)?;
-    if let Some(code) = first_model_fault(alloc, &calls, top)? {
-        return Err(Fault { code });
-    }
-    let (naming, columns) = Naming::of(alloc, library)?;
-    let Some(hierarchy) = Hierarchy::of(alloc, calls, naming, top)? else {
-        return Err(Rule::TooLarge.fault());
+    let (hierarchy, columns) = match expanded(alloc, library, top) {
+        Ok(made) => made,
+        Err(fault) => return Err(fault),
     };
     if library.inputs(top).len() > MAX_INPUTS {
         return Err(Rule::ManyInputs.fault());
     }
-    let rows = RowTable::of(alloc, library)?;
-    let drivers = match drivers_of(alloc, &hierarchy, &rows, columns) {
-        Ok(drivers) => drivers,
-        Err(fault) => return Err(fault),
-    };
-    let Some(steps) = order_of(alloc, &drivers)? else {
-        return Err(Rule::Circle.fault());
-    };
-    let flat = put_together(alloc, hierarchy, rows, drivers, steps)?;
-    Ok(flat)
+    netlist(alloc, library, hierarchy, columns)
 }

@@ -3,7 +3,7 @@ ghost use Rattle.eqc_blif.specs.Names.{is_named};
 ghost use Rattle.eqc_flat.specs.Hierarchy.{model, model_at, paths};
 ghost use Rattle.eqc_flat.specs.Signals.{names_of, signals};
 ghost use Rattle.eqc_flat.specs.Codes.{is_recursive, is_too_large};
-ghost use Rattle.eqc_flat.specs.Instances.{IsGrowing};
+ghost use Rattle.eqc_flat.specs.Instances.{IsGrowing, IsExpansion};
 ghost use Rattle.eqc_flat.specs.Flattened.{path_at, model_of, first_signal, signal_at, named_here, all_named};
 ghost use Rattle.eqc_flat.specs.Finding.{steps_of, hierarchical_name};
 
@@ -36,29 +36,29 @@ impl<'a> Model for Hierarchy<'a> {
 }
 
 impl<'a> Hierarchy<'a> {
-    /// The hierarchy below model `top`, whose models never reach themselves, or none where it has too many signals and
-    /// instances. Fails where memory is refused.
+    /// The hierarchy below model `top`, whose models never reach themselves, and the places of the columns of each cover of
+    /// the library, or none where there are too many signals and instances. Fails where memory is refused.
     pub(crate) fn of(
         alloc: Global,
         calls: Calls<'a>,
-        naming: Naming<'a>,
         top: usize,
-    ) -> Result<Option<Hierarchy<'a>>, AllocError>
-        requires same { naming ≡ calls }
+    ) -> Result<Option<(Hierarchy<'a>, Vec<Vec<u32>>)>, AllocError>
         requires there { top < length calls }
         requires ends { is_recursive calls top ≡ false }
         ensures { IfOk result (λ found. MatchOption found
             (is_too_large calls.entry top ≡ true)
-            (λ hierarchy. (is_too_large calls.entry top ≡ false) × (hierarchy ≡ (calls.entry, top)))) }
+            (λ made. IsExpansion calls.entry top made.0 (map (λ c. c.items) made.1.items))) }
     {
+        let (naming, columns) = Naming::of(alloc, calls.library())?;
         let Some(instances) = Instances::of(alloc, &calls, &naming, top)? else {
             return Ok(None);
         };
-        Ok(Some(Hierarchy {
+        let hierarchy = Hierarchy {
             calls,
             naming,
             instances,
-        }))
+        };
+        Ok(Some((hierarchy, columns)))
     }
 
     /// The library.

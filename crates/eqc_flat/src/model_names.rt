@@ -1,4 +1,4 @@
-ghost use Rattle.std.specs.Prelude.{◌≡◌, ℕ, ◌<◌, ◌++◌, List, length, map, IfOk, OnOk};
+ghost use Rattle.std.specs.Prelude.{◌≡◌, ℕ, ◌<◌, ◌++◌, List, [], length, map, IfOk, OnOk};
 ghost use Rattle.std.specs.List.{fold, flat_map};
 ghost use Rattle.eqc_flat.specs.Hierarchy.{model};
 ghost use Rattle.eqc_flat.specs.NameSets.{with_name};
@@ -62,6 +62,27 @@ fn insert_actuals<'a>(names: &mut NameSet<'a>, instances: &'a [Instance]) -> Res
     Ok(())
 }
 
+/// Puts the names that occur in model `m` of a library, which is below the number of models, into an empty set, and the
+/// places of its covers' columns among them behind `columns`.
+fn insert_names<'a>(
+    alloc: Global,
+    names: &mut NameSet<'a>,
+    columns: &mut Vec<Vec<u32>>,
+    library: &'a Library,
+    m: usize,
+) -> Result<(), AllocError>
+    requires there { m < length library.now }
+    requires empty { names.old ≡ [] }
+    ensures names { OnOk result (names.new ≡ names_of (model library.now m)) }
+    ensures columns { OnOk result (map (λ c. c.items) columns.new.items ≡ map (λ c. c.items) columns.old.items ++ columns_of (model library.now m)) }
+{
+    names.insert_all(library.inputs(m))?;
+    names.insert_all(library.outputs(m))?;
+    insert_covers(alloc, names, columns, library.covers(m))?;
+    insert_actuals(names, library.instances(m))?;
+    Ok(())
+}
+
 /// The names that occur in model `m` of a library, which is below the number of models: those of its inputs, outputs,
 /// covers and actuals, each once. The places of its covers' columns among them go behind `columns`. Fails where memory is
 /// refused.
@@ -76,9 +97,6 @@ pub(crate) fn names_of<'a>(
     ensures columns { OnOk result (map (λ c. c.items) columns.new.items ≡ map (λ c. c.items) columns.old.items ++ columns_of (model library.now m)) }
 {
     let mut names = NameSet::new(alloc);
-    names.insert_all(library.inputs(m))?;
-    names.insert_all(library.outputs(m))?;
-    insert_covers(alloc, &mut names, columns, library.covers(m))?;
-    insert_actuals(&mut names, library.instances(m))?;
+    insert_names(alloc, &mut names, columns, library, m)?;
     Ok(names)
 }

@@ -1,7 +1,7 @@
 ghost use Rattle.std.specs.Prelude.{◌≡◌, ◌<◌, ◌≤◌, length, nat_lt, true, false, IfOk, MatchOption};
 ghost use Rattle.std.specs.List.{list_all};
 ghost use Rattle.eqc_flat.specs.Searching.{IsClosed};
-ghost use Rattle.eqc_flat.specs.Ordering.{signal_deps, IsOrder, IsCircular, IsTrail};
+ghost use Rattle.eqc_flat.specs.Ordering.{signal_deps, IsOrder, IsCircular, IsTrail, HasNoOrder};
 
 use crate::drivers::Drivers;
 use crate::search::Search;
@@ -21,7 +21,7 @@ fn narrow(alloc: Global, numbers: &[usize]) -> Result<Vec<u32>, AllocError>
 
 /// A search through all signals with these drivers, and whether it came to its end: it doesn't where a signal depends on
 /// itself. Fails where memory is refused.
-pub(crate) fn search_all(alloc: Global, drivers: &Drivers) -> Result<(bool, Search), AllocError>
+fn search_all(alloc: Global, drivers: &Drivers) -> Result<(bool, Search), AllocError>
     requires few { length drivers.now ≤ 1048576 }
     requires closed { IsClosed (signal_deps drivers.now) (length drivers.now) }
     ensures order { IfOk result (λ done. done.0 ≡ true → IsOrder drivers.now done.1.order.items) }
@@ -54,4 +54,15 @@ pub(crate) fn order_of(alloc: Global, drivers: &Drivers) -> Result<Option<Vec<u3
     let order = search.into_order();
     let steps = narrow(alloc, &order)?;
     Ok(Some(steps))
+}
+
+/// A way into a circle along signals with these drivers, which have no order. Fails where memory is refused.
+pub(crate) fn trail_of(alloc: Global, drivers: &Drivers) -> Result<Vec<usize>, AllocError>
+    requires few { length drivers.now ≤ 1048576 }
+    requires closed { IsClosed (signal_deps drivers.now) (length drivers.now) }
+    requires circular { HasNoOrder drivers.now }
+    ensures { IfOk result (λ trail. IsTrail drivers.now trail.items) }
+{
+    let (_, search) = search_all(alloc, drivers)?;
+    Ok(search.into_trail())
 }

@@ -1,4 +1,4 @@
-use Rattle.std.proofs.Common.{◌≡◌, ◌-◌, ◌∙◌, sym, ap, map, take, drop, length, ℕ, List}
+use Rattle.std.proofs.Common.{◌≡◌, ◌-◌, ◌∙◌, ap, map, take, length, ℕ, List}
 use Rattle.eqc_flat.specs.Flattened.{signal_at}
 use Rattle.eqc_flat.specs.Walks.{from_on}
 use Rattle.eqc_flat.specs.Finding.{hierarchical_name}

@@ -1,4 +1,4 @@
-use Rattle.std.proofs.Common.{◌∙◌, sym, ap, ℕ, List}
+use Rattle.std.proofs.Common.{sym, ℕ, List}
 use Rattle.eqc_flat.proofs.NameSetLaws.{twice_found, once_kept}
 use Rattle.eqc_flat.proofs.instance_findings.first_repeated.Goals as goal
 

@@ -1,4 +1,4 @@
-use Rattle.std.proofs.Common.{◌≡◌, ◌∙◌, ℕ, List, Vec, Global, sym, ap, subst}
+use Rattle.std.proofs.Common.{◌∙◌, ℕ, List, Vec, Global, sym, ap, subst}
 use Rattle.eqc_blif.specs.Netlist.{ModelOf}
 use Rattle.eqc_flat.specs.Codes.{is_recursive}
 use Rattle.eqc_flat.specs.Hierarchy.{callees}

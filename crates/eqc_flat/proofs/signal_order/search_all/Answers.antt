@@ -1,7 +1,6 @@
-use Rattle.std.proofs.Common.{◌≡◌, ◌∙◌, [], arith, refl, sym, ap, subst, nat_lt, length, ℕ, List}
-use Rattle.std.specs.List.{list_all}
+use Rattle.std.proofs.Common.{[], arith, refl, subst, length, ℕ}
 use Rattle.eqc_flat.specs.Searching.{IsSearch}
-use Rattle.eqc_flat.specs.Ordering.{signal_deps, IsOrder}
+use Rattle.eqc_flat.specs.Ordering.{signal_deps}
 use Rattle.eqc_flat.proofs.OrderLaws.{search_order, small_order}
 use Rattle.eqc_flat.proofs.signal_order.search_all.Goals as goal
 

@@ -1,4 +1,4 @@
-use Rattle.std.proofs.Common.{◌∙◌, arith, sym}
+use Rattle.std.proofs.Common.{arith}
 use Rattle.eqc_flat.proofs.FindingLaws.{steps_end}
 use Rattle.eqc_flat.specs.Flattened.{path_at}
 use Rattle.eqc_flat.specs.Finding.{steps_of}

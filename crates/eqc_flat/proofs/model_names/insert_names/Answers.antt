@@ -5,12 +5,12 @@ use Rattle.eqc_flat.specs.NameSets.{with_name}
 use Rattle.eqc_flat.specs.Signals.{names_of, actuals}
 use Rattle.eqc_flat.specs.StoredDrivers.{columns_in}
 use Rattle.eqc_flat.proofs.NameSetLaws.{names_made}
-use Rattle.eqc_flat.proofs.model_names.names_of.Goals as goal
+use Rattle.eqc_flat.proofs.model_names.insert_names.Goals as goal
 
 pub returns-clause-names : goal.returns-clause-names
 returns-clause-names c =
     names_made (model c.args.library.now c.args.m) c.insert_all.new.self c.insert_all-2.new.self c.insert_covers.new.names c.insert_actuals.new.names
-    (rw (c.new-names.ensures, c.inputs.ensures.names) at c.in_ok-insert_all.ensures)
+    (rw (c.requires.empty, c.inputs.ensures.names) at c.in_ok-insert_all.ensures)
     (rw c.outputs.ensures.names at c.in_ok-insert_all-2.ensures)
     (rw c.covers.ensures at c.in_ok-insert_covers.ensures.names)
     (rw c.instances.ensures at c.in_ok-insert_actuals.ensures)
@@ -19,7 +19,7 @@ pub returns-clause-columns : goal.returns-clause-columns
 returns-clause-columns c =
     let m = model c.args.library.now c.args.m in
     let names : c.insert_actuals.new.names ≡ names_of m = names_made m c.insert_all.new.self c.insert_all-2.new.self c.insert_covers.new.names c.insert_actuals.new.names
-    (rw (c.new-names.ensures, c.inputs.ensures.names) at c.in_ok-insert_all.ensures)
+    (rw (c.requires.empty, c.inputs.ensures.names) at c.in_ok-insert_all.ensures)
     (rw c.outputs.ensures.names at c.in_ok-insert_all-2.ensures)
     (rw c.covers.ensures at c.in_ok-insert_covers.ensures.names)
     (rw c.instances.ensures at c.in_ok-insert_actuals.ensures) in
