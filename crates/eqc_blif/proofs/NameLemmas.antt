@@ -6,7 +6,7 @@ use Rattle.std.proofs.lemmas.List.{take_more, drop_more, take-append-drop, lengt
 use Rattle.std.proofs.Math.Seq.{get_or-append_seam}
 use Rattle.std.proofs.lemmas.Slice.Eq.{bytes_eq-Decides}
 use Rattle.std.proofs.lemmas.List.Folds.{list_any-append}
-use Rattle.std.proofs.lemmas.Bool.{cases_eq, cases_Bool, or_parts, or_cases, ne_eqb, eq-eqb, true≢false}
+use Rattle.std.proofs.lemmas.Bool.{cases_eq, cases_Bool, or_parts, or_cases, ne_eqb, eq-eqb, not-true, true≢false}
 use Rattle.indexmap.specs.IndexSet.{insert_key}
 use Rattle.eqc_blif.specs.Names.{is_named, has_twice}
 use Rattle.eqc_blif.specs.Steps.{few_or_many}
@@ -57,6 +57,11 @@ inserted_once names name once = elim (cases_Bool (is_named names name)) [
   | inl there ↦ rw there once
   | inr fresh ↦ rw fresh (once_more names name once fresh)
 ]
+
+-- nor have names to which one was added that was new
+pub added_once : (names new : List (List ℕ)) (name : List ℕ) (fresh : Bool) → has_twice names ≡ false → fresh ≡ not (is_named names name) → new ≡ cond fresh (names ++ name ∷ []) names → has_twice new ≡ false
+added_once names new name true once is added = rw added (once_more names name once (not-true _ (sym is)))
+added_once names new name false once is added = rw added once
 
 -- what an insertion leaves, by whether the name was new
 pub inserted_is : (names : List (List ℕ)) (name : List ℕ) → insert_key bytes_eq names name ≡ cond (not (is_named names name)) (names ++ name ∷ []) names

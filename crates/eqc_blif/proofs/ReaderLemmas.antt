@@ -20,7 +20,7 @@ abbrev pub models_in : Entries → List ModelOf
 models_in entries = map (λ e. model_of e.0 e.1) entries
 
 -- a name has an entry exactly when it is a model's
-found_named : (entries : Entries) (name : List ℕ) → is_some (lookup (bytes_eq name) entries) ≡ is_named (map (λ m. m.name) (models_in entries)) name
+pub found_named : (entries : Entries) (name : List ℕ) → is_some (lookup (bytes_eq name) entries) ≡ is_named (map (λ m. m.name) (models_in entries)) name
 found_named [] name = refl
 found_named (e ∷ es) name = elim (cases_Bool (bytes_eq name e.0)) [
   | inl here ↦ rw here refl
@@ -49,32 +49,39 @@ found_at entries name =
     ap (λ place. place_within place (length (map (λ e. e.0) entries))) (first_place entries name)
     ∙ ap (place_within (position_or_len (λ m. bytes_eq name m.name) (models_in entries))) as_long
 
+-- a new name's entry is a model behind the others
+pub model_added : (entries new : Entries) (all : List ModelOf) (name : List ℕ) (d : DeclarationsOf) → models_in entries ≡ all → is_named (map (λ m. m.name) all) name ≡ false → new ≡ insert_entry bytes_eq entries name d → models_in new ≡ all ++ model_of name d ∷ []
+model_added entries new all name d are fresh inserted =
+    let absent : is_named (map (λ m. m.name) (models_in entries)) name ≡ false = ap (λ ms. is_named (map (λ m. m.name) ms) name) are ∙ fresh in
+    ap models_in (inserted ∙ inserted_last entries name d absent) ∙ (map_push (λ e. model_of e.0 e.1) entries (name, d) ∙ ap (λ ms. ms ++ model_of name d ∷ []) are)
+
+-- the open model has another name than the closed ones
+pub open_is_new : (closed : List ModelOf) (before : Option OpenModel) (m : OpenModel) (name : List ℕ) → before ≡ Some m → is_new_name closed before ≡ true → name ≡ m.model.name → is_named (map (λ c. c.name) closed) name ≡ false
+open_is_new closed before m name is unused named =
+    let fresh : not (is_named (map (λ c. c.name) closed) m.model.name) ≡ true = rw is at unused in
+    ap (is_named (map (λ c. c.name) closed)) named ∙ not-true _ fresh
+
 -- the open model is put behind the closed ones
-pub model_closed : (entries new : Entries) (before : Option OpenModel) (old : After) (m closed : OpenModel) (name : List ℕ) (d : DeclarationsOf) → ◌≡◌ {A = After} (record { closed = models_in entries; open_model = before }) old → before ≡ Some m → is_new_name (models_in entries) before ≡ true → ◌≡◌ {A = OpenModel} closed (record { model = m.model; in_cover = false }) → name ≡ closed.model.name → (closed.in_cover ≡ false → model_of name d ≡ closed.model) → new ≡ insert_entry bytes_eq entries name d → ◌≡◌ {A = After} (record { closed = models_in new; open_model = None }) (record { closed = models old; open_model = None })
-model_closed entries new before old m closed name d view is unused closed_is named made inserted =
-    let fresh : not (is_named (map (λ c. c.name) (models_in entries)) m.model.name) ≡ true = rw is at unused in
-    let named_m : name ≡ m.model.name = named ∙ ap (λ c. c.model.name) closed_is in
-    let model_is : model_of name d ≡ m.model = made (ap (λ c. c.in_cover) closed_is) ∙ ap (λ c. c.model) closed_is in
-    let absent : is_named (map (λ c. c.name) (models_in entries)) name ≡ false = ap (is_named (map (λ c. c.name) (models_in entries))) named_m ∙ not-true _ fresh in
-    let last : models_in new ≡ models_in entries ++ m.model ∷ [] = ap models_in (inserted ∙ inserted_last entries name d absent) ∙ (map_push (λ e. model_of e.0 e.1) entries (name, d) ∙ ap (λ model. models_in entries ++ model ∷ []) model_is) in
-    let all : models old ≡ models_in entries ++ m.model ∷ [] = ap models (sym view) ∙ rw is refl in
-    ap (λ ms. record { closed = ms; open_model = None }) (last ∙ sym all)
+pub model_closed : (closed new : List ModelOf) (before : Option OpenModel) (old : After) (m last : OpenModel) (name : List ℕ) (d : DeclarationsOf) → ◌≡◌ {A = After} (record { closed = closed; open_model = before }) old → before ≡ Some m → ◌≡◌ {A = OpenModel} last (record { model = m.model; in_cover = false }) → (last.in_cover ≡ false → model_of name d ≡ last.model) → new ≡ closed ++ model_of name d ∷ [] → ◌≡◌ {A = After} (record { closed = new; open_model = None }) (record { closed = models old; open_model = None })
+model_closed closed new before old m last name d view is ended made added =
+    let model_is : model_of name d ≡ m.model = made (ap (λ c. c.in_cover) ended) ∙ ap (λ c. c.model) ended in
+    let all : models old ≡ closed ++ m.model ∷ [] = ap models (sym view) ∙ rw is refl in
+    ap (λ ms. record { closed = ms; open_model = None }) (added ∙ (ap (λ model. closed ++ model ∷ []) model_is ∙ sym all))
 
 -- whether the first of some words names a model
-asked : (entries : Entries) (old : After) (ws : List (List ℕ)) (name : List ℕ) (there : Bool) → models_in entries ≡ models old → name ≡ first_of ws → there ≡ is_some (lookup (bytes_eq name) entries) → is_named (map (λ m. m.name) (models old)) (first_of ws) ≡ there
-asked entries old ws name there closed first answer =
-    ap (λ ms. is_named (map (λ m. m.name) ms) (first_of ws)) (sym closed) ∙ (ap (is_named (map (λ m. m.name) (models_in entries))) (sym first) ∙ (sym (found_named entries name) ∙ sym answer))
+asked : (closed : List ModelOf) (old : After) (ws : List (List ℕ)) (name : List ℕ) (there : Bool) → closed ≡ models old → name ≡ first_of ws → there ≡ is_named (map (λ m. m.name) closed) name → is_named (map (λ m. m.name) (models old)) (first_of ws) ≡ there
+asked closed old ws name there are first answer = rw (← are, ← first) (sym answer)
 
 -- the name was used before
-pub model_again : (entries : Entries) (old new : After) (ws : List (List ℕ)) (name : List ℕ) (there : Bool) → models_in entries ≡ models old → name ≡ first_of ws → there ≡ is_some (lookup (bytes_eq name) entries) → there ≡ true → Takes old Model ws [] (Some 11) new
-model_again entries old new ws name there closed first answer used = (rw (asked entries old ws name there closed first answer ∙ used) refl, λ none. cc)
+pub model_again : (closed : List ModelOf) (old new : After) (ws : List (List ℕ)) (name : List ℕ) (there : Bool) → closed ≡ models old → name ≡ first_of ws → there ≡ is_named (map (λ m. m.name) closed) name → there ≡ true → Takes old Model ws [] (Some 11) new
+model_again closed old new ws name there are first answer used = (rw (asked closed old ws name there are first answer ∙ used) refl, λ none. cc)
 
 -- the name is new
-pub model_opened : (entries : Entries) (old : After) (ws : List (List ℕ)) (name : List ℕ) (there : Bool) (m : OpenModel) → models_in entries ≡ models old → name ≡ first_of ws → there ≡ is_some (lookup (bytes_eq name) entries) → there ≡ false → m ≡ begun name → Takes old Model ws [] None (record { closed = models_in entries; open_model = Some m })
-model_opened entries old ws name there m closed first answer new opened = (rw (asked entries old ws name there closed first answer ∙ new) refl, λ _. rw (closed, opened, first) refl)
+pub model_opened : (closed : List ModelOf) (old : After) (ws : List (List ℕ)) (name : List ℕ) (there : Bool) (m : OpenModel) → closed ≡ models old → name ≡ first_of ws → there ≡ is_named (map (λ m. m.name) closed) name → there ≡ false → m ≡ begun name → Takes old Model ws [] None (record { closed = closed; open_model = Some m })
+model_opened closed old ws name there m are first answer new opened = (rw (asked closed old ws name there are first answer ∙ new) refl, λ _. rw (are, opened, first) refl)
 
-pub new_named : (entries : Entries) (name : List ℕ) (there : Bool) (m : OpenModel) → there ≡ is_some (lookup (bytes_eq name) entries) → there ≡ false → m ≡ begun name → is_new_name (models_in entries) (Some m) ≡ true
-new_named entries name there m answer new opened = rw (opened, sym (found_named entries name) ∙ (sym answer ∙ new)) refl
+pub new_named : (closed : List ModelOf) (name : List ℕ) (there : Bool) (m : OpenModel) → there ≡ is_named (map (λ c. c.name) closed) name → there ≡ false → m ≡ begun name → is_new_name closed (Some m) ≡ true
+new_named closed name there m answer new opened = rw (opened, sym answer ∙ new) refl
 
 -- keys of which none equals a later one have none twice
 once_distinct : (names : List (List ℕ)) → IsDistinct bytes_eq names → has_twice names ≡ false

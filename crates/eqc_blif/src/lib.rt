@@ -7,7 +7,8 @@
 //! - `reading`, the call; `library`, what it gives; `rule` and `refusal`, why it gives none
 //! - `lines`, how bytes become logical lines; `words`, their words; `kind`, the statement that a line is
 //! - `reader`, what was read so far, and one more line; `open_model`, a statement in a model; `declarations`, what it declares
-//! - `cover` and `rows`, a cover and what its rows mean; `instance`; `name`, `name_list`, `names`, `sparing`, how they are stored
+//! - `cover` and `rows`, a cover and what its rows mean; `instance`; `name`, `names`, `name_list`, `many_names`, `sparing`, how
+//!   they are stored
 //! - `explanation`, what a refusal is about; `finding`, what is named; `refused_line`, the line of a refusal; `line_findings`
 //!   and `bad_byte`, what is looked for there
 //! - `laws`, facts about the definitions, as functions without a body
@@ -24,6 +25,7 @@ mod laws;
 mod library;
 mod line_findings;
 mod lines;
+mod many_names;
 mod name;
 mod name_list;
 mod names;

@@ -1,5 +1,5 @@
-ghost use Rattle.std.specs.Prelude.{◌≡◌, ◌<◌, false, length, map, position, bytes_eq, slice_index_or};
-ghost use Rattle.eqc_blif.specs.Names.{has_twice};
+ghost use Rattle.std.specs.Prelude.{◌≡◌, ◌<◌, ◌++◌, ◌∷◌, [], false, length, map, nat_lt, not, position, bytes_eq, slice_index_or, OnOk};
+ghost use Rattle.eqc_blif.specs.Names.{is_named, has_twice};
 ghost use Rattle.eqc_blif.specs.Netlist.{no_model};
 ghost use Rattle.eqc_blif.specs.Steps.{model_of};
 
@@ -8,6 +8,7 @@ use crate::declarations::Declarations;
 use crate::instance::Instance;
 use crate::name::Name;
 use indexmap::IndexMap;
+use std::alloc::{AllocError, Global};
 use std::marker::Model;
 
 /// The models of a text, in order.
@@ -27,10 +28,35 @@ impl Model for Library {
 }
 
 impl Library {
-    pub(crate) fn new(models: IndexMap<Name, Declarations>) -> Library
-        ensures { result ≡ map (λ e. model_of e.0 e.1) models.entries }
+    pub(crate) fn new(alloc: Global) -> Library
+        ensures { result ≡ [] }
     {
-        Library { models }
+        Library {
+            models: IndexMap::new(alloc),
+        }
+    }
+
+    /// Whether there are no models.
+    pub(crate) fn is_empty(&self) -> bool
+        ensures { result ≡ not (nat_lt 0 (length self.now)) }
+    {
+        self.models.is_empty()
+    }
+
+    /// Whether a model has this name.
+    pub(crate) fn has(&self, name: &Name) -> bool
+        ensures { result ≡ is_named (map (λ m. m.name) self.now) name.now }
+    {
+        self.models.contains_key(name)
+    }
+
+    /// Puts a model behind the others, none of which has its name. Fails where memory is refused.
+    pub(crate) fn add(&mut self, name: Name, declarations: Declarations) -> Result<(), AllocError>
+        requires { is_named (map (λ m. m.name) self.old) name ≡ false }
+        ensures { OnOk result (self.new ≡ self.old ++ model_of name declarations ∷ []) }
+    {
+        let _ = self.models.insert(name, declarations)?;
+        Ok(())
     }
 
     /// The number of models. No two of them have the same name.

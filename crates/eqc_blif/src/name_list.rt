@@ -4,10 +4,10 @@ ghost use Rattle.eqc_blif.specs.Words.{words};
 ghost use Rattle.eqc_blif.specs.Names.{is_named, has_twice};
 ghost use Rattle.eqc_blif.specs.Finding.{StandsTwice};
 
+use crate::many_names::ManyNames;
 use crate::name::Name;
 use crate::sparing::push_sparing;
 use crate::words::{room_for_words, split_word};
-use indexmap::IndexSet;
 use std::alloc::{AllocError, Global};
 use std::marker::Model;
 
@@ -18,7 +18,7 @@ const FEW: usize = 16;
 #[derive(Drop)]
 pub(crate) struct NameList {
     few: Vec<Name>,
-    many: Option<Box<IndexSet<Name>>>,
+    many: Option<Box<ManyNames>>,
 }
 
 impl Model for NameList {
@@ -29,9 +29,9 @@ impl Model for NameList {
 
     ghost Value = { List (List ℕ) };
 
-    ghost view = { λ a. few_or_many a.few.items (option_map (λ b. b.value.keys) a.many) };
+    ghost view = { λ a. few_or_many a.few.items (option_map (λ b. b.value) a.many) };
 
-    ghost invariant = { λ a. has_twice (few_or_many a.few.items (option_map (λ b. b.value.keys) a.many)) ≡ false };
+    ghost invariant = { λ a. has_twice (few_or_many a.few.items (option_map (λ b. b.value) a.many)) ≡ false };
 }
 
 /// Whether a name is among others, which are searched one by one.
@@ -43,17 +43,16 @@ fn is_among(names: &[Name], name: &Name) -> bool
         .any(|other| name.as_bytes() == other.as_bytes())
 }
 
-/// A set of names, none of which stands twice. Fails where memory is refused.
-fn set_of(alloc: Global, names: &[Name]) -> Result<IndexSet<Name>, AllocError>
-    requires { has_twice names.now ≡ false }
-    ensures { IfOk result (λ set. set.keys ≡ names.now) }
+/// A few names and one more, which is not among them. Fails where memory is refused.
+fn many_of(alloc: Global, few: &[Name], name: Name) -> Result<Box<ManyNames>, AllocError>
+    requires once { has_twice few.now ≡ false }
+    requires fresh { is_named few.now name ≡ false }
+    ensures { IfOk result (λ many. many.value ≡ few.now ++ name ∷ []) }
 {
-    let mut set = IndexSet::new(alloc);
-    'names: for name in names {
-        let copy = Name::new(alloc, name.as_bytes())?;
-        set.insert(copy)?;
-    }
-    Ok(set)
+    let mut names = ManyNames::of(alloc, few)?;
+    let _ = names.insert(name)?;
+    let many = Box::new(alloc, names)?;
+    Ok(many)
 }
 
 impl NameList {
@@ -71,8 +70,8 @@ impl NameList {
         ensures fresh { IfOk result (λ fresh. fresh ≡ not (is_named self.old name)) }
         ensures added { IfOk result (λ fresh. self.new ≡ (if fresh then self.old ++ name ∷ [] else self.old)) }
     {
-        if let Some(set) = &mut self.many {
-            let fresh = set.insert(name)?;
+        if let Some(many) = &mut self.many {
+            let fresh = many.insert(name)?;
             return Ok(fresh);
         }
         if is_among(&self.few, &name) {
@@ -82,9 +81,7 @@ impl NameList {
             push_sparing(&mut self.few, name)?;
             return Ok(true);
         }
-        let mut set = set_of(alloc, &self.few)?;
-        let _ = set.insert(name)?;
-        self.many = Some(Box::new(alloc, set)?);
+        self.many = Some(many_of(alloc, &self.few, name)?);
         self.few = Vec::new(alloc);
         Ok(true)
     }
@@ -93,8 +90,8 @@ impl NameList {
     fn make_room(&mut self, line: &[u8]) -> Result<(), AllocError>
         ensures { self.new ≡ self.old }
     {
-        if let Some(set) = &mut self.many {
-            set.reserve(room_for_words(line))?;
+        if let Some(many) = &mut self.many {
+            many.reserve(room_for_words(line))?;
         }
         Ok(())
     }
@@ -140,7 +137,7 @@ impl NameList {
         ensures once { has_twice self.now ≡ false }
     {
         match &self.many {
-            Some(set) => set.as_slice(),
+            Some(many) => many.as_slice(),
             None => self.few.as_slice(),
         }
     }

@@ -176,7 +176,8 @@ impl OpenModel {
     /// The name that stands twice in the inputs with the words of `line`. The inputs are lost.
     pub(crate) fn input_twice(&mut self, alloc: Global, line: &[u8]) -> Result<Name, AllocError>
         requires { has_twice (self.old.model.inputs ++ words line.now) ≡ true }
-        ensures { IfOk result (λ name. StandsTwice (self.old.model.inputs ++ words line.now) name) }
+        ensures twice { IfOk result (λ name. StandsTwice (self.old.model.inputs ++ words line.now) name) }
+        ensures name { self.new.model.name ≡ self.old.model.name }
     {
         self.close_cover()?;
         self.declarations.inputs.first_twice(alloc, line)
@@ -185,7 +186,8 @@ impl OpenModel {
     /// The name that stands twice in the outputs with the words of `line`. The outputs are lost.
     pub(crate) fn output_twice(&mut self, alloc: Global, line: &[u8]) -> Result<Name, AllocError>
         requires { has_twice (self.old.model.outputs ++ words line.now) ≡ true }
-        ensures { IfOk result (λ name. StandsTwice (self.old.model.outputs ++ words line.now) name) }
+        ensures twice { IfOk result (λ name. StandsTwice (self.old.model.outputs ++ words line.now) name) }
+        ensures name { self.new.model.name ≡ self.old.model.name }
     {
         self.close_cover()?;
         self.declarations.outputs.first_twice(alloc, line)

@@ -7,34 +7,32 @@ ghost use Rattle.eqc_blif.specs.Finding.{StandsTwice};
 ghost use Rattle.eqc_blif.specs.Steps.{Takes, TakesLine, declares};
 
 use crate::cover::Cover;
-use crate::declarations::Declarations;
 use crate::kind::{Kind, begins_row, kind_of};
 use crate::library::Library;
 use crate::name::Name;
 use crate::open_model::OpenModel;
 use crate::rule::Rule;
 use crate::words::split_first;
-use indexmap::IndexMap;
 use std::alloc::{AllocError, Global};
 use std::marker::Model;
 
 /// What was read so far: the closed models by their names, and the open one.
 #[derive(Drop)]
 pub(crate) struct Reader {
-    closed: IndexMap<Name, Declarations>,
+    closed: Library,
     open_model: Option<OpenModel>,
 }
 
 impl Model for Reader {
-    ghost use Rattle.std.specs.Prelude.{◌≡◌, map, true};
+    ghost use Rattle.std.specs.Prelude.{◌≡◌, true};
     ghost use Rattle.eqc_blif.specs.Reading.{After};
-    ghost use Rattle.eqc_blif.specs.Steps.{model_of, is_new_name};
+    ghost use Rattle.eqc_blif.specs.Steps.{is_new_name};
 
     ghost Value = { After };
 
-    ghost view = { λ a. record { closed = map (λ e. model_of e.0 e.1) a.closed.entries; open_model = a.open_model } };
+    ghost view = { λ a. record { closed = a.closed; open_model = a.open_model } };
 
-    ghost invariant = { λ a. is_new_name (map (λ e. model_of e.0 e.1) a.closed.entries) a.open_model ≡ true };
+    ghost invariant = { λ a. is_new_name a.closed a.open_model ≡ true };
 }
 
 pub(crate) fn is_bad_byte(byte: u8) -> bool
@@ -68,7 +66,7 @@ impl Reader {
         ensures { result ≡ start }
     {
         Reader {
-            closed: IndexMap::new(alloc),
+            closed: Library::new(alloc),
             open_model: None,
         }
     }
@@ -94,7 +92,7 @@ impl Reader {
         };
         model.close_cover()?;
         let (name, declarations) = model.into_parts();
-        let _ = self.closed.insert(name, declarations)?;
+        self.closed.add(name, declarations)?;
         Ok(())
     }
 
@@ -105,7 +103,7 @@ impl Reader {
         let (word, _) = split_first(line);
         let name = Name::new(alloc, word)?;
         self.close()?;
-        if self.closed.contains_key(&name) {
+        if self.closed.has(&name) {
             return Ok(Some(Rule::ModelTwice.code()));
         }
         self.open_model = Some(OpenModel::new(alloc, name));
@@ -207,7 +205,7 @@ impl Reader {
         requires twice { has_twice ((current self.old).inputs ++ words line.now) ≡ true }
         ensures { IfOk result (λ name. StandsTwice ((current self.old).inputs ++ words line.now) name) }
     {
-        let mut model = self.open_model.take().unwrap();
+        let model = self.open_model.as_mut().unwrap();
         model.input_twice(alloc, line)
     }
 
@@ -217,7 +215,7 @@ impl Reader {
         requires twice { has_twice ((current self.old).outputs ++ words line.now) ≡ true }
         ensures { IfOk result (λ name. StandsTwice ((current self.old).outputs ++ words line.now) name) }
     {
-        let mut model = self.open_model.take().unwrap();
+        let model = self.open_model.as_mut().unwrap();
         model.output_twice(alloc, line)
     }
 
@@ -230,6 +228,6 @@ impl Reader {
             closed,
             open_model: _,
         } = self;
-        Ok(Library::new(closed))
+        Ok(closed)
     }
 }

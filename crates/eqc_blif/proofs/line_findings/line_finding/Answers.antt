@@ -62,3 +62,15 @@ returns-then-code-9 c =
     let told = told_model c.args.reader.now (kind_of_line line) (arguments line) (without_blanks line) (c.requires ∙ ap Some by) in
     let name = c.in_ok-second_word.ensures in
     (sym by, (told.0, name, ap (λ (w : List ℕ). is_named (map (λ m. m.name) (models c.args.reader.now)) w) name ∙ told.1))
+
+pub returns-then-code-2 : goal.returns-then-code-2
+returns-then-code-2 c = c.if-code-2.true ∙ c.code-2.ensures
+
+pub returns-then-code-5 : goal.returns-then-code-5
+returns-then-code-5 c = (sym (c.if-code-5.true ∙ c.code-5.ensures), c.in_ok-row.ensures)
+
+pub returns-then-code-6 : goal.returns-then-code-6
+returns-then-code-6 c = (sym (c.if-code-6.true ∙ c.code-6.ensures), c.in_ok-output.ensures)
+
+pub returns-then-code-7 : goal.returns-then-code-7
+returns-then-code-7 c = (sym (c.if-code-7.true ∙ c.code-7.ensures), c.in_ok-no_pair.ensures)
