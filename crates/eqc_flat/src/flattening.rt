@@ -1,9 +1,10 @@
-ghost use Rattle.std.specs.Prelude.{◌≡◌, ◌⊎◌, ◌<◌, ◌≤◌, length, map, None, Some, IfOk, IfErr};
+ghost use Rattle.std.specs.Prelude.{◌≡◌, ◌⊎◌, ℕ, ◌<◌, ◌≤◌, length, map, slice_index_or, None, Some, IfOk, IfErr};
 ghost use Rattle.eqc_flat.specs.Hierarchy.{model};
+ghost use Rattle.eqc_flat.specs.Signals.{signals};
 ghost use Rattle.eqc_flat.specs.Codes.{flat_code};
 ghost use Rattle.eqc_flat.specs.DriverTable.{IsDriven};
 ghost use Rattle.eqc_flat.specs.Ordering.{IsOrder};
-ghost use Rattle.eqc_flat.specs.Flattened.{IsFlatOf};
+ghost use Rattle.eqc_flat.specs.Flattened.{signals_here, signal_at, all_named, IsFlatOf};
 ghost use Rattle.eqc_flat.specs.Instances.{IsExpansion};
 ghost use Rattle.eqc_flat.specs.StoredDrivers.{all_columns};
 ghost use Rattle.eqc_flat.specs.ModelFaults.{HasNoModelFault, IsNumberable, IsFlatFault};
@@ -24,6 +25,21 @@ use std::alloc::{AllocError, Global};
 /// How many inputs a main model may have.
 pub(crate) const MAX_INPUTS: usize = 2_048;
 
+/// The main model's outputs as flat signals, and each signal with its instance and name. Fails where memory is refused.
+fn listed<'a>(
+    alloc: Global,
+    hierarchy: &Hierarchy<'a>,
+) -> Result<(Vec<u32>, Vec<(u32, &'a [u8])>), AllocError>
+    ensures outputs { IfOk result (λ lists. map (signal_at hierarchy.now.0 hierarchy.now.1) lists.0.items ≡ signals_here hierarchy.now.0 hierarchy.now.1 0 (model hierarchy.now.0 hierarchy.now.1).outputs) }
+    ensures within { IfOk result (λ lists. (j : ℕ) → j < length lists.0.items → slice_index_or lists.0.items j 0 < length (signals hierarchy.now.0 hierarchy.now.1)) }
+    ensures named { IfOk result (λ lists. map (λ s. (s.0, s.1.now)) lists.1.items ≡ all_named hierarchy.now.0 hierarchy.now.1) }
+{
+    let outputs = hierarchy.library().outputs(hierarchy.top());
+    let output_signals = signals_of(alloc, hierarchy, 0, outputs)?;
+    let signals = hierarchy.all_signals(alloc)?;
+    Ok((output_signals, signals))
+}
+
 /// The flat netlist of a hierarchy with these rows, drivers and order. Fails where memory is refused.
 fn put_together<'a>(
     alloc: Global,
@@ -42,8 +58,7 @@ fn put_together<'a>(
     let top = hierarchy.top();
     let inputs = library.inputs(top);
     let outputs = library.outputs(top);
-    let output_signals = signals_of(alloc, &hierarchy, 0, outputs)?;
-    let signals = hierarchy.all_signals(alloc)?;
+    let (output_signals, signals) = listed(alloc, &hierarchy)?;
     let places = hierarchy.into_places();
     let rows = rows.into_rows();
     Ok(Flat::new(

@@ -1,4 +1,4 @@
-ghost use Rattle.std.specs.Prelude.{◌≡◌, [], not, map, length, position, IfOk, ◌<◌};
+ghost use Rattle.std.specs.Prelude.{◌≡◌, ◌<◌, [], true, not, map, take, length, position, is_some, slice_index_or, IfOk, IfSome};
 ghost use Rattle.std.specs.List.{list_any, fold};
 ghost use Rattle.std.specs.Str.{bytes_eq};
 ghost use Rattle.eqc_blif.specs.Names.{is_named, has_twice};
@@ -167,6 +167,24 @@ fn stands_twice(pairs: &[(Name, Name)]) -> bool
     false
 }
 
+/// The position of the first of these pairs whose formal stands in an earlier one, if there is one.
+pub(crate) fn first_repeated(
+    alloc: Global,
+    pairs: &[(Name, Name)],
+) -> Result<Option<usize>, AllocError>
+    ensures some { IfOk result (λ found. is_some found ≡ has_twice (map (λ pair. pair.0) pairs.now)) }
+    ensures first { IfOk result (λ found. IfSome found (λ k. (k < length pairs.now) × (is_named (map (λ pair. pair.0) (take k pairs.now)) (slice_index_or pairs.now k ([], [])).0 ≡ true))) }
+{
+    let mut names = NameSet::new(alloc);
+    for k in 0..pairs.len() {
+        let pair = &pairs[k];
+        if !names.insert(&pair.0)? {
+            return Ok(Some(k));
+        }
+    }
+    Ok(None)
+}
+
 /// Whether a formal stands twice in an instance.
 fn has_formal_twice(alloc: Global, instance: &Instance) -> Result<bool, AllocError>
     ensures { IfOk result (λ twice. twice ≡ has_twice (formals instance.now)) }
@@ -174,13 +192,8 @@ fn has_formal_twice(alloc: Global, instance: &Instance) -> Result<bool, AllocErr
     if instance.pairs.len() <= FEW {
         return Ok(stands_twice(&instance.pairs));
     }
-    let mut names = NameSet::new(alloc);
-    'pairs: for pair in &instance.pairs {
-        if !names.insert(&pair.0)? {
-            return Ok(true);
-        }
-    }
-    Ok(false)
+    let repeated = first_repeated(alloc, &instance.pairs)?;
+    Ok(repeated.is_some())
 }
 
 /// An input of the model without a pair in the instance.

@@ -9,7 +9,8 @@ use crate::calls::{Calls, model_number};
 use crate::condition::{Condition, first_instance};
 use crate::found_instance::{FoundFormal, FoundInstance};
 use crate::instance_conditions::{
-    LeavesInputOut, NamesFormalTwice, NamesNoFormal, NamesNoModel, formals_of, inputs,
+    LeavesInputOut, NamesFormalTwice, NamesNoFormal, NamesNoModel, first_repeated, formals_of,
+    inputs,
 };
 use crate::name_set::NameSet;
 use crate::reach::reached_models;
@@ -68,21 +69,6 @@ pub(crate) fn unknown_formal(
     let k = condition.first_unknown(instance).unwrap();
     let formal = instance.pairs[k].0.as_bytes();
     Ok(FoundFormal::new(found, formal))
-}
-
-/// The position of the first of these pairs whose formal stands in an earlier one, if there is one.
-fn first_repeated(alloc: Global, pairs: &[(Name, Name)]) -> Result<Option<usize>, AllocError>
-    ensures some { IfOk result (λ found. is_some found ≡ has_twice (map (λ pair. pair.0) pairs.now)) }
-    ensures first { IfOk result (λ found. IfSome found (λ k. (k < length pairs.now) × (is_named (map (λ pair. pair.0) (take k pairs.now)) (slice_index_or pairs.now k ([], [])).0 ≡ true))) }
-{
-    let mut names = NameSet::new(alloc);
-    for k in 0..pairs.len() {
-        let pair = &pairs[k];
-        if !names.insert(&pair.0)? {
-            return Ok(Some(k));
-        }
-    }
-    Ok(None)
 }
 
 /// A formal that stands twice in an instance, in a hierarchy that is refused for one. Fails where memory is refused.

@@ -10,14 +10,6 @@ use Rattle.eqc_flat.proofs.NamingLaws.{output_named}
 use Rattle.eqc_flat.proofs.FlatLaws.{IsParts, flat_same, expanded_few, parts_flat, parts_flat_of}
 use Rattle.eqc_flat.proofs.flattening.put_together.Goals as goal
 
-pub signals_of-requires-clause-named : goal.signals_of-requires-clause-named
-signals_of-requires-clause-named c = λ j h.
-    let library = c.args.hierarchy.0 in
-    let top = c.args.hierarchy.1 in
-    let inputs : c.inputs-inputs.result.now ≡ (model library top).inputs = c.inputs-inputs.ensures.names ∙ (ap (λ (n : ℕ). (model c.library-library.result.now n).inputs) c.top-top.ensures.top ∙ ap (λ (l : List ModelOf). (model l top).inputs) c.library-library.ensures) in
-    let outputs : c.outputs-outputs.result.now ≡ (model library top).outputs = c.outputs-outputs.ensures.names ∙ (ap (λ (n : ℕ). (model c.library-library.result.now n).outputs) c.top-top.ensures.top ∙ ap (λ (l : List ModelOf). (model l top).outputs) c.library-library.ensures) in
-    ap (λ (m : ModelOf). is_named (names_of m) (get_or c.outputs-outputs.result.now j [])) c.top-top.ensures.main ∙ (ap (λ (xs : List (List ℕ)). is_named (names_of (model library top)) (get_or xs j [])) outputs ∙ output_named (model library top) j (omega (arith, h, ap length outputs)))
-
 pub new-requires : goal.new-requires
 new-requires c =
     let library = c.args.hierarchy.0 in
@@ -28,7 +20,7 @@ new-requires c =
     let all = c.hierarchy.inside.instances in
     let few : length (signals library top) ≤ 1048576 = let P : List ModelOf × ℕ → Type 0 = λ v. length (signals v.0 v.1) ≤ 1048576 in subst P c.hierarchy.view_is (expanded_few c.hierarchy.inside.calls c.hierarchy.inside.naming all.top all.signals all.models.items all.firsts.items all.places.items c.hierarchy.invariant) in
     let os = c.in_ok-output_signals.output_signals.items in
-    let named = map {B = ℕ × List ℕ} (λ (p : ℕ × Bor (List ℕ)). (p.0, p.1.now)) c.in_ok-signals.signals.items in
+    let named = map {B = ℕ × List ℕ} (λ (p : ℕ × Bor (List ℕ)). (p.0, p.1.now)) c.in_ok-output_signals.signals.items in
     let places = c.into_places-places.result.items in
     let drivers = c.args.drivers in
     let steps = c.args.steps.items in
@@ -37,10 +29,10 @@ new-requires c =
       few_signals = few;
       inputs_once = sym (ap has_twice inputs) ∙ c.inputs-inputs.ensures.once;
       outputs_once = sym (ap has_twice outputs) ∙ c.outputs-outputs.ensures.once;
-      outputs_of = c.in_ok-output_signals.ensures.signals ∙ ap (signals_here library top 0) outputs;
+      outputs_of = c.in_ok-output_signals.ensures.outputs;
       outputs_within = c.in_ok-output_signals.ensures.within;
       root = c.top-top.ensures.root;
-      named_all = c.in_ok-signals.ensures;
+      named_all = c.in_ok-output_signals.ensures.named;
       placed = c.into_places-places.ensures.placed;
       parents = c.into_places-places.ensures.parents;
       driven = c.requires.driven;
@@ -60,7 +52,7 @@ returns c =
     let all = c.hierarchy.inside.instances in
     let few : length (signals library top) ≤ 1048576 = let P : List ModelOf × ℕ → Type 0 = λ v. length (signals v.0 v.1) ≤ 1048576 in subst P c.hierarchy.view_is (expanded_few c.hierarchy.inside.calls c.hierarchy.inside.naming all.top all.signals all.models.items all.firsts.items all.places.items c.hierarchy.invariant) in
     let os = c.in_ok-output_signals.output_signals.items in
-    let named = map {B = ℕ × List ℕ} (λ (p : ℕ × Bor (List ℕ)). (p.0, p.1.now)) c.in_ok-signals.signals.items in
+    let named = map {B = ℕ × List ℕ} (λ (p : ℕ × Bor (List ℕ)). (p.0, p.1.now)) c.in_ok-output_signals.signals.items in
     let places = c.into_places-places.result.items in
     let drivers = c.args.drivers in
     let steps = c.args.steps.items in
@@ -69,10 +61,10 @@ returns c =
       few_signals = few;
       inputs_once = sym (ap has_twice inputs) ∙ c.inputs-inputs.ensures.once;
       outputs_once = sym (ap has_twice outputs) ∙ c.outputs-outputs.ensures.once;
-      outputs_of = c.in_ok-output_signals.ensures.signals ∙ ap (signals_here library top 0) outputs;
+      outputs_of = c.in_ok-output_signals.ensures.outputs;
       outputs_within = c.in_ok-output_signals.ensures.within;
       root = c.top-top.ensures.root;
-      named_all = c.in_ok-signals.ensures;
+      named_all = c.in_ok-output_signals.ensures.named;
       placed = c.into_places-places.ensures.placed;
       parents = c.into_places-places.ensures.parents;
       driven = c.requires.driven;

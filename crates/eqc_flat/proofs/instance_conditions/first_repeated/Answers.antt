@@ -1,6 +1,6 @@
 use Rattle.std.proofs.Common.{sym, ℕ, List}
 use Rattle.eqc_flat.proofs.NameSetLaws.{twice_found, once_kept}
-use Rattle.eqc_flat.proofs.instance_findings.first_repeated.Goals as goal
+use Rattle.eqc_flat.proofs.instance_conditions.first_repeated.Goals as goal
 
 pub returns-then-not-branch-clause-some : goal.returns-then-not-branch-clause-some
 returns-then-not-branch-clause-some c =

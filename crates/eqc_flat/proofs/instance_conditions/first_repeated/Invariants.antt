@@ -1,6 +1,6 @@
 use Rattle.std.proofs.Common.{◌≡◌, false, take, map, ℕ, List}
 use Rattle.eqc_blif.specs.Names.{has_twice}
-use Rattle.eqc_flat.proofs.instance_findings.first_repeated.Given as goal
+use Rattle.eqc_flat.proofs.instance_conditions.first_repeated.Given as goal
 
 abbrev pub invariant-loop-k : goal.invariant-loop-k
 invariant-loop-k l = record {
