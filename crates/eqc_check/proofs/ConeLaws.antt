@@ -1,25 +1,24 @@
--- The last moments of the signals that one root depends on.
+-- The last moments of the steps that one output needs.
 use Rattle.std.proofs.Common.{◌≡◌, ℕ, ◌+◌, ◌<◌, ◌≤◌, List, [], ◌∷◌, Bool, true, false, Some, length, get_or, cond, nat_eq, eq-eqb, ne_eqb, refl, sym, ◌∙◌, ap, arith, inl, inr, ◌⊎◌, subst}
 use Rattle.std.specs.Option.{unwrap_or}
 use Rattle.indexmap.specs.IndexMap.{IndexMap, get}
 use Rattle.std.specs.List.Sorted.{IsPermutation}
 use Rattle.std.proofs.lemmas.Bool.{cases_eq}
-use Rattle.eqc_flat.specs.Graph.{FlatOf, IsFlat}
-use Rattle.eqc_flat.proofs.EvaluationLaws.{dep_before}
 use Rattle.eqc_check.specs.Listed.{listed, moment_in}
-use Rattle.eqc_pair.specs.PairOf.{ArePlaces}
-use Rattle.eqc_check.specs.Schedule.{moment, uses_at, AreLastMoments, AreNoted, IsOpen}
+use Rattle.eqc_check.specs.Steps.{StepsOf, AreSteps, steps_in, uses_of}
+use Rattle.eqc_check.specs.Schedule.{moment, end_of, AreLastMoments, AreUsedUntil, AreNoted, IsOpen}
 use Rattle.eqc_check.proofs.ListedLaws.{listed_size, listed_at}
-use Rattle.eqc_check.proofs.WantedLaws.{open_none, open_here, open_kept, open_popped, open_pushed, open_top, use_within}
+use Rattle.eqc_check.proofs.StepLaws.{uses_before, uses_within}
+use Rattle.eqc_check.proofs.WantedLaws.{open_none, open_here, open_kept, open_popped, open_pushed, open_top}
 
 -- a number is 0 or above it
 none_or_some : (n : ℕ) → (n ≡ 0) ⊎ (0 < n)
 none_or_some n = elim (cases_eq n 0) [ inl none ↦ inl none | inr some ↦ inr (omega arith) ]
 
--- ---- noting the signals that a step uses
+-- ---- noting the steps that a step uses
 
-pub noted_none : (places signals : List ℕ) (at : ℕ) (last : ℕ → ℕ) (steps : List ℕ) → AreNoted places signals at last steps last steps 0
-noted_none places signals at last steps = record {
+pub noted_none : (steps : List ℕ) (at : ℕ) (last : ℕ → ℕ) (items : List ℕ) → AreNoted steps at last items last items 0
+noted_none steps at last items = record {
   stays = λ s some. refl;
   there = λ k h. absurd (omega arith);
   fresh = λ s none some. absurd (omega arith);
@@ -34,104 +33,105 @@ noted_now old new s t at same is q = ap (λ o. unwrap_or o 0) (is q) ∙ (by (na
     by true = refl
     by false = refl
 
--- a signal that has a moment
-pub noted_same : (places signals : List ℕ) (at : ℕ) (old : ℕ → ℕ) (old_steps : List ℕ) (mid : ℕ → ℕ) (steps : List ℕ) (n : ℕ) → 0 < mid (get_or signals n 0) → AreNoted places signals at old old_steps mid steps n → AreNoted places signals at old old_steps mid steps (n + 1)
-noted_same places signals at old old_steps mid steps n some a = record {
-  stays = a.stays;
-  there = λ k h. elim (cases_eq k n) [ inl same ↦ rw same some | inr apart ↦ a.there k (omega arith) ];
-  fresh = a.fresh;
-  still = a.still;
-  only = λ x h. elim (a.only x h) [ inl before ↦ inl before | inr w ↦ inr (w.0, omega (arith, w.1), w.2) ];
+-- one step that has a moment, and one that has none
+pub noted_same : (step at : ℕ) (last : ℕ → ℕ) (items : List ℕ) → 0 < last step → AreNoted (step ∷ []) at last items last items 1
+noted_same step at last items some = record {
+  stays = λ s had. refl;
+  there = λ k h. (let zero : k ≡ 0 = omega arith in rw zero some);
+  fresh = λ s none has. absurd (omega arith);
+  still = λ x h. h;
+  only = λ x h. inl h;
 }
 
--- a signal that has none
-pub noted_more : (places signals : List ℕ) (at : ℕ) (old : ℕ → ℕ) (old_steps : List ℕ) (mid : ℕ → ℕ) (mid_steps : List ℕ) (new : ℕ → ℕ) (new_steps : List ℕ) (n : ℕ) → 1 ≤ at → mid (get_or signals n 0) ≡ 0 → ((q : ℕ) → new q ≡ cond (nat_eq (get_or signals n 0) q) at (mid q)) → IsPermutation (get_or places (get_or signals n 0) 0 ∷ mid_steps) new_steps → AreNoted places signals at old old_steps mid mid_steps n → AreNoted places signals at old old_steps new new_steps (n + 1)
-noted_more places signals at old old_steps mid mid_steps new new_steps n some none now perm a = record {
-  stays = λ s had. other s (λ e. absurd (omega (arith, had, a.stays s had, none, ap mid e))) ∙ a.stays s had;
-  there = λ k h. elim (cases_eq (get_or signals k 0) (get_or signals n 0)) [
-    | inl same ↦ omega (arith, here (get_or signals k 0) same, some)
-    | inr apart ↦ omega (arith, other (get_or signals k 0) apart, a.there k (before k h apart))
+pub noted_one : (step at : ℕ) (old : ℕ → ℕ) (old_items : List ℕ) (new : ℕ → ℕ) (new_items : List ℕ) → 1 ≤ at → old step ≡ 0 → ((q : ℕ) → new q ≡ cond (nat_eq step q) at (old q)) → IsPermutation (step ∷ old_items) new_items → AreNoted (step ∷ []) at old old_items new new_items 1
+noted_one step at old old_items new new_items some none now perm = record {
+  stays = λ s had. other s (λ e. absurd (omega (arith, had, none, ap old e)));
+  there = λ k h. (let zero : k ≡ 0 = omega arith in rw zero (omega (arith, here step refl, some)));
+  fresh = λ s had has. elim (cases_eq s step) [
+    | inl same ↦ (here s same, rw same (open_here old_items new_items step perm))
+    | inr apart ↦ absurd (omega (arith, has, other s apart, had))
   ];
-  fresh = λ s had has. elim (cases_eq s (get_or signals n 0)) [
-    | inl same ↦ (here s same, rw same (open_here mid_steps new_steps (get_or places (get_or signals n 0) 0) perm))
-    | inr apart ↦ (let b = a.fresh s had (omega (arith, has, other s apart)) in (other s apart ∙ b.0, open_kept mid_steps new_steps (get_or places (get_or signals n 0) 0) (get_or places s 0) perm b.1))
-  ];
-  still = λ x h. open_kept mid_steps new_steps (get_or places (get_or signals n 0) 0) x perm (a.still x h);
-  only = λ x h. elim (open_pushed mid_steps new_steps (get_or places (get_or signals n 0) 0) x perm h) [
-    | inl same ↦ inr (n, omega arith, sym same)
-    | inr early ↦ elim (a.only x early) [ inl first ↦ inl first | inr w ↦ inr (w.0, omega (arith, w.1), w.2) ]
-  ];
+  still = λ x h. open_kept old_items new_items step x perm h;
+  only = λ x h. elim (open_pushed old_items new_items step x perm h) [ inl same ↦ inr (0, omega arith, sym same) | inr early ↦ inl early ];
 }
   where
-    here : (s : ℕ) → s ≡ get_or signals n 0 → new s ≡ at
-    here s same = now s ∙ ap (λ b. cond b at (mid s)) (eq-eqb (get_or signals n 0) s (sym same))
+    here : (s : ℕ) → s ≡ step → new s ≡ at
+    here s same = now s ∙ ap (λ b. cond b at (old s)) (eq-eqb step s (sym same))
 
-    other : (s : ℕ) → (s ≡ get_or signals n 0 → ⊥) → new s ≡ mid s
-    other s apart = now s ∙ ap (λ b. cond b at (mid s)) (ne_eqb (get_or signals n 0) s (λ e. apart (sym e)))
+    other : (s : ℕ) → (s ≡ step → ⊥) → new s ≡ old s
+    other s apart = now s ∙ ap (λ b. cond b at (old s)) (ne_eqb step s (λ e. apart (sym e)))
 
-    before : (k : ℕ) → k < n + 1 → (get_or signals k 0 ≡ get_or signals n 0 → ⊥) → k < n
-    before k h apart = elim (cases_eq k n) [ inl same ↦ absurd (apart (ap (λ j. get_or signals j 0) same)) | inr far ↦ omega arith ]
+-- one step more
+pub noted_more : (steps : List ℕ) (at : ℕ) (old : ℕ → ℕ) (old_items : List ℕ) (mid : ℕ → ℕ) (mid_items : List ℕ) (new : ℕ → ℕ) (new_items : List ℕ) (n : ℕ) → AreNoted steps at old old_items mid mid_items n → AreNoted (get_or steps n 0 ∷ []) at mid mid_items new new_items 1 → AreNoted steps at old old_items new new_items (n + 1)
+noted_more steps at old old_items mid mid_items new new_items n a one = record {
+  stays = λ s had. one.stays s (omega (arith, had, a.stays s had)) ∙ a.stays s had;
+  there = λ k h. elim (cases_eq k n) [
+    | inl same ↦ rw same (one.there 0 (omega arith))
+    | inr apart ↦ omega (arith, a.there k (omega arith), one.stays (get_or steps k 0) (a.there k (omega arith)))
+  ];
+  fresh = λ s had has. elim (none_or_some (mid s)) [
+    | inl none ↦ one.fresh s none has
+    | inr some ↦ (one.stays s some ∙ (a.fresh s had some).0, one.still s (a.fresh s had some).1)
+  ];
+  still = λ x h. one.still x (a.still x h);
+  only = λ x h. elim (one.only x h) [
+    | inl before ↦ elim (a.only x before) [ inl early ↦ inl early | inr w ↦ inr (w.0, omega (arith, w.1), w.2) ]
+    | inr w ↦ (let zero : w.0 ≡ 0 = omega (arith, w.1) in inr (n, omega arith, ap (λ k. get_or (get_or steps n 0 ∷ []) k 0) (sym zero) ∙ w.2))
+  ];
+}
+
+-- two steps
+pub noted_two : (s t at : ℕ) (old : ℕ → ℕ) (old_items : List ℕ) (mid : ℕ → ℕ) (mid_items : List ℕ) (new : ℕ → ℕ) (new_items : List ℕ) → AreNoted (s ∷ []) at old old_items mid mid_items 1 → AreNoted (t ∷ []) at mid mid_items new new_items 1 → AreNoted (s ∷ t ∷ []) at old old_items new new_items 2
+noted_two s t at old old_items mid mid_items new new_items first second = noted_more (s ∷ t ∷ []) at old old_items mid mid_items new new_items 1 (record {
+  stays = first.stays;
+  there = λ k h. (let zero : k ≡ 0 = omega arith in rw zero (first.there 0 (omega arith)));
+  fresh = first.fresh;
+  still = first.still;
+  only = λ x h. elim (first.only x h) [ inl before ↦ inl before | inr w ↦ (let zero : w.0 ≡ 0 = omega (arith, w.1) in inr (0, omega arith, ap (λ k. get_or (s ∷ []) k 0) (sym zero) ∙ w.2)) ];
+}) second
 
 -- ---- the walk
 
 -- the steps from the highest one down to `below` have noted what they use, but for the open ones, which are all below it
-pub record IsNotedFrom (f : FlatOf) (root : ℕ) (last : ℕ → ℕ) (steps : List ℕ) (below : ℕ) : Type 0 where
-  pub small : below ≤ length f.steps
-  pub open_below : (x : ℕ) → IsOpen steps x → x < below
+pub record IsNotedFrom (g : StepsOf) (roots : List ℕ) (last : ℕ → ℕ) (items : List ℕ) (below : ℕ) : Type 0 where
+  pub small : below ≤ steps_in g.pair
+  pub open_below : (x : ℕ) → IsOpen items x → x < below
   pub late : (s : ℕ) → 0 < last s → moment 1 (below + 1) ≤ last s
-  pub few : (s : ℕ) → last s ≤ moment 1 (length f.drivers + 1)
-  pub at_root : moment 1 (length f.drivers + 1) ≤ last root
-  pub closed : (k c : ℕ) → k < length f.steps → c < length (uses_at f k) → 0 < last (get_or f.steps k 0) → IsOpen steps k ⊎ (moment 1 (k + 1) ≤ last (get_or (uses_at f k) c 0))
+  pub few : (s : ℕ) → last s ≤ end_of g 1
+  pub at_roots : (r : ℕ) → r < length roots → end_of g 1 ≤ last (get_or roots r 0)
+  pub closed : (k c : ℕ) → k < steps_in g.pair → c < length (uses_of g k) → 0 < last k → IsOpen items k ⊎ (moment 1 (k + 1) ≤ last (get_or (uses_of g k) c 0))
 
--- the place of a step's signal is the step
-place_of_step : (f : FlatOf) (places : List ℕ) (k : ℕ) → IsFlat f → ArePlaces f places → k < length f.steps → get_or places (get_or f.steps k 0) 0 ≡ k
-place_of_step f places k flat p lt =
-    let inside = flat.steps_within k lt in
-    flat.once (get_or places (get_or f.steps k 0) 0) k (p.within (get_or f.steps k 0) inside) lt (p.at (get_or f.steps k 0) inside)
-
-pub noted_start : (f : FlatOf) (root : ℕ) (places signals old_steps : List ℕ) (old last : ℕ → ℕ) (steps : List ℕ) (at : ℕ) → IsFlat f → ArePlaces f places → root < length f.drivers → signals ≡ root ∷ [] → old_steps ≡ [] → ((s : ℕ) → old s ≡ 0) → at ≡ moment 1 (length f.drivers + 1) → AreNoted places signals at old old_steps last steps (length signals) → IsNotedFrom f root last steps (length f.steps)
-noted_start f root places signals old_steps old last steps at flat p inside is empty none end a = record {
+pub noted_start : (g : StepsOf) (roots old_items : List ℕ) (old last : ℕ → ℕ) (items : List ℕ) → old_items ≡ [] → ((s : ℕ) → old s ≡ 0) → ((r : ℕ) → r < length roots → get_or roots r 0 < steps_in g.pair) → AreNoted roots (end_of g 1) old old_items last items (length roots) → IsNotedFrom g roots last items (steps_in g.pair)
+noted_start g roots old_items old last items empty none inside a = record {
   small = omega arith;
   open_below = λ x h. elim (a.only x h) [
     | inl before ↦ absurd (open_none x (subst (λ xs. IsOpen xs x) empty before))
-    | inr w ↦ omega (arith, p.within root inside, w.2, ap (λ s. get_or places s 0) (only w.0 w.1))
+    | inr w ↦ omega (arith, inside w.0 w.1, w.2)
   ];
-  late = λ s some. omega (arith, (a.fresh s (none s) some).0, end, flat.step_count);
-  few = λ s. elim (none_or_some (last s)) [ inl zero ↦ omega (arith, zero) | inr some ↦ omega (arith, (a.fresh s (none s) some).0, end) ];
-  at_root = omega (arith, (a.fresh root (none root) has).0, end);
-  closed = λ k c lt within some. inl (subst (IsOpen steps) (place_of_step f places k flat p lt) (a.fresh (get_or f.steps k 0) (none (get_or f.steps k 0)) some).1);
+  late = λ s some. omega (arith, (a.fresh s (none s) some).0);
+  few = λ s. elim (none_or_some (last s)) [ inl zero ↦ omega (arith, zero) | inr some ↦ omega (arith, (a.fresh s (none s) some).0) ];
+  at_roots = λ r h. omega (arith, (a.fresh (get_or roots r 0) (none (get_or roots r 0)) (a.there r h)).0);
+  closed = λ k c lt within some. inl (a.fresh k (none k) some).1;
 }
-  where
-    only : (k : ℕ) → k < length signals → get_or signals k 0 ≡ root
-    only k lt = (let z : k ≡ 0 = omega (arith, lt, ap length is) in ap (λ l. get_or l k 0) is ∙ ap (λ j. get_or (root ∷ []) j 0) z)
 
-    has : 0 < last root
-    has = subst (λ s. 0 < last s) (only 0 (omega (arith, ap length is))) (a.there 0 (omega (arith, ap length is)))
-
-pub noted_step : (f : FlatOf) (root : ℕ) (places : List ℕ) (last new : ℕ → ℕ) (h0 h1 h2 h3 : List ℕ) (below p : ℕ) → IsFlat f → ArePlaces f places → IsPermutation h0 (p ∷ h1) → ((x : ℕ) → IsOpen h1 x → x ≤ p) → ((x : ℕ) → IsOpen h2 x → x < p) → ((x : ℕ) → x < p → IsOpen h1 x → IsOpen h2 x) → AreNoted places (uses_at f p) (moment 1 (p + 1)) last h2 new h3 (length (uses_at f p)) → IsNotedFrom f root last h0 below → IsNotedFrom f root new h3 p
-noted_step f root places last new h0 h1 h2 h3 below p flat at perm popped_below dropped_below dropped_others a w = record {
+pub noted_step : (g : StepsOf) (roots : List ℕ) (last new : ℕ → ℕ) (h0 h1 h2 h3 : List ℕ) (below p : ℕ) → AreSteps g → IsPermutation h0 (p ∷ h1) → ((x : ℕ) → IsOpen h1 x → x ≤ p) → ((x : ℕ) → IsOpen h2 x → x < p) → ((x : ℕ) → x < p → IsOpen h1 x → IsOpen h2 x) → AreNoted (uses_of g p) (moment 1 (p + 1)) last h2 new h3 (length (uses_of g p)) → IsNotedFrom g roots last h0 below → IsNotedFrom g roots new h3 p
+noted_step g roots last new h0 h1 h2 h3 below p lawful perm popped_below dropped_below dropped_others a w = record {
   small = omega (arith, top, w.small);
-  open_below = λ x h. elim (a.only x h) [ inl o ↦ dropped_below x o | inr k ↦ omega (arith, before k.0 k.1, k.2) ];
+  open_below = λ x h. elim (a.only x h) [ inl o ↦ dropped_below x o | inr k ↦ omega (arith, uses_before g p k.0 lawful inside k.1, k.2) ];
   late = late;
   few = λ s. elim (none_or_some (last s)) [
-    | inl none ↦ elim (none_or_some (new s)) [ inl zero ↦ omega (arith, zero) | inr some ↦ omega (arith, (a.fresh s none some).0, top, w.small, flat.step_count) ]
+    | inl none ↦ elim (none_or_some (new s)) [ inl zero ↦ omega (arith, zero) | inr some ↦ omega (arith, (a.fresh s none some).0, top, w.small) ]
     | inr had ↦ omega (arith, a.stays s had, w.few s)
   ];
-  at_root = omega (arith, w.at_root, a.stays root (omega (arith, w.at_root)));
+  at_roots = λ r h. omega (arith, w.at_roots r h, a.stays (get_or roots r 0) (omega (arith, w.at_roots r h)));
   closed = closed;
 }
   where
     top : p < below
     top = w.open_below p (open_top h0 h1 p perm)
 
-    inside : p < length f.steps
+    inside : p < steps_in g.pair
     inside = omega (arith, top, w.small)
-
-    -- what the step uses is at an earlier step
-    before : (k : ℕ) → k < length (uses_at f p) → get_or places (get_or (uses_at f p) k 0) 0 < p
-    before k lt =
-        let b = dep_before f p k flat inside lt in
-        omega (arith, b.1, ap (λ s. get_or places s 0) b.2, place_of_step f places b.0 flat at (omega (arith, b.1, inside)))
 
     late : (s : ℕ) → 0 < new s → moment 1 (p + 1) ≤ new s
     late s some = elim (none_or_some (last s)) [
@@ -139,21 +139,21 @@ noted_step f root places last new h0 h1 h2 h3 below p flat at perm popped_below 
       | inr had ↦ omega (arith, a.stays s had, w.late s had, top)
     ]
 
-    closed : (k c : ℕ) → k < length f.steps → c < length (uses_at f k) → 0 < new (get_or f.steps k 0) → IsOpen h3 k ⊎ (moment 1 (k + 1) ≤ new (get_or (uses_at f k) c 0))
-    closed k c lt within some = elim (none_or_some (last (get_or f.steps k 0))) [
-      | inl none ↦ inl (subst (IsOpen h3) (place_of_step f places k flat at lt) (a.fresh (get_or f.steps k 0) none some).1)
+    closed : (k c : ℕ) → k < steps_in g.pair → c < length (uses_of g k) → 0 < new k → IsOpen h3 k ⊎ (moment 1 (k + 1) ≤ new (get_or (uses_of g k) c 0))
+    closed k c lt within some = elim (none_or_some (last k)) [
+      | inl none ↦ inl (a.fresh k none some).1
       | inr had ↦ elim (w.closed k c lt within had) [
         | inl o ↦ opened k c within o
-        | inr le ↦ inr (omega (arith, le, a.stays (get_or (uses_at f k) c 0) (omega (arith, le))))
+        | inr le ↦ inr (omega (arith, le, a.stays (get_or (uses_of g k) c 0) (omega (arith, le))))
       ]
     ]
       where
-        here : (k c : ℕ) → k ≡ p → c < length (uses_at f k) → moment 1 (k + 1) ≤ new (get_or (uses_at f k) c 0)
+        here : (k c : ℕ) → k ≡ p → c < length (uses_of g k) → moment 1 (k + 1) ≤ new (get_or (uses_of g k) c 0)
         here k c same within =
-            let P : ℕ → Type 0 = λ i. c < length (uses_at f i) → moment 1 (i + 1) ≤ new (get_or (uses_at f i) c 0) in
-            subst P (sym same) (λ lt. late (get_or (uses_at f p) c 0) (a.there c lt)) within
+            let P : ℕ → Type 0 = λ i. c < length (uses_of g i) → moment 1 (i + 1) ≤ new (get_or (uses_of g i) c 0) in
+            subst P (sym same) (λ lt. late (get_or (uses_of g p) c 0) (a.there c lt)) within
 
-        opened : (k c : ℕ) → c < length (uses_at f k) → IsOpen h0 k → IsOpen h3 k ⊎ (moment 1 (k + 1) ≤ new (get_or (uses_at f k) c 0))
+        opened : (k c : ℕ) → c < length (uses_of g k) → IsOpen h0 k → IsOpen h3 k ⊎ (moment 1 (k + 1) ≤ new (get_or (uses_of g k) c 0))
         opened k c within o = elim (open_popped h0 h1 p k perm o) [
           | inl same ↦ inr (here k c same within)
           | inr left ↦ elim (cases_eq k p) [
@@ -162,20 +162,19 @@ noted_step f root places last new h0 h1 h2 h3 below p flat at perm popped_below 
           ]
         ]
 
-module _ (f : FlatOf) (root : ℕ) (last : ℕ → ℕ) (steps : List ℕ) (below : ℕ) (flat : IsFlat f) (empty : steps ≡ []) (w : IsNotedFrom f root last steps below) where
+module _ (g : StepsOf) (roots : List ℕ) (last : ℕ → ℕ) (items : List ℕ) (below : ℕ) (lawful : AreSteps g) (empty : items ≡ []) (w : IsNotedFrom g roots last items below) where
   -- all steps have noted what they use
-  pub noted_done : AreLastMoments f (listed (length f.drivers) last)
+  pub noted_done : AreLastMoments g (listed (steps_in g.pair) last)
   noted_done = record {
-    size = listed_size (length f.drivers) last;
+    size = listed_size (steps_in g.pair) last;
     closed = λ k c output lt within some late.
-        let signal : get_or f.steps k 0 < length f.drivers = flat.steps_within k lt in
-        let noted = listed_at (length f.drivers) last (get_or f.steps k 0) 0 signal in
-        let one : output ≡ 1 = omega (arith, some, late, noted, w.few (get_or f.steps k 0), flat.few_signals) in
+        let noted = listed_at (steps_in g.pair) last k 0 lt in
+        let one : output ≡ 1 = omega (arith, some, late, noted, w.few k, lawful.lawful.first_flat.few_signals, lawful.lawful.second_flat.few_signals) in
         elim (w.closed k c lt within (omega (arith, some, late, noted))) [
           | inl o ↦ absurd (open_none k (subst (λ xs. IsOpen xs k) empty o))
-          | inr le ↦ omega (arith, one, le, listed_at (length f.drivers) last (get_or (uses_at f k) c 0) 0 (use_within f k c flat lt within))
+          | inr le ↦ omega (arith, one, le, listed_at (steps_in g.pair) last (get_or (uses_of g k) c 0) 0 (uses_within g k c lawful lt within))
         ];
   }
 
-  pub noted_root : root < length f.drivers → moment 1 (length f.drivers + 1) ≤ get_or (listed (length f.drivers) last) root 0
-  noted_root inside = omega (arith, w.at_root, listed_at (length f.drivers) last root 0 inside)
+  pub noted_roots : ((r : ℕ) → r < length roots → get_or roots r 0 < steps_in g.pair) → AreUsedUntil (listed (steps_in g.pair) last) roots (end_of g 1)
+  noted_roots inside = record { each = λ r h. omega (arith, w.at_roots r h, listed_at (steps_in g.pair) last (get_or roots r 0) 0 (inside r h)) }

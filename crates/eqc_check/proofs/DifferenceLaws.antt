@@ -1,31 +1,36 @@
 -- The diagram of where an output of a pair differs: what it says, and its least assignment.
-use Rattle.std.proofs.Common.{◌≡◌, ℕ, ◌+◌, ◌<◌, Bool, false, List, [], length, find, get_or, refl, sym, ◌∙◌, ap, arith, Option, Some, None, subst}
+use Rattle.std.proofs.Common.{◌≡◌, ℕ, ◌+◌, ◌<◌, ◌≤◌, Bool, false, List, [], length, find, get_or, refl, sym, ◌∙◌, ap, arith, Option, Some, None, subst}
 use Rattle.eqc_tree.specs.Holding.{Entry, Holding, IsHeld, says, Keeps, Gains, Loses}
 use Rattle.eqc_tree.specs.Operation.{operate}
 use Rattle.eqc_tree.specs.declared.operation.Op.TheVariants.{Xor}
 use Rattle.eqc_tree.proofs.HoldingLemmas.{counts_itself}
 use Rattle.eqc_flat.specs.Graph.{value_of}
-use Rattle.eqc_check.specs.Building.{AreBuilt, OwnsBoth, OwnsTable, Moves, MovesBoth, inputs_under, reference_of}
+use Rattle.eqc_check.specs.Building.{IsBuilt, OwnsTable, Moves, reference_of}
+use Rattle.eqc_check.specs.Steps.{StepsOf, AreSteps, inputs_under, steps_in, first_root, second_root}
 use Rattle.eqc_tree.specs.Assigned.{assigned, DependsOnlyOn, assignments}
 use Rattle.eqc_pair.specs.Matched.{position_of}
 use Rattle.eqc_check.specs.Verdict.{values_for, first_value, second_value, least_difference}
 use Rattle.eqc_pair.specs.PairOf.{PairOf, IsPair, first_variables, second_variables, second_signals}
 use Rattle.eqc_check.specs.Comparing.{netlist_of, differs_at, SaysDifference}
-use Rattle.eqc_check.specs.Turns.{AreTurns, AreKept, IsComparable, MovesKept}
-use Rattle.eqc_check.specs.declared.build.moments.Schedules.{Schedules}
-use Rattle.eqc_check.specs.declared.build.kept.Tables.{Tables}
+use Rattle.eqc_check.specs.Turns.{is_marked, AreTurns, AreKept, IsComparable, MovesKept}
+use Rattle.eqc_check.specs.declared.build.Plan.{Plan}
 use Rattle.eqc_check.proofs.MatchedLemmas.{assigned_value, IsDifference, least_of_difference, none_of_difference}
-use Rattle.eqc_check.proofs.TableLaws.{tally_none}
+use Rattle.eqc_check.proofs.TableLaws.{moves_twice, owned_kept, owned_moves, tally_none}
+use Rattle.eqc_check.proofs.BuildLaws.{none_built}
+use Rattle.eqc_check.proofs.StepLaws.{first_made, second_made}
 use Rattle.eqc_check.proofs.CompareLaws.{value_agrees, xor_differs}
 use Rattle.eqc_check.proofs.PairLaws.{AreMatched, pair_matched}
 use Rattle.eqc_pair.proofs.PlaceLemmas.{place_itself}
 
 -- two diagrams that say an output's values differ where it does
-pub xor_says : {X : Type 0} (entry : X → Entry) (p : PairOf) (o : ℕ) (first second : List (Option X)) (x y : X) (a : ℕ → Bool) → AreBuilt entry p first second → reference_of first (get_or p.first.output_signals o 0) ≡ Some x → reference_of second (get_or (second_signals p) o 0) ≡ Some y → operate Xor (says (entry x) a) (says (entry y) a) ≡ differs_at p o a
+pub xor_says : {X : Type 0} (entry : X → Entry) (g : StepsOf) (o : ℕ) (table : List (Option X)) (x y : X) (a : ℕ → Bool) → AreSteps g → o < length g.pair.first.outputs → IsBuilt entry g.pair table → reference_of table (first_root g o) ≡ Some x → reference_of table (second_root g o) ≡ Some y → operate Xor (says (entry x) a) (says (entry y) a) ≡ differs_at g.pair o a
 unfolding differs_at
-xor_says entry p o first second x y a b ix iy =
-    rw (b.first.values (get_or p.first.output_signals o 0) x ix a, b.second.values (get_or (second_signals p) o 0) y iy a)
-    (sym (xor_differs (value_of p.first (inputs_under (first_variables p) a) (get_or p.first.output_signals o 0)) (value_of p.second (inputs_under (second_variables p) a) (get_or (second_signals p) o 0))))
+xor_says entry g o table x y a h inside b ix iy =
+    let s = get_or g.pair.first.output_signals o 0 in
+    let t = get_or (second_signals g.pair) o 0 in
+    let first : says (entry x) a ≡ value_of g.pair.first (inputs_under (first_variables g.pair) a) s = b.values (first_root g o) x ix a ∙ first_made g a s h (h.lawful.first_flat.outputs_within o inside) in
+    let second : says (entry y) a ≡ value_of g.pair.second (inputs_under (second_variables g.pair) a) t = b.values (second_root g o) y iy a ∙ second_made g a t h ((pair_matched g.pair h.lawful).within o inside) in
+    rw (first, second) (sym (xor_differs (value_of g.pair.first (inputs_under (first_variables g.pair) a) s) (value_of g.pair.second (inputs_under (second_variables g.pair) a) t)))
 
 -- an output of the first netlist under an assignment
 first_value_is : (p : PairOf) (o : ℕ) (a : List Bool) → IsPair p → o < length p.first.outputs → value_of p.first (inputs_under (first_variables p) (assigned (first_variables p) a)) (get_or p.first.output_signals o 0) ≡ first_value (netlist_of p.first) (get_or p.first.outputs o []) a
@@ -74,74 +79,47 @@ least_is p o f h inside s = least_of_difference (netlist_of p.first) (netlist_of
 pub none_is : (p : PairOf) (o : ℕ) (f : (ℕ → Bool) → Bool) → IsPair p → o < length p.first.outputs → SaysDifference p o f → ((a : ℕ → Bool) → f a ≡ false) → least_difference (netlist_of p.first) (netlist_of p.second) (get_or p.first.outputs o []) ≡ None
 none_is p o f h inside s never = none_of_difference (netlist_of p.first) (netlist_of p.second) (get_or p.first.outputs o []) (first_variables p) f (differs_is p o f h inside s) never
 
--- ---- two tables
+-- ---- what is kept
 
-pub first_owned : {X : Type 0} (entry : X → Entry) (d : Holding) (first second : List (Option X)) → OwnsBoth entry d first second → OwnsTable entry d first
-first_owned entry d first second h = record { held = λ e. omega (arith, h.held e) }
-
-pub second_owned : {X : Type 0} (entry : X → Entry) (d : Holding) (first second : List (Option X)) → OwnsBoth entry d first second → OwnsTable entry d second
-second_owned entry d first second h = record { held = λ e. omega (arith, h.held e) }
-
-pub both_kept : {X : Type 0} (entry : X → Entry) (old new : Holding) (first second : List (Option X)) → Keeps old new → OwnsBoth entry old first second → OwnsBoth entry new first second
-both_kept entry old new first second k h = record { held = λ e. omega (arith, k.held e, h.held e) }
-
--- what one of two tables gains the object gains
-pub first_moves : {X : Type 0} (entry : X → Entry) (d0 d1 : Holding) (t0 t1 second : List (Option X)) → Moves entry d0 t0 d1 t1 → MovesBoth entry d0 t0 second d1 t1 second
-first_moves entry d0 d1 t0 t1 second m = record { variables = m.variables; held = λ e. omega (arith, m.held e) }
-
-pub second_moves : {X : Type 0} (entry : X → Entry) (d0 d1 : Holding) (first t0 t1 : List (Option X)) → Moves entry d0 t0 d1 t1 → MovesBoth entry d0 first t0 d1 first t1
-second_moves entry d0 d1 first t0 t1 m = record { variables = m.variables; held = λ e. omega (arith, m.held e) }
-
-pub both_moves : {X : Type 0} (entry : X → Entry) (d0 d1 d2 : Holding) (f0 f1 s0 s1 : List (Option X)) → Moves entry d0 f0 d1 f1 → Moves entry d1 s0 d2 s1 → MovesBoth entry d0 f0 s0 d2 f1 s1
-both_moves entry d0 d1 d2 f0 f1 s0 s1 m n = record { variables = n.variables ∙ m.variables; held = λ e. omega (arith, m.held e, n.held e) }
-
-pub both_twice : {X : Type 0} (entry : X → Entry) (d0 d1 d2 : Holding) (f0 f1 f2 s0 s1 s2 : List (Option X)) → MovesBoth entry d0 f0 s0 d1 f1 s1 → MovesBoth entry d1 f1 s1 d2 f2 s2 → MovesBoth entry d0 f0 s0 d2 f2 s2
-both_twice entry d0 d1 d2 f0 f1 f2 s0 s1 s2 m n = record { variables = n.variables ∙ m.variables; held = λ e. omega (arith, m.held e, n.held e) }
-
-pub kept_twice : {X : Type 0} (entry : X → Entry) (p : PairOf) (d0 d1 d2 : Holding) (t0 t1 t2 : Tables X) → MovesKept entry p d0 t0 d1 t1 → MovesKept entry p d1 t1 d2 t2 → MovesKept entry p d0 t0 d2 t2
-kept_twice entry p d0 d1 d2 t0 t1 t2 m n = record {
-  moves = both_twice entry d0 d1 d2 t0.first.table t1.first.table t2.first.table t0.second.table t1.second.table t2.second.table m.moves n.moves;
-  built = n.built;
-}
-
-pub moved_owned : {X : Type 0} (entry : X → Entry) (d0 d1 : Holding) (f0 f1 s0 s1 : List (Option X)) → OwnsBoth entry d0 f0 s0 → MovesBoth entry d0 f0 s0 d1 f1 s1 → OwnsBoth entry d1 f1 s1
-moved_owned entry d0 d1 f0 f1 s0 s1 o m = record { held = λ e. omega (arith, o.held e, m.held e) }
+pub kept_twice : {X : Type 0} (entry : X → Entry) (p : PairOf) (d0 d1 d2 : Holding) (t0 t1 t2 : List (Option X)) → MovesKept entry p d0 t0 d1 t1 → MovesKept entry p d1 t1 d2 t2 → MovesKept entry p d0 t0 d2 t2
+kept_twice entry p d0 d1 d2 t0 t1 t2 m n = record { moves = moves_twice entry d0 d1 d2 t0 t1 t2 m.moves n.moves; built = n.built }
 
 -- what was moved is kept as before
-pub moved_kept : {X : Type 0} (entry : X → Entry) (p : PairOf) (d0 d1 : Holding) (t0 t1 : Tables X) → AreKept entry p d0 t0 → MovesKept entry p d0 t0 d1 t1 → AreKept entry p d1 t1
+pub moved_kept : {X : Type 0} (entry : X → Entry) (p : PairOf) (d0 d1 : Holding) (t0 t1 : List (Option X)) → AreKept entry p d0 t0 → MovesKept entry p d0 t0 d1 t1 → AreKept entry p d1 t1
 moved_kept entry p d0 d1 t0 t1 k m = record {
   variables = omega (arith, k.variables, m.moves.variables);
   built = m.built;
-  owned = moved_owned entry d0 d1 t0.first.table t1.first.table t0.second.table t1.second.table k.owned m.moves;
+  owned = owned_moves entry d0 d1 t0 t1 k.owned m.moves;
 }
 
--- an output may be compared once more, and each output in its turn
-pub comparable_again : {X : Type 0} (entry : X → Entry) (p : PairOf) (s : Schedules) (d0 d1 : Holding) (t0 t1 : Tables X) (o n : ℕ) → IsComparable entry p s d0 t0 o n → MovesKept entry p d0 t0 d1 t1 → IsComparable entry p s d1 t1 o n
-comparable_again entry p s d0 d1 t0 t1 o n h m = record { output = h.output; scheduled = h.scheduled; turn = h.turn; kept = moved_kept entry p d0 d1 t0 t1 h.kept m }
+-- a call that keeps what is held keeps what is kept
+pub still_kept : {X : Type 0} (entry : X → Entry) (p : PairOf) (d0 d1 : Holding) (table : List (Option X)) → AreKept entry p d0 table → Keeps d0 d1 → AreKept entry p d1 table
+still_kept entry p d0 d1 table h k = record { variables = omega (arith, h.variables, k.variables); built = h.built; owned = owned_kept entry d0 d1 table k h.owned }
 
-pub comparable_next : {X : Type 0} (entry : X → Entry) (p : PairOf) (s : Schedules) (d : Holding) (tables : Tables X) (o : ℕ) → o < length p.first.outputs → AreTurns p s → AreKept entry p d tables → IsComparable entry p s d tables o (o + 1)
-comparable_next entry p s d tables o inside turns kept = record { output = inside; scheduled = turns.scheduled; turn = turns.each o inside; kept = kept }
+-- an output may be compared once more, and each output that is not marked in its turn
+pub comparable_again : {X : Type 0} (entry : X → Entry) (plan : Plan) (d0 d1 : Holding) (t0 t1 : List (Option X)) (o n : ℕ) → IsComparable entry plan d0 t0 o n → MovesKept entry plan.steps.pair d0 t0 d1 t1 → IsComparable entry plan d1 t1 o n
+comparable_again entry plan d0 d1 t0 t1 o n h m = record { within = h.within; turn = h.turn; kept = moved_kept entry plan.steps.pair d0 d1 t0 t1 h.kept m }
+
+pub comparable_next : {X : Type 0} (entry : X → Entry) (plan : Plan) (marks : List Bool) (d : Holding) (table : List (Option X)) (o : ℕ) → o < length plan.steps.pair.first.outputs → is_marked marks o ≡ false → AreTurns plan marks → AreKept entry plan.steps.pair d table → IsComparable entry plan d table o (o + 1)
+comparable_next entry plan marks d table o inside unmarked turns kept = record { within = inside; turn = turns.each o inside unmarked; kept = kept }
 
 -- a call that keeps what is held moves nothing
-pub both_still : {X : Type 0} (entry : X → Entry) (d0 d1 d2 : Holding) (f0 f1 s0 s1 : List (Option X)) → MovesBoth entry d0 f0 s0 d1 f1 s1 → Keeps d1 d2 → MovesBoth entry d0 f0 s0 d2 f1 s1
-both_still entry d0 d1 d2 f0 f1 s0 s1 m k = record { variables = k.variables ∙ m.variables; held = λ e. omega (arith, m.held e, k.held e) }
+pub moves_still : {X : Type 0} (entry : X → Entry) (d0 d1 d2 : Holding) (t0 t1 : List (Option X)) → Moves entry d0 t0 d1 t1 → Keeps d1 d2 → Moves entry d0 t0 d2 t1
+moves_still entry d0 d1 d2 t0 t1 m k = record { variables = k.variables ∙ m.variables; held = λ e. omega (arith, m.held e, k.held e) }
 
--- two tables that came from nothing are owned, and where nothing is left of them all is as before
-pub new_owned : {X : Type 0} (entry : X → Entry) (d0 d1 : Holding) (first second : List (Option X)) → MovesBoth entry d0 [] [] d1 first second → OwnsBoth entry d1 first second
-new_owned entry d0 d1 first second m = record { held = λ e. omega (arith, m.held e) }
+-- where nothing is left of what came from nothing all is as before
+pub nothing_moved : {X : Type 0} (entry : X → Entry) (d0 d1 d2 : Holding) (t0 t1 : List (Option X)) → Moves entry d0 [] d0 t0 → Moves entry d0 t0 d1 t1 → Moves entry d1 t1 d2 [] → Keeps d0 d2
+nothing_moved entry d0 d1 d2 t0 t1 a b c = record { variables = c.variables ∙ b.variables; held = λ e. omega (arith, a.held e, b.held e, c.held e) }
 
-pub nothing_moved : {X : Type 0} (entry : X → Entry) (d0 d1 d2 d3 : Holding) (f1 s1 f2 s2 : List (Option X)) → MovesBoth entry d0 [] [] d1 f1 s1 → MovesBoth entry d1 f1 s1 d2 f2 s2 → MovesBoth entry d2 f2 s2 d3 [] [] → Keeps d0 d3
-nothing_moved entry d0 d1 d2 d3 f1 s1 f2 s2 a b c = record { variables = c.variables ∙ (b.variables ∙ a.variables); held = λ e. omega (arith, a.held e, b.held e, c.held e) }
-
--- tables without references
+-- a table without references
 pub none_owned : {X : Type 0} (entry : X → Entry) (d : Holding) (table : List (Option X)) → ((s : ℕ) → reference_of table s ≡ None) → OwnsTable entry d table
 none_owned entry d table none = record { held = λ e. omega (arith, tally_none entry table e none) }
 
-pub none_moved : {X : Type 0} (entry : X → Entry) (d : Holding) (first second : List (Option X)) → ((s : ℕ) → reference_of first s ≡ None) → ((s : ℕ) → reference_of second s ≡ None) → MovesBoth entry d [] [] d first second
-none_moved entry d first second nf ns = record { variables = refl; held = λ e. omega (arith, tally_none entry first e nf, tally_none entry second e ns) }
+pub none_moved : {X : Type 0} (entry : X → Entry) (d : Holding) (table : List (Option X)) → ((s : ℕ) → reference_of table s ≡ None) → Moves entry d [] d table
+none_moved entry d table none = record { variables = refl; held = λ e. omega (arith, tally_none entry table e none) }
 
-pub none_given : {X : Type 0} (entry : X → Entry) (d0 d1 : Holding) (table : List (Option X)) → ((s : ℕ) → reference_of table s ≡ None) → Moves entry d0 table d1 [] → Keeps d0 d1
-none_given entry d0 d1 table none m = record { variables = m.variables; held = λ e. omega (arith, tally_none entry table e none, m.held e) }
+pub none_kept : {X : Type 0} (entry : X → Entry) (p : PairOf) (d : Holding) (table : List (Option X)) → length p.first.inputs ≤ d.variables → length table ≡ steps_in p → ((s : ℕ) → reference_of table s ≡ None) → AreKept entry p d table
+none_kept entry p d table variables size none = record { variables = variables; built = none_built entry p table size none; owned = none_owned entry d table none }
 
 -- a reference that was made is held, and given back it leaves what was held before
 pub gained_held : (d0 d1 : Holding) (r : Entry) (f : (ℕ → Bool) → Bool) → Gains d0 d1 r f → IsHeld d1 r

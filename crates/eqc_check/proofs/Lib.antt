@@ -1,4 +1,5 @@
 pub mod TableLaws
+pub mod StepLaws
 pub mod BuildLaws
 pub mod ScheduleLaws
 pub mod ListedLaws

@@ -1,5 +1,5 @@
 -- Lists with a place for each signal, by what the signals have.
-use Rattle.std.proofs.Common.{◌≡◌, ℕ, ◌+◌, ◌<◌, ◌++◌, List, [], ◌∷◌, Bool, true, false, cond, nat_eq, eq-eqb, ne_eqb, length, get_or, set, refl, sym, ◌∙◌, ap, arith, Option, Some, None, inl, inr, IsSome}
+use Rattle.std.proofs.Common.{◌≡◌, ℕ, ◌<◌, ◌++◌, List, [], ◌∷◌, Bool, true, false, cond, nat_eq, eq-eqb, ne_eqb, length, get_or, set, refl, sym, ◌∙◌, ap, arith, Option, Some, None, inl, inr, IsSome}
 use Rattle.std.specs.Map.{lookup}
 use Rattle.std.proofs.lemmas.List.{get_or-set_same, get_or-set_other, get_or_past, ext_get_or}
 use Rattle.std.proofs.lemmas.List.FromFn.{get_or-map-range_with_len, length-map-range_with_len}

@@ -1,5 +1,5 @@
 -- A pair's netlists are matched, and the report on a difference.
-use Rattle.std.proofs.Common.{◌≡◌, ℕ, zero, suc, ◌+◌, ◌<◌, ◌≤◌, Bool, true, false, not, List, [], ◌∷◌, ◌++◌, length, take, get_or, refl, sym, ◌∙◌, ap, arith, Some, true≢false}
+use Rattle.std.proofs.Common.{◌≡◌, ℕ, zero, suc, ◌+◌, ◌<◌, Bool, true, false, not, List, [], ◌∷◌, ◌++◌, length, take, get_or, refl, sym, ◌∙◌, ap, arith, Some, true≢false}
 use Rattle.std.specs.List.{zip}
 use Rattle.std.proofs.lemmas.List.{get_or-map, length-map}
 use Rattle.std.proofs.lemmas.List.FromFn.{length-map-range_with_len, get_or-map-range_with_len}
@@ -11,11 +11,8 @@ use Rattle.eqc_tree.specs.Assigned.{AreDistinct}
 use Rattle.eqc_flat.specs.Evaluating.{values_of}
 use Rattle.eqc_check.proofs.CompareLaws.{value_agrees}
 use Rattle.eqc_check.proofs.VerdictLemmas.{found_is_first}
-use Rattle.eqc_check.specs.Schedule.{EndsAtRoots}
-use Rattle.eqc_check.specs.Turns.{AreScheduled, AreTurns}
-use Rattle.eqc_check.specs.declared.build.moments.Schedules.{Schedules}
 use Rattle.eqc_pair.specs.PairOf.{PairOf, IsPair, variable_in, variables_in, first_variables, second_variables, second_signals, output_signal}
-use Rattle.eqc_check.specs.Building.{AreVariables, AreSignals}
+use Rattle.eqc_check.specs.Building.{AreVariables}
 use Rattle.eqc_check.specs.Comparing.{netlist_of}
 use Rattle.eqc_pair.proofs.PlaceLemmas.{place_itself, place_below, all_named}
 use Rattle.eqc_pair.proofs.OrderedLemmas.{both_ways}
@@ -77,20 +74,6 @@ pair_matched p h = record {
     signal_at : (o : ℕ) → o < length p.first.outputs → get_or (second_signals p) o 0 ≡ get_or p.second.output_signals (position_of p.second.outputs (get_or p.first.outputs o [])) 0
     signal_at o inside = get_or-map (output_signal p.second) p.first.outputs o [] 0 inside
 
--- over any number of variables that is no smaller
-pub first_within : (p : PairOf) (n : ℕ) → IsPair p → length p.first.inputs ≤ n → AreVariables p.first (first_variables p) n
-first_within p n h le = let m = (pair_matched p h).first in record { size = m.size; below = λ i lt. omega (arith, m.below i lt) }
-
-pub second_within : (p : PairOf) (n : ℕ) → IsPair p → length p.first.inputs ≤ n → AreVariables p.second (second_variables p) n
-second_within p n h le = let m = (pair_matched p h).second in record { size = m.size; below = λ i lt. omega (arith, m.below i lt) }
-
--- the signals of all outputs
-pub first_roots : (p : PairOf) → IsPair p → AreSignals p.first p.first.output_signals
-first_roots p h = record { each = λ o lt. h.first_flat.outputs_within o (omega (arith, h.first_flat.each_output)) }
-
-pub second_roots : (p : PairOf) → IsPair p → AreSignals p.second (second_signals p)
-second_roots p h = let m = pair_matched p h in record { each = λ o lt. m.within o (omega (arith, m.size)) }
-
 -- one more name with its value
 pub zipped_more : {A B : Type 0} (xs : List A) (ys : List B) (i : ℕ) (d : A) (e : B) → i < length xs → i < length ys → zip (take (i + 1) xs) (take (i + 1) ys) ≡ zip (take i xs) (take i ys) ++ (get_or xs i d, get_or ys i e) ∷ []
 zipped_more [] ys i d e h k = absurd (omega arith)
@@ -125,15 +108,3 @@ difference_reported f g output a report found is =
 
 pub difference_long : (f g : FlatOf) (output : List ℕ) (a : List Bool) → first_difference (netlist_of f) (netlist_of g) f.outputs ≡ Some (output, a) → length a ≡ length f.inputs
 difference_long f g output a found = (found_is_first (netlist_of f) (netlist_of g) f.outputs output a found).least.long
-
--- the outputs' signals are used until their turns, where the schedules have them as roots in their order
-pub turns_of : (p : PairOf) (s : Schedules) → IsPair p → AreScheduled p s → EndsAtRoots p.first p.first.output_signals s.first → EndsAtRoots p.second (second_signals p) s.second → length p.first.outputs ≤ 4294967295 → AreTurns p s
-turns_of p s h t a b few = record {
-  scheduled = t;
-  each = λ o inside. record {
-    some = omega arith;
-    first_end = a.each o (omega (arith, h.first_flat.each_output));
-    second_end = b.each o (omega (arith, (pair_matched p h).size));
-  };
-  few = few;
-}

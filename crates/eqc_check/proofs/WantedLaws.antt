@@ -13,11 +13,10 @@ use Rattle.std.proofs.lemmas.Bool.{cases_eq, or_cases, eqb-true, eq-eqb, true≢
 use Rattle.std.proofs.lemmas.List.Elements.{All-contains}
 use Rattle.indexmap.proofs.CallerLemmas.{Contains-list_any}
 use Rattle.std.proofs.lemmas.List.{get_or_default}
-use Rattle.eqc_flat.specs.Graph.{FlatOf, IsFlat}
-use Rattle.eqc_flat.proofs.EvaluationLaws.{dep_before}
 use Rattle.eqc_check.specs.Building.{reference_of}
-use Rattle.eqc_pair.specs.PairOf.{ArePlaces}
-use Rattle.eqc_check.specs.Schedule.{moment, uses_at, AreLastMoments, AreWanted, AreOpened, IsBehind, IsOpen}
+use Rattle.eqc_check.specs.Steps.{StepsOf, AreSteps, steps_in, uses_of}
+use Rattle.eqc_check.specs.Schedule.{moment, AreLastMoments, AreUsedUntil, AreWanted, AreReached, AreOpened, IsBehind, IsOpen}
+use Rattle.eqc_check.proofs.StepLaws.{uses_before}
 
 pub open_none : (x : ℕ) → IsOpen [] x → ⊥
 unfolding IsOpen
@@ -96,80 +95,82 @@ pub some_copied : {X : Type 0} (o : Option (Bor X)) (p : Option X) → option_co
 some_copied None p is h = subst (λ q. IsSome q) is h
 some_copied (Some r) p is h = subst (λ q. IsSome q) is h
 
--- the first signals' steps were opened
-pub opened_none : {X : Type 0} (places : List ℕ) (table : List (Option X)) (signals items : List ℕ) → AreOpened places table signals items items 0
-opened_none places table signals items = record {
+-- the first steps were opened
+pub opened_none : {X : Type 0} (table : List (Option X)) (steps items : List ℕ) → AreOpened table steps items items 0
+opened_none table steps items = record {
   kept = λ x h. h;
   there = λ k h. absurd (omega arith);
   only = λ x h. inl h;
 }
 
-pub opened_here : {X : Type 0} (places : List ℕ) (table : List (Option X)) (signals old mid : List ℕ) (n : ℕ) → IsSome (reference_of table (get_or signals n 0)) → AreOpened places table signals old mid n → AreOpened places table signals old mid (n + 1)
-opened_here places table signals old mid n some o = record {
-  kept = o.kept;
-  there = λ k h. elim (cases_eq k n) [ inl same ↦ inl (rw same some) | inr apart ↦ o.there k (omega arith) ];
-  only = λ x h. elim (o.only x h) [ inl before ↦ inl before | inr w ↦ inr (w.0, omega (arith, w.1), w.2) ];
+-- one step that has a reference, and one that has none
+pub opened_here : {X : Type 0} (table : List (Option X)) (step : ℕ) (items : List ℕ) → IsSome (reference_of table step) → AreOpened table (step ∷ []) items items 1
+opened_here table step items some = record {
+  kept = λ x h. h;
+  there = λ k h. (let zero : k ≡ 0 = omega arith in inl (rw zero some));
+  only = λ x h. inl h;
 }
 
-pub opened_more : {X : Type 0} (places : List ℕ) (table : List (Option X)) (signals old mid new : List ℕ) (n : ℕ) → IsPermutation (get_or places (get_or signals n 0) 0 ∷ mid) new → AreOpened places table signals old mid n → AreOpened places table signals old new (n + 1)
-opened_more places table signals old mid new n perm o = record {
-  kept = λ x h. open_kept mid new (get_or places (get_or signals n 0) 0) x perm (o.kept x h);
+pub opened_one : {X : Type 0} (table : List (Option X)) (step : ℕ) (old new : List ℕ) → IsPermutation (step ∷ old) new → AreOpened table (step ∷ []) old new 1
+opened_one table step old new perm = record {
+  kept = λ x h. open_kept old new step x perm h;
+  there = λ k h. (let zero : k ≡ 0 = omega arith in inr (rw zero (open_here old new step perm)));
+  only = λ x h. elim (open_pushed old new step x perm h) [ inl same ↦ inr (0, omega arith, sym same) | inr before ↦ inl before ];
+}
+
+-- one step more
+pub opened_more : {X : Type 0} (table : List (Option X)) (steps old mid new : List ℕ) (n : ℕ) → AreOpened table steps old mid n → AreOpened table (get_or steps n 0 ∷ []) mid new 1 → AreOpened table steps old new (n + 1)
+opened_more table steps old mid new n o one = record {
+  kept = λ x h. one.kept x (o.kept x h);
   there = λ k h. elim (cases_eq k n) [
-    | inl same ↦ inr (rw same (open_here mid new (get_or places (get_or signals n 0) 0) perm))
-    | inr apart ↦ elim (o.there k (omega arith)) [ inl some ↦ inl some | inr there ↦ inr (open_kept mid new (get_or places (get_or signals n 0) 0) (get_or places (get_or signals k 0) 0) perm there) ]
+    | inl same ↦ rw same (one.there 0 (omega arith))
+    | inr apart ↦ elim (o.there k (omega arith)) [ inl some ↦ inl some | inr there ↦ inr (one.kept (get_or steps k 0) there) ]
   ];
-  only = λ x h. elim (open_pushed mid new (get_or places (get_or signals n 0) 0) x perm h) [
-    | inl same ↦ inr (n, omega arith, sym same)
-    | inr before ↦ elim (o.only x before) [ inl early ↦ inl early | inr w ↦ inr (w.0, omega (arith, w.1), w.2) ]
+  only = λ x h. elim (one.only x h) [
+    | inl before ↦ elim (o.only x before) [ inl early ↦ inl early | inr w ↦ inr (w.0, omega (arith, w.1), w.2) ]
+    | inr w ↦ (let zero : w.0 ≡ 0 = omega (arith, w.1) in inr (n, omega arith, ap (λ k. get_or (get_or steps n 0 ∷ []) k 0) (sym zero) ∙ w.2))
   ];
 }
 
--- the step of a signal is open
-abbrev pub IsOpenFor : FlatOf → List ℕ → ℕ → Type 0
-IsOpenFor f items s = (x : ℕ) × IsOpen items x × (get_or f.steps x 0 ≡ s)
+-- two steps
+pub opened_two : {X : Type 0} (table : List (Option X)) (s t : ℕ) (old mid new : List ℕ) → AreOpened table (s ∷ []) old mid 1 → AreOpened table (t ∷ []) mid new 1 → AreOpened table (s ∷ t ∷ []) old new 2
+opened_two table s t old mid new first second = opened_more table (s ∷ t ∷ []) old mid new 1 (record {
+  kept = first.kept;
+  there = λ k h. (let zero : k ≡ 0 = omega arith in rw zero (first.there 0 (omega arith)));
+  only = λ x h. elim (first.only x h) [ inl before ↦ inl before | inr w ↦ (let zero : w.0 ≡ 0 = omega (arith, w.1) in inr (0, omega arith, ap (λ k. get_or (s ∷ []) k 0) (sym zero) ∙ w.2)) ];
+}) second
 
 -- the steps that are wanted so far, and the open ones, which are all below them
-pub record AreWantedFrom {X : Type 0} (f : FlatOf) (last : List ℕ) (table : List (Option X)) (output root : ℕ) (wanted items : List ℕ) (below : ℕ) : Type 0 where
-  pub small : below ≤ length f.steps
-  pub within : (i : ℕ) → i < length wanted → get_or wanted i 0 < length f.steps
+pub record AreWantedFrom {X : Type 0} (g : StepsOf) (last : List ℕ) (table : List (Option X)) (output : ℕ) (roots wanted items : List ℕ) (below : ℕ) : Type 0 where
+  pub small : below ≤ steps_in g.pair
+  pub within : (i : ℕ) → i < length wanted → get_or wanted i 0 < steps_in g.pair
   pub above : (i : ℕ) → i < length wanted → below ≤ get_or wanted i 0
   pub falling : (i j : ℕ) → i < j → j < length wanted → get_or wanted j 0 < get_or wanted i 0
-  pub needed : (i : ℕ) → i < length wanted → moment output 0 ≤ get_or last (get_or f.steps (get_or wanted i 0) 0) 0
+  pub needed : (i : ℕ) → i < length wanted → moment output 0 ≤ get_or last (get_or wanted i 0) 0
   pub open_below : (x : ℕ) → IsOpen items x → x < below
-  pub open_needed : (x : ℕ) → IsOpen items x → moment output 0 ≤ get_or last (get_or f.steps x 0) 0
-  pub closed : (i c : ℕ) → i < length wanted → c < length (uses_at f (get_or wanted i 0)) → IsSome (reference_of table (get_or (uses_at f (get_or wanted i 0)) c 0)) ⊎ (IsBehind f wanted (i + 1) (get_or (uses_at f (get_or wanted i 0)) c 0) ⊎ IsOpenFor f items (get_or (uses_at f (get_or wanted i 0)) c 0))
-  pub rooted : IsSome (reference_of table root) ⊎ (IsBehind f wanted 0 root ⊎ IsOpenFor f items root)
+  pub open_needed : (x : ℕ) → IsOpen items x → moment output 0 ≤ get_or last x 0
+  pub closed : (i c : ℕ) → i < length wanted → c < length (uses_of g (get_or wanted i 0)) → IsSome (reference_of table (get_or (uses_of g (get_or wanted i 0)) c 0)) ⊎ (IsBehind wanted (i + 1) (get_or (uses_of g (get_or wanted i 0)) c 0) ⊎ IsOpen items (get_or (uses_of g (get_or wanted i 0)) c 0))
+  pub rooted : (r : ℕ) → r < length roots → IsSome (reference_of table (get_or roots r 0)) ⊎ (IsBehind wanted 0 (get_or roots r 0) ⊎ IsOpen items (get_or roots r 0))
 
-pub wanted_start : {X : Type 0} (f : FlatOf) (last places : List ℕ) (table : List (Option X)) (output root : ℕ) (items : List ℕ) → ArePlaces f places → root < length f.drivers → moment output 0 ≤ get_or last root 0 → (IsSome (reference_of table root) ⊎ IsOpen items (get_or places root 0)) → ((x : ℕ) → IsOpen items x → get_or places root 0 ≡ x) → AreWantedFrom f last table output root [] items (length f.steps)
-wanted_start f last places table output root items p inside late there only = record {
+-- what was opened for the roots alone
+pub wanted_first : {X : Type 0} (g : StepsOf) (last : List ℕ) (table : List (Option X)) (output at : ℕ) (roots old items : List ℕ) → old ≡ [] → moment output 0 ≤ at → ((r : ℕ) → r < length roots → get_or roots r 0 < steps_in g.pair) → AreUsedUntil last roots at → AreOpened table roots old items (length roots) → AreWantedFrom g last table output roots [] items (steps_in g.pair)
+wanted_first g last table output at roots old items empty late inside used o = record {
   small = omega arith;
   within = λ i h. absurd (omega arith);
   above = λ i h. absurd (omega arith);
   falling = λ i j lt h. absurd (omega arith);
   needed = λ i h. absurd (omega arith);
-  open_below = λ x h. omega (arith, only x h, p.within root inside);
-  open_needed = λ x h. omega (arith, late, ap (λ s. get_or last s 0) (sym (p.at root inside) ∙ ap (λ x. get_or f.steps x 0) (only x h)));
+  open_below = λ x h. (let w = root x h in omega (arith, inside w.0 w.1, w.2));
+  open_needed = λ x h. (let w = root x h in omega (arith, used.each w.0 w.1, late, ap (λ s. get_or last s 0) w.2));
   closed = λ i c h within. absurd (omega arith);
-  rooted = elim there [ inl some ↦ inl some | inr o ↦ inr (inr (get_or places root 0, o, p.at root inside)) ];
+  rooted = λ r h. elim (o.there r h) [ inl some ↦ inl some | inr o' ↦ inr (inr o') ];
 }
+  where
+    root : (x : ℕ) → IsOpen items x → (r : ℕ) × (r < length roots) × (get_or roots r 0 ≡ x)
+    root x h = elim (o.only x h) [ inl before ↦ absurd (open_none x (subst (λ xs. IsOpen xs x) empty before)) | inr w ↦ w ]
 
--- what was opened for the root alone
-pub wanted_first : {X : Type 0} (f : FlatOf) (last places : List ℕ) (table : List (Option X)) (output root : ℕ) (signals old items : List ℕ) (count : ℕ) → signals ≡ root ∷ [] → old ≡ [] → count ≡ length f.steps → ArePlaces f places → root < length f.drivers → moment output 0 ≤ get_or last root 0 → AreOpened places table signals old items (length signals) → AreWantedFrom f last table output root [] items count
-wanted_first {X = X} f last places table output root signals old items count is empty all p inside late o =
-    let P : List ℕ → Type 0 = λ s. AreOpened places table s old items (length s) in
-    let q : AreOpened places table (root ∷ []) old items 1 = subst P is o in
-    let only : (x : ℕ) → IsOpen items x → get_or places root 0 ≡ x = λ x h. elim (q.only x h) [
-      | inl before ↦ absurd (open_none x (subst (λ xs. IsOpen xs x) empty before))
-      | inr w ↦ (let z : w.0 ≡ 0 = omega (arith, w.1) in ap (λ k. get_or places (get_or (root ∷ []) k 0) 0) (sym z) ∙ w.2)
-    ] in
-    subst (AreWantedFrom f last table output root [] items) (sym all) (wanted_start f last places table output root items p inside late (q.there 0 (omega arith)) only)
-
--- a signal that a step uses is there
-pub use_within : (f : FlatOf) (p k : ℕ) → IsFlat f → p < length f.steps → k < length (uses_at f p) → get_or (uses_at f p) k 0 < length f.drivers
-use_within f p k flat inside lt = (let b = dep_before f p k flat inside lt in omega (arith, flat.steps_within b.0 (omega (arith, b.1)), b.2))
-
-pub wanted_more : {X : Type 0} (f : FlatOf) (last places : List ℕ) (table : List (Option X)) (output root : ℕ) (wanted h0 h1 h2 h3 : List ℕ) (below p : ℕ) → IsFlat f → AreLastMoments f last → ArePlaces f places → 1 ≤ output → IsPermutation h0 (p ∷ h1) → ((x : ℕ) → IsOpen h2 x → x < p) → ((x : ℕ) → IsOpen h2 x → IsOpen h1 x) → ((x : ℕ) → x < p → IsOpen h1 x → IsOpen h2 x) → ((x : ℕ) → IsOpen h1 x → x ≤ p) → ((x : ℕ) → IsOpen h2 x → IsOpen h3 x) → ((k : ℕ) → k < length (uses_at f p) → IsSome (reference_of table (get_or (uses_at f p) k 0)) ⊎ IsOpen h3 (get_or places (get_or (uses_at f p) k 0) 0)) → ((x : ℕ) → IsOpen h3 x → IsOpen h2 x ⊎ ((k : ℕ) × (k < length (uses_at f p)) × (get_or places (get_or (uses_at f p) k 0) 0 ≡ x))) → AreWantedFrom f last table output root wanted h0 below → AreWantedFrom f last table output root (wanted ++ p ∷ []) h3 p
-wanted_more {X = X} f last places table output root wanted h0 h1 h2 h3 below p flat moments at some perm dropped_below dropped_kept dropped_others popped_below opened_kept opened_there opened_only w = record {
+pub wanted_more : {X : Type 0} (g : StepsOf) (last : List ℕ) (table : List (Option X)) (output : ℕ) (roots wanted h0 h1 h2 h3 : List ℕ) (below p : ℕ) → AreSteps g → AreLastMoments g last → 1 ≤ output → IsPermutation h0 (p ∷ h1) → ((x : ℕ) → IsOpen h2 x → x < p) → ((x : ℕ) → IsOpen h2 x → IsOpen h1 x) → ((x : ℕ) → x < p → IsOpen h1 x → IsOpen h2 x) → ((x : ℕ) → IsOpen h1 x → x ≤ p) → AreOpened table (uses_of g p) h2 h3 (length (uses_of g p)) → AreWantedFrom g last table output roots wanted h0 below → AreWantedFrom g last table output roots (wanted ++ p ∷ []) h3 p
+wanted_more {X = X} g last table output roots wanted h0 h1 h2 h3 below p lawful moments some perm dropped_below dropped_kept dropped_others popped_below opened w = record {
   small = omega (arith, w.open_below p top, w.small);
   within = λ i h. elim (place i h) [ inl lt ↦ omega (arith, old i lt, w.within i lt) | inr end ↦ omega (arith, new i end, w.open_below p top, w.small) ];
   above = λ i h. elim (place i h) [ inl lt ↦ omega (arith, old i lt, w.above i lt, w.open_below p top) | inr end ↦ omega (arith, new i end) ];
@@ -181,29 +182,29 @@ wanted_more {X = X} f last places table output root wanted h0 h1 h2 h3 below p f
     | inl lt ↦ rw (old i lt) (w.needed i lt)
     | inr end ↦ rw (new i end) (w.open_needed p top)
   ];
-  open_below = λ x h. elim (opened_only x h) [
+  open_below = λ x h. elim (opened.only x h) [
     | inl o ↦ dropped_below x o
-    | inr k ↦ omega (arith, before k.0 k.1, k.2)
+    | inr k ↦ omega (arith, uses_before g p k.0 lawful inside k.1, k.2)
   ];
-  open_needed = λ x h. elim (opened_only x h) [
+  open_needed = λ x h. elim (opened.only x h) [
     | inl o ↦ w.open_needed x (open_left h0 h1 p x perm (dropped_kept x o))
-    | inr k ↦ late k.0 x k.1 k.2
+    | inr k ↦ omega (arith, moments.closed p k.0 output inside k.1 some (w.open_needed p top), ap (λ s. get_or last s 0) k.2)
   ];
   closed = λ i c h within. elim (place i h) [
-    | inl lt ↦ (let P : ℕ → Type 0 = λ q. c < length (uses_at f q) → IsSome (reference_of table (get_or (uses_at f q) c 0)) ⊎ (IsBehind f (wanted ++ p ∷ []) (i + 1) (get_or (uses_at f q) c 0) ⊎ IsOpenFor f h3 (get_or (uses_at f q) c 0)) in subst P (sym (old i lt)) (closed_before i c lt) within)
-    | inr end ↦ (let P : ℕ → Type 0 = λ q. c < length (uses_at f q) → IsSome (reference_of table (get_or (uses_at f q) c 0)) ⊎ (IsBehind f (wanted ++ p ∷ []) (i + 1) (get_or (uses_at f q) c 0) ⊎ IsOpenFor f h3 (get_or (uses_at f q) c 0)) in subst P (sym (new i end)) (closed_here i c) within)
+    | inl lt ↦ (let P : ℕ → Type 0 = λ q. c < length (uses_of g q) → IsSome (reference_of table (get_or (uses_of g q) c 0)) ⊎ (IsBehind (wanted ++ p ∷ []) (i + 1) (get_or (uses_of g q) c 0) ⊎ IsOpen h3 (get_or (uses_of g q) c 0)) in subst P (sym (old i lt)) (closed_before i c lt) within)
+    | inr end ↦ (let P : ℕ → Type 0 = λ q. c < length (uses_of g q) → IsSome (reference_of table (get_or (uses_of g q) c 0)) ⊎ (IsBehind (wanted ++ p ∷ []) (i + 1) (get_or (uses_of g q) c 0) ⊎ IsOpen h3 (get_or (uses_of g q) c 0)) in subst P (sym (new i end)) (closed_here i c) within)
   ];
-  rooted = elim w.rooted [ inl some ↦ inl some | inr there ↦ inr (moved 0 root (omega arith) there) ];
+  rooted = λ r h. elim (w.rooted r h) [ inl some ↦ inl some | inr there ↦ inr (moved 0 (get_or roots r 0) (omega arith) there) ];
 }
   where
-    all : List ℕ
-    all = wanted ++ p ∷ []
-
     size : length (wanted ++ p ∷ []) ≡ length wanted + 1
     size = length-append wanted (p ∷ [])
 
     top : IsOpen h0 p
     top = open_top h0 h1 p perm
+
+    inside : p < steps_in g.pair
+    inside = omega (arith, w.open_below p top, w.small)
 
     place : (i : ℕ) → i < length (wanted ++ p ∷ []) → (i < length wanted) ⊎ (i ≡ length wanted)
     place i h = elim (cases_eq i (length wanted)) [ inl same ↦ inr same | inr apart ↦ inl (omega (arith, size)) ]
@@ -214,54 +215,31 @@ wanted_more {X = X} f last places table output root wanted h0 h1 h2 h3 below p f
     new : (i : ℕ) → i ≡ length wanted → get_or (wanted ++ p ∷ []) i 0 ≡ p
     new i end = ap (λ j. get_or (wanted ++ p ∷ []) j 0) end ∙ get_or-append_seam wanted p [] 0
 
-    -- what the step uses is at an earlier step
-    before : (k : ℕ) → k < length (uses_at f p) → get_or places (get_or (uses_at f p) k 0) 0 < p
-    before k lt =
-        let inside : p < length f.steps = omega (arith, w.open_below p top, w.small) in
-        let b = dep_before f p k flat inside lt in
-        let signal : get_or (uses_at f p) k 0 < length f.drivers = omega (arith, flat.steps_within b.0 (omega (arith, b.1)), b.2) in
-        let e : get_or places (get_or (uses_at f p) k 0) 0 ≡ b.0 = flat.once (get_or places (get_or (uses_at f p) k 0) 0) b.0 (at.within (get_or (uses_at f p) k 0) signal) (omega (arith, b.1)) (at.at (get_or (uses_at f p) k 0) signal ∙ sym b.2) in
-        omega (arith, b.1)
-
-    signal_at : (k : ℕ) → k < length (uses_at f p) → get_or f.steps (get_or places (get_or (uses_at f p) k 0) 0) 0 ≡ get_or (uses_at f p) k 0
-    signal_at k lt =
-        let inside : p < length f.steps = omega (arith, w.open_below p top, w.small) in
-        let b = dep_before f p k flat inside lt in
-        at.at (get_or (uses_at f p) k 0) (omega (arith, flat.steps_within b.0 (omega (arith, b.1)), b.2))
-
-    late : (k x : ℕ) → k < length (uses_at f p) → get_or places (get_or (uses_at f p) k 0) 0 ≡ x → moment output 0 ≤ get_or last (get_or f.steps x 0) 0
-    late k x lt is =
-        let inside : p < length f.steps = omega (arith, w.open_below p top, w.small) in
-        let used = moments.closed p k output inside lt some (w.open_needed p top) in
-        let e : get_or last (get_or f.steps x 0) 0 ≡ get_or last (get_or (uses_at f p) k 0) 0 = ap (λ s. get_or last s 0) (ap (λ j. get_or f.steps j 0) (sym is) ∙ signal_at k lt) in
-        omega (arith, used, e)
-
-    moved : (n s : ℕ) → n ≤ length wanted → IsBehind f wanted n s ⊎ IsOpenFor f h0 s → IsBehind f (wanted ++ p ∷ []) n s ⊎ IsOpenFor f h3 s
-    moved n s le (inl b) = inl (b.0, b.1, omega (arith, b.2, size), ap (λ j. get_or f.steps j 0) (old b.0 b.2) ∙ b.3)
-    moved n s le (inr o) = elim (cases_eq o.0 p) [
-      | inl same ↦ inl (length wanted, le, omega (arith, size), ap (λ j. get_or f.steps j 0) (new (length wanted) refl ∙ sym same) ∙ o.2)
-      | inr apart ↦ elim (open_popped h0 h1 p o.0 perm o.1) [
+    moved : (n s : ℕ) → n ≤ length wanted → IsBehind wanted n s ⊎ IsOpen h0 s → IsBehind (wanted ++ p ∷ []) n s ⊎ IsOpen h3 s
+    moved n s le (inl b) = inl (b.0, b.1, omega (arith, b.2, size), old b.0 b.2 ∙ b.3)
+    moved n s le (inr o) = elim (cases_eq s p) [
+      | inl same ↦ inl (length wanted, le, omega (arith, size), new (length wanted) refl ∙ sym same)
+      | inr apart ↦ elim (open_popped h0 h1 p s perm o) [
         | inl same ↦ absurd (apart same)
-        | inr q ↦ inr (o.0, opened_kept o.0 (dropped_others o.0 (omega (arith, popped_below o.0 q)) q), o.2)
+        | inr q ↦ inr (opened.kept s (dropped_others s (omega (arith, popped_below s q)) q))
       ]
     ]
 
-    closed_before : (i c : ℕ) → i < length wanted → c < length (uses_at f (get_or wanted i 0)) → IsSome (reference_of table (get_or (uses_at f (get_or wanted i 0)) c 0)) ⊎ (IsBehind f (wanted ++ p ∷ []) (i + 1) (get_or (uses_at f (get_or wanted i 0)) c 0) ⊎ IsOpenFor f h3 (get_or (uses_at f (get_or wanted i 0)) c 0))
-    closed_before i c lt within = elim (w.closed i c lt within) [ inl some ↦ inl some | inr there ↦ inr (moved (i + 1) (get_or (uses_at f (get_or wanted i 0)) c 0) (omega arith) there) ]
+    closed_before : (i c : ℕ) → i < length wanted → c < length (uses_of g (get_or wanted i 0)) → IsSome (reference_of table (get_or (uses_of g (get_or wanted i 0)) c 0)) ⊎ (IsBehind (wanted ++ p ∷ []) (i + 1) (get_or (uses_of g (get_or wanted i 0)) c 0) ⊎ IsOpen h3 (get_or (uses_of g (get_or wanted i 0)) c 0))
+    closed_before i c lt within = elim (w.closed i c lt within) [ inl some ↦ inl some | inr there ↦ inr (moved (i + 1) (get_or (uses_of g (get_or wanted i 0)) c 0) (omega arith) there) ]
 
-    closed_here : (i c : ℕ) → c < length (uses_at f p) → IsSome (reference_of table (get_or (uses_at f p) c 0)) ⊎ (IsBehind f (wanted ++ p ∷ []) (i + 1) (get_or (uses_at f p) c 0) ⊎ IsOpenFor f h3 (get_or (uses_at f p) c 0))
-    closed_here i c lt = elim (opened_there c lt) [ inl some ↦ inl some | inr o ↦ inr (inr (get_or places (get_or (uses_at f p) c 0) 0, o, signal_at c lt)) ]
+    closed_here : (i c : ℕ) → c < length (uses_of g p) → IsSome (reference_of table (get_or (uses_of g p) c 0)) ⊎ (IsBehind (wanted ++ p ∷ []) (i + 1) (get_or (uses_of g p) c 0) ⊎ IsOpen h3 (get_or (uses_of g p) c 0))
+    closed_here i c lt = elim (opened.there c lt) [ inl some ↦ inl some | inr o ↦ inr (inr o) ]
 
-pub wanted_done : {X : Type 0} (f : FlatOf) (last : List ℕ) (table : List (Option X)) (output root : ℕ) (wanted items : List ℕ) (below : ℕ) → items ≡ [] → AreWantedFrom f last table output root wanted items below → AreWanted f last table output wanted
-wanted_done f last table output root wanted items below empty w = record {
+pub wanted_done : {X : Type 0} (g : StepsOf) (last : List ℕ) (table : List (Option X)) (output : ℕ) (roots wanted items : List ℕ) (below : ℕ) → items ≡ [] → AreWantedFrom g last table output roots wanted items below → AreWanted g last table output wanted
+wanted_done g last table output roots wanted items below empty w = record {
   within = w.within;
   falling = w.falling;
   needed = w.needed;
-  closed = λ i c h lt. elim (w.closed i c h lt) [ inl some ↦ inl some | inr there ↦ elim there [ inl behind ↦ inr behind | inr o ↦ absurd (none o.0 o.1) ] ];
+  closed = λ i c h lt. elim (w.closed i c h lt) [ inl some ↦ inl some | inr there ↦ elim there [ inl behind ↦ inr behind | inr o ↦ absurd (open_none (get_or (uses_of g (get_or wanted i 0)) c 0) (subst (λ xs. IsOpen xs (get_or (uses_of g (get_or wanted i 0)) c 0)) empty o)) ] ];
 }
-  where
-    none : (x : ℕ) → IsOpen items x → ⊥
-    none x h = open_none x (subst (λ xs. IsOpen xs x) empty h)
 
-pub wanted_root : {X : Type 0} (f : FlatOf) (last : List ℕ) (table : List (Option X)) (output root : ℕ) (wanted items : List ℕ) (below : ℕ) → items ≡ [] → AreWantedFrom f last table output root wanted items below → IsSome (reference_of table root) ⊎ IsBehind f wanted 0 root
-wanted_root f last table output root wanted items below empty w = elim w.rooted [ inl some ↦ inl some | inr there ↦ elim there [ inl behind ↦ inr behind | inr o ↦ absurd (open_none o.0 (subst (λ xs. IsOpen xs o.0) empty o.1)) ] ]
+pub wanted_roots : {X : Type 0} (g : StepsOf) (last : List ℕ) (table : List (Option X)) (output : ℕ) (roots wanted items : List ℕ) (below : ℕ) → items ≡ [] → AreWantedFrom g last table output roots wanted items below → AreReached table wanted roots
+wanted_roots g last table output roots wanted items below empty w = record {
+  each = λ r h. elim (w.rooted r h) [ inl some ↦ inl some | inr there ↦ elim there [ inl behind ↦ inr behind | inr o ↦ absurd (open_none (get_or roots r 0) (subst (λ xs. IsOpen xs (get_or roots r 0)) empty o)) ] ];
+}

@@ -6,7 +6,8 @@ pub mod Report
 pub mod ReportView
 pub mod Building
 pub mod Schedule
-pub mod Plan
+pub mod Steps
+pub mod StepDrivers
 pub mod Listed
 pub mod Assigned
 pub mod Comparing

@@ -1,20 +1,19 @@
-ghost use Rattle.std.specs.Prelude.{◌≡◌, ◌≢◌, ℕ, ◌+◌, ◌<◌, ◌≤◌, [], None, length, slice_index, slice_index_or, IfOk, IfErr, OnOk, OnErr};
+ghost use Rattle.std.specs.Prelude.{◌≡◌, ◌≢◌, ◌<◌, ◌≤◌, [], None, length, slice_index_or, IfOk, IfErr, OnErr};
 ghost use Rattle.std.specs.Option.{option_map};
 ghost use Rattle.eqc_tree.specs.Holding.{Holding, IsHeld, says, Keeps, Gains, Loses};
 ghost use Rattle.eqc_check.specs.Verdict.{least_difference};
-ghost use Rattle.eqc_pair.specs.PairOf.{second_signals};
-ghost use Rattle.eqc_check.specs.Building.{AreBuilt, OwnsBoth, MovesBoth, KeepsLater};
-ghost use Rattle.eqc_check.specs.Schedule.{moment};
-ghost use Rattle.eqc_check.specs.Turns.{AreScheduled, IsTurn, AreTurns, AreKept, IsComparable, MovesKept, HasOutput};
+ghost use Rattle.eqc_check.specs.Building.{AreReady, Moves};
+ghost use Rattle.eqc_check.specs.Steps.{roots_of};
+ghost use Rattle.eqc_check.specs.Turns.{IsTurn, AreTurns, AreKept, IsComparable, MovesKept};
 ghost use Rattle.eqc_check.specs.Comparing.{netlist_of, differs_at, SaysDifference, IsDifferenceAt, IsFirstFound};
 
 use crate::build::cone::moments_below;
 use crate::build::kept::{
-    Tables, clear, give_back_kept, nothing_kept, nothing_kept_of_few, release_due,
+    Kept, clear, give_back_kept, nothing_kept, nothing_kept_of_few, release_due,
 };
-use crate::build::moments::Schedules;
 use crate::build::schedule::{moment, moments_of};
-use crate::build::table::reference_at;
+use crate::build::steps::Steps;
+use crate::build::table::{Table, reference_at};
 use crate::build::{Plan, complete};
 use eqc_cover::{is_false, least_over};
 use eqc_pair::Pair;
@@ -25,26 +24,21 @@ use std::alloc::{AllocError, Global};
 fn output_difference<R, D: Diagrams<R>>(
     rt: &R,
     d: &mut D,
-    pair: &Pair<'_>,
-    tables: &Tables<D::Ref>,
+    steps: &Steps<'_>,
+    table: &Table<D::Ref>,
     output: usize,
 ) -> Result<D::Ref, Stop>
-    requires output { output < length pair.now.first.outputs }
-    requires kept { AreKept D.entry pair.now (D.holding d.old) tables.now }
-    requires ready { HasOutput pair.now tables.now output }
-    ensures ok { IfOk result (λ r. Gains (D.holding d.old) (D.holding d.new) (D.entry r) (differs_at pair.now output)) }
+    requires output { output < length steps.now.pair.first.outputs }
+    requires kept { AreKept D.entry steps.now.pair (D.holding d.old) table.now }
+    requires ready { AreReady table.now (roots_of steps.now output) }
+    ensures ok { IfOk result (λ r. Gains (D.holding d.old) (D.holding d.new) (D.entry r) (differs_at steps.now.pair output)) }
     ensures stop { OnErr result (Keeps (D.holding d.old) (D.holding d.new)) }
     ensures only { IfErr result (λ s. s ≢ Stop.Threads) }
 {
-    pair.recall_laws();
-    let s = pair.first().output_signals()[output];
-    let t = pair.second_signals()[output];
-    d.apply(
-        rt,
-        Op::Xor,
-        reference_at(&tables.first.table, s),
-        reference_at(&tables.second.table, t),
-    )
+    let _count = steps.len();
+    let roots = steps.roots(output);
+    let first = reference_at(table, roots[0]);
+    d.apply(rt, Op::Xor, first, reference_at(table, roots[1]))
 }
 
 /// The least assignment under which an output differs, or none where it differs under none. The diagram that is true
@@ -75,113 +69,46 @@ fn least_of_difference<R, D: Diagrams<R>>(
     Ok(Some(least?))
 }
 
-/// The least assignment under which an output differs, or none, where its signals have their references.
+/// The least assignment under which an output differs, or none, where the steps of its signals have their references.
 fn difference<R, D: Diagrams<R>>(
     alloc: Global,
     rt: &R,
     d: &mut D,
-    pair: &Pair<'_>,
-    tables: &Tables<D::Ref>,
+    steps: &Steps<'_>,
+    table: &Table<D::Ref>,
     output: usize,
 ) -> Result<Option<Vec<bool>>, Stop>
-    requires output { output < length pair.now.first.outputs }
-    requires kept { AreKept D.entry pair.now (D.holding d.old) tables.now }
-    requires ready { HasOutput pair.now tables.now output }
-    ensures found { IfOk result (IsDifferenceAt pair.now output) }
+    requires output { output < length steps.now.pair.first.outputs }
+    requires kept { AreKept D.entry steps.now.pair (D.holding d.old) table.now }
+    requires ready { AreReady table.now (roots_of steps.now output) }
+    ensures found { IfOk result (IsDifferenceAt steps.now.pair output) }
     ensures kept { Keeps (D.holding d.old) (D.holding d.new) }
     ensures only { IfErr result (λ s. s ≢ Stop.Threads) }
 {
-    let difference = output_difference(rt, d, pair, tables, output)?;
-    least_of_difference(alloc, rt, d, pair, output, difference)
-}
-
-/// Brings the diagrams of an output's two signals into the tables.
-fn complete_both<R, D: Diagrams<R>>(
-    alloc: Global,
-    rt: &R,
-    d: &mut D,
-    pair: &Pair<'_>,
-    schedules: &Schedules,
-    tables: &mut Tables<D::Ref>,
-    output: usize,
-    turn: u32,
-) -> Result<(), Stop>
-    requires { IsComparable D.entry pair.now schedules.now (D.holding d.old) tables.old output turn }
-    ensures moves { MovesKept D.entry pair.now (D.holding d.old) tables.old (D.holding d.new) tables.new }
-    ensures ready { OnOk result (HasOutput pair.now tables.new output) }
-    ensures only { IfErr result (λ s. s ≢ Stop.Threads) }
-{
-    pair.recall_laws();
-    let s = pair.first().output_signals()[output];
-    let t = pair.second_signals()[output];
-    let plan = Plan {
-        flat: pair.first(),
-        variables: pair.variables(),
-        places: pair.first_places(),
-        last: &schedules.first,
-    };
-    complete(alloc, rt, d, &plan, &mut tables.first, s, turn)?;
-    let other = Plan {
-        flat: pair.second(),
-        variables: pair.second_variables(),
-        places: pair.second_places(),
-        last: &schedules.second,
-    };
-    complete(alloc, rt, d, &other, &mut tables.second, t, turn)
-}
-
-/// Gives back what no output behind a turn needs.
-fn release_both<D: References>(
-    d: &mut D,
-    pair: &Pair<'_>,
-    schedules: &Schedules,
-    tables: &mut Tables<D::Ref>,
-    turn: u32,
-)
-    requires scheduled { AreScheduled pair.now schedules.now }
-    requires kept { AreKept D.entry pair.now (D.holding d.old) tables.old }
-    ensures moves { MovesKept D.entry pair.now (D.holding d.old) tables.old (D.holding d.new) tables.new }
-    ensures first_later { KeepsLater schedules.now.first tables.old.first.table tables.new.first.table (moment turn (length pair.now.first.drivers + 1)) }
-    ensures second_later { KeepsLater schedules.now.second tables.old.second.table tables.new.second.table (moment turn (length pair.now.second.drivers + 1)) }
-{
-    pair.recall_laws();
-    let first_end = moment(turn, pair.first().steps().len() as u32 + 1);
-    release_due(d, &mut tables.first, &schedules.first, first_end);
-    let second_end = moment(turn, pair.second().steps().len() as u32 + 1);
-    release_due(d, &mut tables.second, &schedules.second, second_end);
+    let difference = output_difference(rt, d, steps, table, output)?;
+    least_of_difference(alloc, rt, d, steps.pair(), output, difference)
 }
 
 /// Compares an output in its turn, counted from 1; outputs come in rising order. The references that later turns need
-/// stay in the tables.
+/// stay in the table.
 fn compare_turn<R, D: Diagrams<R>>(
     alloc: Global,
     rt: &R,
     d: &mut D,
-    pair: &Pair<'_>,
-    schedules: &Schedules,
-    tables: &mut Tables<D::Ref>,
+    plan: &Plan<'_>,
+    kept: &mut Kept<D::Ref>,
     output: usize,
     turn: u32,
 ) -> Result<Option<Vec<bool>>, Stop>
-    requires { IsComparable D.entry pair.now schedules.now (D.holding d.old) tables.old output turn }
-    ensures found { IfOk result (IsDifferenceAt pair.now output) }
-    ensures moves { MovesKept D.entry pair.now (D.holding d.old) tables.old (D.holding d.new) tables.new }
+    requires { IsComparable D.entry plan.now (D.holding d.old) kept.old.table output turn }
+    ensures found { IfOk result (IsDifferenceAt plan.now.steps.pair output) }
+    ensures moves { MovesKept D.entry plan.now.steps.pair (D.holding d.old) kept.old.table (D.holding d.new) kept.new.table }
     ensures only { IfErr result (λ s. s ≢ Stop.Threads) }
 {
-    complete_both(alloc, rt, d, pair, schedules, tables, output, turn)?;
-    let found = difference(alloc, rt, d, pair, tables, output);
-    release_both(d, pair, schedules, tables, turn);
+    complete(alloc, rt, d, plan, kept, output, turn)?;
+    let found = difference(alloc, rt, d, &plan.steps, &kept.table, output);
+    release_due(d, kept, &plan.last, moment(turn, plan.steps.len() + 1));
     found
-}
-
-/// Gives back all that is kept.
-fn clear_both<D: References>(d: &mut D, pair: &Pair<'_>, tables: &mut Tables<D::Ref>)
-    requires kept { AreKept D.entry pair.now (D.holding d.old) tables.old }
-    ensures moves { MovesKept D.entry pair.now (D.holding d.old) tables.old (D.holding d.new) tables.new }
-{
-    pair.recall_laws();
-    clear(d, &mut tables.first);
-    clear(d, &mut tables.second);
 }
 
 /// The same, and where the store is full and references of earlier turns are kept, once more without them.
@@ -189,103 +116,68 @@ pub(crate) fn compare_kept<R, D: Diagrams<R>>(
     alloc: Global,
     rt: &R,
     d: &mut D,
-    pair: &Pair<'_>,
-    schedules: &Schedules,
-    tables: &mut Tables<D::Ref>,
+    plan: &Plan<'_>,
+    kept: &mut Kept<D::Ref>,
     output: usize,
     turn: u32,
 ) -> Result<Option<Vec<bool>>, Stop>
-    requires { IsComparable D.entry pair.now schedules.now (D.holding d.old) tables.old output turn }
-    ensures found { IfOk result (IsDifferenceAt pair.now output) }
-    ensures moves { MovesKept D.entry pair.now (D.holding d.old) tables.old (D.holding d.new) tables.new }
+    requires { IsComparable D.entry plan.now (D.holding d.old) kept.old.table output turn }
+    ensures found { IfOk result (IsDifferenceAt plan.now.steps.pair output) }
+    ensures moves { MovesKept D.entry plan.now.steps.pair (D.holding d.old) kept.old.table (D.holding d.new) kept.new.table }
     ensures only { IfErr result (λ s. s ≢ Stop.Threads) }
 {
-    let keeps = !tables.first.due.is_empty() || !tables.second.due.is_empty();
-    let found = compare_turn(alloc, rt, d, pair, schedules, tables, output, turn);
+    let keeps = !kept.due.is_empty();
+    let found = compare_turn(alloc, rt, d, plan, kept, output, turn);
     if !keeps {
         return found;
     }
     let Err(Stop::NodeLimit) = found else {
         return found;
     };
-    clear_both(d, pair, tables);
-    compare_turn(alloc, rt, d, pair, schedules, tables, output, turn)
+    let _count = plan.steps.len();
+    clear(d, kept);
+    compare_turn(alloc, rt, d, plan, kept, output, turn)
 }
 
-/// No references, for a pair.
-pub(crate) fn no_tables<D: References>(
+/// No references, for the steps of a pair.
+pub(crate) fn nothing_built<D: References>(
     alloc: Global,
-    d: &mut D,
     pair: &Pair<'_>,
-) -> Result<Tables<D::Ref>, Stop>
-    ensures kept { Keeps (D.holding d.old) (D.holding d.new) }
-    ensures built { IfOk result (λ t. AreBuilt D.entry pair.now t.first.table t.second.table) }
-    ensures owned { IfOk result (λ t. MovesBoth D.entry (D.holding d.old) [] [] (D.holding d.new) t.first.table t.second.table) }
-    ensures only { IfErr result (λ s. s ≡ Stop.Memory) }
+) -> Result<Kept<D::Ref>, AllocError>
+    ensures { IfOk result (λ kept. (d : Holding) → length pair.now.first.inputs ≤ d.variables → AreKept D.entry pair.now d kept.table × Moves D.entry d [] d kept.table) }
 {
     pair.recall_laws();
-    let Ok(first) = nothing_kept(alloc, pair.first().steps().len()) else {
-        return Err(Stop::Memory);
-    };
-    match nothing_kept(alloc, pair.second().steps().len()) {
-        Ok(second) => Ok(Tables { first, second }),
-        Err(_) => {
-            give_back_kept(d, first);
-            Err(Stop::Memory)
-        }
-    }
+    let count = pair.first().steps().len() + pair.second().steps().len();
+    let kept = nothing_kept(alloc, count)?;
+    Ok(kept)
 }
 
-/// Gives all references of two tables back.
-pub(crate) fn give_back_both<D: References>(d: &mut D, tables: Tables<D::Ref>)
-    requires { OwnsBoth D.entry (D.holding d.old) tables.first.table tables.second.table }
-    ensures { MovesBoth D.entry (D.holding d.old) tables.first.table tables.second.table (D.holding d.new) [] [] }
+/// The plan of a comparison of all outputs in their order that are not marked. Fails where memory is refused.
+pub(crate) fn plan_of<'a>(
+    alloc: Global,
+    steps: Steps<'a>,
+    marks: &[bool],
+) -> Result<Plan<'a>, AllocError>
+    ensures turns { IfOk result (λ plan. AreTurns plan marks.now) }
+    ensures steps { IfOk result (λ plan. plan.steps ≡ steps.entry) }
 {
-    let Tables { first, second } = tables;
-    give_back_kept(d, first);
-    give_back_kept(d, second);
-}
-
-/// The schedules of a pair whose outputs are compared in their order. Fails where memory is refused.
-pub(crate) fn schedules_of(alloc: Global, pair: &Pair<'_>) -> Result<Schedules, AllocError>
-    ensures { IfOk result (AreTurns pair.now) }
-{
-    pair.recall_laws();
     // The names alone of so many outputs would take a hundred gigabytes.
-    if pair.second_signals().len() > 4294967295 {
+    let outputs = steps.pair().first().outputs().len();
+    if outputs > 4294967295 {
         return Err(AllocError);
     }
-    Ok(Schedules {
-        first: moments_of(alloc, pair.first(), pair.first().output_signals())?,
-        second: moments_of(alloc, pair.second(), pair.second_signals())?,
-    })
+    let last = moments_of(alloc, &steps, outputs as u32, marks)?;
+    Ok(Plan { steps, last })
 }
 
-/// No references, for an output of a pair: their memory is in proportion to what gets one.
-fn few_tables<D: References>(alloc: Global, pair: &Pair<'_>) -> Tables<D::Ref>
-    ensures built { AreBuilt D.entry pair.now result.first.table result.second.table }
-    ensures owned { (d : Holding) → MovesBoth D.entry d [] [] d result.first.table result.second.table }
+/// The plan of a comparison of one output.
+fn plan_below<'a>(alloc: Global, steps: Steps<'a>, output: usize) -> Result<Plan<'a>, AllocError>
+    requires output { output < length steps.pair.first.outputs }
+    ensures turn { IfOk result (λ plan. IsTurn plan output 1) }
+    ensures steps { IfOk result (λ plan. plan.steps ≡ steps.entry) }
 {
-    pair.recall_laws();
-    Tables {
-        first: nothing_kept_of_few(alloc, pair.first().steps().len()),
-        second: nothing_kept_of_few(alloc, pair.second().steps().len()),
-    }
-}
-
-/// The schedules of a pair of which one output is compared, by its signals.
-fn one_turn(alloc: Global, pair: &Pair<'_>, s: u32, t: u32) -> Result<Schedules, AllocError>
-    requires s { s < length pair.now.first.drivers }
-    requires t { t < length pair.now.second.drivers }
-    ensures scheduled { IfOk result (AreScheduled pair.now) }
-    ensures first { IfOk result (λ x. moment 1 (length pair.now.first.drivers + 1) ≤ slice_index x.first s) }
-    ensures second { IfOk result (λ x. moment 1 (length pair.now.second.drivers + 1) ≤ slice_index x.second t) }
-{
-    pair.recall_laws();
-    Ok(Schedules {
-        first: moments_below(alloc, pair.first(), pair.first_places(), s)?,
-        second: moments_below(alloc, pair.second(), pair.second_places(), t)?,
-    })
+    let last = moments_below(alloc, &steps, output)?;
+    Ok(Plan { steps, last })
 }
 
 /// The first output that differs, with its least assignment.
@@ -293,18 +185,17 @@ fn compare_in_turn<R, D: Diagrams<R>>(
     alloc: Global,
     rt: &R,
     d: &mut D,
-    pair: &Pair<'_>,
-    schedules: &Schedules,
-    tables: &mut Tables<D::Ref>,
+    plan: &Plan<'_>,
+    kept: &mut Kept<D::Ref>,
 ) -> Result<Option<(usize, Vec<bool>)>, Stop>
-    requires turns { AreTurns pair.now schedules.now }
-    requires kept { AreKept D.entry pair.now (D.holding d.old) tables.old }
-    ensures found { IfOk result (IsFirstFound pair.now) }
-    ensures moves { MovesKept D.entry pair.now (D.holding d.old) tables.old (D.holding d.new) tables.new }
+    requires turns { AreTurns plan.now [] }
+    requires kept { AreKept D.entry plan.now.steps.pair (D.holding d.old) kept.old.table }
+    ensures found { IfOk result (IsFirstFound plan.now.steps.pair) }
+    ensures moves { MovesKept D.entry plan.now.steps.pair (D.holding d.old) kept.old.table (D.holding d.new) kept.new.table }
     ensures only { IfErr result (λ s. s ≢ Stop.Threads) }
 {
-    for o in 0..pair.first().outputs().len() {
-        match compare_kept(alloc, rt, d, pair, schedules, tables, o, o as u32 + 1)? {
+    for o in 0..plan.steps.pair().first().outputs().len() {
+        match compare_kept(alloc, rt, d, plan, kept, o, o as u32 + 1)? {
             Some(values) => return Ok(Some((o, values))),
             None => {}
         }
@@ -313,22 +204,23 @@ fn compare_in_turn<R, D: Diagrams<R>>(
 }
 
 /// The first output that differs, with its least assignment, from no references to none.
-fn compare_scheduled<R, D: Diagrams<R>>(
+fn compare_planned<R, D: Diagrams<R>>(
     alloc: Global,
     rt: &R,
     d: &mut D,
-    pair: &Pair<'_>,
-    schedules: &Schedules,
+    plan: &Plan<'_>,
 ) -> Result<Option<(usize, Vec<bool>)>, Stop>
-    requires variables { length pair.now.first.inputs ≤ (D.holding d.old).variables }
-    requires turns { AreTurns pair.now schedules.now }
-    ensures found { IfOk result (IsFirstFound pair.now) }
+    requires variables { length plan.now.steps.pair.first.inputs ≤ (D.holding d.old).variables }
+    requires turns { AreTurns plan.now [] }
+    ensures found { IfOk result (IsFirstFound plan.now.steps.pair) }
     ensures kept { Keeps (D.holding d.old) (D.holding d.new) }
     ensures only { IfErr result (λ s. s ≢ Stop.Threads) }
 {
-    let mut tables = no_tables(alloc, d, pair)?;
-    let found = compare_in_turn(alloc, rt, d, pair, schedules, &mut tables);
-    give_back_both(d, tables);
+    let Ok(mut kept) = nothing_built::<D>(alloc, plan.steps.pair()) else {
+        return Err(Stop::Memory);
+    };
+    let found = compare_in_turn(alloc, rt, d, plan, &mut kept);
+    give_back_kept(d, kept);
     found
 }
 
@@ -346,8 +238,8 @@ pub(crate) fn compare_outputs<R, D: Diagrams<R>>(
     ensures kept { Keeps (D.holding d.old) (D.holding d.new) }
     ensures only { IfErr result (λ s. s ≢ Stop.Threads) }
 {
-    match schedules_of(alloc, pair) {
-        Ok(schedules) => compare_scheduled(alloc, rt, d, pair, &schedules),
+    match plan_of(alloc, Steps::each(alloc, pair), &[]) {
+        Ok(plan) => compare_planned(alloc, rt, d, &plan),
         Err(_) => Err(Stop::Memory),
     }
 }
@@ -357,21 +249,19 @@ fn compare_once<R, D: Diagrams<R>>(
     alloc: Global,
     rt: &R,
     d: &mut D,
-    pair: &Pair<'_>,
-    schedules: &Schedules,
+    plan: &Plan<'_>,
     output: usize,
 ) -> Result<Option<Vec<bool>>, Stop>
-    requires variables { length pair.now.first.inputs ≤ (D.holding d.old).variables }
-    requires output { output < length pair.now.first.outputs }
-    requires scheduled { AreScheduled pair.now schedules.now }
-    requires turn { IsTurn pair.now schedules.now output 1 }
-    ensures found { IfOk result (IsDifferenceAt pair.now output) }
+    requires variables { length plan.now.steps.pair.first.inputs ≤ (D.holding d.old).variables }
+    requires output { output < length plan.now.steps.pair.first.outputs }
+    requires turn { IsTurn plan.now output 1 }
+    ensures found { IfOk result (IsDifferenceAt plan.now.steps.pair output) }
     ensures kept { Keeps (D.holding d.old) (D.holding d.new) }
     ensures only { IfErr result (λ s. s ≢ Stop.Threads) }
 {
-    let mut tables = few_tables::<D>(alloc, pair);
-    let found = compare_turn(alloc, rt, d, pair, schedules, &mut tables, output, 1);
-    give_back_both(d, tables);
+    let mut kept = nothing_kept_of_few(alloc, plan.steps.len() as usize);
+    let found = compare_turn(alloc, rt, d, plan, &mut kept, output, 1);
+    give_back_kept(d, kept);
     found
 }
 
@@ -396,11 +286,8 @@ pub fn compare_output<R, D: Diagrams<R>>(
     ensures kept { Keeps (D.holding d.old) (D.holding d.new) }
     ensures only { IfErr result (λ s. s ≢ Stop.Threads) }
 {
-    pair.recall_laws();
-    let s = pair.first().output_signals()[output];
-    let t = pair.second_signals()[output];
-    match one_turn(alloc, pair, s, t) {
-        Ok(schedules) => compare_once(alloc, rt, d, pair, &schedules, output),
+    match plan_below(alloc, Steps::each(alloc, pair), output) {
+        Ok(plan) => compare_once(alloc, rt, d, &plan, output),
         Err(_) => Err(Stop::Memory),
     }
 }

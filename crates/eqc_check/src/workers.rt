@@ -2,7 +2,7 @@
 //! that differs is the same whichever member drew it.
 //!
 //! - `ticket`, the word from which outputs are drawn; `member`, what a member compares with; `gate`, what is told of it
-//! - `task`, what members do; `alike`, outputs for which they need do nothing
+//! - `task`, what members do; `alike`, what structures tell of a pair, so that members need not do it
 //! - `group`, members that share a seat; `share`, members in threads and what they give back; `verdict`, all of it put in order
 ghost use Rattle.std.specs.Prelude.{◌≡◌, ◌≤◌, None, length, vec_len, IfOk, IfErr};
 ghost use Rattle.std.specs.List.{All};
@@ -11,7 +11,7 @@ ghost use Rattle.eqc_check.specs.Report.{comparison};
 ghost use Rattle.eqc_check.specs.ReportView.{report_of};
 ghost use Rattle.eqc_check.specs.Options.{options_code};
 ghost use Rattle.eqc_check.specs.Comparing.{netlist_of, IsFirstFound};
-ghost use Rattle.eqc_check.specs.Alike.{AreEqual, IsTask};
+ghost use Rattle.eqc_check.specs.Alike.{IsKnown, IsTask};
 ghost use Rattle.eqc_check.specs.Verdicts.{AreMembers, AreVerdicts, IsShare};
 
 mod alike;
@@ -23,11 +23,12 @@ pub(crate) mod task;
 mod ticket;
 mod verdict;
 
+use crate::build::steps::Steps;
 use crate::checking::found_report;
-use crate::compare::schedules_of;
+use crate::compare::plan_of;
 use crate::options::Options;
 use crate::report::Report;
-use crate::workers::alike::{alike_or_none, are_all_marked};
+use crate::workers::alike::{Alike, alike_or_nothing, are_all_marked};
 use crate::workers::gate::{Gate, NoGate};
 use crate::workers::group::Group;
 use crate::workers::share::{Share, work_together};
@@ -58,7 +59,7 @@ fn all_verdicts<R: Threads + Wait + Sync, D: Diagrams<R> + Send + Drop, G: Gate<
     rt: &R,
     alloc: Global,
     pair: &Pair<'_>,
-    task: &Task,
+    task: &Task<'_>,
     members: Vec<D>,
     gate: &G,
 ) -> Result<Vec<Verdict>, Stop>
@@ -82,23 +83,25 @@ fn all_verdicts<R: Threads + Wait + Sync, D: Diagrams<R> + Send + Drop, G: Gate<
     Ok(verdicts_of(table, pair, share))
 }
 
-/// The verdicts of all outputs, by these members. Outputs that are marked as equal are not compared.
+/// The verdicts of all outputs, by these members, where this is known of the pair: outputs that are marked as equal are not
+/// compared, and a step that is chosen is made in place of those that it is chosen for.
 fn scheduled_verdicts<R: Threads + Wait + Sync, D: Diagrams<R> + Send + Drop, G: Gate<R> + Sync>(
     rt: &R,
     alloc: Global,
     pair: &Pair<'_>,
     members: Vec<D>,
-    equal: Vec<bool>,
+    alike: Alike,
     gate: &G,
 ) -> Result<Vec<Verdict>, Stop>
     requires members { AreMembers D.holding pair.now members }
-    requires equal { AreEqual pair.now equal.items }
+    requires known { IsKnown pair.now alike }
     ensures { IfOk result (λ verdicts. AreVerdicts pair.now verdicts.items) }
 {
-    let Ok(schedules) = schedules_of(alloc, pair) else {
+    let Alike { equal, chosen } = alike;
+    let Ok(plan) = plan_of(alloc, Steps::of(pair, chosen), &equal) else {
         return Err(Stop::Memory);
     };
-    let task = Task { schedules, equal };
+    let task = Task { plan, equal };
     all_verdicts(rt, alloc, pair, &task, members, gate)
 }
 
@@ -117,43 +120,42 @@ fn first_by(
     }
 }
 
-/// The first output that differs, by its position, with its least assignment, where outputs that are marked as equal are
-/// not compared.
+/// The first output that differs, by its position, with its least assignment, where this is known of the pair.
 fn first_found<R: Threads + Wait + Sync, D: Diagrams<R> + Send + Drop, G: Gate<R> + Sync>(
     rt: &R,
     alloc: Global,
     pair: &Pair<'_>,
     members: Vec<D>,
-    equal: Vec<bool>,
+    alike: Alike,
     gate: &G,
 ) -> Result<Option<(usize, Vec<bool>)>, Stop>
     requires members { AreMembers D.holding pair.now members }
-    requires equal { AreEqual pair.now equal.items }
+    requires known { IsKnown pair.now alike }
     ensures found { IfOk result (IsFirstFound pair.now) }
 {
-    let verdicts = scheduled_verdicts(rt, alloc, pair, members, equal, gate)?;
+    let verdicts = scheduled_verdicts(rt, alloc, pair, members, alike, gate)?;
     first_by(alloc, pair, verdicts)
 }
 
-/// The report by these members, where outputs that are marked as equal are not compared, or why it stopped.
-fn check_unmarked<R: Threads + Wait + Sync, D: Diagrams<R> + Send + Drop, G: Gate<R> + Sync>(
+/// The report by these members, where this is known of the pair, or why it stopped.
+fn check_known<R: Threads + Wait + Sync, D: Diagrams<R> + Send + Drop, G: Gate<R> + Sync>(
     rt: &R,
     alloc: Global,
     pair: &Pair<'_>,
     members: Vec<D>,
-    equal: Vec<bool>,
+    alike: Alike,
     gate: &G,
 ) -> Result<Report, Stop>
     requires some { 1 ≤ vec_len members }
     requires variables { All (λ d. length pair.now.first.inputs ≤ (D.holding d).variables) members.items }
-    requires equal { AreEqual pair.now equal.items }
+    requires known { IsKnown pair.now alike }
     ensures report { IfOk result (λ report. report_of report ≡ comparison (netlist_of pair.now.first) (netlist_of pair.now.second)) }
 {
     let most = u32::MAX as usize;
     if members.len() > most || pair.first().outputs().len() > most {
         return Err(Stop::Memory);
     }
-    let found = first_found(rt, alloc, pair, members, equal, gate)?;
+    let found = first_found(rt, alloc, pair, members, alike, gate)?;
     found_report(alloc, pair, found)
 }
 
@@ -176,7 +178,7 @@ pub fn check_with<R: Threads + Wait + Sync, D: Diagrams<R> + Send + Drop, G: Gat
     requires variables { All (λ d. length pair.now.first.inputs ≤ (D.holding d).variables) members.items }
     ensures report { IfOk result (λ report. report_of report ≡ comparison (netlist_of pair.now.first) (netlist_of pair.now.second)) }
 {
-    check_unmarked(rt, alloc, pair, members, Vec::new(alloc), gate)
+    check_known(rt, alloc, pair, members, Alike::nothing(alloc), gate)
 }
 
 /// A store of `nodes` nodes for each worker.
@@ -230,7 +232,8 @@ pub fn check<R: Threads + Wait + Sync, G: Gate<R> + Sync>(
 }
 
 /// Compares a pair as `check` does, but compares no output whose two signals have one structure: it is equal, and where all
-/// outputs are so, no store and no thread is made. Where memory for structures is refused, every output is compared.
+/// outputs are so, no store and no thread is made. For the others a diagram is built once for all signals of one structure, of
+/// both netlists. Where memory for structures is refused, every output is compared, and every signal built.
 pub(crate) fn check_alike<R: Threads + Wait + Sync>(
     rt: &R,
     alloc: Global,
@@ -240,10 +243,10 @@ pub(crate) fn check_alike<R: Threads + Wait + Sync>(
     requires { options_code options.now ≡ None }
     ensures report { IfOk result (λ report. report_of report ≡ comparison (netlist_of pair.now.first) (netlist_of pair.now.second)) }
 {
-    let equal = alike_or_none(alloc, pair);
-    if are_all_marked(pair, &equal) {
+    let alike = alike_or_nothing(alloc, pair);
+    if are_all_marked(pair, &alike.equal) {
         return found_report(alloc, pair, None);
     }
     let members = stores_for(alloc, pair, options)?;
-    check_unmarked(rt, alloc, pair, members, equal, &NoGate)
+    check_known(rt, alloc, pair, members, alike, &NoGate)
 }

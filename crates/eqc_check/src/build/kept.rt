@@ -8,15 +8,15 @@ use std::alloc::{AllocError, Global};
 use std::cmp::Reverse;
 use std::collections::BinaryHeap;
 
-/// The references of signals of one netlist, which are kept from one output to the next.
+/// The references of steps, which are kept from one output to the next.
 pub(crate) struct Kept<X> {
-    /// The reference of each signal that has one.
+    /// The reference of each step that has one.
     pub(crate) table: Table<X>,
-    /// The signals that are to be given back after the last moment that uses them, the earliest first.
+    /// The steps that are to be given back after the last moment that uses them, the earliest first.
     pub(crate) due: BinaryHeap<Reverse<(u64, u32)>>,
 }
 
-/// No reference, for `count` signals.
+/// No reference, for `count` steps.
 pub(crate) fn nothing_kept<X>(alloc: Global, count: usize) -> Result<Kept<X>, AllocError>
     ensures size { IfOk result (λ kept. length kept.table ≡ count) }
     ensures none { IfOk result (λ kept. (s : ℕ) → reference_of kept.table s ≡ None) }
@@ -26,7 +26,7 @@ pub(crate) fn nothing_kept<X>(alloc: Global, count: usize) -> Result<Kept<X>, Al
     Ok(Kept { table, due })
 }
 
-/// No reference, where few of `count` signals get one.
+/// No reference, where few of `count` steps get one.
 pub(crate) fn nothing_kept_of_few<X>(alloc: Global, count: usize) -> Kept<X>
     ensures size { length result.table ≡ count }
     ensures none { (s : ℕ) → reference_of result.table s ≡ None }
@@ -64,7 +64,7 @@ pub(crate) fn release_due<D: References>(
 /// Gives back all references that are kept.
 pub(crate) fn clear<D: References>(d: &mut D, kept: &mut Kept<D::Ref>)
     requires owned { OwnsTable D.entry (D.holding d.old) kept.old.table }
-    requires few { length kept.old.table ≤ 1048576 }
+    requires few { length kept.old.table ≤ 2097152 }
     ensures moves { Moves D.entry (D.holding d.old) kept.old.table (D.holding d.new) kept.new.table }
     ensures size { length kept.new.table ≡ length kept.old.table }
     ensures none { (s : ℕ) → reference_of kept.new.table s ≡ None }
@@ -82,10 +82,4 @@ pub(crate) fn give_back_kept<D: References>(d: &mut D, kept: Kept<D::Ref>)
 {
     let Kept { table, due: _ } = kept;
     give_back_all(d, table);
-}
-
-/// The references of signals of both netlists of a pair.
-pub(crate) struct Tables<X> {
-    pub(crate) first: Kept<X>,
-    pub(crate) second: Kept<X>,
 }

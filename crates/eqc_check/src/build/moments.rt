@@ -4,8 +4,8 @@ ghost use Rattle.eqc_check.specs.Listed.{listed, moment_in, moments_in};
 use indexmap::IndexMap;
 use std::marker::Model;
 
-/// The last moment at which each signal of a netlist is used, 0 where no output depends on it. Contracts see a list with a
-/// place for each signal. Members that share the outputs of a pair share it.
+/// The last moment at which each step of a pair is used, 0 where no output needs it. Contracts see a list with a place for each
+/// step. Members that share the outputs of a pair share it.
 #[derive(Drop)]
 pub(crate) struct Moments {
     noted: Noted,
@@ -14,9 +14,9 @@ pub(crate) struct Moments {
 /// How they are kept.
 #[derive(Drop)]
 pub(crate) enum Noted {
-    /// A place for each signal.
+    /// A place for each step.
     Each(Vec<u64>),
-    /// Those that are used, of so many signals.
+    /// Those that are used, of so many steps.
     Few(IndexMap<u32, u64>, usize),
 }
 
@@ -29,14 +29,14 @@ impl Model for Moments {
     ghost view = { λ m. moments_in m.noted };
 }
 
-/// The moment that a map has for a signal, 0 where it has none.
+/// The moment that a map has for a step, 0 where it has none.
 pub(crate) fn moment_in(last: &IndexMap<u32, u64>, s: u32) -> u64
     ensures { result ≡ moment_in last.now s }
 {
     last.get(&s).copied().unwrap_or(0)
 }
 
-/// The moment that is noted for a signal.
+/// The moment that is noted for a step.
 fn noted_at(noted: &Noted, s: u32) -> u64
     requires { s < length (moments_in noted.now) }
     ensures { result ≡ slice_index (moments_in noted.now) s }
@@ -48,7 +48,7 @@ fn noted_at(noted: &Noted, s: u32) -> u64
 }
 
 impl Moments {
-    /// A moment for each signal.
+    /// A moment for each step.
     pub(crate) fn of_each(last: Vec<u64>) -> Moments
         ensures { result ≡ last.items }
     {
@@ -57,7 +57,7 @@ impl Moments {
         }
     }
 
-    /// Moments of some of so many signals.
+    /// Moments of some of so many steps.
     pub(crate) fn of_few(last: IndexMap<u32, u64>, count: usize) -> Moments
         ensures { result ≡ listed count (moment_in last) }
     {
@@ -66,18 +66,11 @@ impl Moments {
         }
     }
 
-    /// The last moment at which a signal is used.
+    /// The last moment at which a step is used.
     pub(crate) fn at(&self, s: u32) -> u64
         requires { s < length self.now }
         ensures { result ≡ slice_index self.now s }
     {
         noted_at(&self.noted, s)
     }
-}
-
-/// The last moments of both netlists of a pair.
-#[derive(Drop)]
-pub(crate) struct Schedules {
-    pub(crate) first: Moments,
-    pub(crate) second: Moments,
 }

@@ -1,9 +1,10 @@
-ghost use Rattle.std.specs.Prelude.{◌≡◌, ℕ, ◌+◌, ◌<◌, ◌≤◌, length, IfOk, slice_index};
-ghost use Rattle.eqc_check.specs.Building.{AreSignals};
-ghost use Rattle.eqc_check.specs.Schedule.{moment, AreLastMoments, EndsAtRoots, IsRaised};
+ghost use Rattle.std.specs.Prelude.{◌≡◌, ℕ, ◌+◌, ◌<◌, ◌≤◌, false, length, IfOk, slice_index};
+ghost use Rattle.eqc_check.specs.Steps.{roots_of, steps_in};
+ghost use Rattle.eqc_check.specs.Schedule.{moment, end_of, AreLastMoments, AreUsedUntil, IsRaised};
+ghost use Rattle.eqc_check.specs.Turns.{is_marked};
 
 use crate::build::moments::Moments;
-use eqc_flat::{Flat, Signals};
+use crate::build::steps::{Steps, Uses};
 use std::alloc::{AllocError, Global};
 
 /// An output and a step, each counted from 1, as one number: moments of later outputs are later.
@@ -22,66 +23,84 @@ fn start_of(at: u64) -> u64
     at - at % 4294967296
 }
 
-/// Notes a moment for those of the signals that have an earlier one.
-fn raise(last: &mut Vec<u64>, signals: &Signals<'_>, at: u64)
-    requires { (k : ℕ) → k < length signals.now → slice_index signals.now k < length last.old.items }
-    ensures { IsRaised last.old.items last.new.items signals.now (length signals.now) at }
+/// Notes a moment for those of the steps that have an earlier one.
+fn raise(last: &mut Vec<u64>, steps: &Uses<'_>, at: u64)
+    requires { (k : ℕ) → k < length steps.now → slice_index steps.now k < length last.old.items }
+    ensures { IsRaised last.old.items last.new.items steps.now (length steps.now) at }
 {
-    for k in 0..signals.len() {
-        let s = signals.get(k) as usize;
+    for k in 0..steps.len() {
+        let s = steps.get(k) as usize;
         if last[s] < at {
             last[s] = at;
         }
     }
 }
 
-/// The moments at which the outputs themselves are compared.
-fn output_moments(alloc: Global, flat: &Flat<'_>, roots: &[u32]) -> Result<Vec<u64>, AllocError>
-    requires roots { AreSignals flat.now roots.now }
-    requires few { length roots.now < 4294967296 }
-    ensures size { IfOk result (λ last. length last.items ≡ length flat.now.drivers) }
-    ensures roots { IfOk result (λ last. (o : ℕ) → o < length roots.now → moment (o + 1) (length flat.now.drivers + 1) ≤ slice_index last.items (slice_index roots.now o)) }
+/// Whether an output is marked.
+pub(crate) fn is_marked(marks: &[bool], output: usize) -> bool
+    ensures { result ≡ is_marked marks.now output }
 {
-    let end = flat.steps().len() as u32 + 1;
-    let mut last = vec![in alloc; 0u64; flat.steps().len()]?;
-    for o in 0..roots.len() {
-        last[roots[o] as usize] = moment(o as u32 + 1, end);
-    }
-    Ok(last)
+    marks.get(output).copied().unwrap_or(false)
 }
 
-/// The last moment at which each signal is used, where the outputs' signals are the roots.
-fn last_moments(alloc: Global, flat: &Flat<'_>, roots: &[u32]) -> Result<Vec<u64>, AllocError>
-    requires roots { AreSignals flat.now roots.now }
-    requires few { length roots.now < 4294967296 }
-    ensures last { IfOk result (λ last. AreLastMoments flat.now last.items) }
-    ensures roots { IfOk result (λ last. EndsAtRoots flat.now roots.now last.items) }
+/// The moments at which the outputs that are not marked are compared themselves, of so many outputs.
+fn output_moments(
+    alloc: Global,
+    steps: &Steps<'_>,
+    outputs: u32,
+    marks: &[bool],
+) -> Result<Vec<u64>, AllocError>
+    requires outputs { outputs ≡ length steps.now.pair.first.outputs }
+    ensures size { IfOk result (λ last. length last.items ≡ steps_in steps.now.pair) }
+    ensures roots { IfOk result (λ last. (o : ℕ) → o < outputs → is_marked marks.now o ≡ false → AreUsedUntil last.items (roots_of steps.now o) (end_of steps.now (o + 1))) }
 {
-    let steps = flat.steps();
-    let mut last = output_moments(alloc, flat, roots)?;
-    let mut k = steps.len();
-    while k > 0 {
-        k -= 1;
-        let s = steps[k];
-        let at = last[s as usize];
-        if at > 0 {
-            let at = start_of(at) + (k as u64 + 1);
-            raise(&mut last, &flat.driver(s).dependencies(), at);
+    let end = steps.len() + 1;
+    let mut last = vec![in alloc; 0u64; steps.len() as usize]?;
+    for o in 0..outputs {
+        if !is_marked(marks, o as usize) {
+            let roots = steps.roots(o as usize);
+            let at = moment(o + 1, end);
+            last[roots[0] as usize] = at;
+            last[roots[1] as usize] = at;
         }
     }
     Ok(last)
 }
 
-/// The last moments of all signals of a netlist whose outputs' signals are the roots.
+/// The last moment at which each step is used, where the outputs that are not marked are compared in their order.
+fn last_moments(
+    alloc: Global,
+    steps: &Steps<'_>,
+    outputs: u32,
+    marks: &[bool],
+) -> Result<Vec<u64>, AllocError>
+    requires outputs { outputs ≡ length steps.now.pair.first.outputs }
+    ensures last { IfOk result (λ last. AreLastMoments steps.now last.items) }
+    ensures roots { IfOk result (λ last. (o : ℕ) → o < outputs → is_marked marks.now o ≡ false → AreUsedUntil last.items (roots_of steps.now o) (end_of steps.now (o + 1))) }
+{
+    let mut last = output_moments(alloc, steps, outputs, marks)?;
+    let mut k = steps.len();
+    while k > 0 {
+        k -= 1;
+        let at = last[k as usize];
+        if at > 0 {
+            let at = start_of(at) + (k as u64 + 1);
+            raise(&mut last, &steps.uses(k), at);
+        }
+    }
+    Ok(last)
+}
+
+/// The same, as moments that a plan has.
 pub(crate) fn moments_of(
     alloc: Global,
-    flat: &Flat<'_>,
-    roots: &[u32],
+    steps: &Steps<'_>,
+    outputs: u32,
+    marks: &[bool],
 ) -> Result<Moments, AllocError>
-    requires roots { AreSignals flat.now roots.now }
-    requires few { length roots.now < 4294967296 }
-    ensures last { IfOk result (AreLastMoments flat.now) }
-    ensures roots { IfOk result (EndsAtRoots flat.now roots.now) }
+    requires outputs { outputs ≡ length steps.now.pair.first.outputs }
+    ensures last { IfOk result (AreLastMoments steps.now) }
+    ensures roots { IfOk result (λ last. (o : ℕ) → o < outputs → is_marked marks.now o ≡ false → AreUsedUntil last (roots_of steps.now o) (end_of steps.now (o + 1))) }
 {
-    Ok(Moments::of_each(last_moments(alloc, flat, roots)?))
+    Ok(Moments::of_each(last_moments(alloc, steps, outputs, marks)?))
 }

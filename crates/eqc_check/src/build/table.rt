@@ -6,22 +6,22 @@ ghost use Rattle.eqc_check.specs.Building.{Moves, OwnsTable, Empties, Fills, Rel
 ghost use Rattle.eqc_check.specs.Listed.{listed, references_in, AreInside};
 
 use crate::build::moments::Moments;
-use eqc_flat::Signals;
+use crate::build::steps::Uses;
 use eqc_tree::{References, Stop};
 use indexmap::IndexMap;
 use std::alloc::{AllocError, Global};
 use std::marker::Model;
 
-/// The references of signals of a netlist. Contracts see a list with a place for each signal.
+/// The references of the steps of a pair. Contracts see a list with a place for each step.
 pub(crate) struct Table<X> {
     entries: Entries<X>,
 }
 
 /// How they are kept.
 pub(crate) enum Entries<X> {
-    /// A place for each signal.
+    /// A place for each step.
     Each(Vec<Option<X>>),
-    /// Those of the signals that have one, of so many.
+    /// Those of the steps that have one, of so many.
     Few(IndexMap<u32, X>, usize),
 }
 
@@ -36,7 +36,7 @@ impl<X> Model for Table<X> {
     ghost invariant = { λ t. AreInside t.entries };
 }
 
-/// No reference, with a place for each of `count` signals.
+/// No reference, with a place for each of `count` steps.
 fn places<X>(alloc: Global, count: usize) -> Result<Vec<Option<X>>, AllocError>
     ensures size { IfOk result (λ table. length table.items ≡ count) }
     ensures none { IfOk result (λ table. (s : ℕ) → reference_of table.items s ≡ None) }
@@ -49,7 +49,7 @@ fn places<X>(alloc: Global, count: usize) -> Result<Vec<Option<X>>, AllocError>
     Ok(table)
 }
 
-/// The reference of a signal.
+/// The reference of a step.
 fn found<X>(entries: &Entries<X>, s: u32) -> Option<&X>
     requires { s < length (references_in entries.now) }
     ensures { option_copied result ≡ reference_of (references_in entries.now) s }
@@ -70,7 +70,7 @@ fn count<X>(entries: &Entries<X>) -> usize
     }
 }
 
-/// Puts a reference in, and answers what was there for the signal. Where memory is refused the reference comes back.
+/// Puts a reference in, and answers what was there for the step. Where memory is refused the reference comes back.
 fn replaced<X>(entries: &mut Entries<X>, s: u32, reference: X) -> Result<Option<X>, X>
     requires within { s < length (references_in entries.old) }
     requires inside { AreInside entries.old }
@@ -89,7 +89,7 @@ fn replaced<X>(entries: &mut Entries<X>, s: u32, reference: X) -> Result<Option<
     }
 }
 
-/// Takes the reference of a signal out.
+/// Takes the reference of a step out.
 fn taken<X>(entries: &mut Entries<X>, s: u32) -> Option<X>
     requires within { s < length (references_in entries.old) }
     requires inside { AreInside entries.old }
@@ -104,7 +104,7 @@ fn taken<X>(entries: &mut Entries<X>, s: u32) -> Option<X>
 }
 
 impl<X> Table<X> {
-    /// No reference, with a place for each of `count` signals.
+    /// No reference, with a place for each of `count` steps.
     pub(crate) fn of_each(alloc: Global, count: usize) -> Result<Table<X>, AllocError>
         ensures size { IfOk result (λ table. length table ≡ count) }
         ensures none { IfOk result (λ table. (s : ℕ) → reference_of table s ≡ None) }
@@ -114,7 +114,7 @@ impl<X> Table<X> {
         })
     }
 
-    /// No reference, where few of `count` signals get one: its memory is in proportion to those.
+    /// No reference, where few of `count` steps get one: its memory is in proportion to those.
     pub(crate) fn of_few(alloc: Global, count: usize) -> Table<X>
         ensures size { length result ≡ count }
         ensures none { (s : ℕ) → reference_of result s ≡ None }
@@ -124,14 +124,14 @@ impl<X> Table<X> {
         }
     }
 
-    /// The number of signals.
+    /// The number of steps.
     pub(crate) fn len(&self) -> usize
         ensures { result ≡ length self.now }
     {
         count(&self.entries)
     }
 
-    /// The reference of a signal, if it has one.
+    /// The reference of a step, if it has one.
     pub(crate) fn get(&self, s: u32) -> Option<&X>
         requires { s < length self.now }
         ensures { option_copied result ≡ reference_of self.now s }
@@ -139,7 +139,7 @@ impl<X> Table<X> {
         found(&self.entries, s)
     }
 
-    /// Puts a reference in, and answers what was there for the signal. Where memory is refused the reference comes back.
+    /// Puts a reference in, and answers what was there for the step. Where memory is refused the reference comes back.
     fn replace(&mut self, s: u32, reference: X) -> Result<Option<X>, X>
         requires { s < length self.old }
         ensures before { IfOk result (λ before. before ≡ reference_of self.old s) }
@@ -150,7 +150,7 @@ impl<X> Table<X> {
         replaced(&mut self.entries, s, reference)
     }
 
-    /// Takes the reference of a signal out.
+    /// Takes the reference of a step out.
     fn take(&mut self, s: u32) -> Option<X>
         requires { s < length self.old }
         ensures before { result ≡ reference_of self.old s }
@@ -160,7 +160,7 @@ impl<X> Table<X> {
     }
 }
 
-/// The reference of a signal that has one.
+/// The reference of a step that has one.
 pub(crate) fn reference_at<X>(table: &Table<X>, s: u32) -> &X
     requires within { s < length table.now }
     requires some { IsSome (reference_of table.now s) }
@@ -169,7 +169,7 @@ pub(crate) fn reference_at<X>(table: &Table<X>, s: u32) -> &X
     table.get(s).unwrap()
 }
 
-/// Puts a reference into the table; one that was there for the signal is given back. Where memory is refused it is the new
+/// Puts a reference into the table; one that was there for the step is given back. Where memory is refused it is the new
 /// one that is given back. The error is 72 alone.
 #[tactic(auto, using(crate::proofs::TableLaws::owned_held, crate::proofs::TableLaws::filled, crate::proofs::TableLaws::filled_none))]
 pub(crate) fn put<D: References>(
@@ -199,7 +199,7 @@ pub(crate) fn put<D: References>(
     }
 }
 
-/// Gives back the reference of a signal, if it has one.
+/// Gives back the reference of a step, if it has one.
 pub(crate) fn take_back<D: References>(d: &mut D, table: &mut Table<D::Ref>, s: u32)
     requires within { s < length table.old }
     requires owned { OwnsTable D.entry (D.holding d.old) table.old }
@@ -211,21 +211,21 @@ pub(crate) fn take_back<D: References>(d: &mut D, table: &mut Table<D::Ref>, s: 
     d.give_back(reference);
 }
 
-/// Gives back the references of those of the signals that are used for the last time at the moment `at`.
+/// Gives back the references of those of the steps that are used for the last time at the moment `at`.
 pub(crate) fn release<D: References>(
     d: &mut D,
     table: &mut Table<D::Ref>,
     last: &Moments,
-    signals: &Signals<'_>,
+    steps: &Uses<'_>,
     at: u64,
 )
-    requires within { (k : ℕ) → k < length signals.now → slice_index signals.now k < length table.old }
+    requires within { (k : ℕ) → k < length steps.now → slice_index steps.now k < length table.old }
     requires size { length last.now ≡ length table.old }
     requires owned { OwnsTable D.entry (D.holding d.old) table.old }
     ensures { Releases D.entry (D.holding d.old) table.old (D.holding d.new) table.new last.now at }
 {
-    for k in 0..signals.len() {
-        let s = signals.get(k);
+    for k in 0..steps.len() {
+        let s = steps.get(k);
         if last.at(s) == at {
             take_back(d, table, s);
         }
@@ -245,7 +245,7 @@ fn give_back_each<D: References>(d: &mut D, mut table: Vec<Option<D::Ref>>)
     table.destroy_empty();
 }
 
-/// Gives all references of a map back, of so many signals.
+/// Gives all references of a map back, of so many steps.
 fn give_back_few<D: References>(d: &mut D, mut table: IndexMap<u32, D::Ref>, count: usize)
     requires inside { (s : ℕ) → IsSome (get nat_eq table s) → s < count }
     requires owned { OwnsTable D.entry (D.holding d.old) (listed count (get nat_eq table)) }

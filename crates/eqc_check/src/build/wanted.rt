@@ -1,13 +1,13 @@
-ghost use Rattle.std.specs.Prelude.{◌≡◌, ℕ, ◌+◌, ◌<◌, ◌≤◌, ◌⊎◌, true, length, IfOk, OnOk, IsSome, slice_index};
+ghost use Rattle.std.specs.Prelude.{◌≡◌, ℕ, ◌<◌, ◌≤◌, ◌∷◌, [], length, IfOk, OnOk, slice_index};
 ghost use Rattle.std.specs.Ordering.{nat_cmp};
 ghost use Rattle.std.specs.BinaryHeap.{heap_items, IsHeap};
-ghost use Rattle.eqc_check.specs.Building.{reference_of, AreSignals};
-ghost use Rattle.eqc_pair.specs.PairOf.{ArePlaces};
-ghost use Rattle.eqc_check.specs.Schedule.{moment, AreLastMoments, AreWanted, AreOpened, IsBehind, IsOpen};
+ghost use Rattle.eqc_check.specs.Steps.{roots_of, steps_in};
+ghost use Rattle.eqc_check.specs.Schedule.{AreWanted, AreReached, AreOpened, IsOpen};
+ghost use Rattle.eqc_check.specs.Turns.{IsTurn};
 
-use crate::build::moments::Moments;
+use crate::build::Plan;
+use crate::build::steps::Uses;
 use crate::build::table::Table;
-use eqc_flat::{Flat, Signals};
 use std::alloc::{AllocError, Global};
 use std::collections::BinaryHeap;
 
@@ -28,59 +28,62 @@ pub(crate) fn drop_repeats(heap: &mut BinaryHeap<u32>, step: u32)
     }
 }
 
-/// Opens the steps of those of the signals that have no reference.
-fn open_missing<X>(
-    heap: &mut BinaryHeap<u32>,
-    places: &[u32],
-    table: &Table<X>,
-    signals: &Signals<'_>,
-) -> Result<(), AllocError>
+/// Opens a step, unless it has a reference.
+fn open_one<X>(heap: &mut BinaryHeap<u32>, table: &Table<X>, step: u32) -> Result<(), AllocError>
     requires heap { IsHeap nat_cmp (heap_items heap.old) }
-    requires places { (k : ℕ) → k < length signals.now → slice_index signals.now k < length places.now }
-    requires table { (k : ℕ) → k < length signals.now → slice_index signals.now k < length table.now }
+    requires table { step < length table.now }
     ensures heap { OnOk result (IsHeap nat_cmp (heap_items heap.new)) }
-    ensures opened { OnOk result (AreOpened places.now table.now signals.now (heap_items heap.old) (heap_items heap.new) (length signals.now)) }
+    ensures opened { OnOk result (AreOpened table.now (step ∷ []) (heap_items heap.old) (heap_items heap.new) 1) }
 {
-    for k in 0..signals.len() {
-        let s = signals.get(k);
-        if table.get(s).is_none() {
-            heap.push(places[s as usize])?;
-        }
+    if table.get(step).is_none() {
+        heap.push(step)?;
     }
     Ok(())
 }
 
-/// The steps that are still to be made for the diagram of a root of the output of this number, counted from 1: highest
-/// first, so that the last one can be made at once. It takes time in proportion to what they depend on.
+/// Opens those of the steps that have no reference.
+fn open_missing<X>(
+    heap: &mut BinaryHeap<u32>,
+    table: &Table<X>,
+    steps: &Uses<'_>,
+) -> Result<(), AllocError>
+    requires heap { IsHeap nat_cmp (heap_items heap.old) }
+    requires table { (k : ℕ) → k < length steps.now → slice_index steps.now k < length table.now }
+    ensures heap { OnOk result (IsHeap nat_cmp (heap_items heap.new)) }
+    ensures opened { OnOk result (AreOpened table.now steps.now (heap_items heap.old) (heap_items heap.new) (length steps.now)) }
+{
+    for k in 0..steps.len() {
+        open_one(heap, table, steps.get(k))?;
+    }
+    Ok(())
+}
+
+/// The steps that are still to be made for the diagrams of an output's two signals, in the output's turn, counted from 1:
+/// highest first, so that the last one can be made at once. It takes time in proportion to what they use.
 pub(crate) fn wanted<X>(
     alloc: Global,
-    flat: &Flat<'_>,
-    places: &[u32],
-    last: &Moments,
+    plan: &Plan<'_>,
     table: &Table<X>,
-    root: u32,
-    output: u32,
+    output: usize,
+    turn: u32,
 ) -> Result<Vec<u32>, AllocError>
-    requires some { 1 ≤ output }
-    requires root { root < length flat.now.drivers }
-    requires table { length table.now ≡ length flat.now.drivers }
-    requires places { ArePlaces flat.now places.now }
-    requires last { AreLastMoments flat.now last.now }
-    requires needed { moment output 0 ≤ slice_index last.now root }
-    ensures wanted { IfOk result (λ wanted. AreWanted flat.now last.now table.now output wanted.items) }
-    ensures root { IfOk result (λ wanted. IsSome (reference_of table.now root) ⊎ IsBehind flat.now wanted.items 0 root) }
+    requires output { output < length plan.now.steps.pair.first.outputs }
+    requires turn { IsTurn plan.now output turn }
+    requires table { length table.now ≡ steps_in plan.now.steps.pair }
+    ensures wanted { IfOk result (λ wanted. AreWanted plan.now.steps plan.now.last table.now turn wanted.items) }
+    ensures roots { IfOk result (λ wanted. AreReached table.now wanted.items (roots_of plan.now.steps output)) }
 {
-    let steps = flat.steps();
+    let roots = plan.steps.roots(output);
     let mut wanted = Vec::new(alloc);
     let mut heap = BinaryHeap::new(alloc);
-    open_missing(&mut heap, places, table, &Signals::of(&[root]))?;
+    open_one(&mut heap, table, roots[0])?;
+    open_one(&mut heap, table, roots[1])?;
     // All open steps are below it.
-    let mut below = steps.len() as u32;
+    let mut below = plan.steps.len();
     while let Some(step) = heap.pop() {
         drop_repeats(&mut heap, step);
         wanted.push(step)?;
-        let uses = flat.driver(steps[step as usize]).dependencies();
-        open_missing(&mut heap, places, table, &uses)?;
+        open_missing(&mut heap, table, &plan.steps.uses(step))?;
         below = step;
     }
     Ok(wanted)

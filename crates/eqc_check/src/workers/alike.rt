@@ -1,14 +1,37 @@
-//! Outputs whose two signals have one structure: they are equal, whatever it computes.
-ghost use Rattle.std.specs.Prelude.{◌≡◌, ℕ, ◌<◌, None, IsTrue, length, IfOk};
-ghost use Rattle.eqc_class.specs.Classes.{AreClasses, HaveOneValueEach};
+//! What structures tell of a pair: outputs whose two signals have one structure are equal, whatever it computes, and of steps of
+//! one structure one needs to be made.
+ghost use Rattle.std.specs.Prelude.{◌≡◌, ℕ, ◌+◌, ◌<◌, ◌≤◌, ◌++◌, [], None, IsTrue, length, map, slice_index, IfOk, OnOk};
+ghost use Rattle.eqc_class.specs.Classes.{AreClasses};
 ghost use Rattle.eqc_pair.specs.PairOf.{first_variables, second_variables};
 ghost use Rattle.eqc_check.specs.Comparing.{difference_at};
-ghost use Rattle.eqc_check.specs.Alike.{AreEqual, TellAlike};
+ghost use Rattle.eqc_check.specs.Alike.{AreEqual, AreFirst, IsKnown, TellAlike, TellShared};
 
-use crate::workers::task::is_marked;
+use crate::build::schedule::is_marked;
 use eqc_class::{SignalClasses, classes};
-use eqc_pair::Pair;
+use eqc_pair::{Pair, recall_laws};
 use std::alloc::{AllocError, Global};
+
+/// What is known of a pair by its structures.
+#[derive(Drop)]
+pub(crate) struct Alike {
+    /// The outputs that are marked are equal.
+    pub equal: Vec<bool>,
+    /// The step that is chosen in place of each, itself where none is listed.
+    pub chosen: Vec<u32>,
+}
+
+impl Alike {
+    /// Nothing is known.
+    pub(crate) fn nothing(alloc: Global) -> Alike
+        ensures equal { result.equal.items ≡ [] }
+        ensures chosen { result.chosen.items ≡ [] }
+    {
+        Alike {
+            equal: Vec::new(alloc),
+            chosen: Vec::new(alloc),
+        }
+    }
+}
 
 /// Marks the outputs whose two signals are of one class. Fails where memory is refused.
 fn outputs_of_one_class(
@@ -30,30 +53,78 @@ fn outputs_of_one_class(
     Ok(marks)
 }
 
-/// Marks the outputs whose two signals have one structure. Fails where memory is refused.
-fn alike(alloc: Global, pair: &Pair<'_>) -> Result<Vec<bool>, AllocError>
-    ensures alike { IfOk result (λ marks. TellAlike pair.now marks.items) }
-    ensures equal { IfOk result (λ marks. AreEqual pair.now marks.items) }
+/// Appends the classes of signals, by the number of each signal's class. Fails where memory is refused.
+fn append_classes(row: &mut Vec<u32>, numbers: &[u32], signals: &[u32]) -> Result<(), AllocError>
+    requires { (k : ℕ) → k < length signals.now → slice_index signals.now k < length numbers.now }
+    ensures { OnOk result (row.new.items ≡ row.old.items ++ map (slice_index numbers.now) signals.now) }
 {
-    pair.recall_laws();
-    let classes = classes(
-        alloc,
-        pair.first(),
-        pair.variables(),
-        pair.second(),
-        pair.second_variables(),
-    )?;
-    let marks = outputs_of_one_class(alloc, pair, &classes)?;
-    Ok(marks)
+    for k in 0..signals.len() {
+        row.push(numbers[signals[k] as usize])?;
+    }
+    Ok(())
 }
 
-/// Marks the outputs whose two signals have one structure, or none where memory for that is refused.
-pub(crate) fn alike_or_none(alloc: Global, pair: &Pair<'_>) -> Vec<bool>
-    ensures { AreEqual pair.now result.items }
+/// For each place in a row of classes the first place of its class. The classes are below `count`. Fails where memory is
+/// refused.
+fn first_of_class(alloc: Global, row: &[u32], count: usize) -> Result<Vec<u32>, AllocError>
+    requires within { (k : ℕ) → k < length row.now → slice_index row.now k < count }
+    requires few { length row.now ≤ 2097152 }
+    ensures { IfOk result (λ places. AreFirst row.now places.items) }
 {
-    match alike(alloc, pair) {
-        Ok(marks) => marks,
-        Err(_) => Vec::new(alloc),
+    let mut firsts = vec![in alloc; 4294967295u32; count]?;
+    let mut places = Vec::with_capacity(alloc, row.len())?;
+    for k in 0..row.len() {
+        let class = row[k] as usize;
+        let first = firsts[class].min(k as u32);
+        firsts[class] = first;
+        places.push(first)?;
+    }
+    Ok(places)
+}
+
+/// Chooses the first step of each class in place of all its steps. Fails where memory is refused.
+fn first_steps(
+    alloc: Global,
+    pair: &Pair<'_>,
+    classes: &SignalClasses,
+) -> Result<Vec<u32>, AllocError>
+    requires classes { AreClasses pair.now.first pair.now.second (first_variables pair.now) (second_variables pair.now) classes.now }
+    ensures { IfOk result (λ chosen. TellShared pair.now chosen.items) }
+{
+    pair.recall_laws();
+    let mut row = Vec::new(alloc);
+    append_classes(&mut row, classes.first(), pair.first().steps())?;
+    append_classes(&mut row, classes.second(), pair.second().steps())?;
+    let chosen = first_of_class(alloc, &row, classes.count())?;
+    Ok(chosen)
+}
+
+/// What is known of a pair by its structures: the outputs whose two signals have one are marked, and of the steps of one
+/// structure the first is chosen. Fails where memory is refused.
+fn by_structures(alloc: Global, pair: &Pair<'_>) -> Result<Alike, AllocError>
+    ensures marked { IfOk result (λ alike. TellAlike pair.now alike.equal.items) }
+    ensures shared { IfOk result (λ alike. TellShared pair.now alike.chosen.items) }
+    ensures known { IfOk result (IsKnown pair.now) }
+{
+    pair.recall_laws();
+    let first = pair.first();
+    let second = pair.second();
+    recall_laws(first);
+    recall_laws(second);
+    let variables = pair.variables();
+    let classes = classes(alloc, first, variables, second, pair.second_variables())?;
+    let equal = outputs_of_one_class(alloc, pair, &classes)?;
+    let chosen = first_steps(alloc, pair, &classes)?;
+    Ok(Alike { equal, chosen })
+}
+
+/// What is known of a pair by its structures: nothing where memory for that is refused.
+pub(crate) fn alike_or_nothing(alloc: Global, pair: &Pair<'_>) -> Alike
+    ensures { IsKnown pair.now result }
+{
+    match by_structures(alloc, pair) {
+        Ok(alike) => alike,
+        Err(_) => Alike::nothing(alloc),
     }
 }
 

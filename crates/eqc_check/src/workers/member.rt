@@ -1,19 +1,20 @@
 //! What a member compares with.
-ghost use Rattle.std.specs.Prelude.{◌≡◌, ◌≢◌, ◌<◌, ◌≤◌, ◌^◌, length, IfOk, IfErr};
-ghost use Rattle.eqc_check.specs.Turns.{AreKept, AreTurns};
+ghost use Rattle.std.specs.Prelude.{◌≡◌, ◌≢◌, ◌<◌, ◌≤◌, false, length, IfOk, IfErr};
+ghost use Rattle.eqc_check.specs.Turns.{AreKept, is_marked};
+ghost use Rattle.eqc_check.specs.Alike.{IsTask};
 ghost use Rattle.eqc_check.specs.Comparing.{IsDifferenceAt};
 
-use crate::build::kept::Tables;
-use crate::build::moments::Schedules;
-use crate::compare::{compare_kept, give_back_both, no_tables};
+use crate::build::kept::{Kept, give_back_kept};
+use crate::compare::{compare_kept, nothing_built};
+use crate::workers::task::Task;
 use eqc_pair::Pair;
 use eqc_tree::{Diagrams, References, Stop};
 use std::alloc::Global;
 
-/// The diagrams of a member, from its first draw to its last, and those of signals that later outputs need.
+/// The diagrams of a member, from its first draw to its last, and those of steps that later outputs need.
 pub(crate) struct Member<D: References> {
     pub diagrams: D,
-    pub tables: Tables<D::Ref>,
+    pub kept: Kept<D::Ref>,
 }
 
 /// A member over diagrams.
@@ -23,38 +24,39 @@ pub(crate) fn begin<D: References + Drop>(
     pair: &Pair<'_>,
 ) -> Result<Member<D>, Stop>
     requires variables { length pair.now.first.inputs ≤ (D.holding diagrams).variables }
-    ensures kept { IfOk result (λ m. AreKept D.entry pair.now (D.holding m.diagrams) m.tables) }
+    ensures kept { IfOk result (λ m. AreKept D.entry pair.now (D.holding m.diagrams) m.kept.table) }
     ensures only { IfErr result (λ s. s ≡ Stop.Memory) }
 {
-    let mut diagrams = diagrams;
-    let tables = no_tables(alloc, &mut diagrams, pair)?;
-    Ok(Member { diagrams, tables })
+    match nothing_built::<D>(alloc, pair) {
+        Ok(kept) => Ok(Member { diagrams, kept }),
+        Err(_) => Err(Stop::Memory),
+    }
 }
 
-/// The least assignment under which an output differs. A member's outputs come in rising order.
+/// The least assignment under which an output differs that is not marked. A member's outputs come in rising order.
 pub(crate) fn compare<R, D: Diagrams<R>>(
     rt: &R,
     alloc: Global,
     member: &mut Member<D>,
     pair: &Pair<'_>,
-    schedules: &Schedules,
+    task: &Task<'_>,
     output: u32,
 ) -> Result<Option<Vec<bool>>, Stop>
-    requires kept { AreKept D.entry pair.now (D.holding member.old.diagrams) member.old.tables }
-    requires turns { AreTurns pair.now schedules.now }
+    requires kept { AreKept D.entry pair.now (D.holding member.old.diagrams) member.old.kept.table }
+    requires task { IsTask pair.now task.now }
     requires output { output < length pair.now.first.outputs }
+    requires unmarked { is_marked task.now.equal.items output ≡ false }
     ensures least { IfOk result (IsDifferenceAt pair.now output) }
-    ensures kept { AreKept D.entry pair.now (D.holding member.new.diagrams) member.new.tables }
+    ensures kept { AreKept D.entry pair.now (D.holding member.new.diagrams) member.new.kept.table }
     ensures only { IfErr result (λ s. s ≢ Stop.Threads) }
 {
-    let Member { diagrams, tables } = member;
+    let Member { diagrams, kept } = member;
     compare_kept(
         alloc,
         rt,
         diagrams,
-        pair,
-        schedules,
-        tables,
+        &task.plan,
+        kept,
         output as usize,
         output + 1,
     )
@@ -62,12 +64,9 @@ pub(crate) fn compare<R, D: Diagrams<R>>(
 
 /// The member's diagrams, with what they held at first.
 pub(crate) fn end<D: References>(member: Member<D>, pair: &Pair<'_>) -> D
-    requires { AreKept D.entry pair.now (D.holding member.diagrams) member.tables }
+    requires { AreKept D.entry pair.now (D.holding member.diagrams) member.kept.table }
 {
-    let Member {
-        mut diagrams,
-        tables,
-    } = member;
-    give_back_both(&mut diagrams, tables);
+    let Member { mut diagrams, kept } = member;
+    give_back_kept(&mut diagrams, kept);
     diagrams
 }

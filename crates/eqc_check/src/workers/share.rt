@@ -5,10 +5,11 @@ ghost use Rattle.eqc_check.specs.Turns.{AreKept};
 ghost use Rattle.eqc_check.specs.Alike.{IsTask};
 ghost use Rattle.eqc_check.specs.Verdicts.{DiffersBefore, IsFoundAt, IsShare, IsFresh, AreSeated};
 
+use crate::build::schedule::is_marked;
 use crate::workers::gate::Gate;
 use crate::workers::group::{Group, halves};
 use crate::workers::member::{self, Member};
-use crate::workers::task::{Task, is_marked};
+use crate::workers::task::Task;
 use crate::workers::ticket::{Drawer, Words, draw, take_in};
 use crate::workers::verdict::{Finding, Verdict};
 use eqc_pair::Pair;
@@ -31,19 +32,19 @@ fn finding<R, D: Diagrams<R>, G: Gate<R>>(
     rt: &R,
     alloc: Global,
     pair: &Pair<'_>,
-    task: &Task,
+    task: &Task<'_>,
     gate: &G,
     worker: u32,
     member: &mut Member<D>,
     output: u32,
     behind: bool,
 ) -> Result<Finding, Stop>
-    requires kept { AreKept D.entry pair.now (D.holding member.old.diagrams) member.old.tables }
+    requires kept { AreKept D.entry pair.now (D.holding member.old.diagrams) member.old.kept.table }
     requires task { IsTask pair.now task.now }
     requires output { output < length pair.now.first.outputs }
     requires knows { IsTrue behind → DiffersBefore pair.now output }
     ensures found { IfOk result (λ found. IsFoundAt pair.now output found) }
-    ensures kept { AreKept D.entry pair.now (D.holding member.new.diagrams) member.new.tables }
+    ensures kept { AreKept D.entry pair.now (D.holding member.new.diagrams) member.new.kept.table }
     ensures only { IfErr result (λ s. s ≢ Stop.Threads) }
 {
     if behind {
@@ -53,7 +54,7 @@ fn finding<R, D: Diagrams<R>, G: Gate<R>>(
         return Ok(Finding::Equal);
     }
     gate.enter(rt, worker, output);
-    match member::compare(rt, alloc, member, pair, &task.schedules, output)? {
+    match member::compare(rt, alloc, member, pair, task, output)? {
         None => Ok(Finding::Equal),
         Some(values) => Ok(Finding::Differs(values)),
     }
@@ -65,7 +66,7 @@ fn draw_all<R, D: Diagrams<R>, G: Gate<R>>(
     rt: &R,
     alloc: Global,
     pair: &Pair<'_>,
-    task: &Task,
+    task: &Task<'_>,
     words: &Words,
     gate: &G,
     worker: u32,
@@ -73,11 +74,11 @@ fn draw_all<R, D: Diagrams<R>, G: Gate<R>>(
     member: &mut Member<D>,
 ) -> Result<Share, Stop>
     requires fresh { IsFresh pair.now words.now.table_id words.now.key 1 seat }
-    requires kept { AreKept D.entry pair.now (D.holding member.old.diagrams) member.old.tables }
+    requires kept { AreKept D.entry pair.now (D.holding member.old.diagrams) member.old.kept.table }
     requires task { IsTask pair.now task.now }
     ensures share { IfOk result (λ s. IsShare pair.now words.now.table_id 1 s.seat s.verdicts.items) }
     ensures only { IfErr result (λ s. s ≢ Stop.Threads) }
-    ensures kept { AreKept D.entry pair.now (D.holding member.new.diagrams) member.new.tables }
+    ensures kept { AreKept D.entry pair.now (D.holding member.new.diagrams) member.new.kept.table }
 {
     let mut seat = seat;
     let mut verdicts = Vec::new(alloc);
@@ -105,7 +106,7 @@ fn work_alone<R, D: Diagrams<R> + Drop, G: Gate<R>>(
     rt: &R,
     alloc: Global,
     pair: &Pair<'_>,
-    task: &Task,
+    task: &Task<'_>,
     words: &Words,
     gate: &G,
     worker: u32,
@@ -139,7 +140,7 @@ fn work_only<R, D: Diagrams<R> + Drop, G: Gate<R>>(
     rt: &R,
     alloc: Global,
     pair: &Pair<'_>,
-    task: &Task,
+    task: &Task<'_>,
     words: &Words,
     gate: &G,
     group: Group<D>,
@@ -222,7 +223,7 @@ fn work<
     scope: &'s Scope<'s, E>,
     alloc: Global,
     pair: &'s Pair<'s>,
-    task: &'s Task,
+    task: &'s Task<'s>,
     words: &'s Words,
     gate: &'s G,
     group: Group<D>,
@@ -258,7 +259,7 @@ pub(crate) fn work_together<
     rt: &R,
     alloc: Global,
     pair: &Pair<'_>,
-    task: &Task,
+    task: &Task<'_>,
     words: &Words,
     gate: &G,
     group: Group<D>,

@@ -6,5 +6,5 @@ use Rattle.eqc_check.proofs.compare.compare_in_turn.Given as goal
 
 abbrev pub invariant-loop-o : goal.invariant-loop-o
 invariant-loop-o g l =
-    (first_difference (netlist_of l.pair.first) (netlist_of l.pair.second) (take l.o l.pair.first.outputs) ≡ None)
-    × MovesKept g.D.References.entry l.pair (g.D.References.holding l.fn.d) l.fn.tables (g.D.References.holding l.d) l.tables
+    (first_difference (netlist_of l.plan.steps.pair.first) (netlist_of l.plan.steps.pair.second) (take l.o l.plan.steps.pair.first.outputs) ≡ None)
+    × MovesKept g.D.References.entry l.plan.steps.pair (g.D.References.holding l.fn.d) l.fn.kept.table (g.D.References.holding l.d) l.kept.table

@@ -1,20 +1,18 @@
-use Rattle.eqc_check.proofs.DifferenceLaws.{new_owned, moved_owned, nothing_moved}
+use Rattle.std.proofs.Common.{◌∙◌}
+use Rattle.eqc_check.proofs.DifferenceLaws.{none_kept, none_moved, moved_kept, nothing_moved}
 use Rattle.eqc_check.proofs.compare.compare_once.Goals as goal
 
 pub compare_turn-found-requires : goal.compare_turn-found-requires
 compare_turn-found-requires g c = record {
-  output = c.requires.output;
-  scheduled = c.requires.scheduled;
+  within = c.requires.output;
   turn = c.requires.turn;
-  kept = record {
-    variables = c.requires.variables;
-    built = c.few_tables-tables.ensures.built;
-    owned = new_owned g.D.References.entry _ _ c.few_tables-tables.result.first.table c.few_tables-tables.result.second.table (c.few_tables-tables.ensures.owned (g.D.References.holding c.args.d.now));
-  };
+  kept = none_kept g.D.References.entry c.args.plan.now.steps.pair _ c.nothing_kept_of_few-kept.result.table c.requires.variables (c.nothing_kept_of_few-kept.ensures.size ∙ c.len.ensures.count) c.nothing_kept_of_few-kept.ensures.none;
 }
 
-pub give_back_both-requires : goal.give_back_both-requires
-give_back_both-requires g c = moved_owned g.D.References.entry _ _ c.few_tables-tables.result.first.table _ c.few_tables-tables.result.second.table _ (new_owned g.D.References.entry _ _ c.few_tables-tables.result.first.table c.few_tables-tables.result.second.table (c.few_tables-tables.ensures.owned (g.D.References.holding c.args.d.now))) c.compare_turn-found.ensures.moves.moves
+pub give_back_kept-requires : goal.give_back_kept-requires
+give_back_kept-requires g c =
+    let kept = none_kept g.D.References.entry c.args.plan.now.steps.pair _ c.nothing_kept_of_few-kept.result.table c.requires.variables (c.nothing_kept_of_few-kept.ensures.size ∙ c.len.ensures.count) c.nothing_kept_of_few-kept.ensures.none in
+    (moved_kept g.D.References.entry c.args.plan.now.steps.pair _ _ c.nothing_kept_of_few-kept.result.table _ kept c.compare_turn-found.ensures.moves).owned
 
 pub returns-clause-kept : goal.returns-clause-kept
-returns-clause-kept g c = nothing_moved g.D.References.entry _ _ _ _ _ _ _ _ (c.few_tables-tables.ensures.owned (g.D.References.holding c.args.d.now)) c.compare_turn-found.ensures.moves.moves c.give_back_both.ensures
+returns-clause-kept g c = nothing_moved g.D.References.entry _ _ _ c.nothing_kept_of_few-kept.result.table _ (none_moved g.D.References.entry _ c.nothing_kept_of_few-kept.result.table c.nothing_kept_of_few-kept.ensures.none) c.compare_turn-found.ensures.moves.moves c.give_back_kept.ensures

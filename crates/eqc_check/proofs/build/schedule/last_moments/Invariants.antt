@@ -1,9 +1,10 @@
-use Rattle.std.proofs.Common.{◌≤◌, length}
+use Rattle.std.proofs.Common.{◌≤◌}
+use Rattle.eqc_check.specs.Steps.{steps_in}
 use Rattle.eqc_check.proofs.ScheduleLaws.{AreMomentsFrom}
 use Rattle.eqc_check.proofs.build.schedule.last_moments.Given as goal
 
 abbrev pub invariant-loop-k : goal.invariant-loop-k
-invariant-loop-k l = (l.k ≤ length l.flat.steps) × AreMomentsFrom l.flat l.roots l.last.items l.k
+invariant-loop-k l = (l.k ≤ steps_in l.steps.pair) × AreMomentsFrom l.steps l.marks l.last.items l.outputs l.k
 
 abbrev pub decreases-loop-k : goal.decreases-loop-k
 decreases-loop-k l = l.k

@@ -1,54 +1,40 @@
-use Rattle.std.proofs.Common.{ℕ, ◌≡◌, ◌<◌, List, length, get_or, arith, ap, sym, ◌∙◌, subst}
+use Rattle.std.proofs.Common.{◌<◌, length, arith, subst}
 use Rattle.std.specs.BinaryHeap.{heap_items}
-use Rattle.eqc_flat.specs.Graph.{dependencies, driver_at}
-use Rattle.eqc_check.specs.Schedule.{uses_at, AreOpened}
-use Rattle.eqc_check.proofs.WantedLaws.{wanted_first, wanted_more, wanted_done, wanted_root, open_below_top, open_top, nothing_in, use_within}
+use Rattle.eqc_check.specs.Steps.{roots_of, steps_in}
+use Rattle.eqc_check.specs.Schedule.{AreOpened, end_of}
+use Rattle.eqc_check.proofs.StepLaws.{roots_twice, roots_within, uses_within}
+use Rattle.eqc_check.proofs.WantedLaws.{opened_two, wanted_first, wanted_more, wanted_done, wanted_roots, open_below_top, open_top, nothing_in}
 use Rattle.eqc_check.proofs.build.wanted.wanted.Goals as goal
-
-pub loop-step-init : goal.loop-step-init
-loop-step-init g c =
-    (c.in_ok-open_missing.ensures.heap, rw c.new-wanted.ensures.items (wanted_first c.args.flat.now c.args.last.now c.args.places.now c.args.table.now c.args.output c.args.root c.of.result (heap_items c.new-heap.result) (heap_items c.open_missing.new.heap) (length c.steps-steps.result.now) c.of.ensures c.new-heap.ensures.items (ap length c.steps-steps.ensures.steps) c.requires.places c.requires.root c.requires.needed c.in_ok-open_missing.ensures.opened))
 
 pub drop_repeats-requires-clause-below : goal.drop_repeats-requires-clause-below
 drop_repeats-requires-clause-below g c = λ x h. open_below_top (heap_items c.pop.new.self) c.in-Some.step x (c.in-Some.ensures.below_top c.loop-step.invariant.0) h
 
-pub bounds-steps-step : goal.bounds-steps-step
-bounds-steps-step g c = omega (arith, ap length c.steps-steps.ensures.steps, c.loop-step.invariant.1.small, c.loop-step.invariant.1.open_below c.in-Some.step (open_top (heap_items c.loop-step.heap) (heap_items c.pop.new.self) c.in-Some.step c.in-Some.ensures.permutation))
-
-pub driver-requires : goal.driver-requires
-driver-requires g c =
-    let inside : c.in-Some.step < length c.args.flat.now.steps = omega (arith, c.loop-step.invariant.1.small, c.loop-step.invariant.1.open_below c.in-Some.step (open_top (heap_items c.loop-step.heap) (heap_items c.pop.new.self) c.in-Some.step c.in-Some.ensures.permutation)) in
-    rw c.steps-steps.ensures.steps (c.steps-steps.ensures.lawful.steps_within c.in-Some.step inside)
-
-pub open_missing-requires-in-Some-clause-places : goal.open_missing-requires-in-Some-clause-places
-open_missing-requires-in-Some-clause-places g c =
-    let f = c.args.flat.now in
-    let inside : c.in-Some.step < length f.steps = omega (arith, c.loop-step.invariant.1.small, c.loop-step.invariant.1.open_below c.in-Some.step (open_top (heap_items c.loop-step.heap) (heap_items c.pop.new.self) c.in-Some.step c.in-Some.ensures.permutation)) in
-    let uses : c.dependencies-uses.result ≡ uses_at f c.in-Some.step = c.dependencies-uses.ensures ∙ (ap dependencies c.driver.ensures ∙ ap (λ steps. dependencies (driver_at f (get_or steps c.in-Some.step 0))) c.steps-steps.ensures.steps) in
-    let P : List ℕ → Type 0 = λ signals. (k : ℕ) → k < length signals → get_or signals k 0 < length c.args.places.now in
-    subst P (sym uses) (λ k lt. omega (arith, use_within f c.in-Some.step k c.steps-steps.ensures.lawful inside lt, c.requires.places.size))
-
-pub open_missing-requires-in-Some-clause-table : goal.open_missing-requires-in-Some-clause-table
-open_missing-requires-in-Some-clause-table g c =
-    let f = c.args.flat.now in
-    let inside : c.in-Some.step < length f.steps = omega (arith, c.loop-step.invariant.1.small, c.loop-step.invariant.1.open_below c.in-Some.step (open_top (heap_items c.loop-step.heap) (heap_items c.pop.new.self) c.in-Some.step c.in-Some.ensures.permutation)) in
-    let uses : c.dependencies-uses.result ≡ uses_at f c.in-Some.step = c.dependencies-uses.ensures ∙ (ap dependencies c.driver.ensures ∙ ap (λ steps. dependencies (driver_at f (get_or steps c.in-Some.step 0))) c.steps-steps.ensures.steps) in
-    let P : List ℕ → Type 0 = λ signals. (k : ℕ) → k < length signals → get_or signals k 0 < length c.args.table.now in
-    subst P (sym uses) (λ k lt. omega (arith, use_within f c.in-Some.step k c.steps-steps.ensures.lawful inside lt, c.requires.table))
-
 pub loop-step-smaller : goal.loop-step-smaller
 loop-step-smaller g c = c.loop-step.invariant.1.open_below c.in-Some.step (open_top (heap_items c.loop-step.heap) (heap_items c.pop.new.self) c.in-Some.step c.in-Some.ensures.permutation)
 
+pub returns-clause-wanted : goal.returns-clause-wanted
+returns-clause-wanted g c = wanted_done c.args.plan.now.steps c.args.plan.now.last c.args.table.now c.args.turn _ c.loop-step.wanted.items (heap_items c.loop-step.heap) c.loop-step.below (nothing_in (heap_items c.loop-step.heap) (omega (arith, c.in_default.ensures.none, c.loop-step.heap.data.ok.0))) c.loop-step.invariant.1
+
+pub returns-clause-roots : goal.returns-clause-roots
+returns-clause-roots g c = wanted_roots c.args.plan.now.steps c.args.plan.now.last c.args.table.now c.args.turn _ c.loop-step.wanted.items (heap_items c.loop-step.heap) c.loop-step.below (nothing_in (heap_items c.loop-step.heap) (omega (arith, c.in_default.ensures.none, c.loop-step.heap.data.ok.0))) c.loop-step.invariant.1
+
+pub loop-step-init : goal.loop-step-init
+loop-step-init g c =
+    let s = c.args.plan.now.steps in
+    let roots = roots_of s c.args.output in
+    let opened = opened_two c.args.table.now _ _ (heap_items c.new-heap.result) (heap_items c.open_one.new.heap) (heap_items c.open_one-2.new.heap) c.in_ok-open_one.ensures.opened c.in_ok-open_one-2.ensures.opened in
+    let both : AreOpened c.args.table.now roots (heap_items c.new-heap.result) (heap_items c.open_one-2.new.heap) (length roots) = subst (λ xs. AreOpened c.args.table.now xs (heap_items c.new-heap.result) (heap_items c.open_one-2.new.heap) (length xs)) (roots_twice s c.args.output c.roots-roots.result c.roots-roots.ensures) opened in
+    (c.in_ok-open_one-2.ensures.heap, rw (c.new-wanted.ensures.items, c.len-below.ensures.count) (wanted_first s c.args.plan.now.last c.args.table.now c.args.turn (end_of s c.args.turn) roots (heap_items c.new-heap.result) (heap_items c.open_one-2.new.heap) c.new-heap.ensures.items (omega arith) (λ r h. roots_within s c.args.output r c.len-below.ensures.lawful c.requires.output h) c.requires.turn.ends both))
+
 pub loop-step-preserved : goal.loop-step-preserved
 loop-step-preserved g c =
-    let f = c.args.flat.now in
-    let uses : c.dependencies-uses.result ≡ uses_at f c.in-Some.step = c.dependencies-uses.ensures ∙ (ap dependencies c.driver.ensures ∙ ap (λ steps. dependencies (driver_at f (get_or steps c.in-Some.step 0))) c.steps-steps.ensures.steps) in
-    let P : List ℕ → Type 0 = λ signals. AreOpened c.args.places.now c.args.table.now signals (heap_items c.drop_repeats.new.heap) (heap_items c.open_missing-in-Some.new.heap) (length signals) in
-    let opened = subst P uses c.in_ok-open_missing-2.ensures.opened in
-    (c.in_ok-open_missing-2.ensures.heap, rw c.in_ok-push.ensures.items (wanted_more f c.args.last.now c.args.places.now c.args.table.now c.args.output c.args.root c.loop-step.wanted.items (heap_items c.loop-step.heap) (heap_items c.pop.new.self) (heap_items c.drop_repeats.new.heap) (heap_items c.open_missing-in-Some.new.heap) c.loop-step.below c.in-Some.step c.steps-steps.ensures.lawful c.requires.last c.requires.places c.requires.some c.in-Some.ensures.permutation c.drop_repeats.ensures.below c.drop_repeats.ensures.kept c.drop_repeats.ensures.others (λ x h. open_below_top (heap_items c.pop.new.self) c.in-Some.step x (c.in-Some.ensures.below_top c.loop-step.invariant.0) h) opened.kept opened.there opened.only c.loop-step.invariant.1))
+    (c.in_ok-open_missing.ensures.heap, rw c.in_ok-push.ensures.items (wanted_more c.args.plan.now.steps c.args.plan.now.last c.args.table.now c.args.turn (roots_of c.args.plan.now.steps c.args.output) c.loop-step.wanted.items (heap_items c.loop-step.heap) (heap_items c.pop.new.self) (heap_items c.drop_repeats.new.heap) (heap_items c.open_missing.new.heap) c.loop-step.below c.in-Some.step c.len-below.ensures.lawful c.requires.turn.moments c.requires.turn.some c.in-Some.ensures.permutation c.drop_repeats.ensures.below c.drop_repeats.ensures.kept c.drop_repeats.ensures.others (λ x h. open_below_top (heap_items c.pop.new.self) c.in-Some.step x (c.in-Some.ensures.below_top c.loop-step.invariant.0) h) (rw c.uses.ensures at c.in_ok-open_missing.ensures.opened) c.loop-step.invariant.1))
 
-pub returns-clause-wanted : goal.returns-clause-wanted
-returns-clause-wanted g c = wanted_done c.args.flat.now c.args.last.now c.args.table.now c.args.output c.args.root c.loop-step.wanted.items (heap_items c.loop-step.heap) c.loop-step.below (nothing_in (heap_items c.loop-step.heap) (omega (arith, c.in_default.ensures.none, c.loop-step.heap.data.ok.0))) c.loop-step.invariant.1
+pub uses-requires : goal.uses-requires
+uses-requires g c = omega (arith, c.loop-step.invariant.1.small, c.loop-step.invariant.1.open_below c.in-Some.step (open_top (heap_items c.loop-step.heap) (heap_items c.pop.new.self) c.in-Some.step c.in-Some.ensures.permutation))
 
-pub returns-clause-root : goal.returns-clause-root
-returns-clause-root g c = wanted_root c.args.flat.now c.args.last.now c.args.table.now c.args.output c.args.root c.loop-step.wanted.items (heap_items c.loop-step.heap) c.loop-step.below (nothing_in (heap_items c.loop-step.heap) (omega (arith, c.in_default.ensures.none, c.loop-step.heap.data.ok.0))) c.loop-step.invariant.1
+pub open_missing-requires-clause-table : goal.open_missing-requires-clause-table
+open_missing-requires-clause-table g c =
+    let s = c.args.plan.now.steps in
+    let inside : c.in-Some.step < steps_in s.pair = omega (arith, c.loop-step.invariant.1.small, c.loop-step.invariant.1.open_below c.in-Some.step (open_top (heap_items c.loop-step.heap) (heap_items c.pop.new.self) c.in-Some.step c.in-Some.ensures.permutation)) in
+    rw c.uses.ensures (λ k lt. omega (arith, uses_within s c.in-Some.step k c.len-below.ensures.lawful inside lt, c.requires.table))

@@ -1,10 +1,11 @@
 use Rattle.std.specs.Ordering.{nat_cmp}
 use Rattle.std.specs.BinaryHeap.{heap_items, IsHeap}
+use Rattle.eqc_check.specs.Steps.{roots_of}
 use Rattle.eqc_check.proofs.WantedLaws.{AreWantedFrom}
 use Rattle.eqc_check.proofs.build.wanted.wanted.Given as goal
 
 abbrev pub invariant-loop-step : goal.invariant-loop-step
-invariant-loop-step g l = IsHeap nat_cmp (heap_items l.heap) × AreWantedFrom l.flat l.last l.table l.output l.root l.wanted.items (heap_items l.heap) l.below
+invariant-loop-step g l = IsHeap nat_cmp (heap_items l.heap) × AreWantedFrom l.plan.steps l.plan.last l.table l.turn (roots_of l.plan.steps l.output) l.wanted.items (heap_items l.heap) l.below
 
 abbrev pub decreases-loop-step : goal.decreases-loop-step
 decreases-loop-step g l = l.below

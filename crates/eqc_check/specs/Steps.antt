@@ -1,0 +1,70 @@
+-- The steps of a pair, in one row: those of the first netlist, then those of the second. Each makes the value of a signal
+-- out of those of steps before it. A step may be chosen in place of one that never has another value.
+use Rattle.std.specs.Prelude.{◌≡◌, ℕ, ◌+◌, ◌-◌, ◌<◌, ◌≤◌, Bool, List, [], ◌∷◌, length, map, ltb, slice_index, slice_index_or, if◌then◌else◌}
+use Rattle.eqc_flat.specs.Graph.{FlatOf, FollowsDrivers, driver_at, dependencies, value_of}
+use Rattle.eqc_pair.specs.PairOf.{PairOf, IsPair, ArePlaces, first_variables, second_variables, second_signals}
+
+-- the values of the inputs, where an input at a position has the value of its variable
+abbrev pub inputs_under : List ℕ → (ℕ → Bool) → ℕ → Bool
+inputs_under variables a p = a (slice_index variables p)
+
+-- how many steps a pair has
+abbrev pub steps_in : PairOf → ℕ
+steps_in p = length p.first.drivers + length p.second.drivers
+
+-- the value that a step makes, under values of the variables
+unfoldable pub value_at : PairOf → (ℕ → Bool) → ℕ → Bool
+value_at p a k =
+    if ltb k (length p.first.drivers)
+    then value_of p.first (inputs_under (first_variables p) a) (slice_index p.first.steps k)
+    else value_of p.second (inputs_under (second_variables p) a) (slice_index p.second.steps (k - length p.first.drivers))
+
+-- a pair, the step of each signal of its netlists, counted in each from 0, and the step that is chosen in place of each,
+-- itself where none is listed
+pub record StepsOf : Type 0 where
+  pub pair : PairOf
+  pub places : List ℕ
+  pub others : List ℕ
+  pub chosen : List ℕ
+
+abbrev pub chosen_for : List ℕ → ℕ → ℕ
+chosen_for chosen k = slice_index_or chosen k k
+
+-- the step of a signal of a netlist whose steps begin at `start`
+unfoldable pub step_in : List ℕ → List ℕ → ℕ → ℕ → ℕ
+step_in chosen places start s = chosen_for chosen (start + slice_index places s)
+
+-- what the step of such a netlist uses that is number k of its own
+abbrev pub uses_in : FlatOf → List ℕ → List ℕ → ℕ → ℕ → List ℕ
+uses_in f chosen places start k = map (step_in chosen places start) (dependencies (driver_at f (slice_index f.steps k)))
+
+-- the steps that a step uses
+unfoldable pub uses_of : StepsOf → ℕ → List ℕ
+uses_of g k =
+    if ltb k (length g.pair.first.drivers)
+    then uses_in g.pair.first g.chosen g.places 0 k
+    else uses_in g.pair.second g.chosen g.others (length g.pair.first.drivers) (k - length g.pair.first.drivers)
+
+-- the steps of an output's two signals
+abbrev pub first_root : StepsOf → ℕ → ℕ
+first_root g output = step_in g.chosen g.places 0 (slice_index g.pair.first.output_signals output)
+
+abbrev pub second_root : StepsOf → ℕ → ℕ
+second_root g output = step_in g.chosen g.others (length g.pair.first.drivers) (slice_index (second_signals g.pair) output)
+
+unfoldable pub roots_of : StepsOf → ℕ → List ℕ
+roots_of g output = first_root g output ∷ second_root g output ∷ []
+
+-- in place of each step an earlier one is chosen, or itself, which has its value under all values of the variables
+pub record IsChoice (p : PairOf) (chosen : List ℕ) : Type 0 where
+  pub early : (k : ℕ) → k < steps_in p → chosen_for chosen k ≤ k
+  pub same : (k : ℕ) (a : ℕ → Bool) → k < steps_in p → value_at p a (chosen_for chosen k) ≡ value_at p a k
+
+-- what holds of the steps of every pair
+pub record AreSteps (g : StepsOf) : Type 0 where
+  pub lawful : IsPair g.pair
+  pub first_follows : FollowsDrivers g.pair.first
+  pub second_follows : FollowsDrivers g.pair.second
+  pub places : ArePlaces g.pair.first g.places
+  pub others : ArePlaces g.pair.second g.others
+  pub choice : IsChoice g.pair g.chosen
