@@ -18,6 +18,7 @@ use Rattle.eqc_core.specs.Lawful.{IsNamed as IsPlaced, Lawful}
 use Rattle.eqc_core.specs.Facts.{AreTabled, HaveTrees}
 use Rattle.eqc_core.proofs.Names.{times-same, times-other, times-append, times-nil}
 use Rattle.eqc_core.proofs.Known.{are_tabled}
+use Rattle.eqc_core.proofs.Tables.{table_tabled}
 use Rattle.eqc_core.proofs.Trees.{have_trees, is_tree_one}
 use Rattle.eqc_core.proofs.Claiming.{draft_is}
 use Rattle.eqc_guard.specs.Known.{Known, Knows, KeepsCopy, kept_tree, tree_in, tree_of, names_of, confirmed_name, confirmed_names, read_names, IsHeld, IsNamed, IsCopy, IsKnown}
@@ -171,6 +172,7 @@ is_known z w hs vs id k law at on knows copy = record {
       let mine : IsTable hs vs h.stripe h.entries = inr (id, k.core, h, at, is, refl, refl) in
       let n = law.tables.named e.1 ((are_tabled z w hs vs law).entries h.stripe h.entries i e mine there) in
       (n.0, subst (λ (y : Sizes). e.1 < y.names) (sym (law.views id k.core at on).sizes) n.1, (law.tables.entries h.stripe h.entries mine i e there).1);
+  once = λ h x is. let le = table_tabled hs vs h.stripe h.entries x (inr (id, k.core, h, at, is, refl, refl)) in let o = law.tables.once x in omega arith;
   few = subst (λ (y : Sizes). length k.core.out < y.workers) (sym (law.views id k.core at on).sizes) (out_few z w hs vs id k.core law at on);
   given = λ e. subst (λ (y : Sizes). (length k.core.out < k.core.given) × (k.core.given ≤ y.workers)) (sym (law.views id k.core at on).sizes) (out_given z w hs vs id k.core law at on e);
   word = let f = law.views id k.core at on in let e = f.phases in let some_words = law.sized.some_announcements in omega arith;

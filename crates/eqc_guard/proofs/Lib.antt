@@ -18,3 +18,4 @@ pub mod Sweeping
 pub mod Absorbing
 pub mod Closing
 pub mod Copying
+pub mod Searching

@@ -43,6 +43,7 @@ split_left_known k known has = record {
   draft = known.draft;
   hand = known.hand;
   entries = known.entries;
+  once = known.once;
   few = let g = known.given has.0 in let h = has.1 in omega (arith, length-append k.core.out (k.core.given ∷ []));
   given = λ e. let g = known.given has.0 in let h = has.1 in (omega (arith, length-append k.core.out (k.core.given ∷ []), more k.core.given), omega (arith, more k.core.given));
 }
@@ -70,6 +71,7 @@ split_off_known z k limits same known has =
       draft = λ d e. absurd (cc);
       hand = λ h e. absurd (cc);
       entries = λ h i e is there. absurd (cc);
+      once = λ h x is. absurd (cc);
       few = has_some;
       given = λ e. absurd (let g = known.given has.0 in omega arith);
     }

@@ -10,7 +10,7 @@ use Rattle.eqc_core.specs.declared.phase.Phase.{Phase}
 use Rattle.eqc_core.specs.declared.phase.Phase.TheVariants.{Idle, Seen, Announced, Confirmed, Missed}
 use Rattle.eqc_core.specs.View.{View, Hand, Read, spent}
 use Rattle.eqc_core.specs.Words.{Words, announced_words, times, children, stripe_of}
-use Rattle.eqc_core.specs.Tables.{Homes}
+use Rattle.eqc_core.specs.Tables.{Homes, table_has}
 use Rattle.eqc_core.specs.Trees.{IsTree}
 use Rattle.eqc_core.specs.Lawful.{IsNamed as IsPlaced, Lawful}
 use Rattle.eqc_guard.specs.Coding.{view_coded}
@@ -114,6 +114,8 @@ pub record IsKnown (k : Known) : Type 0 where
   -- a stripe in hand is one of the sixteen, and its table has words of the stripe and slots that are there
   pub hand : (h : Hand) → k.core.hand ≡ Some h → h.stripe < 16
   pub entries : (h : Hand) (i : ℕ) (e : ℕ × ℕ) → k.core.hand ≡ Some h → get_elem? h.entries i ≡ some e → (2 ≤ e.1) × (e.1 < k.core.sizes.names) × (stripe_of e.0 ≡ h.stripe)
+  -- no slot is in it twice
+  pub once : (h : Hand) (x : ℕ) → k.core.hand ≡ Some h → table_has x h.entries ≤ 1
   -- fewer numbers are out than there are workers, and of those that worker 0 has given
   pub few : length k.core.out < k.core.sizes.workers
   pub given : k.core.number ≡ 0 → (length k.core.out < k.core.given) × (k.core.given ≤ k.core.sizes.workers)

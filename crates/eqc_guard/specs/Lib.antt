@@ -12,3 +12,4 @@ pub mod Sweeping
 pub mod Closing
 pub mod Making
 pub mod Locking
+pub mod Searching

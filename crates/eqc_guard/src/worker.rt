@@ -4,6 +4,7 @@ ghost use Rattle.std.specs.Arc.{arc_value};
 ghost use Rattle.eqc_guard.specs.Standing.{Standing, standing_coded, IsSeated};
 
 mod nodes;
+mod search;
 mod stripes;
 
 use crate::fault::SplitFault;
@@ -45,6 +46,8 @@ pub struct Worker {
     out: ArrayVec<u64, 64>,
     // A slot that was claimed and has no node yet.
     draft: Option<u32>,
+    // The slot at which the next search for a free one begins.
+    rover: u32,
     // What an empty map is made with. It takes no memory.
     alloc: Global,
 }
@@ -57,6 +60,12 @@ impl Model for Worker {
     ghost view = { λ w. record { forest = w.seat.table_id; known = w.seat.me.0 } };
 
     ghost invariant = { λ w. IsSeated w.seat.table_id (arc_value w.table).shared.table_id (arc_value w.table).shared.key.sizes w.sizes w.seat.me w.number w.held w.phase w.retired.items w.noted.items w.position w.given w.out.items w.draft };
+}
+
+// The slot at which a worker's first search begins: the slots are shared out among the workers.
+fn first_slot(sizes: &Sizes, number: u32) -> u32 {
+    let share = sizes.names / sizes.workers.max(1);
+    2u32.saturating_add(share.saturating_mul(number))
 }
 
 impl Worker {
@@ -110,6 +119,7 @@ impl Worker {
             given,
             out: ArrayVec::new(),
             draft: None,
+            rover: first_slot(&sizes, number),
             alloc,
         }
     }
@@ -372,6 +382,7 @@ impl Worker {
             given: _,
             out,
             draft: _,
+            rover: _,
             alloc: _,
         } = other;
         self.table.shared.join_seat::<JoinUp>(&mut self.seat, seat);
