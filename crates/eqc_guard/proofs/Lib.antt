@@ -14,6 +14,7 @@ pub mod Joining
 pub mod Filling
 pub mod Sameness
 pub mod Acquiring
+pub mod Announced
 pub mod Sweeping
 pub mod Absorbing
 pub mod Closing

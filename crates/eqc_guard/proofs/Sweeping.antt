@@ -1,18 +1,19 @@
 -- A whole scan, step by step.
 use Rattle.std.proofs.Common.{◌≡◌, ℕ, ◌+◌, ◌-◌, ◌<◌, ◌≤◌, List, [], ◌∷◌, ◌++◌, length, Bool, if◌then◌else◌, Option, Some, None, length-append, refl, sym, ap, subst, ◌∙◌, arith, inl, inr}
 use Rattle.std.proofs.lemmas.Bool.{lt-ltb, le-ltb}
-use Rattle.eqc_core.specs.View.{View, Read}
+use Rattle.eqc_core.specs.View.{View, Read, phase_at}
 use Rattle.eqc_core.specs.Words.{times, announced_words}
-use Rattle.eqc_core.specs.Moves.{with_held, without, note, forget}
+use Rattle.eqc_core.specs.Moves.{IsReady, IsQuiet, with_held, without, note, forget}
 use Rattle.eqc_core.specs.Scanning.{kept, ejected, scan_on, scan_end, scanned}
 use Rattle.eqc_core.specs.Counting.{downed}
 use Rattle.eqc_core.proofs.Names.{times-append, times-nil, times-same, times-other, times-without, times-without_other, times_without_le, length-without_one}
 use Rattle.eqc_core.proofs.Bounds.{kept_few}
 use Rattle.eqc_core.proofs.Scanning.{some_cases, length_note, kept_ejected}
 use native.Mathlib.Decide.{ℕ_discrete}
-use Rattle.eqc_guard.specs.Known.{IsKnown, names_of, tree_of}
+use Rattle.eqc_guard.specs.Known.{Known, IsKnown, names_of, tree_of}
 use Rattle.eqc_guard.specs.Standing.{Standing, Steps}
-use Rattle.eqc_guard.specs.Sweeping.{scanning, IsScanning, IsSwept, IsLetting, IsScanned}
+use Rattle.eqc_guard.specs.Sweeping.{AreNone, scanning, IsScanning, IsSwept, IsLetting, IsScanned}
+use Rattle.eqc_guard.proofs.Announced.{none_announced}
 use Rattle.eqc_guard.proofs.Learning.{held_named}
 use Rattle.eqc_guard.specs.Copying.{KeepsCells}
 use Rattle.eqc_guard.specs.Telling.{Copies}
@@ -23,10 +24,40 @@ pub forget_none : (held : List ℕ) (o : Option Read) → ((r : Read) → o ≡ 
 forget_none held None is = refl
 forget_none held (Some r) is = rw (lt-ltb 0 (times r.name held) (is r refl)) refl
 
-pub begins : (s : Standing) → IsKnown s.known → IsScanning s s
-begins s known = record { forest = refl; position = s.known.core.position; noted = s.known.core.noted; core = refl; trees = λ x two h. refl; copy = cells_stay s.known; known = known }
+no_length : (xs : List ℕ) → length xs ≤ 0 → xs ≡ []
+no_length [] few = refl
+no_length (x ∷ xs) few = absurd (omega arith)
 
-module _ (old mid next : Standing) (name : ℕ) (m : IsScanning old mid) (s : Steps mid (scanned mid.known.core name) next) (copies : Copies mid.known mid.known.core.position name name next.known) where
+pub begins : (s : Standing) → IsKnown s.known → IsReady s.known.core → IsScanning s s
+begins s known ready = record {
+  forest = refl;
+  position = s.known.core.position;
+  noted = s.known.core.noted;
+  core = refl;
+  alone = λ ws e. no_length s.known.core.noted (let n = known.noted in omega arith);
+  trees = λ x two h. refl;
+  copy = cells_stay s.known;
+  known = known;
+}
+
+-- the scan of a worker that is alone, and announces nothing, reads no name
+pub reads_none : (old mid next : Standing) (name : ℕ) → IsScanning old mid → old.known.core.sizes.announcements ≡ 1 → IsQuiet (phase_at old.known.core 0) → Copies mid.known mid.known.core.position name name next.known
+    → (ws : List ℕ) → old.known.copy ≡ Some ws → name ≡ 0
+reads_none old mid next name m one quiet copies ws e =
+    let t = m.copy ws e in
+    let here : mid.known.core.sizes.announcements ≡ 1 = ap (λ (v : View). v.sizes.announcements) m.core ∙ one in
+    sym (copies.seen t.0 t.1) ∙ none_announced mid.known t.0 mid.known.core.position m.known here (subst (λ (v : View). IsQuiet (phase_at v 0)) (sym m.core) quiet) t.1 m.known.place
+
+-- so it notes none
+notes_none : (k : Known) (name : ℕ) (noted : List ℕ) → AreNone k noted → ((ws : List ℕ) → k.copy ≡ Some ws → name ≡ 0) → AreNone k (note name noted)
+notes_none k name noted none zero ws e = λ i. note (zero ws e i) (none ws e i)
+
+-- and keeps none
+kept_none : (xs : List ℕ) → kept [] xs ≡ []
+kept_none [] = refl
+kept_none (x ∷ xs) = rw (le-ltb 0 (times x []) (omega (arith, times-nil x))) (kept_none xs)
+
+module _ (old mid next : Standing) (name : ℕ) (m : IsScanning old mid) (s : Steps mid (scanned mid.known.core name) next) (copies : Copies mid.known mid.known.core.position name name next.known) (zero : (ws : List ℕ) → old.known.copy ≡ Some ws → name ≡ 0) where
   there : (x : ℕ) → 0 < times x old.known.core.held → 0 < times x mid.known.core.held
   there x h = subst (λ (v : View). 0 < times x v.held) (sym m.core) h
 
@@ -40,6 +71,7 @@ module _ (old mid next : Standing) (name : ℕ) (m : IsScanning old mid) (s : St
       position = m.position + 1;
       noted = note name m.noted;
       core = s.known.core ∙ (on ∙ ap (λ (v : View). scan_on v name) m.core);
+      alone = notes_none old.known name m.noted m.alone zero;
       trees = λ x two h. s.known.agrees x two (held_named mid.known.core x (there x h)) (subst (λ (v : View). 0 < times x (names_of v)) (sym on) (held_named (scan_on mid.known.core name) x (there x h))) ∙ m.trees x two h;
       copy = cells_on old.known mid.known next.known (ap (λ (v : View). v.sizes) m.core) m.copy (load_keeps mid.known next.known mid.known.core.position name copies);
       known = s.known.known;
@@ -56,7 +88,7 @@ cancel : (a b c : List ℕ) → a ++ b ≡ a ++ c → b ≡ c
 cancel [] b c e = e
 cancel (x ∷ a) b c e = cancel a b c (ap tail e)
 
-module _ (old mid next : Standing) (name : ℕ) (m : IsScanning old mid) (s : Steps mid (scanned mid.known.core name) next) (copies : Copies mid.known mid.known.core.position name name next.known) (end : announced_words mid.known.core.sizes ≤ mid.known.core.position + 1) where
+module _ (old mid next : Standing) (name : ℕ) (m : IsScanning old mid) (s : Steps mid (scanned mid.known.core name) next) (copies : Copies mid.known mid.known.core.position name name next.known) (zero : (ws : List ℕ) → old.known.copy ≡ Some ws → name ≡ 0) (end : announced_words mid.known.core.sizes ≤ mid.known.core.position + 1) where
   off : scanned mid.known.core name ≡ scan_end mid.known.core name
   off = ap (λ (b : Bool). if b then scan_on mid.known.core name else scan_end mid.known.core name) (le-ltb (mid.known.core.position + 1) (announced_words mid.known.core.sizes) end)
 
@@ -80,6 +112,7 @@ module _ (old mid next : Standing) (name : ℕ) (m : IsScanning old mid) (s : St
             ∙ ap (λ (o : Option Read). record old.known.core { held = old.known.core.held ++ go; read = o; position = 0; noted = []; retired = kept (note name m.noted) old.known.core.retired }) stays);
         names = λ x. omega (arith, kept_ejected x (note name m.noted) old.known.core.retired, ap (λ (l : List ℕ). times x l) same);
         few = omega (arith, kept_few (note name m.noted) old.known.core.retired, length_note name m.noted);
+        alone = λ ws e. ap (λ (l : List ℕ). kept l old.known.core.retired) (notes_none old.known name m.noted m.alone zero ws e) ∙ kept_none old.known.core.retired;
         trees = λ x two h.
             let was : 0 < times x mid.known.core.held = subst (λ (v : View). 0 < times x v.held) (sym m.core) h in
             let is : 0 < times x (scan_end mid.known.core name).held = omega (arith, times-append x mid.known.core.held (ejected (note name mid.known.core.noted) mid.known.core.retired)) in
@@ -171,6 +204,7 @@ scans gone old swept new known w m =
       lengths = let h : length swept.known.core.held ≡ length (old.known.core.held ++ gone) = ap (λ (v : View). length v.held) w.core in omega (arith, m.lengths, length-append old.known.core.held gone);
       names = λ x. omega (arith, w.names x);
       few = w.few;
+      alone = w.alone;
       trees = λ x two h. m.trees x two (omega (arith, same x)) ∙ w.trees x two h;
       copy = cells_on old.known swept.known new.known (ap (λ (v : View). v.sizes) w.core) w.copy m.copy;
       known = m.known;

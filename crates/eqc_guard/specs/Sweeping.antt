@@ -1,11 +1,15 @@
--- What a whole scan leaves. The cells stay: a worker that is alone has the same ones in its copy of the words.
-use Rattle.std.specs.Prelude.{◌≡◌, ℕ, ◌+◌, ◌<◌, ◌≤◌, List, [], ◌++◌, length}
+-- What a whole scan leaves. The cells stay: a worker that is alone has the same ones in its copy of the words, and nothing is retired any longer.
+use Rattle.std.specs.Prelude.{◌≡◌, ℕ, ◌+◌, ◌<◌, ◌≤◌, List, [], ◌++◌, length, Some}
 use Rattle.eqc_core.specs.View.{View}
 use Rattle.eqc_core.specs.Words.{times, announced_words}
 use Rattle.eqc_core.specs.Moves.{forget}
-use Rattle.eqc_guard.specs.Known.{IsKnown, tree_of}
+use Rattle.eqc_guard.specs.Known.{Known, IsKnown, tree_of}
 use Rattle.eqc_guard.specs.Copying.{KeepsCells}
 use Rattle.eqc_guard.specs.Standing.{Standing}
+
+-- there are none of these, where the worker has a copy of the words: then nobody else is active
+abbrev pub AreNone : Known → List ℕ → Type 0
+AreNone k names = (ws : List ℕ) → k.copy ≡ Some ws → names ≡ []
 
 -- the view in the middle of a scan
 abbrev pub scanning : View → ℕ → List ℕ → View
@@ -17,6 +21,7 @@ pub record IsScanning (old mid : Standing) : Type 0 where
   pub position : ℕ
   pub noted : List ℕ
   pub core : mid.known.core ≡ scanning old.known.core position noted
+  pub alone : AreNone old.known noted
   pub trees : (x : ℕ) → 2 ≤ x → 0 < times x old.known.core.held → tree_of mid.known x ≡ tree_of old.known x
   pub copy : KeepsCells old.known mid.known
   pub known : IsKnown mid.known
@@ -28,6 +33,7 @@ pub record IsSwept (ejected : List ℕ) (old new : Standing) : Type 0 where
   pub core : new.known.core ≡ record old.known.core { held = old.known.core.held ++ ejected; position = 0; noted = []; retired = retired }
   pub names : (x : ℕ) → times x retired + times x ejected ≡ times x old.known.core.retired
   pub few : length retired ≤ announced_words old.known.core.sizes
+  pub alone : AreNone old.known retired
   pub trees : (x : ℕ) → 2 ≤ x → 0 < times x old.known.core.held → tree_of new.known x ≡ tree_of old.known x
   pub copy : KeepsCells old.known new.known
   pub known : IsKnown new.known
@@ -53,6 +59,7 @@ pub record IsScanned (old new : Standing) : Type 0 where
   pub lengths : length held ≡ length old.known.core.held
   pub names : (x : ℕ) → times x retired ≤ times x old.known.core.retired
   pub few : length retired ≤ announced_words old.known.core.sizes
+  pub alone : AreNone old.known retired
   pub trees : (x : ℕ) → 2 ≤ x → 0 < times x old.known.core.held → tree_of new.known x ≡ tree_of old.known x
   pub copy : KeepsCells old.known new.known
   pub known : IsKnown new.known

@@ -607,7 +607,8 @@ impl Worker {
     }
 
     /// Scans all announcement words, and gives back each name that was retired and is not kept any
-    /// longer. At most as many names are retired then as there are announcement words.
+    /// longer. At most as many names are retired then as there are announcement words, and none at
+    /// a worker that is alone and has a copy of the words.
     ///
     /// No scan is under way, nothing is announced, and at most 2^39 names are held.
     pub fn scan(&mut self)
