@@ -1,5 +1,5 @@
 -- What the calls of the cache leave of the cells in a copy of the words.
-use Rattle.std.proofs.Common.{◌≡◌, ℕ, ◌+◌, ◌-◌, ◌%◌, ◌^◌, ◌<◌, ◌≤◌, List, get_or, Option, Some, None, IfSome, sym, ap, subst, ◌∙◌, arith}
+use Rattle.std.proofs.Common.{◌≡◌, ◌≢◌, ℕ, ◌+◌, ◌-◌, ◌%◌, ◌^◌, ◌<◌, ◌≤◌, List, get_or, Option, Some, None, IfSome, refl, sym, ap, subst, ◌∙◌, arith}
 use native.Mathlib.Decide.{ℕ_discrete, dec_le}
 use Rattle.eqc_tree.specs.declared.operation.Op.{Op}
 use Rattle.eqc_core.specs.declared.sizes.Sizes.{Sizes}
@@ -18,22 +18,21 @@ use Rattle.eqc_cache.proofs.Trading.{below}
 
 -- no cell is said to be empty yet
 pub none_empty : (k : Known) → AreEmpty 0 k k
-none_empty k ws e = (ws, e, λ c lt. absurd (omega arith))
+none_empty k ws e = (ws, e, (λ c lt. absurd (omega arith)), λ c le. refl)
 
 pub one_empty : (n : ℕ) (a b c : Known) → b.core.sizes ≡ a.core.sizes → AreEmpty n a b → SetsCell n 0 b c → AreEmpty (n + 1) a c
 one_empty n a b c same first then ws e =
     let t = first ws e in
     let u = then t.0 t.1 in
-    (u.0, u.1, λ d lt. go d lt (ℕ_discrete d n))
+    (u.0, u.1, (λ d lt. go d lt (ℕ_discrete d n)), λ d le. other d (λ q. absurd (omega arith)) ∙ t.3 d (omega arith))
   where
+    other : (d : ℕ) → d ≢ n → cell_in a (then (first ws e).0 (first ws e).1).0 d ≡ cell_in a (first ws e).0 d
+    other d is = let t = first ws e in let u = then t.0 t.1 in subst (λ (z : Sizes). get_or u.0 (cells_from z + d) 0 ≡ get_or t.0 (cells_from z + d) 0) same (u.3 d is)
+
     go : (d : ℕ) → d < n + 1 → Dec (d ≡ n) → cell_in a (then (first ws e).0 (first ws e).1).0 d ≡ 0
     go d lt (yes is) = let u = then (first ws e).0 (first ws e).1 in
         ap (λ (m : ℕ). cell_in a u.0 m) is ∙ subst (λ (z : Sizes). get_or u.0 (cells_from z + n) 0 ≡ 0) same u.2
-    go d lt (no other) = let t = first ws e in let u = then t.0 t.1 in
-        subst (λ (z : Sizes). get_or u.0 (cells_from z + d) 0 ≡ get_or t.0 (cells_from z + d) 0) same (u.3 d other) ∙ t.2 d (omega arith)
-
-pub all_empty : (n m : ℕ) (a b : Known) → m ≤ n → AreEmpty n a b → AreEmpty m a b
-all_empty n m a b le first ws e = let t = first ws e in (t.0, t.1, λ c lt. t.2 c (omega arith))
+    go d lt (no is) = other d is ∙ (first ws e).2 d (omega arith)
 
 -- a reference is given back
 pub down_keeps : (x : ℕ) (s next : Standing) → IsKnown s.known → IsHeld s.known.core x → (x < 2 → next ≡ s) → (2 ≤ x → Steps s (downed s.known.core x) next)

@@ -34,9 +34,9 @@ IsStored op f g r k after =
     SetsCell (place_of k.core.sizes.cells op (in_order op f g)) (entry_of op (in_order op f g) r) k after
     ⊎ ((2 ^ 32 - 3 ≤ length k.core.held) × KeepsCells k after)
 
--- the first n cells are empty in the copy of a worker that had one
+-- the first n cells are empty in the copy of a worker that had one, and the words behind them are as before
 abbrev pub AreEmpty : ℕ → Known → Known → Type 0
-AreEmpty n k after = (ws : List ℕ) → k.copy ≡ Some ws → (left : List ℕ) × (after.copy ≡ Some left) × ((c : ℕ) → c < n → cell_in k left c ≡ 0)
+AreEmpty n k after = (ws : List ℕ) → k.copy ≡ Some ws → (left : List ℕ) × (after.copy ≡ Some left) × ((c : ℕ) → c < n → cell_in k left c ≡ 0) × ((c : ℕ) → n ≤ c → cell_in k left c ≡ cell_in k ws c)
 
 -- a word is the entry of the operation with these operands
 abbrev pub IsEntry : Op → ℕ × ℕ → ℕ → Type 0

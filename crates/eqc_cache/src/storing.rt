@@ -125,7 +125,7 @@ pub fn store(worker: &mut Worker, op: Op, f: &Ref, g: &Ref, r: &Ref)
 /// Empties all cells, one after the other.
 ///
 /// The worker is at rest, and at most 2^39 names are held. It holds what it held. A worker that is
-/// alone finds each cell empty then.
+/// alone finds each cell empty then, and the boxes as they were.
 pub fn clear(worker: &mut Worker)
     requires may { MayLook worker.old.known.core 0 0 }
     requires room { length worker.old.known.core.held ≤ 2 ^ 39 }

@@ -1,7 +1,8 @@
-use Rattle.std.proofs.Common.{[], None, arith, ap}
+use Rattle.std.proofs.Common.{◌≡◌, ℕ, [], None, arith, ap, subst}
 use Rattle.eqc_core.specs.View.{View}
 use Rattle.eqc_cache.proofs.Trading.{stays, after_room, as_before, may_replace, lengths_now}
-use Rattle.eqc_cache.proofs.Cells.{none_empty, one_empty, all_empty}
+use Rattle.eqc_cache.specs.Placing.{AreEmpty}
+use Rattle.eqc_cache.proofs.Cells.{none_empty, one_empty}
 use Rattle.eqc_cache.proofs.storing.clear.Goals as goal
 
 pub loop-cell-init : goal.loop-cell-init
@@ -26,5 +27,7 @@ returns-clause-before c = as_before c.args.worker.now c.loop-cell.worker c.cells
 pub returns-clause-empty : goal.returns-clause-empty
 returns-clause-empty c =
     let over = c.loop-cell-test.false in
+    let least = c.loop-cell.auto.cell-end in
     let end = c.cells-cell-end.ensures.cells in
-    all_empty c.loop-cell.cell c.args.worker.now.known.core.sizes.cells c.args.worker.now.known c.loop-cell.worker.known (omega arith) c.loop-cell.invariant.empty
+    let all : c.loop-cell.cell ≡ c.args.worker.now.known.core.sizes.cells = omega arith in
+    subst (λ (n : ℕ). AreEmpty n c.args.worker.now.known c.loop-cell.worker.known) all c.loop-cell.invariant.empty
