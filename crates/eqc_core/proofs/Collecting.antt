@@ -159,3 +159,7 @@ empty_is_free s law bare free x two lt = go (dec_le 1 (owners s.words s.homes s.
     go : Dec (1 ≤ owners s.words s.homes s.views x) → get_or s.words.counts x 0 ≡ 0
     go (yes o) = absurd (omega (arith, law.counted.owners_tabled x two o, free x))
     go (no n) = omega (arith, law.counted.counts x two lt, no_drafts s.sizes s.words s.homes s.views x law bare)
+
+-- where worker 0 is alone and holds nothing, each slot with a count above 0 is tabled
+pub counted_tabled : (s : State) → IsLawful s → IsBare [] s.words s.views → (x : ℕ) → 2 ≤ x → x < s.sizes.names → 0 < get_or s.words.counts x 0 → 0 < tabled s.homes s.views x
+counted_tabled s law bare x two lt counted = law.counted.owners_tabled x two (omega (arith, law.counted.counts x two lt, no_drafts s.sizes s.words s.homes s.views x law bare))
