@@ -1,0 +1,5 @@
+pub mod Changing
+pub mod References
+pub mod Entries
+pub mod Emptying
+pub mod Taking

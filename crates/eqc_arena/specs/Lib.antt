@@ -1,0 +1,4 @@
+pub mod Changing
+pub mod Nodes
+pub mod Emptying
+pub mod Taking
