@@ -1,10 +1,15 @@
 -- The trees of nodes that are made.
-use Rattle.std.specs.Prelude.{◌≡◌, ◌≢◌, ℕ, ◌^◌, ◌<◌, ◌≤◌, ◌⊎◌, length}
+use Rattle.std.specs.Prelude.{◌≡◌, ◌≢◌, ℕ, ◌^◌, ◌<◌, ◌≤◌, ◌⊎◌, [], ◌∷◌, length, Some, None}
 use Rattle.eqc_tree.specs.Tree.{Tree, Node, StartsAbove}
 use Rattle.eqc_core.specs.View.{View}
 use Rattle.eqc_core.specs.Counting.{Knows as IsKept}
 use Rattle.eqc_core.specs.Seating.{IsAtRest}
-use Rattle.eqc_core.specs.Words.{times}
+use Rattle.eqc_tree.specs.Word.{node_word}
+use Rattle.eqc_core.specs.Words.{times, stripe_of}
+use Rattle.eqc_core.specs.Tables.{Entries, table_word}
+use Rattle.eqc_guard.specs.Locking.{MayHome}
+use Rattle.eqc_guard.specs.Standing.{Standing}
+use Rattle.eqc_arena.specs.Changing.{Changes}
 use Rattle.eqc_guard.specs.Known.{Known, IsHeld, IsNamed, names_of, tree_of}
 
 -- the node of a variable over two halves, or the half itself where both are equal
@@ -29,3 +34,34 @@ pub record MayAsk (k : Known) (variable low high : ℕ) : Type 0 where
   pub high_held : IsHeld k.core high
   pub above_low : StartsAbove variable (tree_of k low)
   pub above_high : StartsAbove variable (tree_of k high)
+
+-- a worker may put a node into its draft: the stripe of the word is in hand, whose map has these entries and not the word
+pub record MayPut (k : Known) (t : Entries) (slot variable low high : ℕ) : Type 0 where
+  pub home : MayHome k.core (stripe_of (node_word variable low high)) t
+  pub draft : k.core.draft ≡ Some slot
+  pub new : table_word (node_word variable low high) t ≡ 0
+  pub room : length k.core.held ≤ 2 ^ 39
+  pub few : variable < k.core.sizes.variables
+  pub low_held : IsHeld k.core low
+  pub high_held : IsHeld k.core high
+  pub above_low : StartsAbove variable (tree_of k low)
+  pub above_high : StartsAbove variable (tree_of k high)
+  pub differ : low ≢ high
+
+-- a node was made, which the worker has one reference of
+pub record IsMade (variable low high r : ℕ) (old new : Standing) : Type 0 where
+  pub changes : Changes [] (r ∷ []) new.known.core.hand None old new
+  pub first : 2 ≤ r
+  pub tree : tree_of new.known r ≡ Node variable (tree_of old.known low) (tree_of old.known high)
+
+-- a worker may look for a node in the stripe in hand, whose map has these entries, and make it there
+pub record MayEnter (k : Known) (t : Entries) (variable low high : ℕ) : Type 0 where
+  pub home : MayHome k.core (stripe_of (node_word variable low high)) t
+  pub no_draft : k.core.draft ≡ None
+  pub room : length k.core.held ≤ 2 ^ 39
+  pub few : variable < k.core.sizes.variables
+  pub low_held : IsHeld k.core low
+  pub high_held : IsHeld k.core high
+  pub above_low : StartsAbove variable (tree_of k low)
+  pub above_high : StartsAbove variable (tree_of k high)
+  pub differ : low ≢ high

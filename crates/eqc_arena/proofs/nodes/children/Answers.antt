@@ -1,4 +1,4 @@
-use Rattle.std.proofs.Common.{◌≡◌, ℕ, [], ◌∷◌, ap, sym, subst}
+use Rattle.std.proofs.Common.{ℕ, [], ◌∷◌, ap, sym, subst}
 use Rattle.eqc_core.specs.Words.{slots_of}
 use Rattle.eqc_guard.specs.Known.{IsHeld}
 use Rattle.eqc_guard.specs.Standing.{Standing}

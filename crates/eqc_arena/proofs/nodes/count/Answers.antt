@@ -1,4 +1,4 @@
-use Rattle.std.proofs.Common.{◌≤◌, arith, refl}
+use Rattle.std.proofs.Common.{arith}
 use Rattle.eqc_arena.proofs.References.{counts_none, counted, trees_kept, read_kept}
 use Rattle.eqc_arena.proofs.nodes.count.Goals as goal
 
