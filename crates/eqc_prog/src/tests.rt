@@ -3,6 +3,7 @@
 //!
 //! - `words`, `operations`, of `eqc_tree`; `diagrams`, of `eqc_plain`; `machine`, of `eqc_core`
 //! - `forests`, of `eqc_guard`; `cached_results`, of `eqc_cache`; `random_steps`, of both; `drivers`, what takes their steps
+//! - `arenas` and `random_nodes`, of `eqc_arena`; `makers`, what makes its calls
 //! - `reading` and `text_findings`, of `eqc_blif`; `hierarchies`, `random_hierarchies` and `explanations`, of `eqc_flat`
 //! - `pair_findings`, of `eqc_pair`; `pairs`, `workers`, `structures`, `reports`, `runs`, of `eqc_check`
 //! - `program`, `program_ends`, `models`, `explained_runs`, `compared_hierarchies`, `costs`, of `eqc_command` and the program
@@ -13,6 +14,7 @@
 //! A test ends by `holds` or `same`, which alone have the branches and the words of a failed row: a test that has them itself
 //! is proved at each of its branches, with all that it holds there.
 
+mod arenas;
 mod cached_results;
 mod compared_hierarchies;
 mod costs;
@@ -23,6 +25,7 @@ mod explanations;
 mod forests;
 mod hierarchies;
 mod machine;
+mod makers;
 mod messages;
 mod models;
 mod operations;
@@ -31,6 +34,7 @@ mod pairs;
 mod program;
 mod program_ends;
 mod random_hierarchies;
+mod random_nodes;
 mod random_steps;
 mod reading;
 mod reports;

@@ -20,7 +20,7 @@ use std::process::Abort;
 use std::sync::Wait;
 
 /// So many names are held at most where a step asks for room.
-const MOST_HELD: u64 = 1 << 30;
+pub(super) const MOST_HELD: u64 = 1 << 30;
 
 /// A worker, the references that it has, and how far its counted load and its scan are.
 pub(super) struct Driver {
@@ -53,7 +53,7 @@ fn is_quiet(phase: Phase) -> bool
 }
 
 /// Puts a reference behind the others.
-fn keep(rt: &impl Abort, references: &mut Vec<Ref>, reference: Ref)
+pub(super) fn keep(rt: &impl Abort, references: &mut Vec<Ref>, reference: Ref)
     ensures { references.new.items ≡ references.old.items ++ reference ∷ [] }
 {
     references.reserve(1).expect(rt, "there is memory");
@@ -351,7 +351,7 @@ impl Driver {
     }
 
     /// Whether nothing is announced or scanned, and there is room.
-    fn is_at_rest(&self) -> bool
+    pub(super) fn is_at_rest(&self) -> bool
         ensures { IsTrue result → (self.now.position ≡ 0) × IsQuiet self.now.phase × (length self.now.worker.known.core.held ≤ 2 ^ 30) }
     {
         self.position == 0 && is_quiet(self.phase) && self.worker.held() <= MOST_HELD

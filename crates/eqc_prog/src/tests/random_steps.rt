@@ -19,13 +19,13 @@ const MOST_REFERENCES: usize = 24;
 
 /// Numbers that are the same in every run.
 #[derive(Drop)]
-struct Chance {
-    seed: u32,
+pub(super) struct Chance {
+    pub(super) seed: u32,
 }
 
 impl Chance {
     /// A number below `n`.
-    fn below(&mut self, n: u32) -> u32 {
+    pub(super) fn below(&mut self, n: u32) -> u32 {
         self.seed = self
             .seed
             .wrapping_mul(1_664_525)
