@@ -295,6 +295,26 @@ module _ {gone came : List ℕ} {hand : Option Hand} {draft : Option ℕ} {old m
   pub still : {hand' : Option Hand} {draft' : Option ℕ} {new : Standing} → Changes [] [] hand' draft' mid new → Changes gone came hand' draft' old new
   still u = and came u (λ x. omega (arith, times-nil x)) (omega arith)
 
+-- a change follows one in which nothing went or came
+pub after_still : {went more : List ℕ} {hand : Option Hand} {draft : Option ℕ} {old mid new : Standing} → Changes [] [] hand draft old mid → Exchanges went more mid new → Changes went more hand draft old new
+after_still {went} {more} {hand} {draft} {old} {mid} {new} t w = let u = here t w in record {
+  forest = u.forest ∙ t.forest;
+  held = u.held;
+  phases = u.phases;
+  retired = u.retired;
+  read = u.read;
+  turn = u.turn;
+  stops = u.stops;
+  core = u.core ∙ ap (λ (v : View). record v { held = u.held; phases = u.phases; retired = u.retired; read = u.read; turn = u.turn; stops = u.stops; hand = hand; draft = draft }) t.core;
+  quiet = λ q. u.quiet (quiet_now t q);
+  enough = λ x. omega (arith, u.enough x, names_now t x, times-nil x);
+  names = λ x. omega (arith, u.names x, names_now t x);
+  lengths = omega (arith, u.lengths, lengths_now t);
+  trees = λ x two h. u.trees x two (omega (arith, names_now t x)) ∙ t.trees x two (omega (arith, times-nil x));
+  copy = keeps_on old.known mid.known new.known t.copy u.copy;
+  known = u.known;
+}
+
 -- what was held is held, and has its tree, where nothing went
 module _ {came : List ℕ} {hand : Option Hand} {draft : Option ℕ} {old mid : Standing} (t : Changes [] came hand draft old mid) where
   pub held_still : (x : ℕ) → IsHeld old.known.core x → IsHeld mid.known.core x

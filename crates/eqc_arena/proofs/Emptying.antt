@@ -3,7 +3,7 @@ use Rattle.std.proofs.Common.{◌≡◌, ◌≢◌, ℕ, zero, suc, ◌+◌, ◌
 use Rattle.std.specs.List.{swap_remove}
 use Rattle.std.proofs.lemmas.List.{get_or-set_other, get_or_append_left}
 use Rattle.std.proofs.lemmas.Bool.{le-ltb}
-use mathlib.Core.Option.{some, some-injective}
+use mathlib.Core.Option.{some, some-injective, some-ne-none}
 use native.Mathlib.Decide.{ℕ_discrete, dec_le}
 use lib.ListN.{get_elem?}
 use Rattle.eqc_core.specs.declared.sizes.Sizes.{Sizes}
@@ -281,15 +281,27 @@ rests held k after v is sizes holds retired position draft known = record {
 }
 
 -- a stripe is taken: none of its entries was tried
-pub stripe_begins : (n s taken i : ℕ) (t : Entries) (old new : Standing) → IsBetween [] n s taken old.known → Steps old (locked old.known.core s t) new → new.known.copy ≡ copied old.known.copy (locks_from old.known.core.sizes + s) 1 → length t ≤ i
+pub stripe_begins : (n s h taken i : ℕ) (t : Entries) (old new : Standing) → IsBetween [] n s taken old.known → Steps old (locked old.known.core h t) new → new.known.copy ≡ copied old.known.copy (locks_from old.known.core.sizes + h) 1 → length t ≤ i
     → IsTrying [] n s taken i t new.known
-stripe_begins n s taken i t old new b step copy past =
-    carries_tried [] n s taken old.known b taken (λ e. e) [] new.known (set b.words (locks_from old.known.core.sizes + s) 1)
-    (copy ∙ ap (λ (o : Option (List ℕ)). copied o (locks_from old.known.core.sizes + s) 1) b.copy)
-    (lock_wanes old.known.core.sizes taken b.words s 1)
-    (rests [] old.known new.known (locked old.known.core s t) step.known.core refl b.holds refl refl refl step.known.known)
+stripe_begins n s h taken i t old new b step copy past =
+    carries_tried [] n s taken old.known b taken (λ e. e) [] new.known (set b.words (locks_from old.known.core.sizes + h) 1)
+    (copy ∙ ap (λ (o : Option (List ℕ)). copied o (locks_from old.known.core.sizes + h) 1) b.copy)
+    (lock_wanes old.known.core.sizes taken b.words h 1)
+    (rests [] old.known new.known (locked old.known.core h t) step.known.core refl b.holds refl refl refl step.known.known)
     i t
     (λ j e le at counted. absurd (let lt = at_below t j e at in omega arith))
+
+-- a stripe goes home, whether or not it is done
+pub stripe_leaves : (n s h taken : ℕ) (old new : Standing) → IsBetween [] n s taken old.known → Steps old (unlocked old.known.core) new → new.known.copy ≡ copied old.known.copy (locks_from old.known.core.sizes + h) 0 → IsBetween [] n s taken new.known
+stripe_leaves n s h taken old new b step copy =
+    carries [] n s taken old.known b taken (λ e. e) [] new.known (set b.words (locks_from old.known.core.sizes + h) 0)
+    (copy ∙ ap (λ (o : Option (List ℕ)). copied o (locks_from old.known.core.sizes + h) 0) b.copy)
+    (lock_wanes old.known.core.sizes taken b.words h 0)
+    (rests [] old.known new.known (unlocked old.known.core) step.known.core refl b.holds refl refl refl step.known.known)
+
+-- beside a list without entries nothing has to be tried
+pub none_tried : (held : List ℕ) (n s taken i : ℕ) (k : Known) → IsBetween held n s taken k → IsTrying held n s taken i [] k
+none_tried held n s taken i k b = record { between = b; tried = λ j e le at counted. absurd (some-ne-none e (sym at)) }
 
 -- a node is read
 pub trying_read : (held : List ℕ) (n s taken i x word place : ℕ) (t : Entries) (old new : Standing) → IsTrying held n s taken i t old.known → Steps old (read_node old.known.core x word) new → Copies old.known place word word new.known → IsTrying held n s taken i t new.known
@@ -334,21 +346,21 @@ trying_given n s taken i x xs t old new tr some_taken constant step copies = eli
   | inr q ↦ one_given n s taken i x (slots_of xs) t old new (subst (λ (b : Bool). IsTrying (if b then slots_of xs else x ∷ slots_of xs) n s taken i t old.known) q.0 tr) some_taken q.1 (step q.1) (copies q.1).0 (copies q.1).1
 ]
 
--- the i-th entry is tried, after those behind it
-module _ (n s taken i j : ℕ) (t : Entries) (word x : ℕ) (old new : Standing) (tr : IsTrying [] n s taken j t old.known) (next : j ≤ i + 1) (home : MayHome old.known.core s t) (at : slice_get t i ≡ Some (word, x)) where
+-- an entry of the stripe h in hand is tried, the i-th one where it is one of those that are tried, after those behind it
+module _ (n s taken i j : ℕ) (t : Entries) (h k : ℕ) (u : Entries) (word x : ℕ) (old new : Standing) (tr : IsTrying [] n s taken j t old.known) (next : j ≤ i + 1) (home : MayHome old.known.core h u) (at : slice_get u k ≡ Some (word, x)) where
   entry_is : IsCounted old.known.core.sizes tr.between.words x × (node_in old.known.core.sizes tr.between.words x ≡ word)
   entry_is =
       let b = tr.between in
       let c = b.known.state b.words b.copy in
-      let e = entry_in_hand s i word x t old.known.core home at in
+      let e = entry_in_hand h k word x u old.known.core home at in
       let mine : IsTable c.homes c.views e.0.stripe e.0.entries = inr (c.id, old.known.core, e.0, c.mine, e.2, refl, refl) in
       let tab : 0 < tabled c.homes c.views x = let has = has_le e.0.entries e.1 (word, x) e.3 in omega (arith, table_tabled c.homes c.views e.0.stripe e.0.entries x mine) in
       let counted = tabled_counted old.known b.words c x tab in
       (counted, nodes_are old.known b.words c x counted.1 ∙ (c.lawful.tables.entries e.0.stripe e.0.entries mine e.1 (word, x) e.3).0)
 
   -- another owner has it: its variable is greater
-  pub trying_lost : (count : ℕ) → count ≢ 1 → Steps old old.known.core new → Copies old.known (announced_words old.known.core.sizes + x) count (if eqb count 1 then 0 else count) new.known → IsTrying [] n s taken i t new.known
-  trying_lost count shared step copies =
+  pub trying_lost : (count : ℕ) → ((e : ℕ × ℕ) → get_elem? t i ≡ some e → (word, x) ≡ e) → count ≢ 1 → Steps old old.known.core new → Copies old.known (announced_words old.known.core.sizes + x) count (if eqb count 1 then 0 else count) new.known → IsTrying [] n s taken i t new.known
+  trying_lost count is shared step copies =
       let b = tr.between in
       let load : Copies old.known (announced_words old.known.core.sizes + x) count count new.known = subst (λ (q : Bool). Copies old.known (announced_words old.known.core.sizes + x) count (if q then 0 else count) new.known) (ne_eqb count 1 shared) copies in
       let stays = read_stays old.known new.known (announced_words old.known.core.sizes + x) count b.words load b.copy in
@@ -358,13 +370,13 @@ module _ (n s taken i j : ℕ) (t : Entries) (word x : ℕ) (old new : Standing)
       carries_tried [] n s taken old.known b taken (λ e. e) [] new.known b.words stays.0
       (no_wane old.known.core.sizes taken b.words)
       (rests [] old.known new.known old.known.core step.known.core refl b.holds refl refl refl step.known.known)
-      i t (λ k e le there counted. go past k e le there counted (ℕ_discrete k i))
+      i t (λ m e le there counted. go is past m e le there counted (ℕ_discrete m i))
     where
-      go : IsPast n taken word (count_in old.known.core.sizes tr.between.words x) → (k : ℕ) (e : ℕ × ℕ) → i ≤ k → get_elem? t k ≡ some e → IsCounted old.known.core.sizes tr.between.words e.1 → Dec (k ≡ i) → IsPast n taken e.0 (count_in old.known.core.sizes tr.between.words e.1)
-      go past k e le there counted (no m) = tr.tried k e (omega arith) there counted
-      go past k e le there counted (yes same) =
-          let is : (word, x) ≡ e = some-injective (word, x) e (sym (elem_get t i (word, x) at) ∙ (ap (λ (m : ℕ). get_elem? t m) (sym same) ∙ there)) in
-          subst (λ (p : ℕ × ℕ). IsPast n taken p.0 (count_in old.known.core.sizes tr.between.words p.1)) is past
+      go : ((e : ℕ × ℕ) → get_elem? t i ≡ some e → (word, x) ≡ e) → IsPast n taken word (count_in old.known.core.sizes tr.between.words x) → (m : ℕ) (e : ℕ × ℕ) → i ≤ m → get_elem? t m ≡ some e → IsCounted old.known.core.sizes tr.between.words e.1 → Dec (m ≡ i)
+          → IsPast n taken e.0 (count_in old.known.core.sizes tr.between.words e.1)
+      go is past m e le there counted (no other) = tr.tried m e (omega arith) there counted
+      go is past m e le there counted (yes same) =
+          subst (λ (p : ℕ × ℕ). IsPast n taken p.0 (count_in old.known.core.sizes tr.between.words p.1)) (is e (ap (λ (q : ℕ). get_elem? t q) (sym same) ∙ there)) past
 
   -- only its table had it: it is taken back, and out of the map, and its children are held
   pub trying_won : (more low high count : ℕ) (d : ℕ × ℕ) → 0 < more → count ≡ 1 → low ≡ low_of word → high ≡ high_of word → Steps old (taken_back old.known.core x word) new
@@ -379,6 +391,14 @@ module _ (n s taken i j : ℕ) (t : Entries) (word x : ℕ) (old new : Standing)
       (rests (slots_of (low ∷ high ∷ [])) old.known new.known (taken_back old.known.core x word) step.known.core refl held refl refl refl step.known.known)
       i (swap_remove t i d)
       (λ k e le there counted. let st = stood_behind t i k d e le there in tr.tried st.0 e (let far = st.1 in omega arith) st.2 counted)
+
+-- the entry at a place is the one that was found there
+pub entry_there : (t : Entries) (i word x : ℕ) → slice_get t i ≡ Some (word, x) → (e : ℕ × ℕ) → get_elem? t i ≡ some e → (word, x) ≡ e
+entry_there t i word x at e there = some-injective (word, x) e (sym (elem_get t i (word, x) at) ∙ there)
+
+-- a list without entries has none
+pub none_there : (word x i : ℕ) (e : ℕ × ℕ) → get_elem? [] i ≡ some e → (word, x) ≡ e
+none_there word x i e there = absurd (some-ne-none e (sym there))
 
 -- a table at home is not in hand, and no other worker has one
 module _ (k : Known) (ws : List ℕ) (c : IsCopy k ws) (h : Hand) (hand : k.core.hand ≡ Some h) (small : h.stripe < 16) where

@@ -1,5 +1,6 @@
 -- What the calls of a collection do where the worker is alone and holds nothing, in any turn.
-use Rattle.std.specs.Prelude.{◌≡◌, ℕ, ◌+◌, []}
+use Rattle.std.specs.Prelude.{◌≡◌, ℕ, ◌+◌, ◌<◌, List, [], ◌∷◌}
+use Rattle.eqc_core.specs.Words.{slots_of}
 use Rattle.eqc_core.specs.Tables.{Entries}
 use Rattle.eqc_guard.specs.Standing.{Standing}
 use Rattle.eqc_guard.specs.Locking.{MayHome}
@@ -8,6 +9,14 @@ use Rattle.eqc_arena.specs.Emptying.{IsBetween, IsTrying, IsFrom, HasNoCounts}
 -- the map of the stripe in hand is still its map
 abbrev pub HomesStill : Entries → Entries → Standing → Standing → Type 0
 HomesStill t left old new = (s : ℕ) → MayHome old.known.core s t → MayHome new.known.core s left
+
+-- a name that came with a node that was taken back is given back
+abbrev pub GivesChild : ℕ → Standing → Standing → Type 0
+GivesChild x old new = (n s taken i : ℕ) (xs : List ℕ) (t : Entries) → 0 < taken → IsTrying (slots_of (x ∷ xs)) n s taken i t old.known → IsTrying (slots_of xs) n s taken i t new.known
+
+-- so many more were taken back in a turn, beside its stripes
+abbrev pub TakesMore : ℕ → Standing → Standing → Type 0
+TakesMore count old new = (n s taken : ℕ) → IsBetween [] n s taken old.known → IsBetween [] n s (taken + count) new.known
 
 -- the i-th entry is tried, after those behind it
 abbrev pub TriesEntry : ℕ → Entries → Entries → ℕ → Standing → Standing → Type 0

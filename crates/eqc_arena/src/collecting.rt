@@ -1,12 +1,19 @@
 //! Dead nodes are taken back.
-ghost use Rattle.std.specs.Prelude.{◌≡◌, ℕ, ◌^◌, ◌<◌, ◌≤◌, [], length, if◌then◌else◌};
+ghost use Rattle.std.specs.Prelude.{◌≡◌, ℕ, ◌^◌, ◌<◌, ◌≤◌, [], ◌∷◌, length, if◌then◌else◌};
+ghost use Rattle.eqc_core.specs.Words.{slots_of};
+ghost use Rattle.eqc_core.specs.Moves.{IsReady};
 ghost use Rattle.eqc_core.specs.Seating.{IsAtRest};
+ghost use Rattle.eqc_guard.specs.Known.{IsHeld};
 ghost use Rattle.eqc_guard.specs.Locking.{MayHome};
 ghost use Rattle.eqc_arena.specs.Changing.{Changes, Exchanges};
-ghost use Rattle.eqc_arena.specs.Taking.{TriesEntry, TriesStripe, TriesAll, HomesStill};
+ghost use Rattle.eqc_arena.specs.Taking.{GivesChild, TriesEntry, TriesStripe, TriesAll, TakesMore, HomesStill};
 ghost use Rattle.eqc_arena.specs.Emptying.{MayEmpty, HasNoCounts};
 
+use crate::making::stripe_for;
+use arrayvec::ArrayVec;
+use eqc_guard::reference::Ref;
 use eqc_guard::worker::Worker;
+use eqc_tree::unpack_node;
 use indexmap::IndexMap;
 use std::sync::Wait;
 
@@ -14,9 +21,44 @@ use std::sync::Wait;
 // so many variables.
 const TURNS: u32 = 2048;
 
+// How many words of fallen nodes are tried at most between two stripes of a turn: as many as there
+// can be nodes. What is left then is tried after the next stripe.
+const MOST_TRIES: u32 = 1 << 20;
+
+// Puts the word of a node whose count fell from 2 behind those of the fallen nodes: what owns it still
+// may be its table alone. Where there is no room, it waits for a whole turn.
+fn note_fallen(fallen: &mut ArrayVec<u64, 4096>, owners: u64, word: u64) {
+    if owners == 2 {
+        let _full = fallen.try_push(word);
+    }
+}
+
+// Gives a child of a node that was taken back.
+fn give_child(worker: &mut Worker, fallen: &mut ArrayVec<u64, 4096>, child: Ref)
+    requires ready { IsReady worker.old.known.core }
+    requires held { IsHeld worker.old.known.core child.number }
+    ensures gives { Exchanges (slots_of (child.number ∷ [])) [] worker.old worker.new }
+    ensures tries { GivesChild child.number worker.old worker.new }
+{
+    // What the worker knows is in order.
+    let _cells = worker.cells();
+    if child.number() < 2 {
+        worker.down(child);
+        return;
+    }
+    let word = worker.read_node(&child);
+    let owners = worker.down_from(child);
+    note_fallen(fallen, owners, word);
+}
+
 // Tries to take the node of the i-th entry back, and says whether it was. Its children are given
 // back then: they may be dead in turn.
-fn try_entry(worker: &mut Worker, map: &mut IndexMap<u64, u32>, i: usize) -> bool
+fn try_entry(
+    worker: &mut Worker,
+    map: &mut IndexMap<u64, u32>,
+    i: usize,
+    fallen: &mut ArrayVec<u64, 4096>,
+) -> bool
     requires home { (s : ℕ) × MayHome worker.old.known.core s map.old.entries }
     requires within { i < length map.old.entries }
     requires room { length worker.old.known.core.held ≤ 2 ^ 39 }
@@ -24,6 +66,7 @@ fn try_entry(worker: &mut Worker, map: &mut IndexMap<u64, u32>, i: usize) -> boo
     ensures left { i ≤ length map.new.entries }
     ensures changes { Changes [] [] worker.new.known.core.hand worker.old.known.core.draft worker.old worker.new }
     ensures tries { TriesEntry i map.old.entries map.new.entries (if result then 1 else 0) worker.old worker.new }
+    ensures takes { TakesMore (if result then 1 else 0) worker.old worker.new }
 {
     // What the worker knows is in order.
     let _cells = worker.cells();
@@ -35,14 +78,19 @@ fn try_entry(worker: &mut Worker, map: &mut IndexMap<u64, u32>, i: usize) -> boo
         return false;
     };
     let _entry = map.swap_remove_index(i);
-    worker.down(low);
-    worker.down(high);
+    give_child(worker, fallen, low);
+    give_child(worker, fallen, high);
     true
 }
 
 // Takes the dead nodes of a stripe back, and gives their number. The last entry is tried first: what
 // takes the place of an entry that went has been tried.
-fn take_stripe<R: Wait>(worker: &mut Worker, rt: &R, stripe: u32) -> u32
+fn take_stripe<R: Wait>(
+    worker: &mut Worker,
+    rt: &R,
+    stripe: u32,
+    fallen: &mut ArrayVec<u64, 4096>,
+) -> u32
     requires rest { IsAtRest worker.old.known.core }
     requires stripe { stripe < 16 }
     requires room { length worker.old.known.core.held ≤ 2 ^ 39 }
@@ -55,7 +103,7 @@ fn take_stripe<R: Wait>(worker: &mut Worker, rt: &R, stripe: u32) -> u32
     let mut map = worker.lock_stripe(rt, stripe);
     let mut taken = 0u32;
     for i in (0..map.len()).rev() {
-        if try_entry(worker, &mut map, i) {
+        if try_entry(worker, &mut map, i, fallen) {
             taken += 1;
         }
     }
@@ -63,8 +111,59 @@ fn take_stripe<R: Wait>(worker: &mut Worker, rt: &R, stripe: u32) -> u32
     taken
 }
 
-// Makes one turn over all stripes, and gives how many nodes were taken back.
-fn turn<R: Wait>(worker: &mut Worker, rt: &R) -> u32
+// Tries to take the node of a word back, where its stripe's map has the word: it may have been taken
+// back since its count fell, and made anew.
+fn take_word<R: Wait>(
+    worker: &mut Worker,
+    rt: &R,
+    word: u64,
+    fallen: &mut ArrayVec<u64, 4096>,
+) -> bool
+    requires rest { IsAtRest worker.old.known.core }
+    requires room { length worker.old.known.core.held ≤ 2 ^ 39 }
+    ensures changes { Exchanges [] [] worker.old worker.new }
+    ensures takes { TakesMore (if result then 1 else 0) worker.old worker.new }
+{
+    // What the worker knows is in order.
+    let _cells = worker.cells();
+    let (var, low, high) = unpack_node(word);
+    let stripe = stripe_for(var, low, high);
+    let mut map = worker.lock_stripe(rt, stripe);
+    let Some(i) = map.get_index_of(&word) else {
+        worker.unlock_stripe(stripe, map);
+        return false;
+    };
+    let taken = try_entry(worker, &mut map, i, fallen);
+    worker.unlock_stripe(stripe, map);
+    taken
+}
+
+// Tries the fallen nodes, the last one first, and gives how many were taken back. Their children
+// come behind them, so that there are few at a time: as many as a path has nodes, and some.
+fn take_fallen<R: Wait>(worker: &mut Worker, rt: &R, fallen: &mut ArrayVec<u64, 4096>) -> u32
+    requires rest { IsAtRest worker.old.known.core }
+    requires room { length worker.old.known.core.held ≤ 2 ^ 39 }
+    ensures few { result ≤ 2 ^ 20 }
+    ensures changes { Exchanges [] [] worker.old worker.new }
+    ensures takes { TakesMore result worker.old worker.new }
+{
+    // What the worker knows is in order.
+    let _cells = worker.cells();
+    let mut taken = 0u32;
+    for _try in 0..MOST_TRIES {
+        let Some(word) = fallen.pop() else {
+            break;
+        };
+        if take_word(worker, rt, word, fallen) {
+            taken += 1;
+        }
+    }
+    taken
+}
+
+// Makes one turn over all stripes, and gives how many nodes were taken back. After each stripe it
+// goes on with the nodes that fell.
+fn turn<R: Wait>(worker: &mut Worker, rt: &R, fallen: &mut ArrayVec<u64, 4096>) -> u32
     requires rest { IsAtRest worker.old.known.core }
     requires room { length worker.old.known.core.held ≤ 2 ^ 39 }
     ensures changes { Exchanges [] [] worker.old worker.new }
@@ -74,17 +173,19 @@ fn turn<R: Wait>(worker: &mut Worker, rt: &R) -> u32
     let _cells = worker.cells();
     let mut taken = 0u32;
     for stripe in 0..16u32 {
-        taken += take_stripe(worker, rt, stripe);
+        taken += take_stripe(worker, rt, stripe, fallen);
+        taken += take_fallen(worker, rt, fallen);
     }
     taken
 }
 
 /// Empties all cells, and takes dead nodes back, in turns over all stripes, until there are none.
-/// It gives how many nodes were taken back, 2^32 - 1 at most.
+/// Within a turn it goes on with the children that fell to one owner. It gives how many nodes were taken back, 2^32 - 1 at most.
 ///
 /// The worker is at rest, there is a cell, and at most 2^39 names are held. It holds what it held.
 /// Where it is alone, holds nothing, all boxes are empty and there are at most 2,048 variables, no
 /// slot has a count above 0 then.
+#[inline(never)]
 pub fn collect<R: Wait>(worker: &mut Worker, rt: &R) -> u32
     requires rest { IsAtRest worker.old.known.core }
     requires cells { 0 < worker.old.known.core.sizes.cells }
@@ -96,9 +197,10 @@ pub fn collect<R: Wait>(worker: &mut Worker, rt: &R) -> u32
     let _cells = worker.cells();
     eqc_cache::storing::clear(worker);
     worker.scan();
+    let mut fallen = ArrayVec::new();
     let mut all = 0u32;
     for _turn in 0..TURNS {
-        let taken = turn(worker, rt);
+        let taken = turn(worker, rt, &mut fallen);
         all = all.saturating_add(taken);
         if taken == 0 {
             break;

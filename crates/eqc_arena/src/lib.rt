@@ -7,8 +7,9 @@
 //!
 //! - `specs/Changing.antt`, what a call changes of what a worker holds
 //! - `nodes`, references of nodes, and their children
-//! - `collecting`, with `specs/Emptying.antt`: dead nodes are taken back, turn by turn over all stripes;
-//!   `specs/Taking.antt` has what its parts do where the worker is alone
+//! - `collecting`, with `specs/Emptying.antt`: dead nodes are taken back, turn by turn over all stripes, and
+//!   after each stripe their children that fell to one owner; `specs/Taking.antt` has what its parts do
+//!   where the worker is alone
 //! - `making`, with `specs/Nodes.antt`: the one node of a variable and two children
 #![tactic(auto)]
 

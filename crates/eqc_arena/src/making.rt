@@ -108,7 +108,7 @@ fn enter(
 }
 
 // The stripe of a node's word.
-fn stripe_for(var: u16, low: u32, high: u32) -> u32
+pub(crate) fn stripe_for(var: u16, low: u32, high: u32) -> u32
     requires low { low < 2 ^ 20 }
     requires high { high < 2 ^ 20 }
     ensures there { result < 16 }

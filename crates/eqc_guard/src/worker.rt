@@ -210,17 +210,18 @@ impl Worker {
         Ok(Ref { number: x })
     }
 
-    // Counts a held name down.
-    fn count_down(&mut self, x: u32)
+    // Counts a held name down, and gives the count that it had.
+    fn count_down(&mut self, x: u32) -> u64
         requires ready { IsReady self.old.known.core }
         requires slot { 2 ≤ x }
         requires held { IsHeld self.old.known.core x }
         ensures step { Steps self.old (downed self.old.known.core x) self.new }
-        ensures copies { (n : ℕ) × Copies self.old.known (announced_words self.old.known.core.sizes + x) n ((n + (2 ^ 64 - 1)) % 2 ^ 64) self.new.known }
+        ensures copies { Copies self.old.known (announced_words self.old.known.core.sizes + x) result ((result + (2 ^ 64 - 1)) % 2 ^ 64) self.new.known }
     {
         let word = self.count_word(x);
-        self.table.shared.fetch_sub::<Down>(&mut self.seat, word, 1);
+        let found = self.table.shared.fetch_sub::<Down>(&mut self.seat, word, 1);
         self.held -= 1;
+        found
     }
 
     /// Gives a held name back. A constant takes no step.
@@ -235,6 +236,19 @@ impl Worker {
         if number >= 2 {
             self.count_down(number);
         }
+    }
+
+    /// Gives a held name back that is a slot's, and tells the count that it had. Where that was 2, one
+    /// owner is left.
+    pub fn down_from(&mut self, name: Ref) -> u64
+        requires ready { IsReady self.old.known.core }
+        requires slot { 2 ≤ name.number }
+        requires held { IsHeld self.old.known.core name.number }
+        ensures step { Steps self.old (downed self.old.known.core name.number) self.new }
+        ensures copies { Copies self.old.known (announced_words self.old.known.core.sizes + name.number) result ((result + (2 ^ 64 - 1)) % 2 ^ 64) self.new.known }
+    {
+        let Ref { number } = name;
+        self.count_down(number)
     }
 
     /// Loads the cell again whose result is announced, and says whether it has the same word.

@@ -22,7 +22,7 @@ loop-i-init g c =
       tries = λ n taken b.
           let same : taken ≡ taken + 0 = omega arith in
           subst (λ (m : ℕ). IsTrying [] n c.args.stripe m c.len-i.result c.lock_stripe-map.result.entries c.lock_stripe-map.new.self.known) same
-          (stripe_begins n c.args.stripe taken c.len-i.result c.lock_stripe-map.result.entries c.args.worker.now c.lock_stripe-map.new.self b c.lock_stripe-map.ensures.step c.lock_stripe-map.ensures.copies (omega arith));
+          (stripe_begins n c.args.stripe c.args.stripe taken c.len-i.result c.lock_stripe-map.result.entries c.args.worker.now c.lock_stripe-map.new.self b c.lock_stripe-map.ensures.step c.lock_stripe-map.ensures.copies (omega arith));
     }
 
 pub try_entry-requires-clause-home : goal.try_entry-requires-clause-home

@@ -41,7 +41,7 @@ loop-x-preserved c =
     let was : IsSwept c.as_slice-x-items.result.now c.args.self.now c.sweep-gone.new.self = subst (λ l. IsSwept l c.args.self.now c.sweep-gone.new.self) (sym c.as_slice-x-items.ensures.value) c.sweep-gone.ensures in
     let here : 0 < times (slice_index_or c.as_slice-x-items.result.now c.loop-x.x-index 0) c.loop-x.self.known.core.held = let_there gone rest x c.args.self.now c.sweep-gone.new.self c.loop-x.self was before in
     lets_one gone rest x c.sweep-gone.new.self c.loop-x.self c.count_down.new.self before c.count_down.ensures.step (let_held gone rest x c.args.self.now c.sweep-gone.new.self c.loop-x.self was before)
-    (count_keeps c.loop-x.self.known c.count_down.new.self.known x c.count_down.ensures.copies.0 ((c.count_down.ensures.copies.0 + (2 ^ 64 - 1)) % 2 ^ 64) (below c.loop-x.self.known x before.known (before.known.slots x here) here) c.count_down.ensures.copies.1)
+    (count_keeps c.loop-x.self.known c.count_down.new.self.known x c.count_down.result ((c.count_down.result + (2 ^ 64 - 1)) % 2 ^ 64) (below c.loop-x.self.known x before.known (before.known.slots x here) here) c.count_down.ensures.copies)
 
 pub returns : goal.returns
 returns c =
