@@ -1,9 +1,7 @@
 -- What the calls of a worker that makes nodes leave. Helpers of the tests
-use Rattle.std.proofs.Common.{◌≡◌, ℕ, zero, suc, ◌+◌, ◌/◌, ◌%◌, ◌^◌, ◌<◌, ◌≤◌, List, [], ◌∷◌, ◌++◌, map, cond, if◌then◌else◌, ◌&&◌, eqb, sum_by, get_or, set, length, Bool, true, false, Option, Some, None, Result, Ok, Err, IfOk, OnErr, refl, sym, ap, subst, ◌∙◌, arith, inl, inr, swap_remove}
+use Rattle.std.proofs.Common.{◌≡◌, ℕ, zero, suc, ◌+◌, ◌/◌, ◌%◌, ◌^◌, ◌<◌, ◌≤◌, List, [], ◌∷◌, ◌++◌, cond, if◌then◌else◌, eqb, sum_by, get_or, set, length, Bool, true, false, Result, Ok, Err, IfOk, OnErr, refl, sym, ap, subst, ◌∙◌, arith, swap_remove}
 use Rattle.std.proofs.lemmas.List.Sums.{sum_by-append, sum_by-cons, sum_by-swap_remove}
-use native.Mathlib.Decide.{dec_le}
-use mathlib.Core.Option.{some, some-injective, some-ne-none}
-use lib.ListN.{get_elem?}
+use mathlib.Core.Option.{some-injective, some-ne-none}
 use Rattle.eqc_tree.specs.Tree.{Tree, Node, False, True, StartsAbove, value}
 use Rattle.eqc_tree.specs.Operation.{operate}
 use Rattle.eqc_tree.specs.declared.operation.Op.{Op}
@@ -18,12 +16,12 @@ use Rattle.eqc_core.specs.Making.{read_node}
 use Rattle.eqc_core.specs.Seating.{IsAtRest}
 use Rattle.eqc_core.proofs.Names.{times-append, times-cons, times-nil, times-slots_of}
 use Rattle.eqc_guard.specs.declared.reference.Ref.{Ref}
-use Rattle.eqc_guard.specs.Known.{Known, IsHeld, IsKnown, tree_of}
+use Rattle.eqc_guard.specs.Known.{IsHeld, tree_of}
 use Rattle.eqc_guard.specs.Making.{Reads}
 use Rattle.eqc_guard.specs.Splitting.{IsAbsorbed}
 use Rattle.eqc_guard.specs.Acquiring.{IsPassed}
 use Rattle.eqc_guard.specs.Standing.{Standing, Steps}
-use Rattle.eqc_arena.specs.Changing.{AreQuiet, Changes, Exchanges}
+use Rattle.eqc_arena.specs.Changing.{AreQuiet, Exchanges}
 use Rattle.eqc_cache.specs.Storing.{IsAsBefore}
 use Rattle.eqc_cache.specs.Finding.{IsHit}
 use Rattle.eqc_arena.specs.Nodes.{MayAsk}

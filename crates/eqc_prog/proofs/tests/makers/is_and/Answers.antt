@@ -1,7 +1,6 @@
 use Rattle.std.proofs.Common.{◌≡◌, ℕ, subst}
 use Rattle.eqc_tree.specs.Tree.{Node}
 use Rattle.eqc_guard.specs.Known.{tree_of}
-use Rattle.eqc_arena.proofs.Changing.{stays, still, here}
 use Rattle.eqc_prog.proofs.Making.{right_and}
 use Rattle.eqc_prog.proofs.tests.makers.is_and.Goals as goal
 

@@ -1,4 +1,4 @@
-use Rattle.std.proofs.Common.{◌<◌, ◌≤◌, arith}
+use Rattle.std.proofs.Common.{arith}
 use Rattle.eqc_prog.proofs.Making.{both_looks, may_ask, made_after, none_after}
 use Rattle.eqc_prog.proofs.tests.makers.made.Goals as goal
 
