@@ -7,6 +7,7 @@ pub mod Frames
 pub mod Announcing
 pub mod Counting
 pub mod Caching
+pub mod Sharing
 pub mod Scanning
 pub mod Splitting
 pub mod Joining

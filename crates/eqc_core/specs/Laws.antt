@@ -19,6 +19,7 @@ use Rattle.eqc_core.specs.Announcing.{MayLook, looked, MayAnnounce, announced, a
 use Rattle.eqc_core.specs.Counting.{MayUp, upped, MayDown, downed}
 use Rattle.eqc_core.specs.Caching.{MaySwapCell, swapped}
 use Rattle.eqc_core.specs.Scanning.{MayScan, scanned}
+use Rattle.eqc_core.specs.Sharing.{MayLookBox, MaySwapBox, boxed_words, boxed}
 use Rattle.eqc_core.specs.Seating.{MaySplit, split, MayJoin, joined, join}
 use Rattle.eqc_core.specs.Locking.{MayTryLock, locked_words, taken_out, locked, MayUnlock, unlocked_words, put_home, unlocked}
 use Rattle.eqc_core.specs.Making.{MayTryClaim, claimed_words, claimed, found_taken, MayUnclaim, unclaimed_words, unclaimed, MayWrite, written_words, wrote, MayRead, read_node, MayReclaim, reclaimed_words, reclaimed}
@@ -97,6 +98,12 @@ ReadNodeKeeps = (x : ℕ) → StaysLawful (λ w v. MayRead v x) (λ z id w v. w)
 
 abbrev pub ReclaimKeeps : Type 0
 ReclaimKeeps = (x : ℕ) (h : Hand) → StaysLawful (λ w v. MayReclaim w v h x) (λ z id w v. reclaimed_words w x) (λ w v. reclaimed v h x (get_or w.nodes x 0))
+
+abbrev pub SwapBoxKeeps : Type 0
+SwapBoxKeeps = (b word : ℕ) → StaysLawful (λ w v. MaySwapBox w.nodes v b word) (λ z id w v. boxed_words w b word) (λ w v. boxed v (get_or w.boxes b 0) word)
+
+abbrev pub LookBoxKeeps : Type 0
+LookBoxKeeps = (b : ℕ) → StaysLawful (λ w v. MayLookBox v b) (λ z id w v. w) (λ w v. v)
 
 -- from the empty forest, or from one with the literals of n variables, each run's last state is lawful
 abbrev pub RunIsLawful : Type 0

@@ -1,4 +1,4 @@
--- A box is swapped: a task is offered or taken, a result or a stop is put back. Looking at a box changes nothing. No event takes these steps yet.
+-- A box is swapped: a task is offered or taken, a result or a stop is put back. Looking at a box changes nothing.
 use Rattle.std.specs.Prelude.{ℕ, ◌*◌, ◌<◌, List, [], ◌∷◌, ◌++◌, if◌then◌else◌, ltb}
 use Rattle.eqc_core.specs.View.{View}
 use Rattle.eqc_core.specs.Words.{Words, operation_of, cell_names, slots_of}

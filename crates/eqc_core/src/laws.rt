@@ -1,5 +1,5 @@
 //! The laws of the machine. Each function is a fact about the definitions, with nothing to run.
-ghost use Rattle.eqc_core.specs.Laws.{LookKeeps, AnnounceKeeps, RecheckKeeps, UpKeeps, DownKeeps, SwapCellKeeps, ScanOneKeeps, SplitKeeps, JoinKeeps, LockKeeps, LockLostKeeps, UnlockKeeps, ClaimKeeps, ClaimLostKeeps, UnclaimKeeps, WriteNodeKeeps, ReadNodeKeeps, ReclaimKeeps, RunIsLawful, NoSlotGivenAgain, StepsKeepTrees, StepsHaveRoom};
+ghost use Rattle.eqc_core.specs.Laws.{LookKeeps, AnnounceKeeps, RecheckKeeps, UpKeeps, DownKeeps, SwapCellKeeps, ScanOneKeeps, SplitKeeps, JoinKeeps, LockKeeps, LockLostKeeps, UnlockKeeps, ClaimKeeps, ClaimLostKeeps, UnclaimKeeps, WriteNodeKeeps, ReadNodeKeeps, ReclaimKeeps, SwapBoxKeeps, LookBoxKeeps, RunIsLawful, NoSlotGivenAgain, StepsKeepTrees, StepsHaveRoom};
 ghost use Rattle.eqc_core.specs.Facts.{NoCountWraps, TreesAreOne, ViewsAreBounded, HeldIsCounted, ConfirmedIsCounted, NamesAreTabled, ScansKeepNames, ScansLeaveFew, SplitsComeLast, NothingOutIsAlone, WrittenFieldsAreRead, TableIsThere, ClaimedIsFree, ReclaimedIsFree};
 ghost use Rattle.eqc_core.specs.Collecting.{LeastIsDead, TurnRaises, TurnsEmpty, NoDeadIsEmpty, EmptyIsFree, TriesAreSteps, StripesAreSteps};
 
@@ -107,6 +107,16 @@ pub fn read_node_keeps()
 /// A node that is taken back, since its table alone owns it, leaves the state lawful.
 pub fn reclaim_keeps()
     ensures { ReclaimKeeps }
+{}
+
+/// A swap of a box leaves the state lawful: the names of both words change hands.
+pub fn swap_box_keeps()
+    ensures { SwapBoxKeeps }
+{}
+
+/// A look at a box leaves the state lawful.
+pub fn look_box_keeps()
+    ensures { LookBoxKeeps }
 {}
 
 /// A step leaves the tree of each slot that is in a table before and after it.
