@@ -1,5 +1,6 @@
 pub mod Changing
 pub mod References
+pub mod Unboxing
 pub mod Entries
 pub mod Emptying
 pub mod Taking

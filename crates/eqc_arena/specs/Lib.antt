@@ -1,4 +1,5 @@
 pub mod Changing
+pub mod Unboxing
 pub mod Nodes
 pub mod Emptying
 pub mod Taking

@@ -1,4 +1,4 @@
--- What steps leave of the cells in a copy of the words.
+-- What steps leave of the cells and the boxes in a copy of the words.
 use Rattle.std.proofs.Common.{◌≡◌, ℕ, ◌+◌, ◌*◌, ◌<◌, ◌≤◌, List, get_or, set, length, Option, refl, sym, ap, subst, ◌∙◌, arith}
 use Rattle.std.proofs.lemmas.List.{get_or-set_same, get_or-set_other}
 use Rattle.eqc_core.specs.declared.sizes.Sizes.{Sizes}
@@ -7,9 +7,9 @@ use Rattle.eqc_core.specs.Words.{announced_words, times, word_at}
 use Rattle.eqc_guard.specs.Known.{Known, IsKnown, KeepsCopy}
 use Rattle.atomic_table.specs.Seated.{TableId}
 use Rattle.eqc_core.specs.Announcing.{announced, rechecked}
-use Rattle.eqc_guard.specs.Rule.{cells_from, all_words, IsWorker}
+use Rattle.eqc_guard.specs.Rule.{cells_from, boxes_from, all_words, IsWorker}
 use Rattle.eqc_guard.specs.Standing.{Standing, Steps}
-use Rattle.eqc_guard.specs.Copying.{cell_in, KeepsCells, SetsCell}
+use Rattle.eqc_guard.specs.Copying.{cell_in, KeepsCells, SetsCell, box_in, SetsBox}
 use Rattle.eqc_guard.specs.Telling.{Copies, copied}
 use Rattle.eqc_guard.proofs.Closing.{read_stays}
 use Rattle.eqc_guard.proofs.Learning.{held_named}
@@ -56,6 +56,35 @@ cell_sets k after c found word known there is ws e =
       is.copy ∙ ap (λ (o : Option (List ℕ)). copied o (cells_from k.core.sizes + c) word) e,
       get_or-set_same ws (cells_from k.core.sizes + c) word 0 (omega arith),
       λ d other. get_or-set_other ws (cells_from k.core.sizes + c) (cells_from k.core.sizes + d) word 0 (λ q. other (omega arith)),
+    )
+
+-- a box is set
+pub box_sets : (k after : Known) (b found word : ℕ) → IsKnown k → b < 16 * k.core.sizes.workers → Copies k (boxes_from k.core.sizes + b) found word after → SetsBox b word k after
+box_sets k after b found word known there is ws e =
+    let state = known.state ws e in
+    let lengths : length ws ≡ all_words k.core.sizes = ap {B = ℕ} (λ (l : List ℕ). length l) state.laid ∙ flat_length k.core.sizes state.words state.homes state.views state.lawful.sized in (
+      set ws (boxes_from k.core.sizes + b) word,
+      is.copy ∙ ap (λ (o : Option (List ℕ)). copied o (boxes_from k.core.sizes + b) word) e,
+      get_or-set_same ws (boxes_from k.core.sizes + b) word 0 (omega arith),
+      λ d other. get_or-set_other ws (boxes_from k.core.sizes + b) (boxes_from k.core.sizes + d) word 0 (λ q. other (omega arith)),
+    )
+
+-- the boxes lie behind the cells: what keeps all cells keeps all boxes
+pub keeps_box : (k : Known) (ws left : List ℕ) → ((c : ℕ) → cell_in k left c ≡ cell_in k ws c) → (b : ℕ) → box_in k left b ≡ box_in k ws b
+keeps_box k ws left same b =
+    let place : boxes_from k.core.sizes + b ≡ cells_from k.core.sizes + (k.core.sizes.cells + b) = omega arith in
+    ap (λ (i : ℕ). get_or left i 0) place ∙ (same (k.core.sizes.cells + b) ∙ ap (λ (i : ℕ). get_or ws i 0) (sym place))
+
+-- a box is set, and then cells and boxes stay
+pub box_set_stays : (a b c : Known) (n word : ℕ) → b.core.sizes ≡ a.core.sizes → SetsBox n word a b → KeepsCells b c → SetsBox n word a c
+box_set_stays a b c n word same first then ws e =
+    let t = first ws e in
+    let u = then t.0 t.1 in
+    let on : (d : ℕ) → box_in a u.0 d ≡ box_in a t.0 d = λ d. subst (λ (z : Sizes). get_or u.0 (boxes_from z + d) 0 ≡ get_or t.0 (boxes_from z + d) 0) same (keeps_box b t.0 u.0 u.2 d) in (
+      u.0,
+      u.1,
+      on n ∙ t.2,
+      λ d other. on d ∙ t.3 d other,
     )
 
 -- cells stay, then one is set, and then they stay

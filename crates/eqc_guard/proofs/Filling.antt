@@ -15,20 +15,20 @@ use Rattle.eqc_guard.specs.Telling.{MayFill}
 use Rattle.eqc_guard.proofs.Learning.{held_named}
 
 -- the fields of a word
-record Fields (t f g r word : ℕ) : Type 0 where
-  tag : operation_of word ≡ t
-  first : first_of word ≡ f
-  second : second_of word ≡ g
-  result : result_of word ≡ r
+pub record Fields (t f g r word : ℕ) : Type 0 where
+  pub tag : operation_of word ≡ t
+  pub first : first_of word ≡ f
+  pub second : second_of word ≡ g
+  pub result : result_of word ≡ r
 
-fields : (t f g r : ℕ) → f < 2 ^ 20 → g < 2 ^ 20 → r < 2 ^ 20 → Fields t f g r (cell_word t f g r)
+pub fields : (t f g r : ℕ) → f < 2 ^ 20 → g < 2 ^ 20 → r < 2 ^ 20 → Fields t f g r (cell_word t f g r)
 unfolding operation_of first_of second_of result_of
 fields t f g r a b c = let w = cell_fields t f g r a b c in record { tag = w.tag; first = w.first; second = w.second; result = w.found }
 
 none : Fields 0 0 0 0 0
 none = fields 0 0 0 0 (omega arith) (omega arith) (omega arith)
 
-no_names : (held : List ℕ) → AreHeld (cell_names 0) held
+pub no_names : (held : List ℕ) → AreHeld (cell_names 0) held
 no_names held x two =
     let n : cell_names 0 ≡ 0 ∷ 0 ∷ 0 ∷ [] = λ i. none.result i ∷ none.first i ∷ none.second i ∷ [] in
     let apart : 0 ≢ x = λ e. absurd (omega arith) in

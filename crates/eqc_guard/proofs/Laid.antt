@@ -6,9 +6,9 @@ use Rattle.eqc_core.specs.View.{View}
 use Rattle.eqc_core.specs.Words.{Words, announced_words}
 use Rattle.eqc_core.specs.Tables.{Homes}
 use Rattle.eqc_core.specs.Lawful.{IsSized}
-use Rattle.eqc_core.specs.Moves.{with_announced, with_count, with_node, with_cell, with_lock}
+use Rattle.eqc_core.specs.Moves.{with_announced, with_count, with_node, with_cell, with_box, with_lock}
 use Rattle.eqc_guard.specs.Known.{flat}
-use Rattle.eqc_guard.specs.Rule.{nodes_from, cells_from, locks_from}
+use Rattle.eqc_guard.specs.Rule.{nodes_from, cells_from, boxes_from, locks_from}
 
 -- a write and a read behind n others
 module _ {A : Type 0} where
@@ -46,6 +46,9 @@ place n k c = omega arith
 node_place : (n k c : ℕ) → n + k + c ≡ n + (k + c)
 node_place n k c = omega arith
 
+box_place : (n k c b : ℕ) → n + (k + k) + c + b ≡ n + (k + (k + (c + b)))
+box_place n k c b = omega arith
+
 lock_place : (n k c b s : ℕ) → n + (k + k) + c + b + s ≡ n + (k + (k + (c + (b + s))))
 lock_place n k c b s = omega arith
 
@@ -75,6 +78,22 @@ module _ (z : Sizes) (w : Words) (hs : Homes) (vs : List View) (sized : IsSized 
       ∙ (get_behind w.announced (behind_announced w) (announced_words z) (z.names + (z.names + c)) 0 sized.announced
       ∙ (get_behind w.counts (behind_counts w) z.names (z.names + c) 0 sized.counts
       ∙ (get_behind w.nodes (behind_nodes w) z.names c 0 sized.nodes ∙ get_or_append_left w.cells (behind_cells w) 0 c (let n = sized.cells in omega arith))))
+
+  pub set_box : (b y : ℕ) → b < 16 * z.workers → set (flat w) (boxes_from z + b) y ≡ flat (with_box w b y)
+  set_box b y lt =
+      ap (λ (i : ℕ). set (flat w) i y) (box_place (announced_words z) z.names z.cells b)
+      ∙ (set_behind w.announced (behind_announced w) (announced_words z) (z.names + (z.names + (z.cells + b))) y sized.announced
+      ∙ ap (λ l. w.announced ++ l) (set_behind w.counts (behind_counts w) z.names (z.names + (z.cells + b)) y sized.counts
+      ∙ ap (λ l. w.counts ++ l) (set_behind w.nodes (behind_nodes w) z.names (z.cells + b) y sized.nodes
+      ∙ ap (λ l. w.nodes ++ l) (set_behind w.cells (behind_cells w) z.cells b y sized.cells ∙ ap (λ l. w.cells ++ l) (set-append_left w.boxes w.locks b y (let n = sized.boxes in omega arith))))))
+
+  pub get_box : (b : ℕ) → b < 16 * z.workers → get_or (flat w) (boxes_from z + b) 0 ≡ get_or w.boxes b 0
+  get_box b lt =
+      ap (λ (i : ℕ). get_or (flat w) i 0) (box_place (announced_words z) z.names z.cells b)
+      ∙ (get_behind w.announced (behind_announced w) (announced_words z) (z.names + (z.names + (z.cells + b))) 0 sized.announced
+      ∙ (get_behind w.counts (behind_counts w) z.names (z.names + (z.cells + b)) 0 sized.counts
+      ∙ (get_behind w.nodes (behind_nodes w) z.names (z.cells + b) 0 sized.nodes
+      ∙ (get_behind w.cells (behind_cells w) z.cells b 0 sized.cells ∙ get_or_append_left w.boxes w.locks 0 b (let n = sized.boxes in omega arith)))))
 
   pub set_node : (x y : ℕ) → x < z.names → set (flat w) (nodes_from z + x) y ≡ flat (with_node w x y)
   set_node x y lt =

@@ -12,6 +12,8 @@ pub mod Beginning
 pub mod Splitting
 pub mod Joining
 pub mod Filling
+pub mod Sharing
+pub mod Parcels
 pub mod Sameness
 pub mod Acquiring
 pub mod Announced

@@ -7,6 +7,7 @@ pub mod Standing
 pub mod Seats
 pub mod Splitting
 pub mod Filling
+pub mod Sharing
 pub mod Acquiring
 pub mod Sweeping
 pub mod Closing

@@ -15,7 +15,8 @@
 //!   `specs/Closing.antt` have the words of its contracts. `names` has the lists of names of fixed
 //!   size that it keeps
 //! - in `worker`: `nodes`, with `specs/Making.antt`, the steps on slots and nodes; `stripes`, with
-//!   `specs/Locking.antt`, the locks of the unique table, whose maps alone leave their slots
+//!   `specs/Locking.antt`, the locks of the unique table, whose maps alone leave their slots;
+//!   `boxes`, with `specs/Sharing.antt`, the steps on boxes, whose words are parcels (`parcel`)
 //! - `forest`, a new table with its worker 0; `origin`, how it begins, and `stock`, its first words
 //!   and tables; `reference`, `filled`, `fault` and `tally`, what calls take and give
 //!
@@ -30,6 +31,7 @@ pub mod filled;
 pub mod forest;
 mod names;
 pub mod origin;
+pub mod parcel;
 pub mod reference;
 pub mod rule;
 mod stock;

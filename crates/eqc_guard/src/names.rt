@@ -30,6 +30,24 @@ pub(crate) fn held_after(held: u64, new: u64, old: u64) -> u64
     held - given + taken
 }
 
+// How many nodes a word of a cell or a box names.
+#[tactic(auto, unfolding(eqc_core::specs::Words::first_of, eqc_core::specs::Words::second_of, eqc_core::specs::Words::result_of))]
+fn slots_named(word: u64) -> u64
+    ensures { result ≡ length (slots_of (cell_names word)) }
+{
+    let (_, f, g, r) = unpack_cell(word);
+    slots_in(r) + slots_in(f) + slots_in(g)
+}
+
+// How many names a worker holds that held so many, and swapped a box from the old word to the new.
+pub(crate) fn held_with_box(held: u64, new: u64, old: u64) -> u64
+    requires enough { length (slots_of (cell_names new)) ≤ held }
+    requires room { held ≤ 2 ^ 40 }
+    ensures { result + length (slots_of (cell_names new)) ≡ held + length (slots_of (cell_names old)) }
+{
+    held - slots_named(new) + slots_named(old)
+}
+
 // How many names a worker holds that held so many, and gave the children of a node to it.
 pub(crate) fn held_with_node(held: u64, low: u32, high: u32) -> u64
     requires enough { length (slots_of (low ∷ high ∷ [])) ≤ held }

@@ -6,12 +6,14 @@ ghost use Rattle.eqc_core.specs.Announcing.{looked, announced, rechecked};
 ghost use Rattle.eqc_core.specs.Counting.{upped, downed};
 ghost use Rattle.eqc_core.specs.Caching.{swapped};
 ghost use Rattle.eqc_core.specs.Scanning.{scanned};
+ghost use Rattle.eqc_core.specs.Sharing.{boxed};
 ghost use Rattle.eqc_core.specs.Making.{unclaimed, read_node};
 ghost use Rattle.eqc_guard.specs.Known.{Known, nobody};
 ghost use Rattle.eqc_guard.specs.Seats.{split_left, split_off, both};
 ghost use Rattle.eqc_guard.specs.Telling.{Copied, Told, Stored, Nothing, Looks, Rechecks, Settles};
 ghost use Rattle.eqc_guard.specs.Making.{Claims, Writes, Reads, Reclaims, Ups};
 ghost use Rattle.eqc_guard.specs.Locking.{Locks, Unlocks};
+ghost use Rattle.eqc_guard.specs.Sharing.{Receives};
 ghost use Rattle.eqc_guard.specs.Rule.{Held, beginner, nodes_from, cells_from, locks_from};
 
 use crate::origin::Origin;
@@ -166,4 +168,18 @@ pub struct Unlock;
 
 impl Play<Stripe, View> for Unlock {
     ghost then = { λ s me n after. Unlocks me s.word s.first after };
+}
+
+/// A box was swapped.
+pub struct SwapBox;
+
+impl Play<Stripe, View> for SwapBox {
+    ghost then = { λ s me n after. Told me s.word n s.first (boxed me.0.core n s.first) after (Receives n) };
+}
+
+/// A box was read.
+pub struct LookBox;
+
+impl Play<Stripe, View> for LookBox {
+    ghost then = { λ s me n after. Told me s.word n n me.0.core after (Nothing n) };
 }

@@ -3,6 +3,7 @@ ghost use Rattle.std.specs.Prelude.{◌≡◌, ◌+◌, ◌<◌};
 ghost use Rattle.std.specs.Arc.{arc_value};
 ghost use Rattle.eqc_guard.specs.Standing.{Standing, standing_coded, IsSeated};
 
+mod boxes;
 mod nodes;
 mod search;
 mod stripes;

@@ -1,0 +1,84 @@
+//! What came out of a box is given back, and all boxes are emptied.
+ghost use Rattle.std.specs.Prelude.{◌≡◌, ◌*◌, ◌^◌, ◌<◌, ◌≤◌, [], ◌∷◌, length};
+ghost use Rattle.eqc_core.specs.Words.{slots_of};
+ghost use Rattle.eqc_core.specs.Moves.{IsReady};
+ghost use Rattle.eqc_guard.specs.Known.{IsHeld};
+ghost use Rattle.eqc_guard.specs.Copying.{KeepsCells, SetsBox};
+ghost use Rattle.eqc_guard.specs.Sharing.{parcel_names};
+ghost use Rattle.eqc_arena.specs.Changing.{Exchanges};
+ghost use Rattle.eqc_arena.specs.Unboxing.{HoldsParcel, AreUnboxed};
+
+use eqc_guard::filled::Filled;
+use eqc_guard::parcel::Parcel;
+use eqc_guard::reference::Ref;
+use eqc_guard::worker::Worker;
+
+// Gives a reference back.
+fn give(worker: &mut Worker, f: Ref)
+    requires ready { IsReady worker.old.known.core }
+    requires held { IsHeld worker.old.known.core f.number }
+    ensures changes { Exchanges (slots_of (f.number ∷ [])) [] worker.old worker.new }
+    ensures cells { KeepsCells worker.old.known worker.new.known }
+{
+    // What the worker knows is in order.
+    let _cells = worker.cells();
+    worker.down(f);
+}
+
+/// Gives the references of a parcel back, that came out of a box or was never put into one.
+pub fn give_parcel(worker: &mut Worker, parcel: Parcel)
+    requires ready { IsReady worker.old.known.core }
+    requires held { HoldsParcel worker.old.known.core parcel }
+    ensures changes { Exchanges (parcel_names parcel) [] worker.old worker.new }
+    ensures cells { KeepsCells worker.old.known worker.new.known }
+{
+    // What the worker knows is in order.
+    let _cells = worker.cells();
+    match parcel {
+        Parcel::Empty => {}
+        Parcel::Task(_, f, g) => {
+            give(worker, f);
+            give(worker, g);
+        }
+        Parcel::Done(Filled { op: _, f, g, r }) => {
+            give(worker, r);
+            give(worker, f);
+            give(worker, g);
+        }
+        Parcel::Stopped(_, f, g) => {
+            give(worker, f);
+            give(worker, g);
+        }
+    }
+}
+
+// Empties a box, and gives the references back that it had.
+fn empty_box(worker: &mut Worker, b: u32)
+    requires ready { IsReady worker.old.known.core }
+    requires there { b < 16 * worker.old.known.core.sizes.workers }
+    requires room { length worker.old.known.core.held ≤ 2 ^ 39 }
+    ensures changes { Exchanges [] [] worker.old worker.new }
+    ensures sets { SetsBox b 0 worker.old.known worker.new.known }
+{
+    // What the worker knows is in order.
+    let _cells = worker.cells();
+    let parcel = worker.swap_box(b, Parcel::Empty);
+    give_parcel(worker, parcel);
+}
+
+/// Empties all boxes, one after the other, and gives the references back that they had.
+///
+/// No scan is under way, and at most 2^39 names are held. The worker holds what it held. One that
+/// is alone finds each box empty then.
+pub fn empty_boxes(worker: &mut Worker)
+    requires ready { IsReady worker.old.known.core }
+    requires room { length worker.old.known.core.held ≤ 2 ^ 39 }
+    ensures changes { Exchanges [] [] worker.old worker.new }
+    ensures empty { AreUnboxed (16 * worker.old.known.core.sizes.workers) worker.old.known worker.new.known }
+{
+    // What the worker knows is in order.
+    let _cells = worker.cells();
+    for b in 0..worker.boxes() {
+        empty_box(worker, b);
+    }
+}
