@@ -5,7 +5,7 @@ use lib.ListN.{get_elem?}
 use Rattle.eqc_tree.specs.Tree.{Tree}
 use Rattle.eqc_tree.specs.Word.{node_word}
 use Rattle.eqc_core.specs.declared.event.Step.{Step}
-use Rattle.eqc_core.specs.declared.event.Step.TheVariants.{Split, Join, Announce, Look, Recheck, Up, Down, SwapCell, ScanOne, Lock, Unlock, Claim, Unclaim, WriteNode, ReadNode, Reclaim}
+use Rattle.eqc_core.specs.declared.event.Step.TheVariants.{Split, Join, Announce, Look, Recheck, Up, Down, SwapCell, ScanOne, Lock, Unlock, Claim, Unclaim, WriteNode, ReadNode, Reclaim, SwapBox, LookBox}
 use Rattle.eqc_core.specs.View.{View, view_at, draft_of}
 use Rattle.eqc_core.specs.Words.{cell_names, operands, children, slots_of}
 use Rattle.eqc_core.specs.Tables.{tabled}
@@ -38,6 +38,8 @@ tree_stays s id x v (WriteNode variable low high) t law at may tab is =
     write_keeps_trees s.sizes s.words s.homes s.views id v law at (draft_of v.draft) (node_word variable low high) x t may.word.draft tab is
 tree_stays s id x v (ReadNode y) t law at may tab is = is
 tree_stays s id x v (Reclaim y) t law at may tab is = is
+tree_stays s id x v (SwapBox b word) t law at may tab is = is
+tree_stays s id x v (LookBox b) t law at may tab is = is
 
 half : (n : ℕ) → n ≤ 2 ^ 39 → n ≤ 2 ^ 40
 half n le = omega arith
@@ -71,3 +73,7 @@ room_after s id v (ReadNode x) law at on may le = half (length v.held) le
 room_after s id v (Reclaim x) law at on may le =
     let names : List ℕ = children (get_or s.words.nodes x 0) in
     omega (arith, length-append v.held (slots_of names), length-slots_of names)
+room_after s id v (SwapBox b word) law at on may le =
+    let old : ℕ = get_or s.words.boxes b 0 in
+    omega (arith, length-append (without_each (slots_of (cell_names word)) v.held) (slots_of (cell_names old)), length-without_each (slots_of (cell_names word)) v.held, length-slots_of (cell_names old))
+room_after s id v (LookBox b) law at on may le = half (length v.held) le

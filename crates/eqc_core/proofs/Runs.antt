@@ -7,7 +7,7 @@ use Rattle.eqc_tree.specs.Word.{node_word}
 use Rattle.eqc_core.specs.declared.sizes.Sizes.{Sizes}
 use Rattle.eqc_core.specs.declared.event.Event.{Event}
 use Rattle.eqc_core.specs.declared.event.Step.{Step}
-use Rattle.eqc_core.specs.declared.event.Step.TheVariants.{Split, Join, Announce, Look, Recheck, Up, Down, SwapCell, ScanOne, Lock, Unlock, Claim, Unclaim, WriteNode, ReadNode, Reclaim}
+use Rattle.eqc_core.specs.declared.event.Step.TheVariants.{Split, Join, Announce, Look, Recheck, Up, Down, SwapCell, ScanOne, Lock, Unlock, Claim, Unclaim, WriteNode, ReadNode, Reclaim, SwapBox, LookBox}
 use Rattle.eqc_core.specs.View.{View, unused, view_at, draft_of, hand_of}
 use Rattle.eqc_core.specs.Tables.{Entries, entries_of}
 use Rattle.eqc_core.specs.Lawful.{Lawful}
@@ -18,6 +18,7 @@ use Rattle.eqc_core.proofs.Lists.{get_at, get_past, at_get}
 use Rattle.eqc_core.proofs.Announcing.{look_keeps, announce_keeps, recheck_keeps}
 use Rattle.eqc_core.proofs.Counting.{up_keeps, down_keeps}
 use Rattle.eqc_core.proofs.Caching.{swap_keeps}
+use Rattle.eqc_core.proofs.Sharing.{swap_box_keeps}
 use Rattle.eqc_core.proofs.Scanning.{scan_keeps}
 use Rattle.eqc_core.proofs.Splitting.{split_keeps}
 use Rattle.eqc_core.proofs.Joining.{join_keeps}
@@ -62,6 +63,8 @@ step_lawful s id v (WriteNode variable low high) law at on may room =
     write_keeps s.sizes s.words s.homes s.views id v law at on (draft_of v.draft) (node_word variable low high) (hand_of v.hand) may.word room
 step_lawful s id v (ReadNode x) law at on may room = read_keeps s.sizes s.words s.homes s.views id v law at on x may
 step_lawful s id v (Reclaim x) law at on may room = reclaim_keeps s.sizes s.words s.homes s.views id v law at on x (hand_of v.hand) may room
+step_lawful s id v (SwapBox b word) law at on may room = swap_box_keeps s.sizes s.words s.homes s.views id v law at on b word may room
+step_lawful s id v (LookBox b) law at on may room = lock_lost_keeps s.sizes s.words s.homes s.views id v law at
 
 -- an allowed event leads from a lawful state to a lawful one
 pub event_lawful : (s : State) (e : Event) → IsLawful s → IsAllowed s e → IsLawful (after s e)
@@ -96,6 +99,8 @@ given_once s id v Unclaim law at on may = tt
 given_once s id v (WriteNode variable low high) law at on may = tt
 given_once s id v (ReadNode x) law at on may = tt
 given_once s id v (Reclaim x) law at on may = (reclaimed_is_free s.sizes s.words s.homes s.views id v law at on x (hand_of v.hand) may).0
+given_once s id v (SwapBox b word) law at on may = tt
+given_once s id v (LookBox b) law at on may = tt
 
 pub no_slot_given_again : (z : Sizes) (n : ℕ) (es : List Event) (t : State) (e : Event) → IsWithinLimits z → n + 2 ≤ z.names → n ≤ z.variables → Runs (opening z n) es t → IsAllowed t e → IsGivenOnce t e.step
 no_slot_given_again z n es t e limits fits few is may =

@@ -1,14 +1,17 @@
--- The step that swaps a box.
-use Rattle.std.proofs.Common.{◌≡◌, ◌≢◌, ℕ, ◌+◌, ◌*◌, ◌^◌, ◌<◌, ◌≤◌, List, length, set, get_or, true, refl, ap, subst, arith, ⊎_elim, length-set}
+-- The words that a box may have, and the step that swaps one.
+use Rattle.std.proofs.Common.{◌≡◌, ◌≢◌, ◌⊎◌, ℕ, ◌+◌, ◌^◌, ◌<◌, ◌≤◌, List, length, set, get_or, true, refl, ap, subst, arith, ⊎_elim, length-set, inl, inr}
 use mathlib.Core.Option.{some}
 use native.Mathlib.Decide.{dec_le}
 use lib.ListN.{get_elem?}
+use Rattle.eqc_tree.specs.Operation.{tag_of}
+use Rattle.eqc_tree.specs.declared.operation.Op.{Op}
+use Rattle.eqc_tree.specs.declared.operation.Op.TheVariants.{And, Or, Xor, AndNot}
 use Rattle.eqc_core.specs.declared.sizes.Sizes.{Sizes}
 use Rattle.eqc_core.specs.View.{View}
-use Rattle.eqc_core.specs.Words.{Words, word_at, times, cell_names}
+use Rattle.eqc_core.specs.Words.{Words, word_at, times, cell_names, operation_of, result_of}
 use Rattle.eqc_core.specs.Tables.{Homes}
 use Rattle.eqc_core.specs.Owners.{owned, owners}
-use Rattle.eqc_core.specs.Trees.{IsBoxWord}
+use Rattle.eqc_core.specs.Trees.{IsFilled, IsBoxWord}
 use Rattle.eqc_core.specs.Support.{Supported}
 use Rattle.eqc_core.specs.Lawful.{Fits, Lawful}
 use Rattle.eqc_core.specs.Sharing.{MaySwapBox, boxed_words, boxed}
@@ -17,6 +20,27 @@ use Rattle.eqc_core.proofs.Sums.{sum_set}
 use Rattle.eqc_core.proofs.Tables.{owned_is}
 use Rattle.eqc_core.proofs.Frames.{IsOwnStep, forgets, support_set, frame, drafts_set, tabled_set, tables_set}
 use Rattle.eqc_core.proofs.Caching.{in_words_set, traded, traded_slots}
+
+-- the numbers of operations
+pub tag_range : (op : Op) → (1 ≤ tag_of op) × (tag_of op < 5)
+tag_range And = (omega arith, omega arith)
+tag_range Or = (omega arith, omega arith)
+tag_range Xor = (omega arith, omega arith)
+tag_range AndNot = (omega arith, omega arith)
+
+-- a box's word that is not empty and has an operation's number, at most, is a result
+pub low_box : (nodes : List ℕ) (word : ℕ) → word ≢ 0 → operation_of word < 5 → IsBoxWord nodes word → IsFilled nodes word
+low_box nodes word some_word low (inl (inl e)) = absurd (some_word e)
+low_box nodes word some_word low (inl (inr f)) = f
+low_box nodes word some_word low (inr (inl t)) = absurd (let from = t.from in omega arith)
+low_box nodes word some_word low (inr (inr s)) = absurd (let from = s.from in omega arith)
+
+-- one with a greater number has a task's or a stop's, and no result
+pub high_box : (nodes : List ℕ) (word : ℕ) → word ≢ 0 → 4 < operation_of word → IsBoxWord nodes word → (result_of word ≡ 0) × ((operation_of word < 9) ⊎ (12 < operation_of word))
+high_box nodes word some_word high (inl (inl e)) = absurd (some_word e)
+high_box nodes word some_word high (inl (inr f)) = absurd (let r = tag_range f.operation in let e = f.tag in omega arith)
+high_box nodes word some_word high (inr (inl t)) = (t.no_result, inl t.upto)
+high_box nodes word some_word high (inr (inr s)) = (s.no_result, inr s.from)
 
 module _ (z : Sizes) (w : Words) (hs : Homes) (vs : List View) (id : ℕ) (v : View) (law : Lawful z w hs vs) (at : get_elem? vs id ≡ some v) (on : v.active ≡ true) where
   pub swap_box_keeps : (b word : ℕ) → MaySwapBox w.nodes v b word → length (boxed v (get_or w.boxes b 0) word).held ≤ 2 ^ 40

@@ -1,5 +1,5 @@
 -- The views that stored workers stand for.
-use Rattle.std.proofs.Common.{◌≡◌, ℕ, zero, suc, ◌<◌, ◌≤◌, List, [], ◌∷◌, length, set, get_or, map, Bool, true, false, Option, Some, None, if◌then◌else◌, refl, sym, ap, subst, ◌∙◌, arith, inr}
+use Rattle.std.proofs.Common.{◌≡◌, ℕ, zero, suc, ◌*◌, ◌<◌, ◌≤◌, List, [], ◌∷◌, length, set, get_or, map, Bool, true, false, Option, Some, None, if◌then◌else◌, refl, sym, ap, subst, ◌∙◌, arith, inr}
 use Rattle.std.proofs.lemmas.List.{map-set}
 use mathlib.Core.Option.{some, some-injective, some-ne-none}
 use lib.ListN.{get_elem?}
@@ -138,6 +138,9 @@ stepped s w w' vs vs' p q = λ i. changed s (p i) (q i)
 -- the words that the worker reads are there
 pub cell_there : (m : Machine) (id c : ℕ) → IsTurn m id → c < (view_at (state_of m).views id).sizes.cells → c < length m.cells.items
 cell_there m id c turn lt = let z = ap (λ (z : Sizes). z.cells) (turn_sizes m id turn) in let n = turn.kept.lawful.sized.cells in omega arith
+
+pub box_there : (m : Machine) (id b : ℕ) → IsTurn m id → b < 16 * (view_at (state_of m).views id).sizes.workers → b < length m.boxes.items
+box_there m id b turn lt = let z = ap (λ (z : Sizes). z.workers) (turn_sizes m id turn) in let n = turn.kept.lawful.sized.boxes in omega arith
 
 pub count_there : (m : Machine) (id x : ℕ) → IsTurn m id → x < (view_at (state_of m).views id).sizes.names → (x < m.sizes.names) × (x < length m.counts.items)
 count_there m id x turn lt = let z = ap (λ (z : Sizes). z.names) (turn_sizes m id turn) in let n = turn.kept.lawful.sized.counts in (omega arith, omega arith)

@@ -6,7 +6,7 @@ use Rattle.eqc_core.specs.declared.phase.Phase.{Phase}
 use Rattle.eqc_core.specs.declared.phase.Phase.TheVariants.{Idle, Seen, Announced, Confirmed, Missed}
 use Rattle.eqc_core.specs.declared.event.Event.{Event}
 use Rattle.eqc_core.specs.declared.event.Step.{Step}
-use Rattle.eqc_core.specs.declared.event.Step.TheVariants.{Split, Join, Announce, Look, Recheck, Up, Down, SwapCell, ScanOne, Lock, Unlock, Claim, Unclaim, WriteNode, ReadNode, Reclaim}
+use Rattle.eqc_core.specs.declared.event.Step.TheVariants.{Split, Join, Announce, Look, Recheck, Up, Down, SwapCell, ScanOne, Lock, Unlock, Claim, Unclaim, WriteNode, ReadNode, Reclaim, SwapBox, LookBox}
 use Rattle.eqc_core.specs.declared.machine.Machine.{Machine}
 use Rattle.eqc_core.specs.View.{View, unused, fresh, spent, view_at, grown}
 use Rattle.eqc_core.specs.Words.{times, cell_names}
@@ -61,6 +61,8 @@ view_at-after s id Unclaim on number may = get_or-set_same s.views id (view_afte
 view_at-after s id (WriteNode variable low high) on number may = get_or-set_same s.views id (view_after s (view_at s.views id) (WriteNode variable low high)) unused (at_below s.views id (view_at s.views id) (active_there s.views id on))
 view_at-after s id (ReadNode x) on number may = get_or-set_same s.views id (view_after s (view_at s.views id) (ReadNode x)) unused (at_below s.views id (view_at s.views id) (active_there s.views id on))
 view_at-after s id (Reclaim x) on number may = get_or-set_same s.views id (view_after s (view_at s.views id) (Reclaim x)) unused (at_below s.views id (view_at s.views id) (active_there s.views id on))
+view_at-after s id (SwapBox b word) on number may = get_or-set_same s.views id (view_after s (view_at s.views id) (SwapBox b word)) unused (at_below s.views id (view_at s.views id) (active_there s.views id on))
+view_at-after s id (LookBox b) on number may = get_or-set_same s.views id (view_after s (view_at s.views id) (LookBox b)) unused (at_below s.views id (view_at s.views id) (active_there s.views id on))
 
 -- an event that was taken leaves a machine whose state is lawful
 pub kept_after : (m m' : Machine) (e : Event) → IsKept m → IsAllowed (state_of m) e → state_of m' ≡ after (state_of m) e → IsKept m'

@@ -6,7 +6,7 @@ use Rattle.eqc_tree.specs.Tree.{Tree}
 use Rattle.eqc_core.specs.declared.sizes.Sizes.{Sizes}
 use Rattle.eqc_core.specs.declared.event.Event.{Event}
 use Rattle.eqc_core.specs.declared.event.Step.{Step}
-use Rattle.eqc_core.specs.declared.event.Step.TheVariants.{Split, Join, Announce, Look, Recheck, Up, Down, SwapCell, ScanOne, Lock, Unlock, Claim, Unclaim, WriteNode, ReadNode, Reclaim}
+use Rattle.eqc_core.specs.declared.event.Step.TheVariants.{Split, Join, Announce, Look, Recheck, Up, Down, SwapCell, ScanOne, Lock, Unlock, Claim, Unclaim, WriteNode, ReadNode, Reclaim, SwapBox, LookBox}
 use Rattle.eqc_core.specs.View.{View, Hand, phase_at, view_at}
 use Rattle.eqc_core.specs.Words.{Words, word_at}
 use Rattle.eqc_core.specs.Tables.{Entries, Homes, tabled}
@@ -142,6 +142,8 @@ IsGivenOnce s Unclaim = Unit {0}
 IsGivenOnce s (WriteNode variable low high) = Unit {0}
 IsGivenOnce s (ReadNode x) = Unit {0}
 IsGivenOnce s (Reclaim x) = IsDead s.words s.homes s.views x
+IsGivenOnce s (SwapBox b word) = Unit {0}
+IsGivenOnce s (LookBox b) = Unit {0}
 
 -- at each event of each run: a slot that is claimed has no owner, one that is taken back only its table, and no confirmed announcement names either
 abbrev pub NoSlotGivenAgain : Type 0

@@ -19,7 +19,7 @@ use Rattle.eqc_core.specs.Moves.{IsReady, IsQuiet, AreHeld}
 use Rattle.eqc_core.specs.Stripes.{HasRoom}
 use Rattle.eqc_core.specs.Scanning.{kept, ejected}
 use Rattle.eqc_core.specs.Run.{IsAllowed, after, Runs, IsStoppedAt}
-use Rattle.eqc_core.specs.State.{State, IsLawful, repeated}
+use Rattle.eqc_core.specs.State.{State, IsLawful}
 
 -- the stripe in hand, the node last read, and a table at home, as they are stored
 abbrev pub hand_view : Option StoredHand → Option Hand
@@ -36,13 +36,13 @@ home_of (Some t) = some t.entries.items
 
 -- the view of an active worker
 abbrev pub active_view : Sizes → Worker → View
-active_view z w = record (fresh z w.number) { held = w.held.items; phases = w.phase ∷ []; retired = w.retired.items; position = w.position; noted = w.noted.items; draft = w.draft; hand = hand_view w.hand; read = read_view w.read; turn = w.turn.items; given = w.given; out = w.out.items }
+active_view z w = record (fresh z w.number) { held = w.held.items; phases = w.phase ∷ []; retired = w.retired.items; position = w.position; noted = w.noted.items; draft = w.draft; hand = hand_view w.hand; read = read_view w.read; turn = w.turn.items; stops = w.stops.items; given = w.given; out = w.out.items }
 
 abbrev pub view_of : Sizes → Worker → View
 view_of z w = if w.active then active_view z w else (if w.over then spent else unused)
 
 abbrev pub words_of : Machine → Words
-words_of m = record { announced = m.announced.items; counts = m.counts.items; nodes = m.nodes.items; cells = m.cells.items; boxes = repeated 0 (16 * m.sizes.workers); locks = m.locks.items }
+words_of m = record { announced = m.announced.items; counts = m.counts.items; nodes = m.nodes.items; cells = m.cells.items; boxes = m.boxes.items; locks = m.locks.items }
 
 abbrev pub state_of : Machine → State
 state_of m = record { sizes = m.sizes; words = words_of m; homes = map home_of m.homes.items; views = map (view_of m.sizes) m.workers.items }
@@ -111,3 +111,7 @@ EndsAs s es (Stopped i) = IsStoppedAt s es i
 -- a worker may store this word into the cell, where the word is right
 abbrev pub MayStore : View → ℕ → ℕ → Type 0
 MayStore v c word = IsReady v × (c < v.sizes.cells) × IsQuiet (phase_at v 0) × AreHeld (cell_names word) v.held × (length v.retired < 2 * announced_words v.sizes)
+
+-- a worker may put this word into the box, where it is a box's
+abbrev pub MayPut : View → ℕ → ℕ → Type 0
+MayPut v b word = IsReady v × (b < 16 * v.sizes.workers) × AreHeld (cell_names word) v.held

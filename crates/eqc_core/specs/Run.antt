@@ -4,7 +4,7 @@ use mathlib.Core.Option.{none}
 use Rattle.eqc_tree.specs.Word.{node_word}
 use Rattle.eqc_core.specs.declared.event.Event.{Event}
 use Rattle.eqc_core.specs.declared.event.Step.{Step}
-use Rattle.eqc_core.specs.declared.event.Step.TheVariants.{Split, Join, Announce, Look, Recheck, Up, Down, SwapCell, ScanOne, Lock, Unlock, Claim, Unclaim, WriteNode, ReadNode, Reclaim}
+use Rattle.eqc_core.specs.declared.event.Step.TheVariants.{Split, Join, Announce, Look, Recheck, Up, Down, SwapCell, ScanOne, Lock, Unlock, Claim, Unclaim, WriteNode, ReadNode, Reclaim, SwapBox, LookBox}
 use Rattle.eqc_core.specs.View.{View, view_at, phase_at, draft_of, hand_of}
 use Rattle.eqc_core.specs.Words.{Words, word_at}
 use Rattle.eqc_core.specs.Tables.{Homes, entries_of}
@@ -17,6 +17,7 @@ use Rattle.eqc_core.specs.Scanning.{MayScan, scanned}
 use Rattle.eqc_core.specs.Locking.{MayTryLock, locked_words, taken_out, locked, MayPutHome, unlocked_words, put_home, unlocked}
 use Rattle.eqc_core.specs.Making.{MayTryClaim, claimed_words, claimed, found_taken, MayUnclaim, unclaimed_words, unclaimed, MayWriteNode, written_words, wrote, MayRead, read_node, MayReclaim, reclaimed_words, reclaimed}
 use Rattle.eqc_core.specs.Seating.{MaySplit, splitter, split, MayJoin, joined, join}
+use Rattle.eqc_core.specs.Sharing.{MaySwapBox, MayLookBox, boxed_words, boxed}
 
 -- a worker with this view may take the step
 abbrev pub May : State → View → Step → Type 0
@@ -36,6 +37,8 @@ May s v Unclaim = MayUnclaim v (draft_of v.draft)
 May s v (WriteNode variable low high) = MayWriteNode s.words.nodes v (draft_of v.draft) (hand_of v.hand) variable low high
 May s v (ReadNode x) = MayRead v x
 May s v (Reclaim x) = MayReclaim s.words v (hand_of v.hand) x
+May s v (SwapBox b word) = MaySwapBox s.words.nodes v b word
+May s v (LookBox b) = MayLookBox v b
 
 -- the worker's view after it
 abbrev pub view_after : State → View → Step → View
@@ -57,6 +60,8 @@ view_after s v Unclaim = unclaimed v
 view_after s v (WriteNode variable low high) = wrote v (draft_of v.draft) (hand_of v.hand) (node_word variable low high)
 view_after s v (ReadNode x) = read_node v x (get_or s.words.nodes x 0)
 view_after s v (Reclaim x) = reclaimed v (hand_of v.hand) x (get_or s.words.nodes x 0)
+view_after s v (SwapBox b word) = boxed v (get_or s.words.boxes b 0) word
+view_after s v (LookBox b) = v
 
 -- how many names the workers of the step hold before it: a join has two
 abbrev pub held_before : State → View → Step → ℕ
@@ -76,6 +81,8 @@ held_before s v Unclaim = length v.held
 held_before s v (WriteNode variable low high) = length v.held
 held_before s v (ReadNode x) = length v.held
 held_before s v (Reclaim x) = length v.held
+held_before s v (SwapBox b word) = length v.held
+held_before s v (LookBox b) = length v.held
 
 -- the words after the step of worker id, whose view is v
 abbrev pub words_after : State → ℕ → View → Step → Words
@@ -97,6 +104,8 @@ words_after s id v Unclaim = unclaimed_words s.words (draft_of v.draft)
 words_after s id v (WriteNode variable low high) = written_words s.words (draft_of v.draft) (node_word variable low high)
 words_after s id v (ReadNode x) = s.words
 words_after s id v (Reclaim x) = reclaimed_words s.words x
+words_after s id v (SwapBox b word) = boxed_words s.words b word
+words_after s id v (LookBox b) = s.words
 
 -- the tables at home after it: a lock that is won takes one out, and an unlock puts one home
 abbrev pub homes_after : State → View → Step → Homes
@@ -117,6 +126,8 @@ homes_after s v Unclaim = s.homes
 homes_after s v (WriteNode variable low high) = s.homes
 homes_after s v (ReadNode x) = s.homes
 homes_after s v (Reclaim x) = s.homes
+homes_after s v (SwapBox b word) = s.homes
+homes_after s v (LookBox b) = s.homes
 
 -- all views after it: a split and a join change two of them
 abbrev pub views_after : State → ℕ → View → Step → List View
@@ -136,6 +147,8 @@ views_after s id v Unclaim = set s.views id (view_after s v Unclaim)
 views_after s id v (WriteNode variable low high) = set s.views id (view_after s v (WriteNode variable low high))
 views_after s id v (ReadNode x) = set s.views id (view_after s v (ReadNode x))
 views_after s id v (Reclaim x) = set s.views id (view_after s v (Reclaim x))
+views_after s id v (SwapBox b word) = set s.views id (view_after s v (SwapBox b word))
+views_after s id v (LookBox b) = set s.views id (view_after s v (LookBox b))
 
 -- the worker is active, may take the step, and holds 2 ^ 40 names at most after it, so that no count wraps
 pub record IsAllowed (s : State) (e : Event) : Type 0 where

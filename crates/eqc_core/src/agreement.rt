@@ -1,11 +1,11 @@
-//! Whether a cell's word is right: its operation on the functions of its operands gives the function of its result.
+//! Whether a cell's word is right, and a box's: its operation on the functions of its operands gives the function of its result.
 //!
 //! The three diagrams are walked together, variable by variable (Bryant 1986, Shannon's expansion).
 ghost use Rattle.std.specs.Prelude.{◌≡◌, ◌<◌, ◌^◌, ◌↔◌, IsTrue};
 ghost use Rattle.eqc_tree.specs.Operation.{operate};
 ghost use Rattle.eqc_core.specs.Words.{first_of, second_of, result_of};
 ghost use Rattle.eqc_core.specs.Tables.{IsName};
-ghost use Rattle.eqc_core.specs.Trees.{variable_at, IsFilled};
+ghost use Rattle.eqc_core.specs.Trees.{variable_at, IsFilled, IsBoxWord};
 ghost use Rattle.eqc_core.specs.Agreement.{Agrees, cofactor};
 ghost use Rattle.eqc_core.specs.Machine.{state_of, IsKept};
 
@@ -14,6 +14,13 @@ use eqc_tree::{Op, unpack_cell, unpack_node};
 
 // The variable of a constant: above all others.
 const NO_VARIABLE: u32 = 1 << 16;
+
+// The numbers of operations are followed by those of tasks, and those of stops are the last.
+const LAST_OPERATION: u8 = 4;
+
+const LAST_TASK: u8 = 8;
+
+const FIRST_STOP: u8 = 13;
 
 // The operation on two values.
 fn compute(op: Op, p: bool, q: bool) -> bool
@@ -97,5 +104,30 @@ impl Machine {
             return false;
         };
         self.agrees(op, f, g, r)
+    }
+
+    // Whether a box may have the word. Its names are there.
+    pub(crate) fn is_box_word(&self, word: u64) -> bool
+        requires kept { IsKept self.now }
+        requires first { IsName (state_of self.now).homes (state_of self.now).views (first_of word) }
+        requires second { IsName (state_of self.now).homes (state_of self.now).views (second_of word) }
+        requires outcome { IsName (state_of self.now).homes (state_of self.now).views (result_of word) }
+        ensures { IsTrue result ↔ IsBoxWord self.now.nodes.items word }
+    {
+        if word == 0 {
+            return true;
+        }
+        let (tag, _, _, r) = unpack_cell(word);
+        if tag <= LAST_OPERATION {
+            return self.is_filled(word);
+        }
+        // Neither a task nor a stop has a result.
+        if r != 0 {
+            return false;
+        }
+        if tag <= LAST_TASK {
+            return true;
+        }
+        tag >= FIRST_STOP
     }
 }

@@ -45,4 +45,8 @@ pub enum Step {
     ReadNode(u32),
     /// Takes this slot of the stripe in hand back, whose count is 1.
     Reclaim(u32),
+    /// Swaps this box for a word, or for 0.
+    SwapBox(u32, u64),
+    /// Loads this box.
+    LookBox(u32),
 }

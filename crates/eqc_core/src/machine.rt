@@ -4,6 +4,7 @@ ghost use Rattle.std.specs.Prelude.{◌≡◌, IfOk};
 mod allowing;
 mod counting;
 mod making;
+mod sharing;
 
 use crate::event::{Event, Step};
 use crate::homes::copy_homes;
@@ -16,7 +17,7 @@ use std::alloc::{AllocError, Global};
 // The most names that a worker may hold after a step, so that no count wraps.
 const MOST_HELD: usize = 1 << 40;
 
-// The words, the tables at home, and what each worker knows. Boxes stay empty.
+// The words, the tables at home, and what each worker knows.
 #[derive(Drop)]
 pub(crate) struct Machine {
     pub(crate) sizes: Sizes,
@@ -24,6 +25,7 @@ pub(crate) struct Machine {
     pub(crate) counts: Vec<u64>,
     pub(crate) nodes: Vec<u64>,
     pub(crate) cells: Vec<u64>,
+    pub(crate) boxes: Vec<u64>,
     pub(crate) locks: Vec<u64>,
     // The stripes' tables; one that is in a hand is out.
     pub(crate) homes: Vec<Option<Table>>,
@@ -59,6 +61,8 @@ impl Machine {
             Step::WriteNode(v, low, high) => self.may_write(worker, v, low, high),
             Step::ReadNode(x) => worker.may_read(self.sizes, x),
             Step::Reclaim(x) => self.may_reclaim(worker, x),
+            Step::SwapBox(b, word) => self.may_swap_box(worker, b, word),
+            Step::LookBox(b) => worker.may_look_box(self.sizes, b),
         }
     }
 
@@ -93,6 +97,8 @@ impl Machine {
             Step::WriteNode(v, low, high) => self.write_node(alloc, id, v, low, high)?,
             Step::ReadNode(x) => self.read_node(id, x),
             Step::Reclaim(x) => self.reclaim(alloc, id, x)?,
+            Step::SwapBox(b, word) => self.swap_box(alloc, id, b, word)?,
+            Step::LookBox(b) => self.look_box(id, b),
         }
         Ok(())
     }
@@ -155,6 +161,7 @@ impl Machine {
             counts: copy_words(alloc, &self.counts)?,
             nodes: copy_words(alloc, &self.nodes)?,
             cells: copy_words(alloc, &self.cells)?,
+            boxes: copy_words(alloc, &self.boxes)?,
             locks: copy_words(alloc, &self.locks)?,
             homes: copy_homes(alloc, &self.homes)?,
             workers: worker::copy_all(alloc, &self.workers)?,

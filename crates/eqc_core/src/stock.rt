@@ -13,6 +13,9 @@ use std::alloc::{AllocError, Global};
 // How many stripes the unique table has.
 const STRIPES: u32 = 16;
 
+// How many boxes each worker has.
+const BOXES: u32 = 16;
+
 // A word n times.
 fn repeat(alloc: Global, word: u64, n: u32) -> Result<Vec<u64>, AllocError>
     ensures { IfOk result (λ v. v.items ≡ repeated word n) }
@@ -94,7 +97,8 @@ pub(crate) fn stock(
     nodes: u32,
     cells: u32,
 ) -> Result<Machine, AllocError>
-    requires { nodes ≤ 2 ^ 16 }
+    requires workers { workers ≤ 2 ^ 16 }
+    requires nodes { nodes ≤ 2 ^ 16 }
     ensures { IfOk result (λ m. state_of m ≡ stocked workers nodes cells) }
 {
     let mut counts = repeat(alloc, 0, 2)?;
@@ -118,6 +122,7 @@ pub(crate) fn stock(
         counts,
         nodes: words,
         cells: repeat(alloc, 0, cells)?,
+        boxes: repeat(alloc, 0, BOXES * workers)?,
         locks: repeat(alloc, 0, STRIPES)?,
         homes: literal_tables(alloc, nodes)?,
         workers: all,

@@ -7,6 +7,7 @@ ghost use Rattle.eqc_core.specs.Machine.{view_of};
 mod counting;
 mod making;
 mod seating;
+mod sharing;
 
 use crate::multiset;
 use crate::phase::Phase;
@@ -40,6 +41,8 @@ pub(crate) struct Worker {
     pub(crate) read: Option<Read>,
     // The slots that its claims found taken.
     pub(crate) turn: Vec<u32>,
+    // The stops that it took out of boxes, since it last won a lock.
+    pub(crate) stops: Vec<u32>,
     // The next number that was never given, and those that are out or were taken in.
     pub(crate) given: u64,
     pub(crate) out: Vec<u32>,
@@ -71,6 +74,7 @@ impl Worker {
             hand: None,
             read: None,
             turn: Vec::new(alloc),
+            stops: Vec::new(alloc),
             given,
             out: Vec::new(alloc),
         }
@@ -187,6 +191,7 @@ impl Worker {
             hand: self.copy_hand(alloc)?,
             read: self.read,
             turn: multiset::copy(alloc, &self.turn)?,
+            stops: multiset::copy(alloc, &self.stops)?,
             given: self.given,
             out: multiset::copy(alloc, &self.out)?,
         })

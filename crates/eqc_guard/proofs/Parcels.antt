@@ -6,6 +6,7 @@ use Rattle.eqc_tree.specs.declared.stopping.Stop.{Stop}
 use Rattle.eqc_tree.specs.declared.stopping.Stop.TheVariants.{NodeLimit, Memory, References, Threads}
 use Rattle.eqc_core.specs.Words.{times, cell_names, slots_of, operation_of, result_of}
 use Rattle.eqc_core.specs.Moves.{AreHeld}
+use Rattle.eqc_core.proofs.Sharing.{tag_range}
 use Rattle.eqc_core.proofs.Names.{times-nil, times-same, times-other, times_more}
 use Rattle.eqc_guard.specs.declared.parcel.Parcel.{Parcel}
 use Rattle.eqc_guard.specs.declared.parcel.Parcel.TheVariants.{Empty, Task, Done, Stopped}
@@ -14,7 +15,6 @@ use Rattle.eqc_guard.specs.Sharing.{number_of, parcel_word, parcel_names, IsWhol
 use Rattle.eqc_guard.proofs.Counts.{slots_held}
 use Rattle.eqc_guard.proofs.Filling.{Fields, fields, no_names}
 use Rattle.eqc_guard.proofs.Making.{given_held, held_small}
-use Rattle.eqc_guard.proofs.Sharing.{tag_range}
 
 -- the number in a word that is not empty
 pub some_number : (word : ℕ) → IsParcelWord word → word ≢ 0 → 0 < cell_tag word

@@ -7,7 +7,6 @@ use lib.ListN.{get_elem?}
 use Rattle.atomic_table.specs.Table.{Me, Allows}
 use Rattle.eqc_tree.specs.Operation.{tag_of}
 use Rattle.eqc_tree.specs.declared.operation.Op.{Op}
-use Rattle.eqc_tree.specs.declared.operation.Op.TheVariants.{And, Or, Xor, AndNot}
 use Rattle.eqc_core.specs.declared.sizes.Sizes.{Sizes}
 use Rattle.eqc_core.specs.View.{View}
 use Rattle.eqc_core.specs.Words.{times, cell_names, slots_of, operation_of, first_of, second_of, result_of}
@@ -18,7 +17,7 @@ use Rattle.eqc_core.specs.Sharing.{boxed_words, boxed}
 use Rattle.eqc_core.proofs.Lists.{get_at}
 use Rattle.eqc_core.proofs.Names.{times-append, times-slots_of, names_first, names_second, names_result, length-without_each, length-slots_of}
 use Rattle.eqc_core.proofs.Locking.{lock_lost_keeps}
-use Rattle.eqc_core.proofs.Sharing.{swap_box_keeps}
+use Rattle.eqc_core.proofs.Sharing.{tag_range, swap_box_keeps}
 use Rattle.eqc_guard.specs.Known.{flat, Known, Knows, IsHeld, tree_of}
 use Rattle.eqc_guard.specs.Telling.{Told, Nothing, IsRightHere}
 use Rattle.eqc_guard.specs.Sharing.{IsParcelWord, Receives, MayPutWord}
@@ -28,13 +27,6 @@ use Rattle.eqc_guard.proofs.Learning.{held_tree, known_right, filled_result}
 use Rattle.eqc_guard.proofs.Making.{given_held}
 use Rattle.eqc_guard.proofs.Moves.{plain, load, size}
 use Rattle.eqc_guard.proofs.Counts.{slots_held, length-without_all}
-
--- the numbers of operations
-pub tag_range : (op : Op) → (1 ≤ tag_of op) × (tag_of op < 5)
-tag_range And = (omega arith, omega arith)
-tag_range Or = (omega arith, omega arith)
-tag_range Xor = (omega arith, omega arith)
-tag_range AndNot = (omega arith, omega arith)
 
 no_operation : (word : ℕ) → word ≡ 0 → operation_of word ≡ 0
 unfolding operation_of

@@ -12,6 +12,7 @@ impl Machine {
     ghost use Rattle.eqc_core.specs.Making.{MayTryClaim, MayReclaim, MayWriteNode};
     ghost use Rattle.eqc_core.specs.Seating.{MaySplit, MayJoin};
     ghost use Rattle.eqc_core.specs.Caching.{MaySwapCell};
+    ghost use Rattle.eqc_core.specs.Sharing.{MaySwapBox};
     ghost use Rattle.eqc_core.specs.View.{view_at, unused, draft_of, hand_of};
 
     pub(crate) fn may_lock(&self, worker: &Worker, i: u32, won: bool) -> bool
@@ -141,5 +142,16 @@ impl Machine {
             return true;
         }
         self.is_filled(word)
+    }
+
+    pub(crate) fn may_swap_box(&self, worker: &Worker, b: u32, word: u64) -> bool
+        requires kept { IsKept self.now }
+        requires stands { Stands self.now (active_view self.now.sizes worker.now) }
+        ensures { IsTrue result ↔ MaySwapBox self.now.nodes.items (active_view self.now.sizes worker.now) b word }
+    {
+        if !worker.may_put(self.sizes, b, word) {
+            return false;
+        }
+        self.is_box_word(word)
     }
 }

@@ -58,6 +58,7 @@ impl Worker {
     {
         self.hand = Some(Hand { stripe: i, table });
         self.turn = Vec::new(alloc);
+        self.stops = Vec::new(alloc);
     }
 
     // Gives the table in hand out.
