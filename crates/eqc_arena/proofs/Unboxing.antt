@@ -1,5 +1,5 @@
 -- The names of parcels change hands, and boxes are emptied one after the other.
-use Rattle.std.proofs.Common.{◌≡◌, ℕ, ◌+◌, ◌*◌, ◌<◌, ◌≤◌, List, [], ◌∷◌, length, get_or, Some, length-append, refl, sym, ap, subst, ◌∙◌, arith, inl, inr}
+use Rattle.std.proofs.Common.{◌≡◌, ℕ, ◌+◌, ◌*◌, ◌<◌, ◌≤◌, List, [], ◌∷◌, ◌++◌, length, get_or, Some, length-append, refl, sym, ap, subst, ◌∙◌, arith, inl, inr}
 use native.Mathlib.Decide.{ℕ_discrete}
 use Rattle.eqc_core.specs.declared.sizes.Sizes.{Sizes}
 use Rattle.eqc_core.specs.View.{View}
@@ -12,9 +12,9 @@ use Rattle.eqc_guard.specs.Known.{Known, IsHeld}
 use Rattle.eqc_guard.specs.Standing.{Standing, Steps}
 use Rattle.eqc_guard.specs.Rule.{boxes_from}
 use Rattle.eqc_guard.specs.Copying.{box_in, SetsBox}
-use Rattle.eqc_guard.specs.Sharing.{parcel_word, parcel_names, IsWhole}
+use Rattle.eqc_guard.specs.Sharing.{parcel_word, parcel_names, parcel_stops, IsWhole}
 use Rattle.eqc_guard.proofs.Counts.{length-without_all}
-use Rattle.eqc_guard.proofs.Parcels.{names_of_word}
+use Rattle.eqc_guard.proofs.Parcels.{names_of_word, stops_of_word}
 use Rattle.eqc_cache.proofs.Trading.{slots_times, slots_length}
 use Rattle.eqc_arena.specs.Changing.{Exchanges}
 use Rattle.eqc_arena.specs.Unboxing.{HoldsParcel, AreUnboxed}
@@ -77,6 +77,10 @@ swaps out given old new whole fits enough s =
 
     has : (x : ℕ) → times x (slots_of (cell_names (parcel_word given))) ≤ times x old.known.core.held
     has x = let e = enough x in omega (arith, ap (times x) goes)
+
+-- and the stop that came out is noted behind the others
+pub notes_stop : (out given : Parcel) (old new : Standing) → IsWhole out → Steps old (boxed old.known.core (parcel_word out) (parcel_word given)) new → new.known.core.stops ≡ old.known.core.stops ++ parcel_stops out
+notes_stop out given old new whole s = ap (λ (v : View). v.stops) s.known.core ∙ ap (λ (l : List ℕ). old.known.core.stops ++ l) (stops_of_word out whole)
 
 -- what came out may be given back
 pub came_held : (out : Parcel) (old mid : Standing) → Exchanges [] (parcel_names out) old mid → HoldsParcel mid.known.core out

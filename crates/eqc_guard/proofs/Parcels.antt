@@ -1,17 +1,19 @@
 -- A parcel and its word.
 use Rattle.std.proofs.Common.{◌≡◌, ◌≢◌, ◌⊎◌, ℕ, ◌+◌, ◌^◌, ◌<◌, ◌≤◌, List, [], ◌∷◌, refl, sym, ap, subst, arith, inl, inr}
+use Rattle.std.proofs.lemmas.Bool.{lt-ltb, le-ltb}
 use Rattle.eqc_tree.specs.Operation.{tag_of}
 use Rattle.eqc_tree.specs.Word.{cell_word, cell_tag, cell_result}
 use Rattle.eqc_tree.specs.declared.stopping.Stop.{Stop}
 use Rattle.eqc_tree.specs.declared.stopping.Stop.TheVariants.{NodeLimit, Memory, References, Threads}
 use Rattle.eqc_core.specs.Words.{times, cell_names, slots_of, operation_of, result_of}
 use Rattle.eqc_core.specs.Moves.{AreHeld}
+use Rattle.eqc_core.specs.Sharing.{stop_in}
 use Rattle.eqc_core.proofs.Sharing.{tag_range}
 use Rattle.eqc_core.proofs.Names.{times-nil, times-same, times-other, times_more}
 use Rattle.eqc_guard.specs.declared.parcel.Parcel.{Parcel}
 use Rattle.eqc_guard.specs.declared.parcel.Parcel.TheVariants.{Empty, Task, Done, Stopped}
 use Rattle.eqc_guard.specs.Known.{Known, IsKnown}
-use Rattle.eqc_guard.specs.Sharing.{number_of, parcel_word, parcel_names, IsWhole, IsGenuine, HasParcel, MayPut, IsParcelWord, Receives, MayPutWord}
+use Rattle.eqc_guard.specs.Sharing.{number_of, parcel_word, parcel_names, parcel_stops, IsWhole, IsGenuine, HasParcel, MayPut, IsParcelWord, Receives, MayPutWord}
 use Rattle.eqc_guard.proofs.Counts.{slots_held}
 use Rattle.eqc_guard.proofs.Filling.{Fields, fields, no_names}
 use Rattle.eqc_guard.proofs.Making.{given_held, held_small}
@@ -133,3 +135,17 @@ has_names k Empty has x = omega (arith, times-nil x)
 has_names k (Task op f g) has x = slots_held (f.number ∷ g.number ∷ []) k.core.held has x
 has_names k (Done e) has x = slots_held (e.r.number ∷ e.f.number ∷ e.g.number ∷ []) k.core.held has.0 x
 has_names k (Stopped stop f g) has x = slots_held (f.number ∷ g.number ∷ []) k.core.held has.0 x
+
+-- a word notes a stop where its number is one
+no_stop : (word n : ℕ) → operation_of word ≡ n → n < 13 → stop_in word ≡ []
+no_stop word n e small = rw e (rw (le-ltb 12 n (omega arith)) refl)
+
+one_stop : (word n : ℕ) → operation_of word ≡ n → 12 < n → stop_in word ≡ n ∷ []
+one_stop word n e great = rw e (rw (lt-ltb 12 n great) refl)
+
+-- the stop of a parcel is that of its word
+pub stops_of_word : (parcel : Parcel) → IsWhole parcel → stop_in (parcel_word parcel) ≡ parcel_stops parcel
+stops_of_word Empty whole = no_stop 0 0 ((open_fields 0 0 0 (omega arith) (omega arith)).tag) (omega arith)
+stops_of_word (Task op f g) whole = no_stop (parcel_word (Task op f g)) (tag_of op + 4) ((open_fields (tag_of op + 4) f.number g.number whole.0 whole.1).tag) (let r = tag_range op in omega arith)
+stops_of_word (Done e) whole = no_stop (parcel_word (Done e)) (tag_of e.op) ((fields (tag_of e.op) e.f.number e.g.number e.r.number whole.0 whole.1 whole.2).tag) (let r = tag_range e.op in omega arith)
+stops_of_word (Stopped stop f g) whole = one_stop (parcel_word (Stopped stop f g)) (number_of stop) ((open_fields (number_of stop) f.number g.number whole.0 whole.1).tag) (stop_range stop whole.2).0

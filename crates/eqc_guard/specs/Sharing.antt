@@ -36,6 +36,13 @@ parcel_names (Task op f g) = slots_of (f.number ∷ g.number ∷ [])
 parcel_names (Done e) = slots_of (e.r.number ∷ e.f.number ∷ e.g.number ∷ [])
 parcel_names (Stopped stop f g) = slots_of (f.number ∷ g.number ∷ [])
 
+-- the number of its stop, which its taker notes
+abbrev pub parcel_stops : Parcel → List ℕ
+parcel_stops Empty = []
+parcel_stops (Task op f g) = []
+parcel_stops (Done e) = []
+parcel_stops (Stopped stop f g) = number_of stop ∷ []
+
 -- its numbers fit their fields, and its stop is one that a box may have
 abbrev pub IsWhole : Parcel → Type 0
 IsWhole Empty = Unit {0}
