@@ -1,4 +1,4 @@
-use Rattle.std.proofs.Common.{◌≡◌, ℕ, ◌-◌, Bool, true, false, cond, ◌++◌, ap, take, replicate, length-append, ◌+◌, ◌/◌, ◌%◌, ◌^◌, ◌<◌, ◌≤◌, List, length, get_or, set, refl, sym, subst, ◌∙◌, arith, ◌⊎◌, inl, inr}
+use Rattle.std.proofs.Common.{◌≡◌, ℕ, Option, Some, None, IfSome, ◌-◌, Bool, true, false, cond, ◌++◌, ap, take, replicate, length-append, ◌+◌, ◌/◌, ◌%◌, ◌^◌, ◌<◌, ◌≤◌, List, length, get_or, set, refl, sym, ◌∙◌, arith, ◌⊎◌, inl, inr}
 use Rattle.std.proofs.lemmas.Bool.{cases_eq, cases_lt}
 use Rattle.std.proofs.lemmas.List.{length-replicate}
 use Rattle.std.proofs.lemmas.List.{get_or-set_same, get_or-set_other, length-set, take_all, get_or_append_left, get_or-append_right, get_or-replicate}
@@ -7,11 +7,12 @@ use Rattle.eqc_tree.specs.Word.{cell_word}
 use Rattle.eqc_tree.specs.declared.operation.Op.{Op}
 use Rattle.eqc_tree.specs.declared.operation.Op.TheVariants.{And, Or, Xor, AndNot}
 use Rattle.eqc_tree.proofs.Tags.{tag_of-injective}
+use Rattle.eqc_plain.specs.Meaning.{Meaning}
 use Rattle.eqc_plain.specs.Combining.{IsResult}
 use Rattle.eqc_plain.specs.Cache.{IsCache}
+use Rattle.eqc_plain.specs.Cells.{IsKept, HasNoMore, MayHave}
 use Rattle.eqc_plain.specs.Terminal.{AreOperands}
-use Rattle.eqc_plain.proofs.Growing.{IsBefore}
-use Rattle.eqc_plain.proofs.Combining.{result_grows, from_ordered, to_ordered}
+use Rattle.eqc_plain.proofs.Combining.{Stays, result_stays, from_ordered, to_ordered}
 
 -- tags go from 1 to 4, and tell operations apart
 pub tag_range : (op : Op) → (1 ≤ tag_of op) × (tag_of op < 5)
@@ -31,45 +32,67 @@ cell_once : (s f g x t p q y : ℕ) → f < 2 ^ 20 → g < 2 ^ 20 → x < 2 ^ 20
 cell_once s f g x t p q y a b c d h i e = record { tag = omega arith; first = omega arith; second = omega arith; found = omega arith }
 
 -- an empty cache is right
-pub empty_cache : (variables : ℕ) (ws cells : List ℕ) → length cells ≡ 0 → IsCache variables ws cells
-empty_cache variables ws cells e = record { right = λ k h. absurd (omega arith) }
+pub empty_cache : (m : Meaning) (cells : List ℕ) → length cells ≡ 0 → IsCache m cells
+empty_cache m cells e = record { right = λ op f g r h. absurd (omega (arith, h.there)) }
 
--- a cache stays right as the store grows
-pub cache_grows : (variables n : ℕ) (old new cells : List ℕ) → IsBefore old new → n ≡ variables → IsCache variables old cells → IsCache n new cells
-cache_grows variables n old new cells q z c = record { right = λ k h op f g r a b d e. subst (λ m. IsResult m op new f g r) (sym z) (result_grows q (c.right k h op f g r a b d e)) }
+-- a cache stays right where all that was there means the same
+pub cache_stays : (m n : Meaning) (cells : List ℕ) → Stays m n → IsCache m cells → IsCache n cells
+cache_stays m n cells s c = record { right = λ op f g r h. result_stays s (c.right op f g r h) }
+
+-- what was found is right
+pub found_right : (m : Meaning) (cells : List ℕ) (op : Op) (f g : ℕ) (found : Option ℕ) → IsCache m cells → IfSome found (IsKept cells op f g) → IfSome found (IsResult m op f g)
+found_right m cells op f g None c k = tt
+found_right m cells op f g (Some r) c k = from_ordered m op f g k.p k.q r k.operands (c.right op k.p k.q r k.entry)
+
+-- a cache without new entries stays right
+pub no_more_right : (m : Meaning) (old new : List ℕ) → HasNoMore old new → IsCache m old → IsCache m new
+no_more_right m old new more c = record { right = λ op f g r h. c.right op f g r (more op f g r h) }
+
+-- a right result may be kept
+pub kept_right : (m : Meaning) (old new : List ℕ) (op : Op) (f g x : ℕ) → MayHave op f g x old new → IsResult m op f g x → IsCache m old → IsCache m new
+kept_right m old new op f g x may right c =
+    record {
+      right = λ o p q r h. elim (may o p q r h) [
+        | inl w ↦ c.right o p q r w
+        | inr w ↦ rw (← w.operation, ← w.found) (to_ordered m op f g p q x w.operands right)
+      ];
+    }
 
 -- a word that is no result
 empty_cell : (op : Op) (f g r w : ℕ) → w ≡ 0 → w ≡ cell_word (tag_of op) f g r → ⊥
 empty_cell op f g r w z e = omega (arith, tag_range op)
 
--- more cells, all empty, are right
-pub cache_lengthens : (variables : ℕ) (ws old new : List ℕ) → ((k : ℕ) → k < length new → ((k < length old) × (get_or new k 0 ≡ get_or old k 0)) ⊎ (get_or new k 0 ≡ 0)) → IsCache variables ws old → IsCache variables ws new
-cache_lengthens variables ws old new m c =
-    record {
-      right = λ k h op f g r a b d e. elim (m k h) [
-        | inl w ↦ c.right k w.0 op f g r a b d (sym w.1 ∙ e)
-        | inr w ↦ absurd (empty_cell op f g r (get_or new k 0) w e)
-      ];
-    }
+-- more cells, all empty, have no more entries
+pub lengthened : (old new : List ℕ) → ((k : ℕ) → k < length new → ((k < length old) × (get_or new k 0 ≡ get_or old k 0)) ⊎ (get_or new k 0 ≡ 0)) → HasNoMore old new
+lengthened old new m op f g r h =
+    elim (m h.place h.there) [
+      | inl w ↦ record { place = h.place; there = w.0; first = h.first; second = h.second; fits = h.fits; word = sym w.1 ∙ h.word }
+      | inr w ↦ absurd (empty_cell op f g r (get_or new h.place 0) w h.word)
+    ]
 
--- a right result may be kept
-pub cache_keeps : (variables : ℕ) (ws cells : List ℕ) (op : Op) (f g p q x i : ℕ) → p < 2 ^ 20 → q < 2 ^ 20 → x < 2 ^ 20 → AreOperands op f g p q → IsResult variables op ws f g x → IsCache variables ws cells → i < length cells → IsCache variables ws (set cells i (cell_word (tag_of op) p q x))
-cache_keeps variables ws cells op f g p q x i hp hq hx m right c inside =
-    record {
-      right = λ k h o u v r a b d e. elim (cases_eq k i) [
-        | inl here ↦
-            let n : get_or (set cells i (cell_word (tag_of op) p q x)) k 0 ≡ cell_word (tag_of op) p q x = rw here (get_or-set_same cells i (cell_word (tag_of op) p q x) 0 inside) in
-            let s = cell_once (tag_of op) p q x (tag_of o) u v r hp hq hx a b d (sym n ∙ e) in
-            let z : op ≡ o = tag_of-injective op o s.tag in
-            rw (← z, ← s.first, ← s.second, ← s.found) (to_ordered variables op ws f g p q x m right)
-        | inr there ↦ c.right k (omega (arith, length-set cells i (cell_word (tag_of op) p q x))) o u v r a b d (sym (get_or-set_other cells i k (cell_word (tag_of op) p q x) 0 there) ∙ e)
-      ];
-    }
+-- one cell is written
+pub written : (cells : List ℕ) (op : Op) (f g p q x i : ℕ) → p < 2 ^ 20 → q < 2 ^ 20 → x < 2 ^ 20 → AreOperands op f g p q → i < length cells → MayHave op f g x cells (set cells i (cell_word (tag_of op) p q x))
+written cells op f g p q x i hp hq hx m inside o u v r h =
+    elim (cases_eq h.place i) [
+      | inl here ↦
+          let n : get_or (set cells i (cell_word (tag_of op) p q x)) h.place 0 ≡ cell_word (tag_of op) p q x = rw here (get_or-set_same cells i (cell_word (tag_of op) p q x) 0 inside) in
+          let s = cell_once (tag_of op) p q x (tag_of o) u v r hp hq hx h.first h.second h.fits (sym n ∙ h.word) in
+          inr (record { operation = tag_of-injective op o s.tag; operands = rw (← s.first, ← s.second) m; found = s.found })
+      | inr there ↦
+          inl (record {
+            place = h.place;
+            there = omega (arith, h.there, length-set cells i (cell_word (tag_of op) p q x));
+            first = h.first;
+            second = h.second;
+            fits = h.fits;
+            word = sym (get_or-set_other cells i h.place (cell_word (tag_of op) p q x) 0 there) ∙ h.word;
+          })
+    ]
 
--- a cell that was found
-pub cell_found : (variables : ℕ) (ws cells : List ℕ) (op : Op) (f g p q k w r : ℕ) → p < 2 ^ 20 → q < 2 ^ 20 → AreOperands op f g p q → k < length cells → get_or cells k 0 / 2 ^ 20 ≡ cell_word (tag_of op) p q 0 / 2 ^ 20 → r ≡ get_or cells k 0 % 2 ^ 20 → IsCache variables ws cells → IsResult variables op ws f g r
-cell_found variables ws cells op f g p q k w r hp hq m h e er c =
-    from_ordered variables op ws f g p q r m (c.right k h op p q r hp hq (omega arith) (omega arith))
+-- a cell whose operation and operands are those that are asked for
+pub cell_found : (cells : List ℕ) (op : Op) (f g p q k r : ℕ) → p < 2 ^ 20 → q < 2 ^ 20 → AreOperands op f g p q → k < length cells → get_or cells k 0 / 2 ^ 20 ≡ cell_word (tag_of op) p q 0 / 2 ^ 20 → r ≡ get_or cells k 0 % 2 ^ 20 → IsKept cells op f g r
+cell_found cells op f g p q k r hp hq m h e er =
+    record { p = p; q = q; operands = m; entry = record { place = k; there = h; first = hp; second = hq; fits = omega arith; word = omega arith } }
 
 -- operands stay small as they change places
 pub ordered_small : (op : Op) (f g p q n : ℕ) → f < n → g < n → AreOperands op f g p q → (p < n) × (q < n)

@@ -3,6 +3,7 @@ pub mod Counting
 pub mod Laws
 pub mod Growing
 pub mod Combining
+pub mod Meanings
 pub mod Caching
 pub mod Tasks
 pub mod Extending

@@ -1,99 +1,94 @@
-use Rattle.std.proofs.Common.{◌≡◌, ℕ, zero, suc, ◌+◌, ◌-◌, ◌*◌, ◌^◌, ◌<◌, ◌≤◌, List, [], ◌∷◌, ◌++◌, length, min, refl, sym, ◌∙◌, ap, subst, arith, inl, inr}
+use Rattle.std.proofs.Common.{◌≡◌, ℕ, zero, suc, ◌+◌, ◌-◌, ◌*◌, ◌^◌, ◌<◌, ◌≤◌, List, [], ◌∷◌, ◌++◌, min, refl, sym, ◌∙◌, ap, subst, arith, inl, inr}
 use Rattle.std.proofs.lemmas.Bool.{cases_lt}
 use Rattle.std.proofs.lemmas.List.Sums.{sum_by-append}
 use Rattle.eqc_tree.specs.declared.operation.Op.{Op}
 use Rattle.eqc_plain.specs.declared.task.Task.{Task}
 use Rattle.eqc_plain.specs.declared.task.Task.TheVariants.{Low, High}
-use Rattle.eqc_plain.specs.Combining.{IsResult, IsExpansion}
-use Rattle.eqc_plain.specs.Store.{IsNode, AreCofactors, IsStore, tree_at, root}
-use Rattle.eqc_plain.specs.Tasks.{HasLow, Leads, LeadsTo, owed, owed_all, work, StepsTo, ComesNext}
-use Rattle.eqc_plain.proofs.Trees.{root_below}
-use Rattle.eqc_plain.proofs.Growing.{IsBefore}
-use Rattle.eqc_plain.proofs.Combining.{result_grows, expansion_grows, combined}
+use Rattle.eqc_plain.specs.Meaning.{Meaning}
+use Rattle.eqc_plain.specs.Combining.{IsResult, AreHalves, IsExpansion, HasBoth}
+use Rattle.eqc_plain.specs.Tasks.{Leads, LeadsTo, owed, owed_all, work, StepsTo, ComesNext}
+use Rattle.eqc_plain.proofs.Combining.{Stays, result_stays, expansion_stays}
 
 -- what leads on leads all the way
-pub leads-append : (variables : ℕ) (op : Op) (ws : List ℕ) (ts us : List Task) (F G f g p q : ℕ) → Leads variables op ws ts F G f g → Leads variables op ws us f g p q → Leads variables op ws (ts ++ us) F G p q
-leads-append variables op ws [] us F G f g p q l m = rw (l.0, l.1) m
-leads-append variables op ws (Low a b v c d ∷ ts) us F G f g p q l m = (l.0, l.1, (l.2.0, leads-append variables op ws ts us l.2.0.p0 l.2.0.q0 f g p q l.2.1 m))
-leads-append variables op ws (High a b v low ∷ ts) us F G f g p q l m = (l.0, l.1, (l.2.0, leads-append variables op ws ts us l.2.0.p1 l.2.0.q1 f g p q l.2.1 m))
+pub leads-append : (m : Meaning) (op : Op) (ts us : List Task) (F G f g p q : ℕ) → Leads m op ts F G f g → Leads m op us f g p q → Leads m op (ts ++ us) F G p q
+leads-append m op [] us F G f g p q l k = rw (l.0, l.1) k
+leads-append m op (Low a b v c d ∷ ts) us F G f g p q l k = (l.0, l.1, (l.2.0, leads-append m op ts us l.2.0.p0 l.2.0.q0 f g p q l.2.1 k))
+leads-append m op (High a b v low ∷ ts) us F G f g p q l k = (l.0, l.1, (l.2.0, leads-append m op ts us l.2.0.p1 l.2.0.q1 f g p q l.2.1 k))
 
 -- where the first tasks lead
-pub record LeadsThrough (variables : ℕ) (op : Op) (ws : List ℕ) (ts us : List Task) (F G p q : ℕ) : Type 0 where
+pub record LeadsThrough (m : Meaning) (op : Op) (ts us : List Task) (F G p q : ℕ) : Type 0 where
   pub f : ℕ
   pub g : ℕ
-  pub first : Leads variables op ws ts F G f g
-  pub second : Leads variables op ws us f g p q
+  pub first : Leads m op ts F G f g
+  pub second : Leads m op us f g p q
 
 -- what leads all the way leads by each place on it
-pub leads_apart : (variables : ℕ) (op : Op) (ws : List ℕ) (ts us : List Task) (F G p q : ℕ) → Leads variables op ws (ts ++ us) F G p q → LeadsThrough variables op ws ts us F G p q
-leads_apart variables op ws [] us F G p q l = record { f = F; g = G; first = (refl, refl); second = l }
-leads_apart variables op ws (Low a b v c d ∷ ts) us F G p q l =
-    let r = leads_apart variables op ws ts us l.2.0.p0 l.2.0.q0 p q l.2.1 in
+pub leads_apart : (m : Meaning) (op : Op) (ts us : List Task) (F G p q : ℕ) → Leads m op (ts ++ us) F G p q → LeadsThrough m op ts us F G p q
+leads_apart m op [] us F G p q l = record { f = F; g = G; first = (refl, refl); second = l }
+leads_apart m op (Low a b v c d ∷ ts) us F G p q l =
+    let r = leads_apart m op ts us l.2.0.p0 l.2.0.q0 p q l.2.1 in
     record { f = r.f; g = r.g; first = (l.0, l.1, (l.2.0, r.first)); second = r.second }
-leads_apart variables op ws (High a b v low ∷ ts) us F G p q l =
-    let r = leads_apart variables op ws ts us l.2.0.p1 l.2.0.q1 p q l.2.1 in
+leads_apart m op (High a b v low ∷ ts) us F G p q l =
+    let r = leads_apart m op ts us l.2.0.p1 l.2.0.q1 p q l.2.1 in
     record { f = r.f; g = r.g; first = (l.0, l.1, (l.2.0, r.first)); second = r.second }
 
--- tasks lead on as the store grows
-pub leads_grows : (variables : ℕ) (op : Op) (old new : List ℕ) (ts : List Task) (F G f g : ℕ) → IsBefore old new → Leads variables op old ts F G f g → Leads variables op new ts F G f g
-leads_grows variables op old new [] F G f g q l = l
-leads_grows variables op old new (Low a b v c d ∷ ts) F G f g q l =
+-- tasks lead on where numbers keep their meaning
+pub leads_stay : (m n : Meaning) (op : Op) (ts : List Task) (F G f g : ℕ) → Stays m n → Leads m op ts F G f g → Leads n op ts F G f g
+leads_stay m n op [] F G f g s l = l
+leads_stay m n op (Low a b v c d ∷ ts) F G f g s l =
     let h = l.2.0 in
-    (l.0, l.1, (record { p0 = h.p0; q0 = h.q0; expansion = expansion_grows q h.expansion }, leads_grows variables op old new ts h.p0 h.q0 f g q l.2.1))
-leads_grows variables op old new (High a b v low ∷ ts) F G f g q l =
+    (l.0, l.1, (record { p0 = h.p0; q0 = h.q0; expansion = expansion_stays s h.expansion }, leads_stay m n op ts h.p0 h.q0 f g s l.2.1))
+leads_stay m n op (High a b v low ∷ ts) F G f g s l =
     let h = l.2.0 in
-    (l.0, l.1, (record { p0 = h.p0; p1 = h.p1; q0 = h.q0; q1 = h.q1; expansion = expansion_grows q h.expansion; right = result_grows q h.right }, leads_grows variables op old new ts h.p1 h.q1 f g q l.2.1))
+    (l.0, l.1, (record { p0 = h.p0; p1 = h.p1; q0 = h.q0; q1 = h.q1; expansion = expansion_stays s h.expansion; right = result_stays s h.right }, leads_stay m n op ts h.p1 h.q1 f g s l.2.1))
 
 -- the operation on f and g is expanded, and the low cofactors come next
-pub leads_low : (variables : ℕ) (op : Op) (ws : List ℕ) (ts : List Task) (F G f g v f0 f1 g0 g1 : ℕ) → Leads variables op ws ts F G f g → IsExpansion variables ws v f g f0 f1 g0 g1 → Leads variables op ws (ts ++ Low f g v f1 g1 ∷ []) F G f0 g0
-leads_low variables op ws ts F G f g v f0 f1 g0 g1 l h =
-    leads-append variables op ws ts (Low f g v f1 g1 ∷ []) F G f g f0 g0 l (refl, refl, (record { p0 = f0; q0 = g0; expansion = h }, (refl, refl)))
+pub leads_low : (m : Meaning) (op : Op) (ts : List Task) (F G f g v f0 f1 g0 g1 : ℕ) → Leads m op ts F G f g → IsExpansion m v f g f0 f1 g0 g1 → Leads m op (ts ++ Low f g v f1 g1 ∷ []) F G f0 g0
+leads_low m op ts F G f g v f0 f1 g0 g1 l h =
+    leads-append m op ts (Low f g v f1 g1 ∷ []) F G f g f0 g0 l (refl, refl, (record { p0 = f0; q0 = g0; expansion = h }, (refl, refl)))
 
 -- the low result is there, and the high cofactors come next
-pub leads_high : (variables : ℕ) (op : Op) (ws : List ℕ) (ts : List Task) (F G p q v p1 q1 x : ℕ) → LeadsTo variables op ws (ts ++ Low p q v p1 q1 ∷ []) F G x → Leads variables op ws (ts ++ High p q v x ∷ []) F G p1 q1
-leads_high variables op ws ts F G p q v p1 q1 x l =
-    let r = leads_apart variables op ws ts (Low p q v p1 q1 ∷ []) F G l.f l.g l.leads in
+pub leads_high : (m : Meaning) (op : Op) (ts : List Task) (F G p q v p1 q1 x : ℕ) → LeadsTo m op (ts ++ Low p q v p1 q1 ∷ []) F G x → Leads m op (ts ++ High p q v x ∷ []) F G p1 q1
+leads_high m op ts F G p q v p1 q1 x l =
+    let r = leads_apart m op ts (Low p q v p1 q1 ∷ []) F G l.f l.g l.leads in
     let h = r.second.2.0 in
-    let low : IsResult variables op ws h.p0 h.q0 x = rw (r.second.2.1.0, r.second.2.1.1) l.right in
-    leads-append variables op ws ts (High p q v x ∷ []) F G r.f r.g p1 q1 r.first (r.second.0, r.second.1, (record { p0 = h.p0; p1 = p1; q0 = h.q0; q1 = q1; expansion = h.expansion; right = low }, (refl, refl)))
+    let low : IsResult m op h.p0 h.q0 x = rw (r.second.2.1.0, r.second.2.1.1) l.right in
+    leads-append m op ts (High p q v x ∷ []) F G r.f r.g p1 q1 r.first (r.second.0, r.second.1, (record { p0 = h.p0; p1 = p1; q0 = h.q0; q1 = q1; expansion = h.expansion; right = low }, (refl, refl)))
 
--- the cofactors of the task on top, with the low result
-pub record TopHigh (variables : ℕ) (op : Op) (ws : List ℕ) (ts : List Task) (F G p q v low x : ℕ) : Type 0 where
-  pub below : Leads variables op ws ts F G p q
-  pub cofactors : HasLow variables op ws p q v low
-  pub high : IsResult variables op ws cofactors.p1 cofactors.q1 x
+-- both results of the task on top are there
+pub record TopDone (m : Meaning) (op : Op) (ts : List Task) (F G p q v low x : ℕ) : Type 0 where
+  pub below : Leads m op ts F G p q
+  pub both : HasBoth m op p q v low x
 
--- both results are there
-pub top_high : (variables : ℕ) (op : Op) (ws : List ℕ) (ts : List Task) (F G p q v low x : ℕ) → LeadsTo variables op ws (ts ++ High p q v low ∷ []) F G x → TopHigh variables op ws ts F G p q v low x
-top_high variables op ws ts F G p q v low x l =
-    let r = leads_apart variables op ws ts (High p q v low ∷ []) F G l.f l.g l.leads in
+pub top_done : (m : Meaning) (op : Op) (us ts : List Task) (F G p q v low x : ℕ) → us ≡ ts ++ High p q v low ∷ [] → LeadsTo m op us F G x → TopDone m op ts F G p q v low x
+top_done m op us ts F G p q v low x e k =
+    let l = subst (λ ts. LeadsTo m op ts F G x) e k in
+    let r = leads_apart m op ts (High p q v low ∷ []) F G l.f l.g l.leads in
     let h = r.second.2.0 in
     record {
-      below = subst (λ b. Leads variables op ws ts F G p b) r.second.1 (subst (λ a. Leads variables op ws ts F G a r.g) r.second.0 r.first);
-      cofactors = h;
-      high = subst (λ b. IsResult variables op ws h.p1 b x) (sym r.second.2.1.1) (subst (λ a. IsResult variables op ws a l.g x) (sym r.second.2.1.0) l.right);
+      below = subst (λ b. Leads m op ts F G p b) r.second.1 (subst (λ a. Leads m op ts F G a r.g) r.second.0 r.first);
+      both = record {
+        f0 = h.p0;
+        f1 = h.p1;
+        g0 = h.q0;
+        g1 = h.q1;
+        expansion = h.expansion;
+        low_right = h.right;
+        high_right = subst (λ b. IsResult m op h.p1 b x) (sym r.second.2.1.1) (subst (λ a. IsResult m op a l.g x) (sym r.second.2.1.0) l.right);
+      };
     }
 
--- the node over both results has the result of the task
-pub task_right : (variables : ℕ) (op : Op) (old new : List ℕ) (ts : List Task) (F G p q v low x y n : ℕ) → IsBefore old new → n ≡ variables → TopHigh variables op old ts F G p q v low x → IsNode n new v low x y → IsResult n op new p q y
-task_right variables op old new ts F G p q v low x y n b e t node =
-    let h = t.cofactors in
-    let node' : IsNode variables new v low x y = subst (λ m. IsNode m new v low x y) e node in
-    subst (λ m. IsResult m op new p q y) (sym e) (combined variables op new v p q h.p0 h.p1 h.q0 h.q1 low x y (expansion_grows b h.expansion) (result_grows b h.right) (result_grows b t.high) node')
-
--- and the tasks below lead to it
-pub task_done : (variables : ℕ) (op : Op) (old new : List ℕ) (ts : List Task) (F G p q v low x y n : ℕ) → IsBefore old new → n ≡ variables → TopHigh variables op old ts F G p q v low x → IsNode n new v low x y → LeadsTo n op new ts F G y
-task_done variables op old new ts F G p q v low x y n b e t node =
-    record {
-      f = p;
-      g = q;
-      leads = subst (λ m. Leads m op new ts F G p q) (sym e) (leads_grows variables op old new ts F G p q b t.below);
-      right = task_right variables op old new ts F G p q v low x y n b e t node;
-    }
+-- the result of the task on top is there, and the tasks below lead to it
+pub task_done : (m n : Meaning) (op : Op) (ts : List Task) (F G p q v low x y : ℕ) → Stays m n → TopDone m op ts F G p q v low x → IsResult n op p q y → LeadsTo n op ts F G y
+task_done m n op ts F G p q v low x y s t r = record { f = p; g = q; leads = leads_stay m n op ts F G p q s t.below; right = r }
 
 -- one task more, or less
 pub owed_all-push : (variables : ℕ) (ts : List Task) (t : Task) → owed_all variables (ts ++ t ∷ []) ≡ owed_all variables ts + owed variables t
 owed_all-push variables ts t = sum_by-append (owed variables) ts (t ∷ []) ∙ omega arith
+
+-- one task less owes no more, and the variables are the same
+pub less_owed : (variables n : ℕ) (ts us all : List Task) (t : Task) → n ≡ variables → us ≡ ts ++ t ∷ [] → owed_all variables us ≤ owed_all variables all → owed_all n ts ≤ owed_all n all
+less_owed variables n ts us all t e is h = subst (λ k. owed_all k ts ≤ owed_all k all) (sym e) (omega (arith, owed_all-push variables ts t, ap (owed_all variables) is))
 
 pow_pos : (n : ℕ) → 0 < 2 ^ n
 pow_pos zero = omega arith
@@ -112,70 +107,48 @@ pow_next : (n : ℕ) → 2 ^ (n + 1) ≡ 2 * 2 ^ n
 pow_next n = let e : n + 1 ≡ suc n = omega arith in rw e (omega arith)
 
 -- what starts below v is less work than a full tree from v
-work_below : (variables : ℕ) (ws : List ℕ) (v p q : ℕ) → v < variables → v < root variables (tree_at ws p) → v < root variables (tree_at ws q) → work variables ws p q ≤ 2 ^ (variables - v)
-work_below variables ws v p q a b c = pow_le (variables - min (root variables (tree_at ws p)) (root variables (tree_at ws q)) + 1) (variables - v) (omega arith)
+work_below : (m : Meaning) (v p q : ℕ) → v < m.variables → v < m.root p → v < m.root q → work m p q ≤ 2 ^ (m.variables - v)
+work_below m v p q a b c = pow_le (m.variables - min (m.root p) (m.root q) + 1) (m.variables - v) (omega arith)
 
--- the top variable of two that are no constants
-pub top_below : {variables limit : ℕ} {ws counts : List ℕ} → IsStore variables limit ws counts → (f g : ℕ) → f < length ws + 2 → g < length ws + 2 → ((f < 2) × (g < 2) → ⊥) → min (root variables (tree_at ws f)) (root variables (tree_at ws g)) < variables
-top_below s f g hf hg inner =
-    elim (cases_lt f 2) [
-      | inl small ↦ elim (cases_lt g 2) [
-        | inl low ↦ absurd (inner (small, low))
-        | inr high ↦ omega (arith, root_below s g high hg)
-      ]
-      | inr high ↦ omega (arith, root_below s f high hf)
-    ]
+-- the cofactors at the top variable are an expansion
+pub expansion_at : (m n : Meaning) (f g v f0 f1 g0 g1 : ℕ) → Stays m n → m.there f → m.there g → v ≡ min (m.root f) (m.root g) → v < m.variables → AreHalves n v f f0 f1 → AreHalves n v g g0 g1 → IsExpansion n v f g f0 f1 g0 g1
+expansion_at m n f g v f0 f1 g0 g1 s hf hg e below sf sg =
+    record { first = s.there f hf; second = s.there g hg; below = omega (arith, s.variables); cofactors_f = sf; cofactors_g = sg; top = λ w a b. omega (arith, s.root f hf, s.root g hg) }
 
 -- f and g are expanded
-pub expanded_step : (variables : ℕ) (ws : List ℕ) (ts : List Task) (f g v f0 f1 g0 g1 : ℕ) → f < length ws + 2 → g < length ws + 2 → v ≡ min (root variables (tree_at ws f)) (root variables (tree_at ws g)) → v < variables → AreCofactors variables ws v f f0 f1 → AreCofactors variables ws v g g0 g1 → StepsTo variables ws ts (ts ++ Low f g v f1 g1 ∷ []) f g f0 g0
-expanded_step variables ws ts f g v f0 f1 g0 g1 hf hg e below sf sg =
-    let h : IsExpansion variables ws v f g f0 f1 g0 g1 = record { first = hf; second = hg; below = below; cofactors_f = sf; cofactors_g = sg; top = λ w a b. omega arith } in
-    let p : work variables ws f g ≡ 2 * 2 ^ (variables - v) = rw (← e) (pow_next (variables - v)) in
+pub expanded_step : (m n : Meaning) (ts us : List Task) (f g v f0 f1 g0 g1 : ℕ) → us ≡ ts ++ Low f g v f1 g1 ∷ [] → Stays m n → m.there f → m.there g → v ≡ min (m.root f) (m.root g) → v < m.variables → AreHalves n v f f0 f1 → AreHalves n v g g0 g1 → StepsTo m n ts us f g f0 g0
+expanded_step m n ts us f g v f0 f1 g0 g1 is s hf hg e below sf sg =
+    let h = expansion_at m n f g v f0 f1 g0 g1 s hf hg e below sf sg in
+    let p : work m f g ≡ 2 * 2 ^ (m.variables - v) = rw (← e) (pow_next (m.variables - v)) in
+    let q : owed_all n.variables us ≡ owed_all m.variables ts + owed m.variables (Low f g v f1 g1) = rw (is, s.variables) (owed_all-push m.variables ts (Low f g v f1 g1)) in
+    let r : work n f0 g0 ≤ 2 ^ (m.variables - v) = rw (← s.variables) (work_below n v f0 g0 h.below sf.above_low sg.above_low) in
     record {
       first = sf.low_within;
       second = sg.low_within;
-      leads = λ op F G l. leads_low variables op ws ts F G f g v f0 f1 g0 g1 l h;
-      less = omega (arith, owed_all-push variables ts (Low f g v f1 g1), p, pow_pos (variables - v), work_below variables ws v f0 g0 below sf.above_low sg.above_low);
+      leads = λ op F G l. rw is (leads_low n op ts F G f g v f0 f1 g0 g1 (leads_stay m n op ts F G f g s l) h);
+      less = omega (arith, p, q, r, pow_pos (m.variables - v));
     }
 
 -- the low result is there
-pub low_done : (variables : ℕ) (op : Op) (ws : List ℕ) (us ts : List Task) (F G p q v p1 q1 x : ℕ) → owed_all variables (ts ++ Low p q v p1 q1 ∷ []) ≤ owed_all variables us → LeadsTo variables op ws (ts ++ Low p q v p1 q1 ∷ []) F G x → ComesNext variables op ws us (ts ++ High p q v x ∷ []) F G p1 q1
-low_done variables op ws us ts F G p q v p1 q1 x less l =
-    let r = leads_apart variables op ws ts (Low p q v p1 q1 ∷ []) F G l.f l.g l.leads in
+pub low_done : (m : Meaning) (op : Op) (us ts ns all : List Task) (F G p q v p1 q1 x : ℕ) → us ≡ ts ++ Low p q v p1 q1 ∷ [] → ns ≡ ts ++ High p q v x ∷ [] → owed_all m.variables us ≤ owed_all m.variables all → LeadsTo m op us F G x → ComesNext m op all ns F G p1 q1
+low_done m op us ts ns all F G p q v p1 q1 x was is less k =
+    let l = subst (λ ts. LeadsTo m op ts F G x) was k in
+    let r = leads_apart m op ts (Low p q v p1 q1 ∷ []) F G l.f l.g l.leads in
     let h = r.second.2.0.expansion in
+    let before : owed_all m.variables us ≡ owed_all m.variables ts + owed m.variables (Low p q v p1 q1) = rw was (owed_all-push m.variables ts (Low p q v p1 q1)) in
+    let after : owed_all m.variables ns ≡ owed_all m.variables ts + owed m.variables (High p q v x) = rw is (owed_all-push m.variables ts (High p q v x)) in
     record {
       first = h.cofactors_f.high_within;
       second = h.cofactors_g.high_within;
-      leads = leads_high variables op ws ts F G p q v p1 q1 x l;
-      less = omega (arith, owed_all-push variables ts (Low p q v p1 q1), owed_all-push variables ts (High p q v x), pow_pos (variables - v), work_below variables ws v p1 q1 h.below h.cofactors_f.above_high h.cofactors_g.above_high);
+      leads = rw is (leads_high m op ts F G p q v p1 q1 x l);
+      less = omega (arith, before, after, pow_pos (m.variables - v), work_below m v p1 q1 h.below h.cofactors_f.above_high h.cofactors_g.above_high);
     }
 
-two_work : (variables : ℕ) (ws : List ℕ) (f g : ℕ) → 2 ≤ work variables ws f g
-two_work variables ws f g =
-    let k = variables - min (root variables (tree_at ws f)) (root variables (tree_at ws g)) in
+two_work : (m : Meaning) (f g : ℕ) → 2 ≤ work m f g
+two_work m f g =
+    let k = m.variables - min (m.root f) (m.root g) in
     omega (arith, pow_next k, pow_pos k)
 
 -- a result that came leaves less
-pub turn_less : (n m : ℕ) (op : Op) (old new : List ℕ) (ts us : List Task) (F G f g p q : ℕ) → m ≡ n → ComesNext m op new ts us F G p q → owed_all m us + work m new p q < owed_all n ts + work n old f g
-turn_less n m op old new ts us F G f g p q e c = omega (arith, two_work n old f g, c.less, ap (λ k. owed_all k ts) e)
-
--- what a node needs of the task on top
-pub record TopFits (variables : ℕ) (ws : List ℕ) (v low x p q : ℕ) : Type 0 where
-  pub low_within : low < length ws + 2
-  pub high_within : x < length ws + 2
-  pub above_low : v < root variables (tree_at ws low)
-  pub above_high : v < root variables (tree_at ws x)
-  pub first : p < length ws + 2
-  pub second : q < length ws + 2
-
-pub top_fits : {variables : ℕ} {op : Op} {ws : List ℕ} {ts : List Task} {F G p q v low x : ℕ} → TopHigh variables op ws ts F G p q v low x → TopFits variables ws v low x p q
-top_fits {variables} {op} {ws} {ts} {F} {G} {p} {q} {v} {low} {x} t =
-    let h = t.cofactors in
-    record {
-      low_within = h.right.within;
-      high_within = t.high.within;
-      above_low = h.right.above v h.expansion.cofactors_f.above_low h.expansion.cofactors_g.above_low;
-      above_high = t.high.above v h.expansion.cofactors_f.above_high h.expansion.cofactors_g.above_high;
-      first = h.expansion.first;
-      second = h.expansion.second;
-    }
+pub turn_less : (m n : Meaning) (op : Op) (ts us : List Task) (F G f g p q : ℕ) → n.variables ≡ m.variables → ComesNext n op ts us F G p q → owed_all n.variables us + work n p q < owed_all m.variables ts + work m f g
+turn_less m n op ts us F G f g p q e c = omega (arith, two_work m f g, c.less, ap (λ k. owed_all k ts) e)

@@ -190,7 +190,3 @@ module _ {variables limit : ℕ} {ws counts : List ℕ} (s : IsStore variables l
       let k : x - 2 < length ws = omega arith in
       let p = s.shape (x - 2) k in
       omega (arith, root-node s x high w, p.above_low, root_upto (suc (low_of (get_or ws (x - 2) 0))) (low_of (get_or ws (x - 2) 0)) (omega arith) (omega (arith, p.low)))
-
-  -- no root is past the variables
-  pub root_le : (x : ℕ) → x < length ws + 2 → root variables (tree_at ws x) ≤ variables
-  root_le x w = root_upto (suc x) x (omega arith) w

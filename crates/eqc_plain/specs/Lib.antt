@@ -2,6 +2,8 @@ pub mod Store
 pub mod Extending
 pub mod Referring
 pub mod Terminal
+pub mod Cells
+pub mod Meaning
 pub mod Combining
 pub mod Cache
 pub mod Tasks

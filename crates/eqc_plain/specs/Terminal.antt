@@ -8,8 +8,6 @@ pub record Decides (op : Op) (f g x : ℕ) : Type 0 where
   pub among : (x ≡ f) ⊎ ((x ≡ g) ⊎ (x < 2))
   pub right : (says : ℕ → Bool) → says 0 ≡ false → says 1 ≡ true → says x ≡ operate op (says f) (says g)
 
--- From here on: how the cache finds an operation that commutes. No public promise cites it.
-
 -- p and q are f and g, or the other way round for an operation that commutes
 abbrev pub AreOperands : Op → (f g p q : ℕ) → Type 0
 AreOperands op f g p q = ((p ≡ f) × (q ≡ g)) ⊎ ((p ≡ g) × (q ≡ f) × ((a b : Bool) → operate op a b ≡ operate op b a))

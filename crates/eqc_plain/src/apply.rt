@@ -7,7 +7,8 @@ use eqc_tree::{Op, Stop};
 use std::snapshot::Snapshot;
 
 impl Plain {
-    ghost use Rattle.eqc_plain.specs.Combining.{IsResult};
+    ghost use Rattle.eqc_plain.specs.Meaning.{meaning_of};
+    ghost use Rattle.eqc_plain.specs.Combining.{IsResult, HasBoth};
     ghost use Rattle.eqc_plain.specs.Extending.{Extends};
     ghost use Rattle.eqc_plain.specs.Tasks.{LeadsTo, StepsTo, TurnsTo};
     ghost use Rattle.eqc_plain.specs.Terminal.{Decides};
@@ -18,7 +19,7 @@ impl Plain {
         requires f { f < length self.old.store.nodes + 2 }
         requires g { g < length self.old.store.nodes + 2 }
         ensures store { Extends self.old.store self.new.store }
-        ensures ok { IfOk result (λ x. IsResult self.new.store.variables op self.new.store.nodes f g x) }
+        ensures ok { IfOk result (IsResult (meaning_of self.new.store.variables self.new.store.nodes) op f g) }
         ensures undecided { IfErr result (λ _. (x : ℕ) → ¬ Decides op f g x) }
         ensures full { result ≡ Err Stop.NodeLimit → length self.new.store.nodes ≡ self.new.store.limit }
         ensures only { IfErr result (λ s. (s ≡ Stop.NodeLimit) ⊎ (s ≡ Stop.Memory)) }
@@ -46,7 +47,7 @@ impl Plain {
     fn known(&self, op: Op, f: u32, g: u32) -> Option<u32>
         requires f { f < length self.now.store.nodes + 2 }
         requires g { g < length self.now.store.nodes + 2 }
-        ensures right { IfSome result (IsResult self.now.store.variables op self.now.store.nodes f g) }
+        ensures right { IfSome result (IsResult (meaning_of self.now.store.variables self.now.store.nodes) op f g) }
         ensures undecided { IfNone result ((x : ℕ) → ¬ Decides op f g x) }
         ensures inner { IfNone result (¬ ((f < 2) × (g < 2))) }
     {
@@ -62,7 +63,7 @@ impl Plain {
         requires f { f < length self.old.store.nodes + 2 }
         requires g { g < length self.old.store.nodes + 2 }
         requires inner { ¬ ((f < 2) × (g < 2)) }
-        ensures steps { IfOk result (λ low. StepsTo self.old.store.variables self.old.store.nodes self.old.tasks.items self.new.tasks.items f g low.0 low.1) }
+        ensures steps { IfOk result (λ low. StepsTo (meaning_of self.old.store.variables self.old.store.nodes) (meaning_of self.new.store.variables self.new.store.nodes) self.old.tasks.items self.new.tasks.items f g low.0 low.1) }
         ensures store { self.new.store ≡ self.old.store }
         ensures only { IfErr result (λ s. s ≡ Stop.Memory) }
     {
@@ -82,12 +83,35 @@ impl Plain {
         }
     }
 
+    /// The node over both results, which is kept for the operation.
+    fn finish(
+        &mut self,
+        op: Op,
+        f: u32,
+        g: u32,
+        variable: u16,
+        low: u32,
+        high: u32,
+    ) -> Result<u32, Stop>
+        requires { HasBoth (meaning_of self.old.store.variables self.old.store.nodes) op f g variable low high }
+        ensures store { Extends self.old.store self.new.store }
+        ensures ok { IfOk result (IsResult (meaning_of self.new.store.variables self.new.store.nodes) op f g) }
+        ensures tasks { self.new.tasks ≡ self.old.tasks }
+        ensures full { result ≡ Err Stop.NodeLimit → length self.new.store.nodes ≡ self.new.store.limit }
+        ensures only { IfErr result (λ s. (s ≡ Stop.NodeLimit) ⊎ (s ≡ Stop.Memory)) }
+    {
+        let x = self.store.node(variable, low, high)?;
+        self.cache.grow(self.store.nodes.len());
+        self.cache.keep(op, f, g, x);
+        Ok(x)
+    }
+
     /// Ends the tasks on top that `x` is the last missing result of, up to one whose high cofactors
     /// come next. `whole` has the operands of the whole operation, in proofs alone.
     fn resume(&mut self, op: Op, x: u32, whole: &Snapshot<(u32, u32)>) -> Result<Turn, Stop>
-        requires { LeadsTo self.old.store.variables op self.old.store.nodes self.old.tasks.items whole.now.value.0 whole.now.value.1 x }
+        requires { LeadsTo (meaning_of self.old.store.variables self.old.store.nodes) op self.old.tasks.items whole.now.value.0 whole.now.value.1 x }
         ensures store { Extends self.old.store self.new.store }
-        ensures turn { IfOk result (TurnsTo self.new.store.variables op self.new.store.nodes self.old.tasks.items self.new.tasks.items whole.now.value.0 whole.now.value.1) }
+        ensures turn { IfOk result (TurnsTo (meaning_of self.new.store.variables self.new.store.nodes) op self.old.tasks.items self.new.tasks.items whole.now.value.0 whole.now.value.1) }
         ensures full { result ≡ Err Stop.NodeLimit → length self.new.store.nodes ≡ self.new.store.limit }
         ensures only { IfErr result (λ s. (s ≡ Stop.NodeLimit) ⊎ (s ≡ Stop.Memory)) }
     {
@@ -117,11 +141,7 @@ impl Plain {
                     g,
                     variable,
                     low,
-                } => {
-                    x = self.store.node(variable, low, x)?;
-                    self.cache.grow(self.store.nodes.len());
-                    self.cache.keep(op, f, g, x);
-                }
+                } => x = self.finish(op, f, g, variable, low, x)?,
             }
         }
         Ok(Turn::Done(x))

@@ -1,6 +1,5 @@
-ghost use Rattle.std.specs.Prelude.{◌≡◌, ◌<◌, ◌^◌, ℕ, List, length, IfSome};
-ghost use Rattle.eqc_plain.specs.Cache.{IsCache};
-ghost use Rattle.eqc_plain.specs.Combining.{IsResult};
+ghost use Rattle.std.specs.Prelude.{◌≡◌, ◌<◌, ◌^◌, length, IfSome};
+ghost use Rattle.eqc_plain.specs.Cells.{IsKept, MayHave, HasNoMore};
 
 use crate::terminal::ordered_operands;
 use eqc_tree::{Op, pack_cell, unpack_cell};
@@ -27,6 +26,13 @@ impl Cache {
         }
     }
 
+    /// Gives all results up.
+    pub fn clear(&mut self)
+        ensures { length self.new.cells.items ≡ 0 }
+    {
+        self.cells.clear();
+    }
+
     /// The cell of a word, by its operation and operands.
     fn place(&self, word: u64) -> usize
         requires { 0 < length self.now.cells.items }
@@ -36,12 +42,11 @@ impl Cache {
         mixed as usize & (self.cells.len() - 1)
     }
 
-    /// The result that is kept for an operation, which is right over each store that the cache is
-    /// right over.
+    /// The result that is kept for an operation.
     pub fn find(&self, op: Op, f: u32, g: u32) -> Option<u32>
         requires f { f < 2 ^ 20 }
         requires g { g < 2 ^ 20 }
-        ensures { IfSome result (λ r. ((variables : ℕ) (ws : List ℕ) → IsCache variables ws self.now.cells.items → IsResult variables op ws f g r)) }
+        ensures { IfSome result (IsKept self.now.cells.items op f g) }
     {
         if self.cells.is_empty() {
             return None;
@@ -56,13 +61,12 @@ impl Cache {
         Some(r)
     }
 
-    /// Keeps a result in place of what its cell had. Over each store that the result is right
-    /// over, the cache stays right.
+    /// Keeps a result in place of what its cell had.
     pub fn keep(&mut self, op: Op, f: u32, g: u32, r: u32)
         requires f { f < 2 ^ 20 }
         requires g { g < 2 ^ 20 }
         requires r { r < 2 ^ 20 }
-        ensures { (variables : ℕ) (ws : List ℕ) → IsResult variables op ws f g r → IsCache variables ws self.old.cells.items → IsCache variables ws self.new.cells.items }
+        ensures { MayHave op f g r self.old.cells.items self.new.cells.items }
     {
         if self.cells.is_empty() {
             return;
@@ -76,7 +80,7 @@ impl Cache {
     /// Has at least half as many cells as there are nodes, up to the most, where memory allows:
     /// results are then found more often, and nothing depends on it.
     pub fn grow(&mut self, nodes: usize)
-        ensures { (variables : ℕ) (ws : List ℕ) → IsCache variables ws self.old.cells.items → IsCache variables ws self.new.cells.items }
+        ensures { HasNoMore self.old.cells.items self.new.cells.items }
     {
         let len = self.cells.len();
         if len >= MOST || nodes < 2 * len {

@@ -6,19 +6,20 @@
 //!
 //! - `plain`, the public type and its calls; `reference`, what is handed out
 //! - `store`, the nodes and counts; `unique_table`, the list of node words that finds a word
-//! - `apply`, the loop; `task`, its stack; `terminal`, what needs no nodes; `cache`
+//! - `apply`, the loop; `task`, its stack; `terminal`, what needs no nodes; `cache`. The last three
+//!   know no store, and are public for other diagrams' loops
 //! - `least`, the least assignment; `search`, what it keeps
 #![tactic(auto)]
 
 mod apply;
-mod cache;
+pub mod cache;
 mod least;
 mod plain;
 mod reference;
 mod search;
 mod store;
-mod task;
-mod terminal;
+pub mod task;
+pub mod terminal;
 mod unique_table;
 
 pub use plain::Plain;

@@ -1,5 +1,6 @@
 ghost use Rattle.std.specs.Prelude.{◌≡◌};
 ghost use Rattle.eqc_plain.specs.Cache.{IsCache};
+ghost use Rattle.eqc_plain.specs.Meaning.{meaning_of};
 
 use crate::cache::Cache;
 use crate::reference::Ref;
@@ -14,7 +15,7 @@ pub struct Plain {
     pub(crate) store: Store,
     pub(crate) cache: Cache,
     pub(crate) tasks: Vec<Task>,
-    ghost cached: { IsCache store.variables store.nodes cache.cells.items },
+    ghost cached: { IsCache (meaning_of store.variables store.nodes) cache.cells.items },
 }
 
 impl Plain {

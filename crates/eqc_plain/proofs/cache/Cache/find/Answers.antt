@@ -6,7 +6,7 @@ use Rattle.eqc_plain.proofs.Caching.{cell_found, ordered_small}
 use Rattle.eqc_plain.proofs.cache.Cache.find.Goals as goal
 
 pub returns : goal.returns
-returns c variables ws right =
+returns c =
     let cells = c.args.self.now.cells.items in
     let k = c.place.result in
     let m = c.ordered_operands-p.ensures in
@@ -15,4 +15,4 @@ returns c variables ws right =
     let word : c.pack_cell-word.result ≡ cell_word (tag_of c.args.op) c.ordered_operands-p.result.0 c.ordered_operands-p.result.1 0 = search rules in
     let r : c.unpack_cell-r.result.3 ≡ get_or cells k 0 % 2 ^ 20 = ap (λ p. p.3) c.unpack_cell-r.ensures.fields ∙ ap cell_result cell in
     let d : get_or cells k 0 / 2 ^ 20 ≡ cell_word (tag_of c.args.op) c.ordered_operands-p.result.0 c.ordered_operands-p.result.1 0 / 2 ^ 20 = ap (λ n. n / 2 ^ 20) (sym cell) ∙ (c.if-cell-word.false ∙ ap (λ n. n / 2 ^ 20) word) in
-    cell_found variables ws cells c.args.op c.args.f c.args.g c.ordered_operands-p.result.0 c.ordered_operands-p.result.1 k 0 c.unpack_cell-r.result.3 small.0 small.1 m c.place.ensures d r right
+    cell_found cells c.args.op c.args.f c.args.g c.ordered_operands-p.result.0 c.ordered_operands-p.result.1 k c.unpack_cell-r.result.3 small.0 small.1 m c.place.ensures d r

@@ -1,7 +1,10 @@
 use Rattle.std.proofs.Common.{◌≡◌, ◌++◌, ◌∷◌, [], min, arith, rules}
 use Rattle.eqc_plain.specs.declared.task.Task.TheVariants.{Low}
 use Rattle.eqc_plain.specs.Store.{root, tree_at}
-use Rattle.eqc_plain.proofs.Tasks.{top_below, expanded_step}
+use Rattle.eqc_plain.specs.Meaning.{meaning_of}
+use Rattle.eqc_plain.proofs.Combining.{stays}
+use Rattle.eqc_plain.proofs.Meanings.{top_below, halves_of}
+use Rattle.eqc_plain.proofs.Tasks.{expanded_step}
 use Rattle.eqc_plain.proofs.plain.Plain.descend.Goals as goal
 
 pub cofactors-f_low-requires-clause-below : goal.cofactors-f_low-requires-clause-below
@@ -15,8 +18,9 @@ cofactors-g_low-requires-clause-below c =
 pub returns-in-Ok-clause-steps : goal.returns-in-Ok-clause-steps
 returns-in-Ok-clause-steps c =
     let s = c.args.self.now.store in
+    let m = meaning_of s.variables s.nodes in
     let v = c.min-variable.result in
     let items : c.push.new.self.items ≡ c.args.self.now.tasks.items ++ Low c.args.f c.args.g v c.cofactors-f_low.result.1 c.cofactors-g_low.result.1 ∷ [] = search rules in
     let e : v ≡ min (root s.variables (tree_at s.nodes c.args.f)) (root s.variables (tree_at s.nodes c.args.g)) = omega (arith, c.root.ensures, c.root-2.ensures, c.min-variable.ensures) in
     let below = top_below s.lawful c.args.f c.args.g c.requires.f c.requires.g c.requires.inner in
-    rw items (expanded_step s.variables s.nodes c.args.self.now.tasks.items c.args.f c.args.g v c.cofactors-f_low.result.0 c.cofactors-f_low.result.1 c.cofactors-g_low.result.0 c.cofactors-g_low.result.1 c.requires.f c.requires.g e (omega arith) c.cofactors-f_low.ensures c.cofactors-g_low.ensures)
+    expanded_step m m c.args.self.now.tasks.items c.push.new.self.items c.args.f c.args.g v c.cofactors-f_low.result.0 c.cofactors-f_low.result.1 c.cofactors-g_low.result.0 c.cofactors-g_low.result.1 items (stays m) c.requires.f c.requires.g e (omega arith) (halves_of c.cofactors-f_low.ensures) (halves_of c.cofactors-g_low.ensures)

@@ -2,8 +2,8 @@ use Rattle.std.proofs.Common.{arith}
 use Rattle.std.proofs.lemmas.Result.{IfOk-weaker}
 use Rattle.eqc_plain.specs.Store.{holding_of}
 use Rattle.eqc_plain.proofs.Trees.{root-constant}
-use Rattle.eqc_plain.proofs.Growing.{before}
-use Rattle.eqc_plain.proofs.Caching.{cache_grows}
+use Rattle.eqc_plain.proofs.Meanings.{store_stays}
+use Rattle.eqc_plain.proofs.Caching.{cache_stays}
 use Rattle.eqc_plain.proofs.Extending.{keeps_then_gains, literal_value}
 use Rattle.eqc_plain.proofs.plain.PlainDiagrams.literal.Goals as goal
 
@@ -23,7 +23,7 @@ pub invariant_of-self : goal.invariant_of-self
 invariant_of-self g c =
     let s = c.args.self.now.store in
     let e = c.node.ensures.store in
-    record { cached = cache_grows s.variables _ s.nodes _ c.args.self.now.cache.cells.items (before _ _ e.grows) e.variables c.args.self.now.cached }
+    record { cached = cache_stays _ _ c.args.self.now.cache.cells.items (store_stays s c.node.new.self e) c.args.self.now.cached }
 
 pub invariant_of-self-2 : goal.invariant_of-self-2
 invariant_of-self-2 g c =
@@ -31,7 +31,7 @@ invariant_of-self-2 g c =
     let n = c.node.new.self in
     let e = c.node.ensures.store in
     let h = c.hold.ensures in
-    let here = cache_grows s.variables n.variables s.nodes n.nodes c.args.self.now.cache.cells.items (before _ _ e.grows) e.variables c.args.self.now.cached in
+    let here = cache_stays _ _ c.args.self.now.cache.cells.items (store_stays s n e) c.args.self.now.cached in
     record { cached = rw (h.variables, h.nodes) here }
 
 pub returns-clause-ok : goal.returns-clause-ok
