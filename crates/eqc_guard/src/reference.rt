@@ -14,4 +14,12 @@ impl Ref {
     {
         self.number
     }
+
+    /// The number alone. What is held stays held.
+    pub fn into_number(self) -> u32
+        ensures { result ≡ self.number }
+    {
+        let Ref { number } = self;
+        number
+    }
 }

@@ -1,0 +1,16 @@
+pub mod Once
+pub mod Reading
+pub mod Asked
+pub mod Holdings
+pub mod Giving
+pub mod Meanings
+pub mod Expanding
+pub mod Kept
+pub mod Turning
+pub mod Answering
+pub mod Teams
+pub mod Above
+pub mod Finding
+pub mod Merging
+pub mod Absorbing
+pub mod Emptied

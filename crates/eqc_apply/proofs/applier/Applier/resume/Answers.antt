@@ -1,0 +1,44 @@
+use Rattle.std.proofs.Common.{◌≡◌, ◌++◌, ◌∷◌, [], rules}
+use Rattle.eqc_plain.specs.declared.task.Task.TheVariants.{Low, High}
+use Rattle.eqc_plain.proofs.Tasks.{low_done, top_done, task_done, less_owed}
+use Rattle.eqc_apply.specs.Meaning.{meaning_in}
+use Rattle.eqc_apply.proofs.Meanings.{extends_trans, names_stay}
+use Rattle.eqc_apply.proofs.applier.Applier.resume.Goals as goal
+
+pub returns-in-Ok-clause-turn : goal.returns-in-Ok-clause-turn
+returns-in-Ok-clause-turn g c =
+    let s = c.loop-task.self in
+    let w = c.args.whole.now.value in
+    let i = c.loop-task.invariant in
+    let was : s.tasks.items ≡ c.pop.new.self.items ++ Low c.in-Low.f c.in-Low.g c.in-Low.variable c.in-Low.f_high c.in-Low.g_high ∷ [] = search rules in
+    let is : c.push.new.self.items ≡ c.pop.new.self.items ++ High c.in-Low.f c.in-Low.g c.in-Low.variable c.loop-task.x ∷ [] = search rules in
+    low_done (meaning_in s.names) c.args.op s.tasks.items c.pop.new.self.items c.push.new.self.items c.args.self.now.tasks.items w.0 w.1 c.in-Low.f c.in-Low.g c.in-Low.variable c.in-Low.f_high c.in-Low.g_high c.loop-task.x was is i.less i.leads
+
+pub finish-requires : goal.finish-requires
+finish-requires g c =
+    let s = c.loop-task.self in
+    let w = c.args.whole.now.value in
+    let was : s.tasks.items ≡ c.pop.new.self.items ++ High c.in-High.f c.in-High.g c.in-High.variable c.in-High.low ∷ [] = search rules in
+    (top_done (meaning_in s.names) c.args.op s.tasks.items c.pop.new.self.items w.0 w.1 c.in-High.f c.in-High.g c.in-High.variable c.in-High.low c.loop-task.x was c.loop-task.invariant.leads).both
+
+pub loop-task-preserved : goal.loop-task-preserved
+loop-task-preserved g c =
+    let s = c.loop-task.self in
+    let n = c.finish.new.self.names in
+    let w = c.args.whole.now.value in
+    let i = c.loop-task.invariant in
+    let e = c.finish.ensures.names in
+    let was : s.tasks.items ≡ c.pop.new.self.items ++ High c.in-High.f c.in-High.g c.in-High.variable c.in-High.low ∷ [] = search rules in
+    let m = meaning_in s.names in
+    let top = top_done m c.args.op s.tasks.items c.pop.new.self.items w.0 w.1 c.in-High.f c.in-High.g c.in-High.variable c.in-High.low c.loop-task.x was i.leads in
+    let leads = task_done m (meaning_in n) c.args.op c.pop.new.self.items w.0 w.1 c.in-High.f c.in-High.g c.in-High.variable c.in-High.low c.loop-task.x c.in_ok-x-in-High.x (names_stay s.names n e) top c.in_ok-x-in-High.ensures.ok in
+    let less = less_owed s.names.variables n.variables c.pop.new.self.items s.tasks.items c.args.self.now.tasks.items (High c.in-High.f c.in-High.g c.in-High.variable c.in-High.low) e.variables was i.less in
+    let x = extends_trans c.args.self.now.names s.names n i.names e in
+    record {
+      names = record { forest = x.forest; seat = x.seat; variables = x.variables; references = x.references; before = x.before };
+      leads = rw c.finish.ensures.tasks leads;
+      less = rw c.finish.ensures.tasks less;
+    }
+
+pub returns-in_err-x-in-High-clause-names : goal.returns-in_err-x-in-High-clause-names
+returns-in_err-x-in-High-clause-names g c = extends_trans c.args.self.now.names c.loop-task.self.names c.finish.new.self.names c.loop-task.invariant.names c.finish.ensures.names

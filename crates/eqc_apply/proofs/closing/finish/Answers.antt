@@ -1,0 +1,15 @@
+use Rattle.eqc_guard.specs.Splitting.{IsCopied}
+use Rattle.eqc_apply.proofs.Emptied.{unboxed_rest, none_told}
+use Rattle.eqc_apply.proofs.closing.finish.Goals as goal
+
+pub collect-requires-clause-rest : goal.collect-requires-clause-rest
+collect-requires-clause-rest g c =
+    let w = c.args.worker in
+    let p : IsCopied w c.alone-alone.new.self = c.alone-alone.ensures.copy (c.alone-alone.ensures.answer.1 c.requires.alone) in
+    unboxed_rest w c.alone-alone.new.self c.requires.alone c.requires.rest c.requires.cells c.requires.room p c.empty_boxes.new.worker c.empty_boxes.ensures.changes c.empty_boxes.ensures.empty
+
+pub returns : goal.returns
+returns g c = λ none few.
+    let w = c.args.worker in
+    let p : IsCopied w c.alone-alone.new.self = c.alone-alone.ensures.copy (c.alone-alone.ensures.answer.1 c.requires.alone) in
+    none_told w c.alone-alone.new.self c.requires.alone c.requires.rest c.requires.cells c.requires.room p c.empty_boxes.new.worker c.empty_boxes.ensures.changes c.empty_boxes.ensures.empty c.collect.new.worker c.collect.ensures.changes c.collect.ensures.empty c.in-Ok.tally.counted c.in-Ok.ensures.closed.1 none few

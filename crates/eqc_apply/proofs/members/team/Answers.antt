@@ -1,0 +1,28 @@
+use Rattle.std.proofs.Common.{◌≡◌, ◌+◌, ◌-◌, ◌≤◌, ◌<◌, ℕ, List, arith, sym, subst, ◌∙◌, refl}
+use Rattle.eqc_apply.specs.declared.applier.Applier.{Applier}
+use Rattle.eqc_apply.specs.Teaming.{IsTeam, IsLead, AreOthers, forest_of}
+use Rattle.eqc_apply.proofs.Teams.{more_others, other_forest, is_team}
+use Rattle.eqc_apply.proofs.members.team.Goals as goal
+
+pub loop-preserved : goal.loop-preserved
+loop-preserved c =
+    let i = c.loop.invariant in
+    let l = c.in_ok-join.ensures.lead c.args.vars c.args.workers c.loop.counter i.lead in
+    let f = c.in_ok-join.ensures.forest in
+    let back : c.loop.counter + 1 - 1 ≡ c.loop.counter - 1 + 1 = let s = i.some in omega arith in
+    let o = more_others c.args.vars (c.loop.counter - 1) (forest_of c.join.new.lead) c.loop.members.items c.in_ok-join.field-0
+        (other_forest c.args.vars (c.loop.counter - 1) (forest_of c.loop.lead) (forest_of c.join.new.lead) c.loop.members.items f.0 i.others) l.1 (let s = i.some in omega (arith, l.2)) (f.1 ∙ sym f.0) in
+    record {
+      some = omega arith;
+      lead = l.0;
+      others = rw (c.in-Ok.ensures.items, back) o;
+      count = let n = i.count in omega (arith, c.in-Ok.ensures.len);
+    }
+
+pub returns-clause-team : goal.returns-clause-team
+returns-clause-team c =
+    let i = c.loop.invariant in
+    let all : c.loop.counter ≡ c.args.workers = let t = c.loop-test.false in let r = c.requires.workers in omega (arith, c.loop.auto.counter-end r.0) in
+    let lead : IsLead c.args.vars c.args.workers c.args.workers c.loop.lead = subst (λ (g : ℕ). IsLead c.args.vars c.args.workers g c.loop.lead) all i.lead in
+    let back : c.args.workers ≡ c.loop.counter - 1 + 1 = let s = i.some in omega (arith, all) in
+    subst (IsTeam c.args.vars c.args.workers) (sym c.in-Ok-insert.ensures.items) (is_team c.args.vars c.args.workers (c.loop.counter - 1) c.loop.lead c.loop.members.items back lead i.others)

@@ -1,0 +1,12 @@
+pub mod Names
+pub mod Before
+pub mod Meaning
+pub mod Combining
+pub mod Extending
+pub mod Referring
+pub mod Resting
+pub mod Expanding
+pub mod Turning
+pub mod Answering
+pub mod Teaming
+pub mod Joining

@@ -1,0 +1,19 @@
+ghost use Rattle.eqc_plain.specs.Cache.{IsCache};
+ghost use Rattle.std.proofs.Props.{props};
+ghost use Rattle.eqc_apply.specs.Meaning.{kept_of};
+
+use crate::names::Names;
+use eqc_plain::cache::Cache;
+use eqc_plain::task::Task;
+
+/// A worker's diagrams over the shared forest.
+///
+/// Results that the worker came to are kept in cells of its own too. These hold no name: each name
+/// in them stays held as long as they stand.
+#[derive(Drop)]
+pub struct Applier {
+    pub(crate) names: Names,
+    pub(crate) cells: Cache,
+    pub(crate) tasks: Vec<Task>,
+    ghost cached: { IsCache (kept_of names.variables names.worker.known) cells.cells.items } by { Prim.hlevel (props) },
+}

@@ -1,0 +1,156 @@
+//! The calls of an applier as decision diagrams.
+ghost use Rattle.std.specs.Prelude.{◌≡◌, ℕ, ◌<◌, ◌≤◌, ◌-◌, ◌^◌, ◌⊎◌, Bool, if◌then◌else◌, IfOk, IfErr, OnErr, IsOk};
+ghost use Rattle.eqc_tree.specs.Operation.{operate};
+ghost use Rattle.eqc_tree.specs.Holding.{Entry, IsHeld, Gains, Keeps, Loses, copies, says};
+ghost use Rattle.eqc_guard.specs.Searching.{HasSeenAll};
+ghost use Rattle.eqc_apply.specs.Extending.{Stays, holding_in};
+ghost use Rattle.eqc_apply.specs.Referring.{entry_of};
+
+use crate::applier::Applier;
+use crate::reference::Ref;
+use eqc_tree::{Diagrams, Op, References, Stop};
+use std::sync::Wait;
+
+impl Applier {
+    ghost use Rattle.eqc_guard.specs.Known.{tree_of};
+    ghost use Rattle.eqc_apply.specs.Answering.{IsReferenced, IsAnswer, IsVariable};
+
+    /// Gives up all names that no references stand on, and the results that name them.
+    fn give_up(&mut self)
+        ensures names { Stays self.old.names self.new.names }
+    {
+        self.cells.clear();
+        self.names.give_up();
+    }
+
+    /// Gives names up that no references stand on, where they are more than the worker's share of
+    /// what others may need.
+    fn make_way(&mut self)
+        ensures names { Stays self.old.names self.new.names }
+    {
+        if self.names.has_others() && self.names.idle() > self.names.share_of_slots() {
+            self.give_up();
+        }
+    }
+
+    /// The name of an operation's result. Where every slot is taken, names without references are
+    /// given up, and the operation begins anew.
+    fn answer<R: Wait>(&mut self, rt: &R, op: Op, f: u32, g: u32) -> Result<u32, Stop>
+        requires f { IsReferenced self.old.names f }
+        requires g { IsReferenced self.old.names g }
+        ensures names { Stays self.old.names self.new.names }
+        ensures ok { IfOk result (IsAnswer op self.old.names f g self.new.names) }
+        ensures all { result ≡ Err Stop.NodeLimit → HasSeenAll self.new.names.worker.known.core }
+        ensures only { IfErr result (λ s. (s ≡ Stop.NodeLimit) ⊎ (s ≡ Stop.Memory)) }
+    {
+        self.make_way();
+        match self.combine(rt, op, f, g) {
+            Err(Stop::NodeLimit) => {
+                self.give_up();
+                self.combine(rt, op, f, g)
+            }
+            answer => answer,
+        }
+    }
+
+    /// The node of a variable over the constants.
+    fn variable_node<R: Wait>(&mut self, rt: &R, var: u16) -> Result<u32, Stop>
+        requires { var < self.old.names.variables }
+        ensures names { Stays self.old.names self.new.names }
+        ensures ok { IfOk result (IsVariable var self.new.names) }
+        ensures all { result ≡ Err Stop.NodeLimit → HasSeenAll self.new.names.worker.known.core }
+        ensures only { IfErr result (λ s. (s ≡ Stop.NodeLimit) ⊎ (s ≡ Stop.Memory)) }
+    {
+        self.make_way();
+        match self.names.node(rt, var, 0, 1) {
+            Err(Stop::NodeLimit) => {
+                self.give_up();
+                self.names.node(rt, var, 0, 1)
+            }
+            made => made,
+        }
+    }
+}
+
+impl References for Applier {
+    type Ref = Ref;
+
+    ghost entry = { entry_of };
+
+    ghost holding = { λ a. holding_in a.names };
+
+    /// Never stops, and takes no memory.
+    fn constant(&mut self, b: bool) -> Result<Ref, Stop>
+        ensures ok { IfOk result (λ r. Gains (holding_in self.old.names) (holding_in self.new.names) (entry_of r) (λ _. b)) }
+        ensures stop { OnErr result (Keeps (holding_in self.old.names) (holding_in self.new.names)) }
+        ensures never { IsOk result }
+    {
+        self.names.refer(b as u32)
+    }
+
+    /// Stops only at 2^32 - 1 references to one node, and takes no memory.
+    fn copy(&mut self, f: &Ref) -> Result<Ref, Stop>
+        requires { IsHeld (holding_in self.old.names) (entry_of f.now) }
+        ensures ok { IfOk result (λ r. Gains (holding_in self.old.names) (holding_in self.new.names) (entry_of r) (says (entry_of f.now))) }
+        ensures stop { OnErr result (Keeps (holding_in self.old.names) (holding_in self.new.names)) }
+        ensures only { IfErr result (λ s. s ≡ Stop.References) }
+        ensures full { OnErr result (2 ^ 32 - 1 ≤ copies (holding_in self.old.names) (entry_of f.now)) }
+    {
+        self.names.refer(f.name)
+    }
+
+    /// Takes no memory.
+    fn give_back(&mut self, f: Ref)
+        requires { IsHeld (holding_in self.old.names) (entry_of f) }
+        ensures { Loses (holding_in self.old.names) (holding_in self.new.names) (entry_of f) }
+    {
+        self.names.release(f);
+    }
+
+    fn same(&self, f: &Ref, g: &Ref) -> bool {
+        // What the worker knows is in order.
+        let _cells = self.names.worker.cells();
+        f.name == g.name
+    }
+
+    fn as_constant(&self, f: &Ref) -> Option<bool> {
+        // What the worker knows is in order.
+        let _cells = self.names.worker.cells();
+        if f.name >= 2 {
+            return None;
+        }
+        Some(f.name == 1)
+    }
+}
+
+impl<R: Wait> Diagrams<R> for Applier {
+    ghost use Rattle.std.specs.Prelude.{◌≢◌};
+
+    /// Stops for nodes only where every slot was seen taken, after names without references were
+    /// given up and dead nodes taken back, and for references only at 2^32 - 1 to one node.
+    fn literal(&mut self, rt: &R, var: u16) -> Result<Ref, Stop>
+        requires { var < (holding_in self.old.names).variables }
+        ensures ok { IfOk result (λ r. Gains (holding_in self.old.names) (holding_in self.new.names) (entry_of r) (λ a. a var)) }
+        ensures stop { OnErr result (Keeps (holding_in self.old.names) (holding_in self.new.names)) }
+        ensures only { IfErr result (λ s. s ≢ Stop.Threads) }
+        ensures nodes { result ≡ Err Stop.NodeLimit → HasSeenAll self.new.names.worker.known.core }
+        ensures references { result ≡ Err Stop.References → (e : Entry) × (2 ^ 32 - 1 ≤ copies (holding_in self.old.names) e) }
+    {
+        let x = self.variable_node(rt, var)?;
+        self.names.refer(x)
+    }
+
+    /// Stops for nodes and for references as `literal` does.
+    fn apply(&mut self, rt: &R, op: Op, f: &Ref, g: &Ref) -> Result<Ref, Stop>
+        requires f { IsHeld (holding_in self.old.names) (entry_of f.now) }
+        requires g { IsHeld (holding_in self.old.names) (entry_of g.now) }
+        ensures ok { IfOk result (λ r. Gains (holding_in self.old.names) (holding_in self.new.names) (entry_of r) (λ a. operate op (says (entry_of f.now) a) (says (entry_of g.now) a))) }
+        ensures stop { OnErr result (Keeps (holding_in self.old.names) (holding_in self.new.names)) }
+        ensures only { IfErr result (λ s. s ≢ Stop.Threads) }
+        ensures nodes { result ≡ Err Stop.NodeLimit → HasSeenAll self.new.names.worker.known.core }
+        ensures references { result ≡ Err Stop.References → (e : Entry) × (2 ^ 32 - 1 ≤ copies (holding_in self.old.names) e) }
+    {
+        let x = self.answer(rt, op, f.name, g.name)?;
+        self.names.refer(x)
+    }
+}

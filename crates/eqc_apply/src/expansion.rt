@@ -1,0 +1,48 @@
+//! Shannon's expansion of two names.
+ghost use Rattle.std.specs.Prelude.{◌≡◌, ℕ, ◌<◌, min, IfOk, IfErr};
+ghost use Rattle.eqc_plain.specs.Store.{root};
+ghost use Rattle.eqc_guard.specs.Known.{IsHeld, tree_of};
+ghost use Rattle.eqc_apply.specs.Meaning.{meaning_in};
+ghost use Rattle.eqc_apply.specs.Extending.{Extends};
+ghost use Rattle.eqc_apply.specs.Expanding.{Expands};
+
+use crate::names::Names;
+use eqc_tree::Stop;
+
+/// The top variable of two names, and the cofactors of both there: low and high.
+#[derive(Clone, Copy)]
+pub struct Expansion {
+    pub variable: u16,
+    pub f: (u32, u32),
+    pub g: (u32, u32),
+}
+
+// The variable of the higher root of two names, one of which is no constant.
+fn top_variable(names: &mut Names, f: u32, g: u32) -> u16
+    requires f { IsHeld names.old.worker.known.core f }
+    requires g { IsHeld names.old.worker.known.core g }
+    requires inner { ¬ ((f < 2) × (g < 2)) }
+    ensures top { result ≡ min (root names.old.variables (tree_of names.old.worker.known f)) (root names.old.variables (tree_of names.old.worker.known g)) }
+    ensures below { result < names.old.variables }
+    ensures names { Extends names.old names.new }
+{
+    let top_f = names.root(f);
+    let top_g = names.root(g);
+    top_f.min(top_g)
+}
+
+/// The expansion of two names, one of which is no constant. All four cofactors are held then. The
+/// error is 72 alone.
+pub(crate) fn expand(names: &mut Names, f: u32, g: u32) -> Result<Expansion, Stop>
+    requires f { IsHeld names.old.worker.known.core f }
+    requires g { IsHeld names.old.worker.known.core g }
+    requires inner { ¬ ((f < 2) × (g < 2)) }
+    ensures ok { IfOk result (λ e. Expands (meaning_in names.old) (meaning_in names.new) f g e.variable e.f.0 e.f.1 e.g.0 e.g.1) }
+    ensures names { Extends names.old names.new }
+    ensures only { IfErr result (λ s. s ≡ Stop.Memory) }
+{
+    let variable = top_variable(names, f, g);
+    let f = names.cofactors(variable, f)?;
+    let g = names.cofactors(variable, g)?;
+    Ok(Expansion { variable, f, g })
+}

@@ -1,0 +1,95 @@
+//! A team: appliers of one forest, one for each worker.
+ghost use Rattle.std.specs.Prelude.{◌≡◌, ℕ, ◌+◌, ◌*◌, ◌-◌, ◌<◌, ◌≤◌, IfOk, IfErr, OnErr, vec_len};
+ghost use Rattle.eqc_tree.specs.Holding.{IsNew};
+ghost use Rattle.eqc_apply.specs.Extending.{holding_in};
+ghost use Rattle.eqc_apply.specs.Teaming.{IsTeam, IsLead, number_of, forest_of};
+
+use crate::applier::Applier;
+use crate::names::Names;
+use eqc_guard::forest::Forest;
+use eqc_plain::cache::Cache;
+use eqc_tree::Stop;
+use std::alloc::Global;
+
+// The first member, whose forest is new.
+fn found(
+    alloc: Global,
+    vars: u16,
+    nodes: u32,
+    cells: u32,
+    workers: u32,
+) -> Result<Applier, Stop>
+    requires nodes { (1 ≤ nodes) × (nodes ≤ 1048574) }
+    requires cells { (1 ≤ cells) × (cells ≤ 1048576) }
+    requires workers { (1 ≤ workers) × (workers ≤ 64) }
+    ensures lead { IfOk result (IsLead vars workers 1) }
+    ensures only { IfErr result (λ s. s ≡ Stop.Memory) }
+{
+    let worker = Forest::new(alloc, vars, nodes, cells, workers)?;
+    Ok(Applier {
+        names: Names {
+            worker,
+            variables: vars,
+            counts: Vec::new(alloc),
+            referred: 0,
+        },
+        cells: Cache::new(alloc),
+        tasks: Vec::new(alloc),
+    })
+}
+
+// The next member, which the first one splits off.
+fn join(alloc: Global, lead: &mut Applier) -> Result<Applier, Stop>
+    requires lead { (n : ℕ) × (w : ℕ) × (g : ℕ) × IsLead n w g lead.old × (g < w) }
+    ensures lead { (n w g : ℕ) → IsLead n w g lead.old → IfOk result (λ a. IsLead n w (g + 1) lead.new × IsNew n (holding_in a.names) × (number_of a ≡ g)) }
+    ensures forest { IfOk result (λ a. (forest_of lead.new ≡ forest_of lead.old) × (forest_of a ≡ forest_of lead.old)) }
+    ensures only { IfErr result (λ s. s ≡ Stop.Memory) }
+{
+    let variables = lead.names.variables;
+    match lead.names.worker.split() {
+        Ok(worker) => Ok(Applier {
+            names: Names {
+                worker,
+                variables,
+                counts: Vec::new(alloc),
+                referred: 0,
+            },
+            cells: Cache::new(alloc),
+            tasks: Vec::new(alloc),
+        }),
+        Err(_) => Err(Stop::Memory),
+    }
+}
+
+/// The members of a team over one new forest: a worker each, which holds nothing, member i being
+/// worker i.
+///
+/// `vars` is the number of variables, `nodes` the room for nodes, from 1 to 1,048,574, that all
+/// share, `cells` the number of cells of the cache, from 1 to 1,048,576, that all share, and
+/// `workers` the number of members, from 1 to 64. The error is 72 alone.
+pub fn team(
+    alloc: Global,
+    vars: u16,
+    nodes: u32,
+    cells: u32,
+    workers: u32,
+) -> Result<Vec<Applier>, Stop>
+    requires nodes { (1 ≤ nodes) × (nodes ≤ 1048574) }
+    requires cells { (1 ≤ cells) × (cells ≤ 1048576) }
+    requires workers { (1 ≤ workers) × (workers ≤ 64) }
+    ensures team { IfOk result (λ members. IsTeam vars workers members.items) }
+    ensures count { IfOk result (λ members. vec_len members ≡ workers) }
+    ensures only { IfErr result (λ s. s ≡ Stop.Memory) }
+{
+    let mut lead = found(alloc, vars, nodes, cells, workers)?;
+    let mut members = Vec::new(alloc);
+    for _ in 1..workers {
+        let Ok(()) = members.push(join(alloc, &mut lead)?) else {
+            return Err(Stop::Memory);
+        };
+    }
+    let Ok(()) = members.insert(0, lead) else {
+        return Err(Stop::Memory);
+    };
+    Ok(members)
+}

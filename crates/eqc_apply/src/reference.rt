@@ -1,0 +1,8 @@
+use eqc_guard::worker::Worker;
+use std::snapshot::Snapshot;
+
+/// A reference to a node or a constant, which has to be given back.
+pub struct Ref {
+    pub(crate) name: u32,
+    pub(crate) at: Snapshot<Worker>,
+}
