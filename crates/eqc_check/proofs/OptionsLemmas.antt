@@ -1,5 +1,5 @@
 -- Numbers with one bit are the powers of two.
-use Rattle.std.proofs.Common.{◌≡◌, ℕ, zero, suc, ◌+◌, ◌*◌, ◌/◌, ◌%◌, ◌^◌, ◌<◌, ◌≤◌, true, false, ◌==◌, count_ones, sym, ap, ◌∙◌, arith, inl, inr, get_or, leb, zero-add}
+use Rattle.std.proofs.Common.{◌≡◌, ℕ, zero, suc, ◌+◌, ◌*◌, ◌/◌, ◌%◌, ◌^◌, ◌<◌, ◌≤◌, Bool, true, false, not, if◌then◌else◌, Option, Some, None, ◌==◌, count_ones, sym, ap, subst, ◌∙◌, arith, inl, inr, get_or, leb, zero-add}
 use Rattle.std.proofs.Math.Nat.{pow-suc}
 use Rattle.std.proofs.Math.Pow.{pow_mono}
 use Rattle.std.proofs.lemmas.Nat.{zero_from_ones, ones_le_self, ones_cat, pow_pos}
@@ -8,7 +8,8 @@ use Rattle.std.proofs.lemmas.List.Folds.{list_any_at, Any-from_list_any}
 use Rattle.std.proofs.lemmas.List.FromFn.{length-range_with_len, get_or-range_with_len}
 use Rattle.std.specs.Int.Count.{ones_step}
 use Rattle.std.specs.List.{range_with_len}
-use Rattle.eqc_check.specs.Options.{is_cell_count}
+use Rattle.eqc_check.specs.declared.options.Options.{Options}
+use Rattle.eqc_check.specs.Options.{is_cell_count, is_between, options_code}
 
 -- a number with one bit is a power of two
 one_bit : (d n : ℕ) → n ≤ d → count_ones n ≡ 1 → (k : ℕ) × (n ≡ 2 ^ k)
@@ -54,3 +55,22 @@ cell_count_below n one =
       | inl above ↦ elim (cases_Bool (is_cell_count n)) [ inl is ↦ absurd (omega (arith, (cell_count_bits n is).1)) | inr isnt ↦ grind arith ]
       | inr below ↦ grind (arith, cell_count_at n one below)
     ]
+
+abbrev is_fault : Option ℕ → Type 0
+is_fault None = ⊥
+is_fault (Some code) = Unit {0}
+
+abbrev in_turn : Bool → Bool → Option ℕ
+in_turn a b = if not a then Some 81 else if not b then Some 82 else Some 83
+
+never : (a b : Bool) → in_turn a b ≡ None → ⊥
+never false b e = subst is_fault e tt
+never true false e = subst is_fault e tt
+never true true e = subst is_fault e tt
+
+-- options in their ranges have some cells, and not too many
+pub cells_in_range : (o : Options) → options_code o ≡ None → (1 ≤ o.cells) × (o.cells ≤ 1048576)
+cells_in_range o e = elim (cases_Bool (is_cell_count o.cells)) [
+  | inl is ↦ let b = cell_count_bits o.cells is in (let one = b.0 in omega (arith, ones_le_self o.cells), b.1)
+  | inr isnt ↦ absurd (never (is_between 1 64 o.workers) (is_between 1 1048574 o.nodes) (rw isnt at e))
+]

@@ -35,8 +35,8 @@ use crate::workers::share::{Share, work_together};
 use crate::workers::task::Task;
 use crate::workers::ticket::{Key, TicketTable, open, settle};
 use crate::workers::verdict::{Verdict, first_of, in_order};
+use eqc_apply::{Applier, team};
 use eqc_pair::Pair;
-use eqc_plain::Plain;
 use eqc_tree::{Diagrams, References, Stop};
 use std::alloc::Global;
 use std::sync::Wait;
@@ -181,40 +181,28 @@ pub fn check_with<R: Threads + Wait + Sync, D: Diagrams<R> + Send + Drop, G: Gat
     check_known(rt, alloc, pair, members, Alike::nothing(alloc), gate)
 }
 
-/// A store of `nodes` nodes for each worker.
-fn stores(alloc: Global, inputs: u16, nodes: u32, workers: u32) -> Result<Vec<Plain>, Stop>
-    requires some { 1 ≤ nodes }
-    requires few { nodes ≤ 1048574 }
-    ensures count { IfOk result (λ all. vec_len all ≡ workers) }
-    ensures variables { IfOk result (λ all. All (λ p. inputs ≤ (⟦<Plain as References>⟧.holding p).variables) all.items) }
-    ensures only { IfErr result (λ s. s ≡ Stop.Memory) }
-{
-    let mut all = Vec::new(alloc);
-    for _ in 0..workers {
-        let Ok(()) = all.push(Plain::new(alloc, inputs, nodes)?) else {
-            return Err(Stop::Memory);
-        };
-    }
-    Ok(all)
-}
-
-/// The stores of the workers that the options ask for, with a variable for each input of a pair.
-fn stores_for(alloc: Global, pair: &Pair<'_>, options: &Options) -> Result<Vec<Plain>, Stop>
+/// The team of workers that the options ask for, with a variable for each input of a pair: they share one forest.
+fn team_for(alloc: Global, pair: &Pair<'_>, options: &Options) -> Result<Vec<Applier>, Stop>
     requires { options_code options.now ≡ None }
     ensures some { IfOk result (λ all. 1 ≤ vec_len all) }
-    ensures variables { IfOk result (λ all. All (λ p. length pair.now.first.inputs ≤ (⟦<Plain as References>⟧.holding p).variables) all.items) }
+    ensures variables { IfOk result (λ all. All (λ a. length pair.now.first.inputs ≤ (⟦<Applier as References>⟧.holding a).variables) all.items) }
     ensures only { IfErr result (λ s. s ≡ Stop.Memory) }
 {
     pair.recall_laws();
-    let Options { workers, nodes, .. } = *options;
+    let Options {
+        workers,
+        nodes,
+        cells,
+        ..
+    } = *options;
     let inputs = pair.first().inputs().len() as u16;
-    stores(alloc, inputs, nodes, workers)
+    team(alloc, inputs, nodes, cells, workers)
 }
 
-/// Compares a pair by as many workers as the options say, each in a thread of its own with a store of `nodes` nodes: the
-/// report, or why it stopped.
+/// Compares a pair by as many workers as the options say, each in a thread of its own: they share one forest of `nodes` nodes
+/// and one operation cache of `cells` cells. Gives the report, or why it stopped.
 ///
-/// The options are in their ranges; their cells and forks play no part. The gate is told of each comparison before it
+/// The options are in their ranges; their forks play no part. The gate is told of each comparison before it
 /// begins. The call may wait, as `check_with` may. The errors are the node limit 71, want of memory 72, the limit of
 /// references 73, and 74 where a thread could not be started.
 pub fn check<R: Threads + Wait + Sync, G: Gate<R> + Sync>(
@@ -227,12 +215,12 @@ pub fn check<R: Threads + Wait + Sync, G: Gate<R> + Sync>(
     requires { options_code options.now ≡ None }
     ensures report { IfOk result (λ report. report_of report ≡ comparison (netlist_of pair.now.first) (netlist_of pair.now.second)) }
 {
-    let members = stores_for(alloc, pair, options)?;
+    let members = team_for(alloc, pair, options)?;
     check_with(rt, alloc, pair, members, gate)
 }
 
 /// Compares a pair as `check` does, but compares no output whose two signals have one structure: it is equal, and where all
-/// outputs are so, no store and no thread is made. For the others a diagram is built once for all signals of one structure, of
+/// outputs are so, no forest and no thread is made. For the others a diagram is built once for all signals of one structure, of
 /// both netlists. Where memory for structures is refused, every output is compared, and every signal built.
 pub(crate) fn check_alike<R: Threads + Wait + Sync>(
     rt: &R,
@@ -247,6 +235,6 @@ pub(crate) fn check_alike<R: Threads + Wait + Sync>(
     if are_all_marked(pair, &alike.equal) {
         return found_report(alloc, pair, None);
     }
-    let members = stores_for(alloc, pair, options)?;
+    let members = team_for(alloc, pair, options)?;
     check_known(rt, alloc, pair, members, alike, &NoGate)
 }
