@@ -16,9 +16,9 @@ const MAX_FORKS: u32 = 16;
 pub struct Options {
     /// Workers, each with a thread of its own, 1 to 64.
     pub workers: u32,
-    /// Nodes of each worker's diagrams, 1 to 1,048,574.
+    /// Nodes of the diagrams that all workers share, 1 to 1,048,574.
     pub nodes: u32,
-    /// Cells of the operation cache, a power of two from 1 to 1,048,576.
+    /// Cells of the operation cache that all workers share, a power of two from 1 to 1,048,576.
     pub cells: u32,
     /// Levels of an operation that are shared among workers, 0 to 16.
     pub forks: u32,

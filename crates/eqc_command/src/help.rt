@@ -13,9 +13,9 @@ eqc [--workers N] [--nodes N] [--cells N] [--forks N] [--order FILE]
 
 pub const WORKERS: &str = "Compares outputs on this many threads, 1 to 64";
 
-pub const NODES: &str = "Keeps at most this many nodes of diagrams for each worker, 1 to 1048574";
+pub const NODES: &str = "Keeps at most this many nodes of diagrams for all workers together, 1 to 1048574";
 
-pub const CELLS: &str = "Remembers this many operations, a power of two up to 1048576";
+pub const CELLS: &str = "Remembers this many operations for all workers, a power of two up to 1048576";
 
 pub const FORKS: &str = "Shares this many levels of an operation among workers, 0 to 16";
 
@@ -39,7 +39,8 @@ with two the first model of each. --first-model and --second-model choose a mode
 text both choose from it. A warning on standard error says that a model was compared which another model of its
 text contains, as where a tool wrote a part of a design first. --explain names what is at fault where there is no
 verdict. `--` ends the options. Numbers go from 0 to 4294967295.
-Each worker has a thread and diagrams of its own. So far --cells and --forks are checked, and change nothing else.
+Each worker has a thread. All build in one store of --nodes nodes with one operation cache of --cells cells; nodes
+that are no longer needed are given back. So far --forks is checked, and changes nothing else.
 
 Statuses and reports:
   0  equivalent              each output has equal values under every assignment of the inputs
