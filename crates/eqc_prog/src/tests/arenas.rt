@@ -151,3 +151,29 @@ fn an_acquired_node_outlives_a_collection(rt: HostRuntime) {
     first.absorb(&rt, resting(&rt, second));
     same(&rt, first.close(&rt), 0, "close");
 }
+
+/// How many variables a deep diagram has.
+const DEEP: u16 = 2_000;
+
+/// A diagram with one node for each variable, whose root alone is held.
+fn deep(rt: &(impl Abort + Wait), maker: &mut Maker) -> u32
+    ensures { maker.new.worker.forest ≡ maker.old.worker.forest }
+{
+    let mut root = node(rt, maker, DEEP - 1, FALSE, TRUE);
+    for var in (0..DEEP - 1).rev() {
+        let next = node(rt, maker, var, root, FALSE);
+        maker.give_back(rt, root);
+        root = next;
+    }
+    root
+}
+
+#[test]
+fn a_deep_diagram_is_taken_back_whole(rt: HostRuntime) {
+    let mut maker = planted(&rt, DEEP, 2_048, 1, 1);
+    let root = deep(&rt, &mut maker);
+    same(&rt, maker.collect(&rt), 0, "collect in vain");
+    maker.give_back(&rt, root);
+    same(&rt, maker.collect(&rt), 2_000, "collect");
+    same(&rt, maker.close(&rt), 0, "close");
+}
