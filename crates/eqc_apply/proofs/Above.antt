@@ -1,5 +1,5 @@
 -- The result of an operation starts no higher than both operands: it does not see what neither sees.
-use Rattle.std.proofs.Common.{◌≡◌, ℕ, suc, ◌<◌, ◌≤◌, Bool, true, false, cond, eqb, eq-eqb, refl, sym, ◌∙◌, subst, arith}
+use Rattle.std.proofs.Common.{◌≡◌, ℕ, suc, ◌<◌, ◌≤◌, Bool, true, false, eq-eqb, refl, sym, ◌∙◌, subst, arith}
 use native.Mathlib.Decide.{dec_le, ℕ_discrete}
 use Rattle.eqc_tree.specs.Tree.{Tree, False, True, Node, value, StartsAbove, IsOrdered, IsCanonical}
 use Rattle.eqc_tree.specs.Operation.{operate}
@@ -38,6 +38,6 @@ module _ (op : Op) (f g : Tree) (cf : IsCanonical f) (cg : IsCanonical g) where
         let wf = up_to w v f le sf in
         let wg = up_to w v g le sg in
         let same : (a : ℕ → Bool) → value l a ≡ value h a = λ a.
-            sym (node_low w l h a c.ordered) ∙ (is (set_at a w false) ∙ (unseen w false a wf wg ∙ (sym (unseen w true a wf wg) ∙ (sym (is (set_at a w true)) ∙ node_high w l h a c.ordered)))) in
+        sym (node_low w l h a c.ordered) ∙ (is (set_at a w false) ∙ (unseen w false a wf wg ∙ (sym (unseen w true a wf wg) ∙ (sym (is (set_at a w true)) ∙ node_high w l h a c.ordered)))) in
         absurd (c.reduced.0 (bryant l h (record { ordered = c.ordered.2; reduced = c.reduced.1 }) (record { ordered = c.ordered.3; reduced = c.reduced.2 }) same))
   ]

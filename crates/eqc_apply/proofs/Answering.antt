@@ -1,33 +1,28 @@
 -- The names of results, and what is held once references stand on them.
-use Rattle.std.proofs.Common.{◌≡◌, ◌≢◌, ℕ, zero, suc, ◌+◌, ◌-◌, ◌^◌, ◌<◌, ◌≤◌, ◌⊎◌, ◌↔◌, Bool, true, false, cond, List, [], get_or, nat_eq, Result, Ok, Err, Option, Some, None, IfOk, IfErr, OnErr, refl, sym, ap, subst, ◌∙◌, arith, inl, inr, eqb-true}
+use Rattle.std.proofs.Common.{◌≡◌, ℕ, zero, suc, ◌+◌, ◌-◌, ◌^◌, ◌<◌, ◌≤◌, ◌↔◌, Bool, true, false, nat_eq, Result, Ok, Err, Some, IfOk, OnErr, sym, ap, subst, ◌∙◌, arith, inl, inr, eqb-true}
 use native.Mathlib.Decide.{ℕ_discrete, dec_le}
 use Rattle.eqc_guard.proofs.Acquiring.{constant_trees}
 use Rattle.eqc_apply.specs.Combining.{IsResult}
 use mir.Val.{bool_byte}
 use Rattle.std.specs.Prelude.{IsTrue}
 use Rattle.std.proofs.lemmas.Bool.{eq-eqb}
-use Rattle.eqc_tree.specs.Tree.{Tree, False, True, value, IsCanonical}
+use Rattle.eqc_tree.specs.Tree.{Tree, value}
 use Rattle.eqc_tree.specs.Operation.{operate}
 use Rattle.eqc_tree.specs.Holding.{Entry, Holding, IsHeld as IsIn, copies, weight, says, Keeps, Gains}
 use Rattle.std.proofs.lemmas.Result.{IfOk-weaker}
 use Rattle.eqc_tree.specs.declared.operation.Op.{Op}
 use Rattle.eqc_tree.specs.declared.stopping.Stop.{Stop}
 use Rattle.eqc_tree.proofs.Uniqueness.{bryant}
-use Rattle.eqc_plain.specs.Cache.{IsCache}
-use Rattle.eqc_plain.proofs.Caching.{cache_stays}
-use Rattle.eqc_guard.specs.Known.{Known, IsHeld, IsKnown, IsNamed, tree_of}
+use Rattle.eqc_guard.specs.Known.{Known, IsHeld, IsKnown, tree_of}
 use Rattle.eqc_guard.specs.Standing.{Standing}
 use Rattle.eqc_apply.specs.declared.names.Names.{Names}
 use Rattle.eqc_apply.specs.declared.reference.Ref.{Ref}
-use Rattle.eqc_apply.specs.Names.{refs_of, Has, IsCounted}
-use Rattle.eqc_apply.specs.Meaning.{kept_of}
 use Rattle.eqc_apply.specs.Extending.{Stays, Extends, entry_in, holding_of, holding_in}
 use Rattle.eqc_apply.specs.Referring.{entry_of}
-use Rattle.eqc_apply.specs.Answering.{IsReferenced, IsAnswer, IsVariable}
+use Rattle.eqc_apply.specs.Answering.{IsReferenced, IsAnswer}
 use Rattle.eqc_apply.proofs.Once.{counted_held, seat_trans}
 use Rattle.eqc_apply.proofs.Asked.{held_is_named}
 use Rattle.eqc_apply.proofs.Holdings.{IsReferred, referred, keeps, counted_of}
-use Rattle.eqc_apply.proofs.Meanings.{names_stay, from_kept, to_kept}
 
 -- a reference's name is held, with its tree
 module _ (n : Names) (then : Standing) (x : ℕ) (h : IsIn (holding_in n) (entry_in then.known x)) where

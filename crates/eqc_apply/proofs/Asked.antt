@@ -1,20 +1,19 @@
 -- A node that was asked for, and is among the names then.
-use Rattle.std.proofs.Common.{◌≡◌, ◌≢◌, ◌⊎◌, ℕ, ◌+◌, ◌-◌, ◌^◌, ◌<◌, ◌≤◌, Bool, List, [], ◌∷◌, length, cond, Result, Ok, Err, IfOk, IfErr, refl, sym, ap, subst, ◌∙◌, arith, inl, inr}
-use Rattle.std.proofs.lemmas.Result.{IfOk-weaker}
+use Rattle.std.proofs.Common.{◌≡◌, ◌≢◌, ◌⊎◌, ℕ, ◌-◌, ◌^◌, ◌<◌, ◌≤◌, List, [], ◌∷◌, length, Result, Ok, Err, IfOk, IfErr, refl, sym, ap, subst, ◌∙◌, arith, inl, inr}
 use Rattle.eqc_tree.specs.Tree.{Tree, Node, value, StartsAbove}
 use Rattle.eqc_tree.specs.declared.stopping.Stop.{Stop}
 use Rattle.eqc_tree.specs.declared.stopping.Stop.TheVariants.{NodeLimit, Memory, Threads, References}
-use Rattle.eqc_core.specs.Words.{times, slots_of}
+use Rattle.eqc_core.specs.Words.{slots_of}
 use Rattle.eqc_guard.specs.Known.{Known, IsHeld, IsNamed, IsKnown, tree_of}
 use Rattle.eqc_guard.specs.Standing.{Standing}
 use Rattle.eqc_guard.proofs.Learning.{held_named}
-use Rattle.eqc_arena.specs.Changing.{Changes, Exchanges}
+use Rattle.eqc_arena.specs.Changing.{Exchanges}
 use Rattle.eqc_arena.specs.Nodes.{MayAsk, IsNodeOf}
 use Rattle.eqc_core.proofs.Names.{times-nil}
 use Rattle.eqc_apply.specs.Names.{Has, Settles, IsThere}
 use Rattle.eqc_apply.specs.Before.{IsBefore, IsSeat}
 use Rattle.eqc_apply.specs.Combining.{IsNode}
-use Rattle.eqc_apply.proofs.Once.{few_held, has_after, settles_after, counted_held, changes_before, seat_of, seat_trans, before_trans, held_counted}
+use Rattle.eqc_apply.proofs.Once.{few_held, has_after, changes_before, seat_of, seat_trans, held_counted}
 
 -- a name that is held is named
 pub held_is_named : (k : Known) (x : ℕ) → IsHeld k.core x → IsNamed k.core x

@@ -1,26 +1,23 @@
 -- Results in the cells that all workers share.
-use Rattle.std.proofs.Common.{◌≡◌, ℕ, zero, suc, ◌+◌, ◌^◌, ◌<◌, ◌≤◌, Bool, List, [], ◌∷◌, ◌++◌, set, length, length-append, refl, sym, ap, subst, ◌∙◌, arith}
+use Rattle.std.proofs.Common.{◌≡◌, ℕ, zero, suc, Bool, List, [], ◌∷◌, ◌++◌, set, length-append, refl, sym, ap, subst, ◌∙◌, arith}
 use mathlib.Core.Option.{some, some-injective, some-ne-none}
 use lib.ListN.{get_elem?}
 use Rattle.eqc_tree.specs.Tree.{Tree, value}
 use Rattle.eqc_tree.specs.Operation.{operate}
 use Rattle.eqc_tree.specs.declared.operation.Op.{Op}
-use Rattle.eqc_plain.specs.Store.{root}
 use Rattle.eqc_core.specs.declared.phase.Phase.{Phase}
-use Rattle.eqc_core.specs.View.{View}
-use Rattle.eqc_core.specs.Words.{times, slots_of}
+use Rattle.eqc_core.specs.Words.{slots_of}
 use Rattle.eqc_core.specs.Moves.{IsQuiet}
 use Rattle.eqc_core.proofs.Names.{times-nil, times-append}
 use Rattle.eqc_guard.specs.Acquiring.{IsPassed}
-use Rattle.eqc_guard.specs.Known.{Known, IsHeld, IsKnown, tree_of}
+use Rattle.eqc_guard.specs.Known.{IsHeld, IsKnown, tree_of}
 use Rattle.eqc_guard.specs.Standing.{Standing}
 use Rattle.eqc_cache.specs.Finding.{IsHit}
 use Rattle.eqc_arena.specs.Changing.{AreQuiet, Changes}
-use Rattle.eqc_apply.specs.Names.{Has, Settles, IsThere}
+use Rattle.eqc_apply.specs.Names.{IsThere}
 use Rattle.eqc_apply.specs.Before.{IsBefore}
 use Rattle.eqc_apply.specs.Combining.{IsResult}
-use Rattle.eqc_apply.proofs.Once.{has_after, changes_before, held_counted}
-use Rattle.eqc_apply.proofs.Asked.{held_is_named, came_before}
+use Rattle.eqc_apply.proofs.Asked.{held_is_named}
 use Rattle.eqc_apply.proofs.Reading.{starts_below, starts_root}
 use Rattle.eqc_apply.proofs.Above.{starts_both}
 

@@ -1,20 +1,19 @@
 -- A name that no references stand on is given up.
-use Rattle.std.proofs.Common.{◌≡◌, ◌≢◌, ℕ, ◌+◌, ◌-◌, ◌^◌, ◌<◌, ◌≤◌, List, [], ◌∷◌, length, get_or, set, min, refl, sym, ap, subst, ◌∙◌, arith, inl, inr}
+use Rattle.std.proofs.Common.{◌≡◌, ◌≢◌, ℕ, ◌+◌, ◌^◌, ◌<◌, ◌≤◌, List, [], ◌∷◌, length, get_or, set, min, refl, sym, ap, subst, ◌∙◌, arith, inr}
 use native.Mathlib.Decide.{ℕ_discrete, dec_le}
 use Rattle.std.proofs.lemmas.List.{get_or-set_same, get_or-set_other, get_or_default, get_or_past}
 use Rattle.eqc_core.specs.View.{View}
 use Rattle.eqc_core.specs.Words.{times, slots_of}
 use Rattle.eqc_core.specs.Counting.{downed}
 use Rattle.eqc_core.proofs.Names.{times-nil, times-same, times-other, times-slots_of}
-use Rattle.eqc_guard.specs.Known.{Known, IsHeld, IsKnown, tree_of}
+use Rattle.eqc_guard.specs.Known.{IsHeld, IsKnown, tree_of}
 use Rattle.eqc_guard.specs.Standing.{Standing, Steps}
 use Rattle.eqc_guard.proofs.Learning.{held_named}
-use Rattle.eqc_arena.specs.Changing.{Changes, Exchanges}
+use Rattle.eqc_arena.specs.Changing.{Exchanges}
 use Rattle.eqc_arena.proofs.Changing.{ready_now, quiet_now, hand_now, draft_now, names_now}
 use Rattle.eqc_arena.proofs.References.{gives}
 use Rattle.eqc_apply.specs.declared.names.Names.{Names}
-use Rattle.eqc_apply.specs.Names.{refs_of, Has, Drops, SameReferences}
-use Rattle.eqc_apply.specs.Before.{IsSeat}
+use Rattle.eqc_apply.specs.Names.{Has, Drops, SameReferences}
 use Rattle.eqc_apply.specs.Extending.{Stays}
 use Rattle.eqc_apply.proofs.Once.{counted_held, seat_of, seat_refl, seat_trans}
 

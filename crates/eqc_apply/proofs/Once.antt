@@ -1,11 +1,11 @@
 -- Names that are held once each, and what a step makes of them.
-use Rattle.std.proofs.Common.{◌≡◌, ◌≢◌, ◌⊎◌, ℕ, zero, suc, ◌+◌, ◌-◌, ◌^◌, ◌<◌, ◌≤◌, List, [], ◌∷◌, length, get_or, set, min, Bool, if◌then◌else◌, Option, refl, sym, ap, subst, ◌∙◌, arith, inl, inr}
+use Rattle.std.proofs.Common.{◌≡◌, ◌≢◌, ℕ, zero, suc, ◌+◌, ◌^◌, ◌<◌, ◌≤◌, List, [], ◌∷◌, length, get_or, set, min, Bool, if◌then◌else◌, Option, refl, sym, ap, subst, ◌∙◌, arith, inl, inr}
 use Rattle.std.proofs.lemmas.List.{get_or-set_same, get_or-set_other}
 use native.Mathlib.Decide.{ℕ_discrete, dec_le}
 use Rattle.eqc_core.specs.View.{View, Hand}
 use Rattle.eqc_core.specs.Words.{times, slots_of}
 use Rattle.eqc_core.specs.Moves.{without}
-use Rattle.eqc_core.proofs.Names.{times-nil, times-same, times-other, times-without, times-without_other, times_without_le, length-without_one, two_cases, times-slots_of, slots_of_slots}
+use Rattle.eqc_core.proofs.Names.{times-nil, times-same, times-other, times-without, times-without_other, times_without_le, length-without_one, two_cases, times-slots_of}
 use Rattle.eqc_guard.specs.Known.{Known, IsHeld, IsNamed, IsKnown, tree_of}
 use Rattle.eqc_core.specs.Counting.{upped, downed}
 use Rattle.eqc_guard.specs.Standing.{Standing, Steps}

@@ -1,17 +1,15 @@
 -- A node that is read: its root, and its cofactors.
 use native.Mathlib.Decide.{dec_le}
-use Rattle.std.proofs.Common.{◌≡◌, ◌≢◌, ℕ, zero, suc, ◌+◌, ◌/◌, ◌%◌, ◌^◌, ◌<◌, ◌≤◌, Bool, true, false, cond, List, [], ◌∷◌, Option, refl, sym, ap, subst, ◌∙◌, arith, inl, inr}
+use Rattle.std.proofs.Common.{◌≡◌, ◌≢◌, ℕ, zero, suc, ◌+◌, ◌/◌, ◌%◌, ◌^◌, ◌<◌, ◌≤◌, Bool, true, false, cond, List, [], refl, sym, ap, subst, ◌∙◌, arith, inl, inr}
 use Rattle.eqc_tree.specs.Tree.{Tree, False, True, Node, value, StartsAbove, IsOrdered}
 use Rattle.eqc_plain.specs.Store.{root}
-use Rattle.eqc_core.specs.Words.{times, variable_of, low_of, high_of}
+use Rattle.eqc_core.specs.Words.{variable_of}
 use Rattle.eqc_core.specs.Making.{read_node}
-use Rattle.eqc_core.specs.View.{View, Hand}
-use Rattle.eqc_core.proofs.Names.{times-nil}
 use Rattle.eqc_guard.specs.Known.{Known, IsHeld, IsNamed, IsKnown, tree_of}
-use Rattle.eqc_guard.specs.Making.{Reads, node_tree}
+use Rattle.eqc_guard.specs.Making.{Reads}
 use Rattle.eqc_guard.specs.Standing.{Standing, Steps}
 use Rattle.eqc_guard.proofs.Learning.{held_named}
-use Rattle.eqc_arena.specs.Changing.{Changes, Exchanges}
+use Rattle.eqc_arena.specs.Changing.{Changes}
 use Rattle.eqc_arena.proofs.Changing.{reads, same_tree}
 use Rattle.eqc_arena.proofs.References.{variable_is}
 use Rattle.eqc_apply.specs.Names.{Has, Settles}

@@ -1,5 +1,5 @@
 -- A team is made: a first member, which splits the others off.
-use Rattle.std.proofs.Common.{◌≡◌, ℕ, zero, suc, ◌+◌, ◌-◌, ◌<◌, ◌≤◌, List, [], ◌∷◌, ◌++◌, length, map, max, Result, Ok, Err, IfOk, OnErr, All, refl, sym, ap, subst, ◌∙◌, arith}
+use Rattle.std.proofs.Common.{◌≡◌, ℕ, zero, suc, ◌+◌, List, [], ◌∷◌, ◌++◌, map, max, Result, Ok, Err, IfOk, OnErr, refl, sym, ap, subst, ◌∙◌, arith}
 use Rattle.std.proofs.lemmas.List.Elements.{All-push, All-cons}
 use Rattle.std.proofs.lemmas.List.{map-append}
 use Rattle.atomic_table.specs.Seated.{TableId}
@@ -8,7 +8,7 @@ use Rattle.eqc_core.specs.State.{slots_from}
 use Rattle.eqc_guard.specs.declared.fault.SplitFault.{SplitFault}
 use Rattle.eqc_guard.specs.Known.{Known}
 use Rattle.eqc_guard.specs.Seats.{split_left, split_off}
-use Rattle.eqc_guard.specs.Splitting.{IsSplit, HasNumber}
+use Rattle.eqc_guard.specs.Splitting.{IsSplit}
 use Rattle.eqc_guard.specs.Standing.{Standing}
 use Rattle.eqc_plain.specs.Cache.{IsCache}
 use Rattle.eqc_apply.specs.declared.applier.Applier.{Applier}

@@ -1,5 +1,4 @@
 -- That nothing is announced is a fact: there is one proof of it at most.
-use Rattle.std.specs.Prelude.{ℕ}
 use mathlib.Core.Path.{refl}
 use Rattle.eqc_core.specs.declared.phase.Phase.{Phase}
 use Rattle.eqc_core.specs.declared.phase.Phase.TheVariants.{Idle, Seen, Announced, Confirmed, Missed}

@@ -1,5 +1,5 @@
 -- The members of a team: a worker each, of one forest.
-use Rattle.std.specs.Prelude.{◌≡◌, ℕ, ◌<◌, List, map}
+use Rattle.std.specs.Prelude.{◌≡◌, ℕ, List, map}
 use Rattle.std.specs.List.{All}
 use Rattle.atomic_table.specs.Seated.{TableId}
 use Rattle.eqc_tree.specs.Holding.{IsNew}

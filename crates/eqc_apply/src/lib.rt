@@ -1,13 +1,23 @@
-//! The shared forest as decision diagrams: `Applier`, an implementation of `eqc_tree`'s traits.
+//! The shared forest as decision diagrams: `Applier`, an implementation of `eqc_tree`'s traits over a worker.
+//!
+//! A worker holds each node that it names once, and counts its own references by itself. So a
+//! reference, a copy and an operation on what it names cost no step on a word that others see; only a
+//! node that is made, or met for the first time, does. Read the modules in this order:
+//!
+//! - `names`, what a worker holds: its counts, cofactors and nodes; `reference`, what is handed out
+//! - `applier`, with the results that a worker keeps for itself; `expansion` and `apply`, the loop
+//! - `shared`, the operation cache that all workers share
+//! - `diagrams`, the calls of the traits; `members`, the appliers of a new forest
+//! - `joining`, one applier takes another one in; `closing`, the last one closes the forest
 #![tactic(auto)]
 
 mod applier;
 mod apply;
-mod diagrams;
 mod closing;
+mod diagrams;
 mod expansion;
-mod members;
 mod joining;
+mod members;
 mod names;
 mod reference;
 mod shared;

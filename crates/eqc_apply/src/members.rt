@@ -12,13 +12,7 @@ use eqc_tree::Stop;
 use std::alloc::Global;
 
 // The first member, whose forest is new.
-fn found(
-    alloc: Global,
-    vars: u16,
-    nodes: u32,
-    cells: u32,
-    workers: u32,
-) -> Result<Applier, Stop>
+fn found(alloc: Global, vars: u16, nodes: u32, cells: u32, workers: u32) -> Result<Applier, Stop>
     requires nodes { (1 ≤ nodes) × (nodes ≤ 1048574) }
     requires cells { (1 ≤ cells) × (cells ≤ 1048576) }
     requires workers { (1 ≤ workers) × (workers ≤ 64) }

@@ -13,9 +13,11 @@ eqc [--workers N] [--nodes N] [--cells N] [--forks N] [--order FILE]
 
 pub const WORKERS: &str = "Compares outputs on this many threads, 1 to 64";
 
-pub const NODES: &str = "Keeps at most this many nodes of diagrams for all workers together, 1 to 1048574";
+pub const NODES: &str =
+    "Keeps at most this many nodes of diagrams for all workers together, 1 to 1048574";
 
-pub const CELLS: &str = "Remembers this many operations for all workers, a power of two up to 1048576";
+pub const CELLS: &str =
+    "Remembers this many operations for all workers, a power of two up to 1048576";
 
 pub const FORKS: &str = "Shares this many levels of an operation among workers, 0 to 16";
 

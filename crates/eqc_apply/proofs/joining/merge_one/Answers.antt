@@ -11,9 +11,13 @@ pub overflow_add-first : goal.overflow_add-first
 overflow_add-first c =
     let n = c.requires.has.0 in
     let a = c.args in
-    omega (arith, c.requires.few a.place, c.if-first-eq0.false,
-        first_is a.place n c.index-first.result.now c.index-second.result.now a.counts.now.items a.more.now.items a.worker.now c.requires.within c.requires.within_more c.index-first.ensures c.index-second.ensures c.if-second-eq0.false c.requires.has.1,
-        second_is a.place n c.index-first.result.now c.index-second.result.now a.counts.now.items a.more.now.items a.worker.now c.requires.within c.requires.within_more c.index-first.ensures c.index-second.ensures c.if-second-eq0.false c.requires.has.1)
+    omega (
+      arith,
+      c.requires.few a.place,
+      c.if-first-eq0.false,
+      first_is a.place n c.index-first.result.now c.index-second.result.now a.counts.now.items a.more.now.items a.worker.now c.requires.within c.requires.within_more c.index-first.ensures c.index-second.ensures c.if-second-eq0.false c.requires.has.1,
+      second_is a.place n c.index-first.result.now c.index-second.result.now a.counts.now.items a.more.now.items a.worker.now c.requires.within c.requires.within_more c.index-first.ensures c.index-second.ensures c.if-second-eq0.false c.requires.has.1,
+    )
 
 pub returns-clause-has : goal.returns-clause-has
 returns-clause-has c = λ n h.

@@ -1,4 +1,4 @@
-use Rattle.std.proofs.Common.{ℕ, List, ◌∙◌, sym, subst, refl}
+use Rattle.std.proofs.Common.{ℕ, List, ◌∙◌, sym, subst}
 use Rattle.eqc_tree.specs.Holding.{IsNew}
 use Rattle.eqc_apply.specs.Extending.{holding_of}
 use Rattle.eqc_apply.proofs.Teams.{splits, lead_left, new_member, number_left, workers_left, given_left, number_split}
@@ -13,10 +13,13 @@ invariant_of-lead c =
 pub returns-in-Ok-clause-lead : goal.returns-in-Ok-clause-lead
 returns-in-Ok-clause-lead c = λ n w g h.
     let l = c.args.lead.now in
-    let s = c.in-Ok.ensures.split in
-    (record {
-      new = lead_left n w g l.names.variables l.names.counts.items l.names.worker.known c.split.new.self.known s.known h.new;
-      number = number_left l.names.worker.known c.split.new.self.known s.known ∙ h.number;
-      workers_are = workers_left l.names.worker.known c.split.new.self.known s.known ∙ h.workers_are;
-      given_is = given_left g l.names.worker.known c.split.new.self.known s.known h.given_is;
-    }, subst (λ (cs : List ℕ). IsNew n (holding_of l.names.variables c.in-Ok.worker.known cs)) (sym c.new.ensures.items) (new_member n l.names.variables c.in-Ok.worker.known l.names.worker.known l.names.counts.items h.new), number_split g l.names.worker.known c.in-Ok.worker.known s.other_known h.given_is)
+    let s = c.in-Ok.ensures.split in (
+      record {
+        new = lead_left n w g l.names.variables l.names.counts.items l.names.worker.known c.split.new.self.known s.known h.new;
+        number = number_left l.names.worker.known c.split.new.self.known s.known ∙ h.number;
+        workers_are = workers_left l.names.worker.known c.split.new.self.known s.known ∙ h.workers_are;
+        given_is = given_left g l.names.worker.known c.split.new.self.known s.known h.given_is;
+      },
+      subst (λ (cs : List ℕ). IsNew n (holding_of l.names.variables c.in-Ok.worker.known cs)) (sym c.new.ensures.items) (new_member n l.names.variables c.in-Ok.worker.known l.names.worker.known l.names.counts.items h.new),
+      number_split g l.names.worker.known c.in-Ok.worker.known s.other_known h.given_is,
+    )

@@ -1,6 +1,5 @@
-use Rattle.std.proofs.Common.{◌≡◌, ◌+◌, ◌-◌, ◌≤◌, ◌<◌, ℕ, List, arith, sym, subst, ◌∙◌, refl}
-use Rattle.eqc_apply.specs.declared.applier.Applier.{Applier}
-use Rattle.eqc_apply.specs.Teaming.{IsTeam, IsLead, AreOthers, forest_of}
+use Rattle.std.proofs.Common.{◌≡◌, ◌+◌, ◌-◌, ℕ, arith, sym, subst, ◌∙◌}
+use Rattle.eqc_apply.specs.Teaming.{IsTeam, IsLead, forest_of}
 use Rattle.eqc_apply.proofs.Teams.{more_others, other_forest, is_team}
 use Rattle.eqc_apply.proofs.members.team.Goals as goal
 
@@ -11,7 +10,7 @@ loop-preserved c =
     let f = c.in_ok-join.ensures.forest in
     let back : c.loop.counter + 1 - 1 ≡ c.loop.counter - 1 + 1 = let s = i.some in omega arith in
     let o = more_others c.args.vars (c.loop.counter - 1) (forest_of c.join.new.lead) c.loop.members.items c.in_ok-join.field-0
-        (other_forest c.args.vars (c.loop.counter - 1) (forest_of c.loop.lead) (forest_of c.join.new.lead) c.loop.members.items f.0 i.others) l.1 (let s = i.some in omega (arith, l.2)) (f.1 ∙ sym f.0) in
+    (other_forest c.args.vars (c.loop.counter - 1) (forest_of c.loop.lead) (forest_of c.join.new.lead) c.loop.members.items f.0 i.others) l.1 (let s = i.some in omega (arith, l.2)) (f.1 ∙ sym f.0) in
     record {
       some = omega arith;
       lead = l.0;

@@ -1,5 +1,5 @@
-use Rattle.std.proofs.Common.{◌<◌, ◌^◌, arith}
-use Rattle.eqc_apply.proofs.Giving.{is_small, is_held, drops, drops_has}
+use Rattle.std.proofs.Common.{arith}
+use Rattle.eqc_apply.proofs.Giving.{is_small, drops, drops_has}
 use Rattle.eqc_apply.proofs.names.give_up_one.Goals as goal
 
 pub overflow_cast-place : goal.overflow_cast-place

@@ -1,4 +1,4 @@
-use Rattle.std.proofs.Common.{◌≡◌, ℕ, ◌<◌, List, [], ◌∷◌, get_or, arith, refl, sym, subst}
+use Rattle.std.proofs.Common.{◌≡◌, ℕ, List, get_or, arith, refl, subst}
 use Rattle.eqc_arena.proofs.References.{trees_stay, read_stays}
 use Rattle.eqc_apply.proofs.Once.{few_held, more_has, more_settles, more_held, same_counted, named_is}
 use Rattle.eqc_apply.proofs.names.hold.Goals as goal
@@ -18,9 +18,10 @@ returns-clause-settles c =
 
 pub returns-clause-there : goal.returns-clause-there
 returns-clause-there c =
-    let none : get_or c.args.counts.now.items c.args.x 0 ≡ 0 = subst (λ (l : List ℕ). get_or l c.args.x 0 ≡ 0) c.as_slice.ensures.value (c.if-is_counted.ensures.no refl) in
-    (more_held c.args.x c.requires.has.0 c.args.counts.now.items c.make_room.new.counts.items c.args.worker.now c.up.new.self c.if-x-lt2.false none c.make_room.ensures.same c.in_ok-make_room.ensures.room c.in_ok-name.ensures.step,
-     trees_stay c.args.x c.args.worker.now c.up.new.self c.cells-cells.ensures.known c.in_ok-name.ensures.step c.args.x (named_is c.args.worker.now.known.core c.args.x c.requires.may))
+    let none : get_or c.args.counts.now.items c.args.x 0 ≡ 0 = subst (λ (l : List ℕ). get_or l c.args.x 0 ≡ 0) c.as_slice.ensures.value (c.if-is_counted.ensures.no refl) in (
+      more_held c.args.x c.requires.has.0 c.args.counts.now.items c.make_room.new.counts.items c.args.worker.now c.up.new.self c.if-x-lt2.false none c.make_room.ensures.same c.in_ok-make_room.ensures.room c.in_ok-name.ensures.step,
+      trees_stay c.args.x c.args.worker.now c.up.new.self c.cells-cells.ensures.known c.in_ok-name.ensures.step c.args.x (named_is c.args.worker.now.known.core c.args.x c.requires.may),
+    )
 
 pub returns-clause-trees : goal.returns-clause-trees
 returns-clause-trees c = trees_stay c.args.x c.args.worker.now c.up.new.self c.cells-cells.ensures.known c.in_ok-name.ensures.step

@@ -17,9 +17,11 @@ returns-then-x-lt2-clause-there c =
     let counted : IsCounted c.args.counts.now.items c.args.name.number = elim c.then-x-lt2.branch [
       | then-x-lt2-via-then-x-lt2 w ↦ inl (let s = w.if-x-lt2.true in omega (arith, c.number-x.ensures))
       | then-x-lt2-via-else-x-lt2+then-is_counted w ↦ inr (let some : 0 < get_or w.as_slice.result.now c.number-x.result 0 = w.if-is_counted.ensures.yes refl in subst (λ (z : ℕ). 0 < get_or c.args.counts.now.items z 0) c.number-x.ensures (subst (λ (l : List ℕ). 0 < get_or l c.number-x.result 0) w.as_slice.ensures.value some))
-    ] in
-    (c.number-x.ensures, subst (λ (z : ℕ). IsThere z c.args.worker.now c.down.new.self) (sym c.number-x.ensures)
-        (back_there c.args.name.number c.requires.0 c.args.counts.now.items c.args.worker.now c.down.new.self c.cells-cells.ensures.known c.requires.1 c.down.ensures.constant c.down.ensures.step counted))
+    ] in (
+      c.number-x.ensures,
+      subst (λ (z : ℕ). IsThere z c.args.worker.now c.down.new.self) (sym c.number-x.ensures)
+          (back_there c.args.name.number c.requires.0 c.args.counts.now.items c.args.worker.now c.down.new.self c.cells-cells.ensures.known c.requires.1 c.down.ensures.constant c.down.ensures.step counted),
+    )
 
 pub down-requires-in-Err-clause-held : goal.down-requires-in-Err-clause-held
 down-requires-in-Err-clause-held c = beside_held c.args.name.number c.requires.0 c.args.worker.now c.args.counts.now.items c.requires.1

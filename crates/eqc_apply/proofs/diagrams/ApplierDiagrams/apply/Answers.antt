@@ -1,4 +1,4 @@
-use Rattle.std.proofs.Common.{◌≡◌, ◌∙◌}
+use Rattle.std.proofs.Common.{◌∙◌}
 use Rattle.eqc_apply.specs.Extending.{entry_in}
 use Rattle.eqc_apply.proofs.Answering.{is_referenced, operate_referred, on_err, stays_keeps, answer_gains, answer_keeps, answer_full}
 use Rattle.eqc_apply.proofs.diagrams.ApplierDiagrams.apply.Goals as goal

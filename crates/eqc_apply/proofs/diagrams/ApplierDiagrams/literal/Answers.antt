@@ -1,4 +1,3 @@
-use Rattle.std.proofs.Common.{◌≡◌, ◌∙◌}
 use Rattle.eqc_apply.specs.Extending.{entry_in}
 use Rattle.eqc_apply.proofs.Answering.{variables_in, on_err, stays_keeps, answer_gains, answer_keeps, answer_full}
 use Rattle.eqc_apply.proofs.diagrams.ApplierDiagrams.literal.Goals as goal

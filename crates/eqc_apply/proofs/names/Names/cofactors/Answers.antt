@@ -1,4 +1,4 @@
-use Rattle.std.proofs.Common.{◌≡◌, ◌≢◌, ℕ, ◌<◌, ap, subst, sym, refl, ◌∙◌, arith}
+use Rattle.std.proofs.Common.{◌≡◌, ◌≢◌, ℕ, ap, refl, ◌∙◌, arith}
 use Rattle.eqc_plain.specs.Store.{root}
 use Rattle.eqc_guard.specs.Known.{tree_of}
 use Rattle.eqc_arena.proofs.References.{low_counts, high_counts, opened}
@@ -62,7 +62,7 @@ returns-in_err-hold-2-clause-names c = record {
 pub returns-clause-ok : goal.returns-clause-ok
 returns-clause-ok c =
     let is = opened c.args.self.now.worker c.word_of-word.new.worker c.args.x c.word_of-word.result c.word_of-word.ensures.step c.hold.new.worker c.in_ok-hold.ensures.read c.hold-2.new.worker c.unpack_node-top.result.1 c.unpack_node-top.result.2 c.unpack_node-top.result
-        c.in_ok-hold.ensures.trees c.in_ok-hold-2.ensures.trees c.word_of-word.ensures.tells c.unpack_node-top.ensures.fields refl refl in
+    c.in_ok-hold.ensures.trees c.in_ok-hold-2.ensures.trees c.word_of-word.ensures.tells c.unpack_node-top.ensures.fields refl refl in
     cofactors_taken c.args.x c.word_of-word.result c.args.self.now.variables c.args.self.now.counts.items c.hold.new.counts.items c.args.self.now.worker c.word_of-word.new.worker c.hold.new.worker c.hold-2.new.worker c.word_of-word.ensures.step c.word_of-word.ensures.tells c.requires.held c.args.self.now.once c.unpack_node-top.result.1 c.unpack_node-top.result.2 c.hold.ensures.settles (c.hold.ensures.has c.args.self.now.variables (read_has c.args.x c.word_of-word.result c.args.self.now.variables c.args.self.now.counts.items c.args.self.now.worker c.word_of-word.new.worker c.word_of-word.ensures.step c.word_of-word.ensures.tells c.requires.held c.args.self.now.once)) c.in_ok-hold.ensures.there.0 c.hold-2.ensures.settles c.cells-cells.ensures.known c.unpack_node-top.result c.args.variable is c.if-top-variable.false c.in_ok-hold-2.ensures.there.0
 
 pub returns-clause-names : goal.returns-clause-names

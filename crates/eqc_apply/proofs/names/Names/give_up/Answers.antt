@@ -1,5 +1,4 @@
-use Rattle.std.proofs.Common.{◌≡◌, ℕ, ◌<◌, ◌≤◌, length, get_or, arith}
-use native.Mathlib.Decide.{dec_le}
+use Rattle.std.proofs.Common.{arith}
 use Rattle.eqc_apply.proofs.Giving.{none_left}
 use Rattle.eqc_apply.proofs.names.Names.give_up.Goals as goal
 

@@ -1,10 +1,7 @@
-use Rattle.std.proofs.Common.{◌≡◌, ℕ, [], ◌∷◌, arith, refl, sym, subst, ◌∙◌}
-use Rattle.eqc_core.specs.Words.{slots_of}
-use Rattle.eqc_core.proofs.Names.{times-nil}
-use Rattle.eqc_guard.specs.Known.{IsHeld}
+use Rattle.std.proofs.Common.{ℕ, [], arith, refl, subst, ◌∙◌}
 use Rattle.eqc_cache.specs.Finding.{IsHit}
 use Rattle.eqc_arena.proofs.Taking.{may_clear}
-use Rattle.eqc_apply.proofs.Once.{has_after, changes_before, seat_of}
+use Rattle.eqc_apply.proofs.Once.{has_after}
 use Rattle.eqc_apply.proofs.Asked.{came_has, came_before, came_seat}
 use Rattle.eqc_apply.proofs.Finding.{passes, hits, found_result}
 use Rattle.eqc_apply.proofs.names.Names.look_up.Goals as goal
@@ -46,8 +43,8 @@ returns-clause-names c =
 pub returns-clause-ok : goal.returns-clause-ok
 returns-clause-ok c =
     let hit : IsHit c.args.op c.args.f c.args.g c.in-Some.name.number c.args.self.now.worker c.lookup-hit.new.worker =
-        subst (λ (p : ℕ). IsHit c.args.op p c.args.g c.in-Some.name.number c.args.self.now.worker c.lookup-hit.new.worker) c.reference-first.ensures
-        (subst (λ (q : ℕ). IsHit c.args.op c.reference-first.result.number q c.in-Some.name.number c.args.self.now.worker c.lookup-hit.new.worker) c.reference-second.ensures c.in-Some.ensures.hit) in
+    subst (λ (p : ℕ). IsHit c.args.op p c.args.g c.in-Some.name.number c.args.self.now.worker c.lookup-hit.new.worker) c.reference-first.ensures
+    (subst (λ (q : ℕ). IsHit c.args.op c.reference-first.result.number q c.in-Some.name.number c.args.self.now.worker c.lookup-hit.new.worker) c.reference-second.ensures c.in-Some.ensures.hit) in
     let t = hits _ _ _ c.in-Some.name.number c.args.self.now.worker c.lookup-hit.new.worker c.in-Some.ensures.hit in
     let b = came_before 0 c.args.f c.args.g c.args.self.now.variables c.args.self.now.counts.items c.args.self.now.worker c.lookup-hit.new.worker c.args.self.now.once c.cells-cells.ensures.known c.requires.f c.requires.g c.in-Some.name.number t c.settle.new.worker c.settle.ensures.settles in
     let there = c.in_ok-x.ensures.there in

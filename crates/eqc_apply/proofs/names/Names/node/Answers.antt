@@ -1,4 +1,4 @@
-use Rattle.std.proofs.Common.{◌≡◌, ℕ, [], ◌∷◌, refl, sym, subst, ◌∙◌}
+use Rattle.std.proofs.Common.{ℕ, refl, sym, subst, ◌∙◌}
 use Rattle.eqc_guard.specs.Known.{tree_of}
 use Rattle.eqc_arena.specs.Nodes.{MayAsk, IsNodeOf}
 use Rattle.eqc_apply.proofs.Once.{changes_before, seat_of}
@@ -19,8 +19,8 @@ invariant_of-self g c = record { once = c.settle.ensures.has c.args.self.now.var
 pub returns-in-Ok-clause-ok : goal.returns-in-Ok-clause-ok
 returns-in-Ok-clause-ok g c =
     let is : IsNodeOf c.args.variable (tree_of c.args.self.now.worker.known c.args.low) (tree_of c.args.self.now.worker.known c.args.high) (tree_of c.mk-made.new.worker.known c.in-Ok.name.number) =
-        subst (λ (l : ℕ). IsNodeOf c.args.variable (tree_of c.args.self.now.worker.known l) (tree_of c.args.self.now.worker.known c.args.high) (tree_of c.mk-made.new.worker.known c.in-Ok.name.number)) c.reference-first.ensures
-        (subst (λ (h : ℕ). IsNodeOf c.args.variable (tree_of c.args.self.now.worker.known c.reference-first.result.number) (tree_of c.args.self.now.worker.known h) (tree_of c.mk-made.new.worker.known c.in-Ok.name.number)) c.reference-second.ensures c.in-Ok.ensures.tree) in
+    subst (λ (l : ℕ). IsNodeOf c.args.variable (tree_of c.args.self.now.worker.known l) (tree_of c.args.self.now.worker.known c.args.high) (tree_of c.mk-made.new.worker.known c.in-Ok.name.number)) c.reference-first.ensures
+    (subst (λ (h : ℕ). IsNodeOf c.args.variable (tree_of c.args.self.now.worker.known c.reference-first.result.number) (tree_of c.args.self.now.worker.known h) (tree_of c.mk-made.new.worker.known c.in-Ok.name.number)) c.reference-second.ensures c.in-Ok.ensures.tree) in
     node_is c.args.variable c.args.low c.args.high c.args.self.now.variables c.args.self.now.counts.items c.args.self.now.worker c.mk-made.new.worker c.args.self.now.once c.cells-cells.ensures.known c.requires.low c.requires.high c.in-Ok.name.number c.in-Ok.ensures.node c.settle.new.worker c.settle.ensures.settles c.if-low-high.false is c.settle.result c.settle.ensures.there
 
 pub returns-in-Ok-clause-names : goal.returns-in-Ok-clause-names

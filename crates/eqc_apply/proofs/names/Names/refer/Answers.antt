@@ -1,4 +1,4 @@
-use Rattle.std.proofs.Common.{◌≡◌, ℕ, ◌<◌, get_or, refl, sym, subst, arith}
+use Rattle.std.proofs.Common.{sym, subst, arith}
 use Rattle.eqc_tree.specs.Holding.{Gains, says}
 use Rattle.eqc_guard.specs.Standing.{Standing}
 use Rattle.eqc_apply.specs.Extending.{entry_in, holding_in}

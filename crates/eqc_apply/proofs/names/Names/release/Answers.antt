@@ -1,4 +1,4 @@
-use Rattle.std.proofs.Common.{◌≡◌, ℕ, ◌<◌, get_or, refl, sym, subst, arith}
+use Rattle.std.proofs.Common.{arith}
 use Rattle.eqc_apply.proofs.Holdings.{counted_within, counted_of, referred, loses_constant, releases_some, releases_has, releases_loses}
 use Rattle.eqc_apply.proofs.names.Names.release.Goals as goal
 

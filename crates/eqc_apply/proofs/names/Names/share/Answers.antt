@@ -1,4 +1,4 @@
-use Rattle.std.proofs.Common.{◌≤◌, ◌^◌, [], length, arith}
+use Rattle.std.proofs.Common.{[], arith}
 use Rattle.eqc_arena.proofs.Changing.{empties}
 use Rattle.eqc_arena.proofs.Taking.{may_clear}
 use Rattle.eqc_apply.proofs.Once.{few_held, has_after}
