@@ -25,16 +25,31 @@ const TURNS: u32 = 2048;
 // can be nodes. What is left then is tried after the next stripe.
 const MOST_TRIES: u32 = 1 << 20;
 
-// Puts the word of a node whose count fell from 2 behind those of the fallen nodes: what owns it still
-// may be its table alone. Where there is no room, it waits for a whole turn.
-fn note_fallen(fallen: &mut ArrayVec<u64, 4096>, owners: u64, word: u64) {
-    if owners == 2 {
-        let _full = fallen.try_push(word);
+// Words of nodes that fell to one owner, which may be their table, in stripes that the turn has
+// passed: in the others it finds them itself.
+#[derive(Drop)]
+struct Fallen {
+    words: ArrayVec<u64, 4096>,
+    // The last stripe that the turn has passed, or is in.
+    passed: u32,
+}
+
+impl Fallen {
+    // Keeps the word of a node whose count fell from this. Where there is no room, it waits for
+    // another turn.
+    fn note(&mut self, word: u64, owners: u64) {
+        if owners != 2 {
+            return;
+        }
+        let (var, low, high) = unpack_node(word);
+        if stripe_for(var, low, high) <= self.passed {
+            let _full = self.words.try_push(word);
+        }
     }
 }
 
 // Gives a child of a node that was taken back.
-fn give_child(worker: &mut Worker, fallen: &mut ArrayVec<u64, 4096>, child: Ref)
+fn give_child(worker: &mut Worker, fallen: &mut Fallen, child: Ref)
     requires ready { IsReady worker.old.known.core }
     requires held { IsHeld worker.old.known.core child.number }
     ensures gives { Exchanges (slots_of (child.number ∷ [])) [] worker.old worker.new }
@@ -48,7 +63,7 @@ fn give_child(worker: &mut Worker, fallen: &mut ArrayVec<u64, 4096>, child: Ref)
     }
     let word = worker.read_node(&child);
     let owners = worker.down_from(child);
-    note_fallen(fallen, owners, word);
+    fallen.note(word, owners);
 }
 
 // Tries to take the node of the i-th entry back, and says whether it was. Its children are given
@@ -57,7 +72,7 @@ fn try_entry(
     worker: &mut Worker,
     map: &mut IndexMap<u64, u32>,
     i: usize,
-    fallen: &mut ArrayVec<u64, 4096>,
+    fallen: &mut Fallen,
 ) -> bool
     requires home { (s : ℕ) × MayHome worker.old.known.core s map.old.entries }
     requires within { i < length map.old.entries }
@@ -85,12 +100,7 @@ fn try_entry(
 
 // Takes the dead nodes of a stripe back, and gives their number. The last entry is tried first: what
 // takes the place of an entry that went has been tried.
-fn take_stripe<R: Wait>(
-    worker: &mut Worker,
-    rt: &R,
-    stripe: u32,
-    fallen: &mut ArrayVec<u64, 4096>,
-) -> u32
+fn take_stripe<R: Wait>(worker: &mut Worker, rt: &R, stripe: u32, fallen: &mut Fallen) -> u32
     requires rest { IsAtRest worker.old.known.core }
     requires stripe { stripe < 16 }
     requires room { length worker.old.known.core.held ≤ 2 ^ 39 }
@@ -113,12 +123,7 @@ fn take_stripe<R: Wait>(
 
 // Tries to take the node of a word back, where its stripe's map has the word: it may have been taken
 // back since its count fell, and made anew.
-fn take_word<R: Wait>(
-    worker: &mut Worker,
-    rt: &R,
-    word: u64,
-    fallen: &mut ArrayVec<u64, 4096>,
-) -> bool
+fn take_word<R: Wait>(worker: &mut Worker, rt: &R, word: u64, fallen: &mut Fallen) -> bool
     requires rest { IsAtRest worker.old.known.core }
     requires room { length worker.old.known.core.held ≤ 2 ^ 39 }
     ensures changes { Exchanges [] [] worker.old worker.new }
@@ -140,7 +145,7 @@ fn take_word<R: Wait>(
 
 // Tries the fallen nodes, the last one first, and gives how many were taken back. Their children
 // come behind them, so that there are few at a time: as many as a path has nodes, and some.
-fn take_fallen<R: Wait>(worker: &mut Worker, rt: &R, fallen: &mut ArrayVec<u64, 4096>) -> u32
+fn take_fallen<R: Wait>(worker: &mut Worker, rt: &R, fallen: &mut Fallen) -> u32
     requires rest { IsAtRest worker.old.known.core }
     requires room { length worker.old.known.core.held ≤ 2 ^ 39 }
     ensures few { result ≤ 2 ^ 20 }
@@ -151,7 +156,7 @@ fn take_fallen<R: Wait>(worker: &mut Worker, rt: &R, fallen: &mut ArrayVec<u64, 
     let _cells = worker.cells();
     let mut taken = 0u32;
     for _try in 0..MOST_TRIES {
-        let Some(word) = fallen.pop() else {
+        let Some(word) = fallen.words.pop() else {
             break;
         };
         if take_word(worker, rt, word, fallen) {
@@ -163,7 +168,7 @@ fn take_fallen<R: Wait>(worker: &mut Worker, rt: &R, fallen: &mut ArrayVec<u64, 
 
 // Makes one turn over all stripes, and gives how many nodes were taken back. After each stripe it
 // goes on with the nodes that fell.
-fn turn<R: Wait>(worker: &mut Worker, rt: &R, fallen: &mut ArrayVec<u64, 4096>) -> u32
+fn turn<R: Wait>(worker: &mut Worker, rt: &R, fallen: &mut Fallen) -> u32
     requires rest { IsAtRest worker.old.known.core }
     requires room { length worker.old.known.core.held ≤ 2 ^ 39 }
     ensures changes { Exchanges [] [] worker.old worker.new }
@@ -173,6 +178,7 @@ fn turn<R: Wait>(worker: &mut Worker, rt: &R, fallen: &mut ArrayVec<u64, 4096>) 
     let _cells = worker.cells();
     let mut taken = 0u32;
     for stripe in 0..16u32 {
+        fallen.passed = stripe;
         taken += take_stripe(worker, rt, stripe, fallen);
         taken += take_fallen(worker, rt, fallen);
     }
@@ -197,7 +203,10 @@ pub fn collect<R: Wait>(worker: &mut Worker, rt: &R) -> u32
     let _cells = worker.cells();
     eqc_cache::storing::clear(worker);
     worker.scan();
-    let mut fallen = ArrayVec::new();
+    let mut fallen = Fallen {
+        words: ArrayVec::new(),
+        passed: 0,
+    };
     let mut all = 0u32;
     for _turn in 0..TURNS {
         let taken = turn(worker, rt, &mut fallen);
