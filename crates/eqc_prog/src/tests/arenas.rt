@@ -1,5 +1,5 @@
 //! The arena of the shared forest: what no clause says, as which number a node has and how many a collection takes back.
-ghost use Rattle.std.specs.Prelude.{◌≡◌, ◌<◌, ◌≤◌, length};
+ghost use Rattle.std.specs.Prelude.{◌≡◌};
 
 use crate::tests::drivers::Driver;
 use crate::tests::makers::{Maker, planted, resting};
@@ -8,7 +8,7 @@ use eqc_guard::fault::SplitFault;
 use eqc_tree::Stop;
 use std::process::Abort;
 use std::sync::Wait;
-use std::thread::{Threads, join_mut};
+use std::thread::join_mut;
 
 /// The constants' numbers.
 const FALSE: u32 = 0;
