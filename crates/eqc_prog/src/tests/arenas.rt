@@ -111,16 +111,7 @@ fn a_result_is_found_between_store_and_clear(rt: HostRuntime) {
     same(&rt, maker.close(&rt), 3, "close");
 }
 
-/// A driven worker acquires the result in cell 0, which it doesn't hold yet.
-fn acquire(rt: &impl Abort, driver: &mut Driver, x: u32)
-    ensures { driver.new.worker.forest ≡ driver.old.worker.forest }
-{
-    driver.look(0);
-    same(rt, driver.announce(), Some(x), "announce");
-    same(rt, driver.recheck(), Some(true), "recheck");
-}
-
-/// It counts the result up, reads it and gives it back.
+/// A driven worker counts the result up that it has acquired, reads it and gives it back.
 fn use_acquired(rt: &impl Abort, driver: &mut Driver, x: u32)
     ensures { driver.new.worker.forest ≡ driver.old.worker.forest }
 {
@@ -136,7 +127,7 @@ fn an_acquired_node_outlives_a_collection(rt: HostRuntime) {
     let mut second = first.driven(&rt);
     let x = node(&rt, &mut first, 0, FALSE, TRUE);
     first.store_itself(&rt, x);
-    acquire(&rt, &mut second, x);
+    same(&rt, second.acquire(0), Some(x), "acquire");
     first.clear(&rt);
     first.give_back(&rt, x);
     same(&rt, first.collect(&rt), 0, "collect in vain");

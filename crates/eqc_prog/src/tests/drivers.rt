@@ -204,6 +204,25 @@ impl Driver {
         Some(false)
     }
 
+    /// Looks at a cell, announces its result and looks again, and gives the result that is confirmed then.
+    #[tactic(auto, unfolding(eqc_core::specs::Words::result_of))]
+    pub(super) fn acquire(&mut self, cell: u32) -> Option<u32>
+        ensures { self.new.worker.forest ≡ self.old.worker.forest }
+    {
+        if self.position != 0 || !is_quiet(self.phase) || cell >= self.worker.cells() {
+            return None;
+        }
+        let Some(word) = self.worker.acquire(cell) else {
+            // So the phase is known again.
+            let word = self.worker.look(cell);
+            self.phase = Phase::Seen(cell, word);
+            return None;
+        };
+        let (_, _, _, x) = unpack_cell(word);
+        self.phase = Phase::Confirmed(x);
+        Some(x)
+    }
+
     /// Counts the name of a reference up, and gives the name.
     pub(super) fn up(&mut self, rt: &impl Abort, i: usize) -> Option<u32>
         ensures { self.new.worker.forest ≡ self.old.worker.forest }
