@@ -7,9 +7,6 @@
 //!
 //! - `specs/Changing.antt`, what a call changes of what a worker holds
 //! - `nodes`, references of nodes, and their children
-//! - `collecting`, with `specs/Emptying.antt`: dead nodes are taken back, turn by turn over all stripes, and
-//!   after each stripe their children that fell to one owner; `specs/Taking.antt` has what its parts do
-//!   where the worker is alone
 //! - `boxes`, with `specs/Unboxing.antt`: what came out of a box is given back, and all boxes are emptied
 //! - `collecting`, with `specs/Emptying.antt`: dead nodes are taken back, turn by turn over all stripes,
 //!   and after each stripe those children that fell to one owner in a stripe that the turn has passed;
