@@ -3,7 +3,7 @@ use Rattle.std.proofs.Common.{◌≡◌, ℕ, zero, suc, ◌+◌, ◌-◌, ◌^�
 use native.Mathlib.Decide.{dec_le}
 use lib.ListN.{get_elem?}
 use Rattle.std.proofs.lemmas.List.{length-replicate}
-use Rattle.eqc_tree.specs.Holding.{Entry, tree_eq, entry_eq}
+use Rattle.eqc_tree.specs.Holding.{Entry, tree_eq, entry_eq, copies}
 use Rattle.eqc_core.specs.View.{View}
 use Rattle.eqc_core.specs.Words.{times}
 use Rattle.eqc_core.specs.Moves.{without_each}
@@ -16,7 +16,7 @@ use Rattle.eqc_apply.specs.Names.{refs_of, Has}
 use Rattle.eqc_apply.specs.declared.names.Names.{Names}
 use Rattle.eqc_apply.specs.Extending.{Stays, entry_in, listed, holding_of, holding_in}
 use Rattle.eqc_apply.specs.Joining.{HasTwo, both_refs, IsMerged, Joins, TakesIn, HasTakenIn}
-use Rattle.eqc_apply.proofs.Holdings.{stands, listed_stands, no_count}
+use Rattle.eqc_apply.proofs.Holdings.{stands, listed_stands, no_count, refs_le}
 
 -- after the other one was taken in, each name is held once for each table that counts it
 module _ (n m : ℕ) (c d : List ℕ) (old other mid : Standing) (h : Has [] n old c) (g : Has [] m other d) (a : IsAbsorbed old other mid) where
@@ -103,8 +103,11 @@ out_same v w o p a b c d = λ i. if eqb (a i) 0 then without_each (c i ∷ d i) 
 -- what two appliers held is held by the one that took the other in, where both gave names up before
 module _ (old other mid left : Names) (s : Stays old mid) (t : Stays other left) where
   -- few references stand on each name
-  pub few_both : length (holding_in old).held + length (holding_in other).held ≤ 2 ^ 39 → (x : ℕ) → both_refs mid.counts.items left.counts.items x ≤ 2 ^ 39
-  few_both few x = omega (arith, s.references x, t.references x, refs_held old.variables old.worker.known old.counts.items x, refs_held other.variables other.worker.known other.counts.items x)
+  pub few_both : ((e : Entry) → copies (holding_in old) e + copies (holding_in other) e ≤ 2 ^ 38) → (x : ℕ) → both_refs mid.counts.items left.counts.items x ≤ 2 ^ 39
+  few_both few x =
+      let mine = few (entry_in old.worker.known x) in
+      let theirs = few (entry_in other.worker.known x) in
+      omega (arith, mine, theirs, s.references x, t.references x, refs_le old.variables old.worker.known old.counts.items x, refs_le other.variables other.worker.known other.counts.items x)
 
   module _ (new : Standing) (es : List ℕ) (h : HasTakenIn mid.worker mid.counts.items left.worker left.counts.items new es) where
     pub names_join : Joins (holding_in old) (holding_in other) (holding_of mid.variables new.known es)

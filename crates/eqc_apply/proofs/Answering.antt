@@ -1,5 +1,5 @@
 -- The names of results, and what is held once references stand on them.
-use Rattle.std.proofs.Common.{◌≡◌, ℕ, zero, suc, ◌+◌, ◌-◌, ◌^◌, ◌<◌, ◌≤◌, ◌↔◌, Bool, true, false, nat_eq, Result, Ok, Err, Some, IfOk, OnErr, sym, ap, subst, ◌∙◌, arith, inl, inr, eqb-true}
+use Rattle.std.proofs.Common.{refl, ◌≡◌, ℕ, zero, suc, ◌+◌, ◌-◌, ◌^◌, ◌<◌, ◌≤◌, ◌↔◌, Bool, true, false, nat_eq, Result, Ok, Err, Some, IfOk, OnErr, sym, ap, subst, ◌∙◌, arith, inl, inr, eqb-true}
 use native.Mathlib.Decide.{ℕ_discrete, dec_le}
 use Rattle.eqc_guard.proofs.Acquiring.{constant_trees}
 use Rattle.eqc_apply.specs.Combining.{IsResult}
@@ -19,8 +19,9 @@ use Rattle.eqc_apply.specs.declared.names.Names.{Names}
 use Rattle.eqc_apply.specs.declared.reference.Ref.{Ref}
 use Rattle.eqc_apply.specs.Extending.{Stays, Extends, entry_in, holding_of, holding_in}
 use Rattle.eqc_apply.specs.Referring.{entry_of}
+use Rattle.eqc_apply.specs.Before.{IsWorker}
 use Rattle.eqc_apply.specs.Answering.{IsReferenced, IsAnswer}
-use Rattle.eqc_apply.proofs.Once.{counted_held, seat_trans}
+use Rattle.eqc_apply.proofs.Once.{counted_held, seat_trans, seat_refl}
 use Rattle.eqc_apply.proofs.Asked.{held_is_named}
 use Rattle.eqc_apply.proofs.Holdings.{IsReferred, referred, keeps, counted_of}
 
@@ -152,3 +153,16 @@ stays_trans a b c s t = record {
   references = λ x. t.references x ∙ s.references x;
   tree = λ x two. t.tree x (omega (arith, s.references x)) ∙ s.tree x two;
 }
+
+-- the same worker
+pub same_worker : (s t : Standing) → t ≡ s → IsWorker s t
+same_worker s t is = subst (IsWorker s) (sym is) (record { forest = refl; seat = seat_refl s.known.core })
+
+pub worker_stays : (old new : Names) → Stays old new → IsWorker old.worker new.worker
+worker_stays old new s = record { forest = s.forest; seat = s.seat }
+
+pub worker_stays_on : (old mid new : Names) → Stays old mid → new.worker ≡ mid.worker → IsWorker old.worker new.worker
+worker_stays_on old mid new s is = subst (IsWorker old.worker) (sym is) (worker_stays old mid s)
+
+pub worker_trans : {r s t : Standing} → IsWorker r s → IsWorker s t → IsWorker r t
+worker_trans p q = record { forest = q.forest ∙ p.forest; seat = seat_trans p.seat q.seat }

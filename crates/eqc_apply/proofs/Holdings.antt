@@ -195,3 +195,9 @@ module _ (n : ℕ) (s : Standing) (cs : List ℕ) (x m : ℕ) (h : Has [] n s cs
 -- a name with references has a count
 pub counted_of : (cs : List ℕ) (x : ℕ) → 0 < refs_of cs x → 0 < get_or cs x 0
 counted_of cs x h = omega arith
+
+-- a name has no more references than its entry has copies
+pub refs_le : (n : ℕ) (k : Known) (cs : List ℕ) (x : ℕ) → refs_of cs x ≤ copies (holding_of n k cs) (entry_in k x)
+refs_le n k cs x =
+    let whole : stands k (entry_in k x) (refs_of cs x) ≡ refs_of cs x = rw (tree_eq_self (tree_of k x)) refl in
+    omega (arith, copies_are n k cs (entry_in k x), whole)

@@ -3,6 +3,7 @@ ghost use Rattle.std.specs.Prelude.{◌≡◌, ℕ, ◌<◌, ◌≤◌, ◌-◌,
 ghost use Rattle.eqc_tree.specs.Operation.{operate};
 ghost use Rattle.eqc_tree.specs.Holding.{Entry, IsHeld, Gains, Keeps, Loses, copies, says};
 ghost use Rattle.eqc_guard.specs.Searching.{HasSeenAll};
+ghost use Rattle.eqc_apply.specs.Before.{IsWorker};
 ghost use Rattle.eqc_apply.specs.Extending.{Stays, holding_in};
 ghost use Rattle.eqc_apply.specs.Referring.{entry_of};
 
@@ -84,6 +85,7 @@ impl References for Applier {
         ensures ok { IfOk result (λ r. Gains (holding_in self.old.names) (holding_in self.new.names) (entry_of r) (λ _. b)) }
         ensures stop { OnErr result (Keeps (holding_in self.old.names) (holding_in self.new.names)) }
         ensures never { IsOk result }
+        ensures worker { IsWorker self.old.names.worker self.new.names.worker }
     {
         self.names.refer(b as u32)
     }
@@ -95,6 +97,7 @@ impl References for Applier {
         ensures stop { OnErr result (Keeps (holding_in self.old.names) (holding_in self.new.names)) }
         ensures only { IfErr result (λ s. s ≡ Stop.References) }
         ensures full { OnErr result (2 ^ 32 - 1 ≤ copies (holding_in self.old.names) (entry_of f.now)) }
+        ensures worker { IsWorker self.old.names.worker self.new.names.worker }
     {
         self.names.refer(f.name)
     }
@@ -102,7 +105,8 @@ impl References for Applier {
     /// Takes no memory.
     fn give_back(&mut self, f: Ref)
         requires { IsHeld (holding_in self.old.names) (entry_of f) }
-        ensures { Loses (holding_in self.old.names) (holding_in self.new.names) (entry_of f) }
+        ensures loses { Loses (holding_in self.old.names) (holding_in self.new.names) (entry_of f) }
+        ensures worker { IsWorker self.old.names.worker self.new.names.worker }
     {
         self.names.release(f);
     }
@@ -135,6 +139,7 @@ impl<R: Wait> Diagrams<R> for Applier {
         ensures only { IfErr result (λ s. s ≢ Stop.Threads) }
         ensures nodes { result ≡ Err Stop.NodeLimit → HasSeenAll self.new.names.worker.known.core }
         ensures references { result ≡ Err Stop.References → (e : Entry) × (2 ^ 32 - 1 ≤ copies (holding_in self.old.names) e) }
+        ensures worker { IsWorker self.old.names.worker self.new.names.worker }
     {
         let x = self.variable_node(rt, var)?;
         self.names.refer(x)
@@ -149,8 +154,34 @@ impl<R: Wait> Diagrams<R> for Applier {
         ensures only { IfErr result (λ s. s ≢ Stop.Threads) }
         ensures nodes { result ≡ Err Stop.NodeLimit → HasSeenAll self.new.names.worker.known.core }
         ensures references { result ≡ Err Stop.References → (e : Entry) × (2 ^ 32 - 1 ≤ copies (holding_in self.old.names) e) }
+        ensures worker { IsWorker self.old.names.worker self.new.names.worker }
     {
         let x = self.answer(rt, op, f.name, g.name)?;
         self.names.refer(x)
+    }
+
+    /// Three applies, which stop as `apply` does.
+    #[tactic(auto, using(eqc_tree::proofs::HoldingLemmas::counts_itself))]
+    fn ite(&mut self, rt: &R, f: &Ref, g: &Ref, h: &Ref) -> Result<Ref, Stop>
+        requires f { IsHeld (holding_in self.old.names) (entry_of f.now) }
+        requires g { IsHeld (holding_in self.old.names) (entry_of g.now) }
+        requires h { IsHeld (holding_in self.old.names) (entry_of h.now) }
+        ensures ok { IfOk result (λ r. Gains (holding_in self.old.names) (holding_in self.new.names) (entry_of r) (λ a. if says (entry_of f.now) a then says (entry_of g.now) a else says (entry_of h.now) a)) }
+        ensures stop { OnErr result (Keeps (holding_in self.old.names) (holding_in self.new.names)) }
+        ensures only { IfErr result (λ s. s ≢ Stop.Threads) }
+        ensures worker { IsWorker self.old.names.worker self.new.names.worker }
+    {
+        let both = self.apply(rt, Op::And, f, g)?;
+        let other = match self.apply(rt, Op::AndNot, h, f) {
+            Ok(other) => other,
+            Err(stop) => {
+                self.give_back(both);
+                return Err(stop);
+            }
+        };
+        let either = self.apply(rt, Op::Or, &both, &other);
+        self.give_back(both);
+        self.give_back(other);
+        either
     }
 }

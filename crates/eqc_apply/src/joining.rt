@@ -79,6 +79,7 @@ fn take_in(worker: &mut Worker, counts: &mut Vec<u64>, other: Worker, more: Vec<
 }
 
 impl Names {
+    ghost use Rattle.eqc_tree.specs.Holding.{Entry, copies};
     ghost use Rattle.eqc_apply.specs.Extending.{holding_in};
     ghost use Rattle.eqc_apply.specs.Joining.{Joins, TakesIn};
 
@@ -86,7 +87,7 @@ impl Names {
     pub(crate) fn absorb(&mut self, other: Names)
         requires number { 0 < other.worker.known.core.number }
         requires forest { other.worker.forest ≡ self.old.worker.forest }
-        requires room { length (holding_in self.old).held + length (holding_in other).held ≤ 2 ^ 39 }
+        requires few { (e : Entry) → copies (holding_in self.old) e + copies (holding_in other) e ≤ 2 ^ 38 }
         ensures joins { Joins (holding_in self.old) (holding_in other) (holding_in self.new) }
         ensures takes { TakesIn self.old.worker other.worker self.new.worker }
     {
@@ -106,6 +107,7 @@ impl Names {
 }
 
 impl Applier {
+    ghost use Rattle.eqc_tree.specs.Holding.{Entry, copies};
     ghost use Rattle.eqc_apply.specs.Extending.{holding_in};
     ghost use Rattle.eqc_apply.specs.Joining.{Joins, TakesIn};
 
@@ -113,11 +115,11 @@ impl Applier {
     /// number of the other's worker is out no more, and at any other worker it is taken in. The
     /// call takes no memory, and waits for nobody.
     ///
-    /// The other one's worker is not worker 0, and together they hold at most 2^39 references.
+    /// The other one's worker is not worker 0, and together they hold each reference at most 2^38 times.
     pub fn absorb(&mut self, other: Applier)
         requires number { 0 < other.names.worker.known.core.number }
         requires forest { other.names.worker.forest ≡ self.old.names.worker.forest }
-        requires room { length (holding_in self.old.names).held + length (holding_in other.names).held ≤ 2 ^ 39 }
+        requires few { (e : Entry) → copies (holding_in self.old.names) e + copies (holding_in other.names) e ≤ 2 ^ 38 }
         ensures joins { Joins (holding_in self.old.names) (holding_in other.names) (holding_in self.new.names) }
         ensures takes { TakesIn self.old.names.worker other.names.worker self.new.names.worker }
     {

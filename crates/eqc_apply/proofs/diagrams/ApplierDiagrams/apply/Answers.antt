@@ -1,6 +1,6 @@
 use Rattle.std.proofs.Common.{◌∙◌}
 use Rattle.eqc_apply.specs.Extending.{entry_in}
-use Rattle.eqc_apply.proofs.Answering.{is_referenced, operate_referred, on_err, stays_keeps, answer_gains, answer_keeps, answer_full}
+use Rattle.eqc_apply.proofs.Answering.{worker_stays, worker_stays_on, is_referenced, operate_referred, on_err, stays_keeps, answer_gains, answer_keeps, answer_full}
 use Rattle.eqc_apply.proofs.diagrams.ApplierDiagrams.apply.Goals as goal
 
 pub answer-requires-clause-f : goal.answer-requires-clause-f
@@ -20,3 +20,9 @@ returns-clause-stop g c = answer_keeps c.args.self.now.names c.answer.new.self.n
 
 pub returns-clause-references : goal.returns-clause-references
 returns-clause-references g c is = answer_full c.args.self.now.names c.answer.new.self.names c.refer.new.self c.refer.result c.in_ok-x.x c.answer.ensures.names _ (entry_in c.answer.new.self.names.worker.known c.in_ok-x.x) c.refer.ensures.full is
+
+pub returns-in_err-x-clause-worker : goal.returns-in_err-x-clause-worker
+returns-in_err-x-clause-worker g c = worker_stays c.args.self.now.names c.answer.new.self.names c.answer.ensures.names
+
+pub returns-clause-worker : goal.returns-clause-worker
+returns-clause-worker g c = worker_stays_on c.args.self.now.names c.answer.new.self.names c.refer.new.self c.answer.ensures.names c.refer.ensures.worker

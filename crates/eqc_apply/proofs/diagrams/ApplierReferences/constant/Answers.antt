@@ -1,5 +1,8 @@
-use Rattle.eqc_apply.proofs.Answering.{bit_small}
+use Rattle.eqc_apply.proofs.Answering.{same_worker, bit_small}
 use Rattle.eqc_apply.proofs.diagrams.ApplierReferences.constant.Goals as goal
 
 pub returns-clause-never : goal.returns-clause-never
 returns-clause-never c = c.refer.ensures.constant (bit_small c.args.b)
+
+pub returns-clause-worker : goal.returns-clause-worker
+returns-clause-worker c = same_worker c.args.self.now.names.worker c.refer.new.self.worker c.refer.ensures.worker

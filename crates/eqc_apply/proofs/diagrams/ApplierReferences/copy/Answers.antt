@@ -3,7 +3,7 @@ use Rattle.eqc_tree.specs.Tree.{Tree, value}
 use Rattle.eqc_tree.specs.Holding.{Gains, copies}
 use Rattle.eqc_apply.specs.Extending.{holding_in}
 use Rattle.eqc_apply.specs.Referring.{entry_of}
-use Rattle.eqc_apply.proofs.Answering.{referred_tree, is_referenced, referenced_held}
+use Rattle.eqc_apply.proofs.Answering.{same_worker, referred_tree, is_referenced, referenced_held}
 use Rattle.eqc_apply.proofs.diagrams.ApplierReferences.copy.Goals as goal
 
 pub refer-requires : goal.refer-requires
@@ -18,3 +18,6 @@ pub returns-clause-full : goal.returns-clause-full
 returns-clause-full c =
     let n = c.args.self.now.names in
     subst (λ (t : Tree). OnErr c.refer.result (2 ^ 32 - 1 ≤ copies (holding_in n) (record { number = c.args.f.now.name; tree = t }))) (sym (referred_tree n c.args.f.now.at.value c.args.f.now.name c.requires)) c.refer.ensures.full
+
+pub returns-clause-worker : goal.returns-clause-worker
+returns-clause-worker c = same_worker c.args.self.now.names.worker c.refer.new.self.worker c.refer.ensures.worker

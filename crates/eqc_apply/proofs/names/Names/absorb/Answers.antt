@@ -2,7 +2,7 @@ use Rattle.eqc_apply.proofs.Absorbing.{few_both, names_join, names_take}
 use Rattle.eqc_apply.proofs.names.Names.absorb.Goals as goal
 
 pub take_in-requires-clause-few : goal.take_in-requires-clause-few
-take_in-requires-clause-few c = few_both c.args.self.now c.args.other c.give_up.new.self c.give_up-2.new.self c.give_up.ensures.stays c.give_up-2.ensures.stays c.requires.room
+take_in-requires-clause-few c = few_both c.args.self.now c.args.other c.give_up.new.self c.give_up-2.new.self c.give_up.ensures.stays c.give_up-2.ensures.stays c.requires.few
 
 pub invariant_of-self : goal.invariant_of-self
 invariant_of-self c = record { once = c.take_in.ensures.has c.give_up.new.self.variables c.give_up.new.self.once }
