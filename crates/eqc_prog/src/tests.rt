@@ -3,9 +3,9 @@
 //!
 //! - `words`, `operations`, of `eqc_tree`; `diagrams`, of `eqc_plain`; `machine`, of `eqc_core`
 //! - `forests`, of `eqc_guard`; `cached_results`, of `eqc_cache`; `random_steps`, of both; `drivers`, what takes their steps
-//! - `arenas` and `random_nodes`, of `eqc_arena`; `makers`, what makes its calls
+//! - `arenas` and `random_nodes`, of `eqc_arena`; `makers`, what makes its calls; `appliers`, of `eqc_apply`
 //! - `reading` and `text_findings`, of `eqc_blif`; `hierarchies`, `random_hierarchies` and `explanations`, of `eqc_flat`
-//! - `pair_findings`, of `eqc_pair`; `pairs`, `workers`, `structures`, `reports`, `runs`, of `eqc_check`
+//! - `pair_findings`, of `eqc_pair`; `pairs`, `workers`, `structures`, `parities`, `reports`, `runs`, of `eqc_check`
 //! - `program`, `program_ends`, `models`, `explained_runs`, `compared_hierarchies`, `costs`, of `eqc_command` and the program
 //! - `messages`, of the errors of all crates; `streams`, the readers, writers and files that fail
 //!
@@ -14,6 +14,7 @@
 //! A test ends by `holds` or `same`, which alone have the branches and the words of a failed row: a test that has them itself
 //! is proved at each of its branches, with all that it holds there.
 
+mod appliers;
 mod arenas;
 mod cached_results;
 mod compared_hierarchies;
@@ -31,6 +32,7 @@ mod models;
 mod operations;
 mod pair_findings;
 mod pairs;
+mod parities;
 mod program;
 mod program_ends;
 mod random_hierarchies;

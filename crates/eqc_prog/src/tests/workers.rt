@@ -57,16 +57,16 @@ const TWO: &str =
 /// How long a gate holds an output.
 const TURNS: u32 = 10_000_000;
 
-/// Holds output 0 until output 1 was entered, and counts what it was told.
+/// Holds output 0 until another output was entered, and counts what it was told.
 #[derive(Drop)]
-struct Held {
+pub struct Held {
     first: AtomicU64,
     second: AtomicU64,
     ran_out: AtomicU64,
 }
 
 impl Held {
-    fn new() -> Held {
+    pub fn new() -> Held {
         Held {
             first: AtomicU64::new(0),
             second: AtomicU64::new(0),
@@ -120,8 +120,10 @@ fn two_stores(alloc: Global, inputs: u16) -> Result<Vec<Plain>, Stop>
 /// How a pair is compared.
 #[derive(Clone, Copy)]
 pub enum Way {
-    /// By so many workers, with a store of 16 nodes each.
+    /// By so many workers, with a store of 16 nodes.
     Workers(u32),
+    /// By so many workers, with a store of so many nodes.
+    Within(u32, u32),
     /// By two members over stores of 16 nodes.
     Members,
 }
@@ -134,8 +136,9 @@ fn compared<R: Threads + Wait + Sync, G: Gate<R> + Sync>(
     way: Way,
     gate: &G,
 ) -> Result<Report, Stop> {
-    let workers = match way {
-        Way::Workers(workers) => workers,
+    let (workers, nodes) = match way {
+        Way::Workers(workers) => (workers, 16),
+        Way::Within(workers, nodes) => (workers, nodes),
         Way::Members => {
             let members = two_stores(alloc, pair.first().inputs().len() as u16)?;
             return check_with(rt, alloc, pair, members, gate);
@@ -143,7 +146,7 @@ fn compared<R: Threads + Wait + Sync, G: Gate<R> + Sync>(
     };
     let options = Options {
         workers,
-        nodes: 16,
+        nodes,
         cells: 1,
         forks: 0,
     };
