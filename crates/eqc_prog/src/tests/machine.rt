@@ -209,6 +209,74 @@ fn a_name_that_is_confirmed_is_not_taken_back(rt: HostRuntime) {
     );
 }
 
+/// The and of slot 2 with itself as a task in a box.
+const TASK: u64 = (5 << 60) + (2 << 40) + (2 << 20);
+
+/// The same, stopped at the node limit.
+const STOPPED: u64 = (14 << 60) + (2 << 40) + (2 << 20);
+
+/// A worker offers a task in its first box, another one takes it, does it and puts the result back.
+static OFFERED: [(u32, Step); 8] = [
+    (0, Step::Split(1)),
+    (0, Step::Up(2)),
+    (0, Step::SwapBox(0, TASK)),
+    (1, Step::LookBox(0)),
+    (1, Step::SwapBox(0, 0)),
+    (1, Step::Up(2)),
+    (1, Step::SwapBox(0, WORD)),
+    (0, Step::SwapBox(0, 0)),
+];
+
+#[test]
+fn a_task_comes_back_as_its_result(rt: HostRuntime) {
+    same(
+        &rt,
+        readings_after(rt.alloc(), &OFFERED, &[]),
+        Ok([0, 0, 4, 3, 0]),
+        "last",
+    );
+    let stop = (0, Step::SwapBox(31, STOPPED));
+    same(
+        &rt,
+        readings_after(rt.alloc(), &OFFERED, &[stop, (1, Step::SwapBox(31, 0))]),
+        Ok([0, 0, 4, 1, 0]),
+        "stopped",
+    );
+    same(
+        &rt,
+        readings_after(
+            rt.alloc(),
+            &OFFERED,
+            &[(0, Step::ScanOne), (0, Step::LookBox(0))],
+        ),
+        Err(ReplayFault::Event(9)),
+        "scanning",
+    );
+}
+
+#[test]
+fn boxes_take_words_of_their_own_alone(rt: HostRuntime) {
+    for (case, step) in [
+        ("no box", (0, Step::LookBox(32))),
+        ("no names", (1, Step::SwapBox(0, TASK))),
+        ("a wrong result", (0, Step::SwapBox(0, (2 << 60) + WORD))),
+        ("a task with a result", (0, Step::SwapBox(0, TASK + 2))),
+        ("a stop with a result", (0, Step::SwapBox(0, STOPPED + 2))),
+        ("no number", (0, Step::SwapBox(0, (4 << 60) + TASK))),
+        (
+            "a number below stops",
+            (0, Step::SwapBox(0, (7 << 60) + TASK)),
+        ),
+    ] {
+        same(
+            &rt,
+            readings_after(rt.alloc(), &OFFERED, &[step]),
+            Err(ReplayFault::Event(8)),
+            case,
+        );
+    }
+}
+
 /// All readings of a core with 3 workers, 4 nodes and 2 cells, in one number.
 fn digest(core: &Core) -> u64
     requires { core.now.sizes ≡ record { workers = 3; announcements = 1; names = 6; cells = 2; variables = 4 } }
