@@ -71,7 +71,7 @@ hits op f g r old new s = record {
 }
 
 -- it is a result among the names then
-module _ (n : ℕ) (counts : List ℕ) (op : Op) (f g r x : ℕ) (s0 s1 s2 : Standing) (hit : IsHit op f g r s0 s1) (hf : IsHeld s0.known.core f) (hg : IsHeld s0.known.core g) (b : IsBefore s0.known s2.known) (is : x ≡ r) (there : IsThere x s1 s2) (known : IsKnown s2.known) where
+module _ (n : ℕ) (counts : List ℕ) (op : Op) (f g r x : ℕ) (s0 s1 s2 : Standing) (function : (a : ℕ → Bool) → operate op (value (tree_of s0.known f) a) (value (tree_of s0.known g) a) ≡ value (tree_of s1.known r) a) (hf : IsHeld s0.known.core f) (hg : IsHeld s0.known.core g) (b : IsBefore s0.known s2.known) (is : x ≡ r) (there : IsThere x s1 s2) (known : IsKnown s2.known) where
   pub found_result : IsResult n op s2.known f g x
   found_result = record {
     first = b.held f hf;
@@ -87,4 +87,4 @@ module _ (n : ℕ) (counts : List ℕ) (op : Op) (f g r x : ℕ) (s0 s1 s2 : Sta
       tree = there.1 ∙ ap (tree_of s1.known) is
 
       says : (a : ℕ → Bool) → value (tree_of s2.known x) a ≡ operate op (value (tree_of s2.known f) a) (value (tree_of s2.known g) a)
-      says a = ap (λ (t : Tree). value t a) tree ∙ (sym (hit.result a) ∙ (λ i. operate op (value (sym (b.tree f hf) i) a) (value (sym (b.tree g hg) i) a)))
+      says a = ap (λ (t : Tree). value t a) tree ∙ (sym (function a) ∙ (λ i. operate op (value (sym (b.tree f hf) i) a) (value (sym (b.tree g hg) i) a)))

@@ -1,11 +1,11 @@
 -- Names that are held once each, and what a step makes of them.
-use Rattle.std.proofs.Common.{◌≡◌, ◌≢◌, ℕ, zero, suc, ◌+◌, ◌^◌, ◌<◌, ◌≤◌, List, [], ◌∷◌, length, get_or, set, min, Bool, if◌then◌else◌, Option, refl, sym, ap, subst, ◌∙◌, arith, inl, inr}
+use Rattle.std.proofs.Common.{◌≡◌, ◌≢◌, ℕ, zero, suc, ◌+◌, ◌^◌, ◌<◌, ◌≤◌, List, [], ◌∷◌, ◌++◌, length, get_or, set, min, Bool, if◌then◌else◌, Option, refl, sym, ap, subst, ◌∙◌, arith, inl, inr}
 use Rattle.std.proofs.lemmas.List.{get_or-set_same, get_or-set_other}
 use native.Mathlib.Decide.{ℕ_discrete, dec_le}
 use Rattle.eqc_core.specs.View.{View, Hand}
 use Rattle.eqc_core.specs.Words.{times, slots_of}
 use Rattle.eqc_core.specs.Moves.{without}
-use Rattle.eqc_core.proofs.Names.{times-nil, times-same, times-other, times-without, times-without_other, times_without_le, length-without_one, two_cases, times-slots_of}
+use Rattle.eqc_core.proofs.Names.{times-append, times-nil, times-same, times-other, times-without, times-without_other, times_without_le, length-without_one, two_cases, times-slots_of}
 use Rattle.eqc_guard.specs.Known.{Known, IsHeld, IsNamed, IsKnown, tree_of}
 use Rattle.eqc_core.specs.Counting.{upped, downed}
 use Rattle.eqc_guard.specs.Standing.{Standing, Steps}
@@ -157,31 +157,42 @@ seat_refl v = record { sizes = refl; number = refl; out = refl }
 pub seat_trans : {u v w : View} → IsSeat u v → IsSeat v w → IsSeat u w
 seat_trans p q = record { sizes = q.sizes ∙ p.sizes; number = q.number ∙ p.number; out = q.out ∙ p.out }
 
--- a name that stands beside the counts is held
-pub beside_held : (x n : ℕ) (s : Standing) (counts : List ℕ) → Has (slots_of (x ∷ [])) n s counts → IsHeld s.known.core x
-beside_held x n s counts h = elim (two_cases x) [
-  | inl t ↦ inl t.1
-  | inr t ↦ inr (omega (arith, h.once x t.1, times-slots_of x (x ∷ []) t.1, times-same x x [] refl))
-]
+-- the same names stand beside the counts, in another order
+pub has_as : (more left : List ℕ) (n : ℕ) (s : Standing) (counts : List ℕ) → ((x : ℕ) → times x left ≡ times x more) → Has more n s counts → Has left n s counts
+has_as more left n s counts same h = record { rest = h.rest; cells = h.cells; range = h.range; constants = h.constants; once = λ x two. omega (arith, h.once x two, same x) }
 
--- it is given back
-module _ (x n : ℕ) (counts : List ℕ) (old new : Standing) (known : IsKnown old.known) (h : Has (slots_of (x ∷ [])) n old counts) (constant : x < 2 → new ≡ old) (step : 2 ≤ x → Steps old (downed old.known.core x) new) where
-  gone : Exchanges (slots_of (x ∷ [])) [] old new
-  gone = gives x old new known (beside_held x n old counts h) constant step
+-- a name that stands beside the counts, with others
+module _ (x n : ℕ) (more : List ℕ) (s : Standing) (counts : List ℕ) (h : Has (slots_of (x ∷ []) ++ more) n s counts) where
+  -- is held
+  pub beside_held : IsHeld s.known.core x
+  beside_held = elim (two_cases x) [
+    | inl t ↦ inl t.1
+    | inr t ↦ inr (omega (arith, h.once x t.1, times-append x (slots_of (x ∷ [])) more, times-slots_of x (x ∷ []) t.1, times-same x x [] refl))
+  ]
 
-  pub back_has : Has [] n new counts
-  back_has = has_after gone (slots_of (x ∷ [])) [] n counts (λ y. omega (arith, times-nil y)) h
+  -- it is given back
+  module _ (new : Standing) (known : IsKnown s.known) (constant : x < 2 → new ≡ s) (step : 2 ≤ x → Steps s (downed s.known.core x) new) where
+    gone : Exchanges (slots_of (x ∷ [])) [] s new
+    gone = gives x s new known beside_held constant step
 
-  pub back_settles : Settles counts old new
-  back_settles = settles_after gone (slots_of (x ∷ [])) n counts (λ y. omega arith) h
+    pub back_has : Has more n new counts
+    back_has = has_after gone (slots_of (x ∷ []) ++ more) more n counts (λ y. omega (arith, times-append y (slots_of (x ∷ [])) more, times-nil y)) h
 
-  pub back_there : IsCounted counts x → IsThere x old new
-  back_there c = (back_settles.held x c, back_settles.tree x c)
+    pub back_settles : Settles counts s new
+    back_settles = settles_after gone (slots_of (x ∷ []) ++ more) n counts (λ y. omega (arith, times-append y (slots_of (x ∷ [])) more)) h
 
--- it is counted instead
-module _ (x n : ℕ) (old new : List ℕ) (s : Standing) (two : 2 ≤ x) (none : get_or old x 0 ≡ 0) (same : (y : ℕ) → get_or new y 0 ≡ get_or old y 0) (room : x < length new) where
-  pub kept_has : Has (slots_of (x ∷ [])) n s old → Has [] n s (set new x 1)
-  kept_has h = elim (two_cases x) [ inl t ↦ absurd (let small = t.1 in omega arith) | inr t ↦ has_counted [] x n s old new two same none room (subst (λ (b : Bool). Has (if b then [] else x ∷ []) n s old) t.0 h) ]
+    pub back_there : IsCounted counts x → IsThere x s new
+    back_there c = (back_settles.held x c, back_settles.tree x c)
+
+  -- it is counted instead
+  pub kept_has : 2 ≤ x → get_or counts x 0 ≡ 0 → x < length counts → Has more n s (set counts x 1)
+  kept_has two none room = has_counted more x n s counts counts two (λ y. refl) none room (has_as (slots_of (x ∷ []) ++ more) (x ∷ more) n s counts (λ y. omega (arith, times-append y (slots_of (x ∷ [])) more, times-slot y, times-one y more)) h)
+    where
+      times-slot : (y : ℕ) → times y (slots_of (x ∷ [])) ≡ times y (x ∷ [])
+      times-slot y = elim (two_cases x) [ inl t ↦ absurd (let small = t.1 in omega arith) | inr t ↦ ap (λ (b : Bool). times y (if b then [] else x ∷ [])) t.0 ]
+
+      times-one : (y : ℕ) (ys : List ℕ) → times y (x ∷ ys) ≡ times y (x ∷ []) + times y ys
+      times-one y ys = times-append y (x ∷ []) ys
 
 -- one name more comes, and is counted
 module _ (x n : ℕ) (old new : List ℕ) (s t : Standing) (two : 2 ≤ x) (none : get_or old x 0 ≡ 0) (same : (y : ℕ) → get_or new y 0 ≡ get_or old y 0) (room : x < length new) (step : Steps s (upped s.known.core x) t) where

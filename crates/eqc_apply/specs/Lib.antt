@@ -10,3 +10,5 @@ pub mod Turning
 pub mod Answering
 pub mod Teaming
 pub mod Joining
+pub mod Stopping
+pub mod Handing

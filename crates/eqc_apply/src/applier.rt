@@ -15,5 +15,9 @@ pub struct Applier {
     pub(crate) names: Names,
     pub(crate) cells: Cache,
     pub(crate) tasks: Vec<Task>,
+    // In how many levels of an operation one half is offered to other workers.
+    pub(crate) forks: u32,
+    // The levels in which it is offered now.
+    pub(crate) offers: Vec<u32>,
     ghost cached: { IsCache (kept_of names.variables names.worker.known) cells.cells.items } by { Prim.hlevel (props) },
 }

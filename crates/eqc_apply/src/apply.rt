@@ -1,5 +1,5 @@
 //! The loop that applies an operation to two names.
-ghost use Rattle.std.specs.Prelude.{◌≡◌, ℕ, ◌<◌, ◌⊎◌, IfSome, IfNone, IfOk, IfErr};
+ghost use Rattle.std.specs.Prelude.{◌≡◌, ℕ, ◌<◌, ◌⊎◌, [], IfSome, IfNone, IfOk, IfErr};
 
 use crate::applier::Applier;
 use crate::expansion::expand;
@@ -14,21 +14,48 @@ impl Applier {
     ghost use Rattle.eqc_plain.specs.Tasks.{Leads, LeadsTo, StepsTo, TurnsTo};
     ghost use Rattle.eqc_guard.specs.Known.{IsHeld};
     ghost use Rattle.eqc_guard.specs.Searching.{HasSeenAll};
+    ghost use Rattle.eqc_arena.specs.Unboxing.{KeepsMarks};
     ghost use Rattle.eqc_apply.specs.Combining.{IsResult};
+    ghost use Rattle.eqc_apply.specs.Stopping.{HasStopped};
     ghost use Rattle.eqc_apply.specs.Extending.{Extends};
     ghost use Rattle.eqc_apply.specs.Meaning.{meaning_in};
     ghost use Rattle.eqc_apply.specs.Turning.{ComesTo};
 
-    /// The name of an operation's result (Bryant 1986, section 4.3), with a stack of tasks in place
-    /// of the recursion. The call may wait. The errors are 71, where every slot was seen taken, and
-    /// 72.
+    /// The name of an operation's result (Bryant 1986, section 4.3). In the first levels of the
+    /// operation one half is offered to other workers, and nothing is offered in the end. The call
+    /// may wait. The errors are 71, where every slot was seen taken, 72, and those of workers that
+    /// did a half.
     pub(crate) fn combine<R: Wait>(&mut self, rt: &R, op: Op, f: u32, g: u32) -> Result<u32, Stop>
         requires f { IsHeld self.old.names.worker.known.core f }
         requires g { IsHeld self.old.names.worker.known.core g }
         ensures names { Extends self.old.names self.new.names }
         ensures ok { IfOk result (λ x. IsResult self.new.names.variables op self.new.names.worker.known f g x) }
-        ensures all { result ≡ Err Stop.NodeLimit → HasSeenAll self.new.names.worker.known.core }
-        ensures only { IfErr result (λ s. (s ≡ Stop.NodeLimit) ⊎ (s ≡ Stop.Memory)) }
+        ensures stop { IfErr result (λ s. HasStopped s self.new.names.worker.known.core) }
+        ensures withdrawn { self.new.offers.items ≡ [] }
+    {
+        let made = self.go(rt, op, f, g);
+        self.withdraw(rt);
+        made
+    }
+
+    /// Takes back what is still offered: an operation that stopped leaves nothing in the boxes.
+    fn withdraw<R: Wait>(&mut self, rt: &R)
+        ensures names { Extends self.old.names self.new.names }
+        ensures marks { KeepsMarks self.old.names.worker.known.core self.new.names.worker.known.core }
+        ensures withdrawn { self.new.offers.items ≡ [] }
+    {
+        while let Some(level) = self.offers.pop() {
+            self.names.withdraw(rt, level);
+        }
+    }
+
+    /// The loop of an operation, with a stack of tasks in place of the recursion.
+    fn go<R: Wait>(&mut self, rt: &R, op: Op, f: u32, g: u32) -> Result<u32, Stop>
+        requires f { IsHeld self.old.names.worker.known.core f }
+        requires g { IsHeld self.old.names.worker.known.core g }
+        ensures names { Extends self.old.names self.new.names }
+        ensures ok { IfOk result (λ x. IsResult self.new.names.variables op self.new.names.worker.known f g x) }
+        ensures stop { IfErr result (λ s. HasStopped s self.new.names.worker.known.core) }
     {
         let whole = Snapshot::of(&(f, g));
         self.tasks.clear();
@@ -58,13 +85,12 @@ impl Applier {
         requires leads { Leads (meaning_in self.old.names) op self.old.tasks.items whole.now.value.0 whole.now.value.1 f g }
         ensures names { Extends self.old.names self.new.names }
         ensures turn { IfOk result (ComesTo (meaning_in self.old.names) (meaning_in self.new.names) op self.old.tasks.items self.new.tasks.items whole.now.value.0 whole.now.value.1 f g) }
-        ensures all { result ≡ Err Stop.NodeLimit → HasSeenAll self.new.names.worker.known.core }
-        ensures only { IfErr result (λ s. (s ≡ Stop.NodeLimit) ⊎ (s ≡ Stop.Memory)) }
+        ensures stop { IfErr result (λ s. HasStopped s self.new.names.worker.known.core) }
     {
         match self.known(op, f, g) {
             Some(x) => self.resume(rt, op, x, whole),
             None => {
-                let (f, g) = self.descend(f, g)?;
+                let (f, g) = self.descend(op, f, g)?;
                 Ok(Turn::Next(f, g))
             }
         }
@@ -108,8 +134,9 @@ impl Applier {
         }
     }
 
-    /// Puts a task for the operands, and answers their low cofactors. The error is 72 alone.
-    fn descend(&mut self, f: u32, g: u32) -> Result<(u32, u32), Stop>
+    /// Puts a task for the operands, and answers their low cofactors. The high ones may be offered to
+    /// other workers. The error is 72 alone.
+    fn descend(&mut self, op: Op, f: u32, g: u32) -> Result<(u32, u32), Stop>
         requires f { IsHeld self.old.names.worker.known.core f }
         requires g { IsHeld self.old.names.worker.known.core g }
         requires inner { ¬ ((f < 2) × (g < 2)) }
@@ -118,6 +145,7 @@ impl Applier {
         ensures only { IfErr result (λ s. s ≡ Stop.Memory) }
     {
         let e = expand(&mut self.names, f, g)?;
+        self.offer(op, e.f.1, e.g.1);
         let task = Task::Low {
             f,
             g,
@@ -129,6 +157,56 @@ impl Applier {
             Ok(()) => Ok((e.f.0, e.g.0)),
             Err(_) => Err(Stop::Memory),
         }
+    }
+
+    /// Offers an operation to other workers, in the first levels and where it is worth a box: both
+    /// operands are inner nodes, and the result isn't known.
+    fn offer(&mut self, op: Op, f: u32, g: u32)
+        requires f { IsHeld self.old.names.worker.known.core f }
+        requires g { IsHeld self.old.names.worker.known.core g }
+        ensures names { Extends self.old.names self.new.names }
+        ensures tasks { self.new.tasks ≡ self.old.tasks }
+    {
+        let level = self.tasks.len();
+        if level >= self.forks as usize || f < 2 || g < 2 {
+            return;
+        }
+        if self.known(op, f, g).is_some() {
+            return;
+        }
+        let level = level as u32;
+        if self.offers.push(level).is_err() {
+            return;
+        }
+        if !self.names.offer(level, op, f, g) {
+            self.offers.pop();
+        }
+    }
+
+    /// The result of the operation on the high cofactors of the task that was on top, where it was
+    /// offered and another worker did it. The call may wait. The errors are why it stopped there,
+    /// and 72.
+    fn take_back<R: Wait>(&mut self, rt: &R, op: Op, f: u32, g: u32) -> Result<Option<u32>, Stop>
+        requires f { IsHeld self.old.names.worker.known.core f }
+        requires g { IsHeld self.old.names.worker.known.core g }
+        ensures names { Extends self.old.names self.new.names }
+        ensures ok { IfOk result (λ found. IfSome found (IsResult self.new.names.variables op self.new.names.worker.known f g)) }
+        ensures stop { IfErr result (λ s. HasStopped s self.new.names.worker.known.core) }
+        ensures tasks { self.new.tasks ≡ self.old.tasks }
+    {
+        let level = match self.offers.last() {
+            Some(level) => *level,
+            None => return Ok(None),
+        };
+        if level as usize != self.tasks.len() {
+            return Ok(None);
+        }
+        self.offers.pop();
+        let Some(x) = self.names.take_back(rt, level, op, f, g)? else {
+            return Ok(None);
+        };
+        self.keep(op, f, g, x);
+        Ok(Some(x))
     }
 
     /// The node over both results, which is kept for the operation.
@@ -195,8 +273,7 @@ impl Applier {
         requires { LeadsTo (meaning_in self.old.names) op self.old.tasks.items whole.now.value.0 whole.now.value.1 x }
         ensures names { Extends self.old.names self.new.names }
         ensures turn { IfOk result (TurnsTo (meaning_in self.new.names) op self.old.tasks.items self.new.tasks.items whole.now.value.0 whole.now.value.1) }
-        ensures all { result ≡ Err Stop.NodeLimit → HasSeenAll self.new.names.worker.known.core }
-        ensures only { IfErr result (λ s. (s ≡ Stop.NodeLimit) ⊎ (s ≡ Stop.Memory)) }
+        ensures stop { IfErr result (λ s. HasStopped s self.new.names.worker.known.core) }
     {
         let mut x = x;
         while let Some(task) = self.tasks.pop() {
@@ -207,18 +284,21 @@ impl Applier {
                     variable,
                     f_high,
                     g_high,
-                } => {
-                    let task = Task::High {
-                        f,
-                        g,
-                        variable,
-                        low: x,
-                    };
-                    return match self.tasks.push(task) {
-                        Ok(()) => Ok(Turn::Next(f_high, g_high)),
-                        Err(_) => Err(Stop::Memory),
-                    };
-                }
+                } => match self.take_back(rt, op, f_high, g_high)? {
+                    Some(high) => x = self.finish(rt, op, f, g, variable, x, high)?,
+                    None => {
+                        let task = Task::High {
+                            f,
+                            g,
+                            variable,
+                            low: x,
+                        };
+                        return match self.tasks.push(task) {
+                            Ok(()) => Ok(Turn::Next(f_high, g_high)),
+                            Err(_) => Err(Stop::Memory),
+                        };
+                    }
+                },
                 Task::High {
                     f,
                     g,

@@ -79,6 +79,8 @@ impl Applier {
             names,
             cells: _,
             tasks: _,
+            forks: _,
+            offers: _,
         } = self;
         Ok(names.close(rt))
     }

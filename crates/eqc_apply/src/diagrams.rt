@@ -6,6 +6,7 @@ ghost use Rattle.eqc_guard.specs.Searching.{HasSeenAll};
 ghost use Rattle.eqc_apply.specs.Before.{IsWorker};
 ghost use Rattle.eqc_apply.specs.Extending.{Stays, holding_in};
 ghost use Rattle.eqc_apply.specs.Referring.{entry_of};
+ghost use Rattle.eqc_apply.specs.Stopping.{IsFull, HasTaken};
 
 use crate::applier::Applier;
 use crate::reference::Ref;
@@ -15,6 +16,7 @@ use std::sync::Wait;
 impl Applier {
     ghost use Rattle.eqc_guard.specs.Known.{tree_of};
     ghost use Rattle.eqc_apply.specs.Answering.{IsReferenced, IsAnswer, IsVariable};
+    ghost use Rattle.eqc_apply.specs.Stopping.{HasStopped};
 
     /// Gives up all names that no references stand on, and the results that name them.
     fn give_up(&mut self)
@@ -41,8 +43,7 @@ impl Applier {
         requires g { IsReferenced self.old.names g }
         ensures names { Stays self.old.names self.new.names }
         ensures ok { IfOk result (IsAnswer op self.old.names f g self.new.names) }
-        ensures all { result ≡ Err Stop.NodeLimit → HasSeenAll self.new.names.worker.known.core }
-        ensures only { IfErr result (λ s. (s ≡ Stop.NodeLimit) ⊎ (s ≡ Stop.Memory)) }
+        ensures stop { IfErr result (λ s. HasStopped s self.new.names.worker.known.core) }
     {
         self.make_way();
         match self.combine(rt, op, f, g) {
@@ -70,6 +71,32 @@ impl Applier {
             }
             made => made,
         }
+    }
+}
+
+impl Applier {
+    ghost use Rattle.std.specs.Prelude.{◌≢◌};
+
+    /// A reference to the operation of `f` and `g`, value by value, as `apply` of the traits. In the
+    /// first levels of the operation one half is offered to the other members of the team: their
+    /// `serve` may do it.
+    ///
+    /// The call may wait. The errors are 71, where every slot was seen taken, by this worker after
+    /// names without references were given up and dead nodes taken back, or by one that did a half;
+    /// 72; and 73 at 2^32 - 1 references to one node, here or at a worker that did a half. After an
+    /// error what is held is as before, and nothing is offered.
+    pub fn apply_forked<R: Wait>(&mut self, rt: &R, op: Op, f: &Ref, g: &Ref) -> Result<Ref, Stop>
+        requires f { IsHeld (holding_in self.old.names) (entry_of f.now) }
+        requires g { IsHeld (holding_in self.old.names) (entry_of g.now) }
+        ensures ok { IfOk result (λ r. Gains (holding_in self.old.names) (holding_in self.new.names) (entry_of r) (λ a. operate op (says (entry_of f.now) a) (says (entry_of g.now) a))) }
+        ensures stop { OnErr result (Keeps (holding_in self.old.names) (holding_in self.new.names)) }
+        ensures only { IfErr result (λ s. s ≢ Stop.Threads) }
+        ensures nodes { result ≡ Err Stop.NodeLimit → IsFull self.new.names.worker.known.core }
+        ensures references { result ≡ Err Stop.References → HasTaken Stop.References self.new.names.worker.known.core ⊎ ((e : Entry) × (2 ^ 32 - 1 ≤ copies (holding_in self.old.names) e)) }
+        ensures worker { IsWorker self.old.names.worker self.new.names.worker }
+    {
+        let x = self.answer(rt, op, f.name, g.name)?;
+        self.names.refer(x)
     }
 }
 
@@ -145,19 +172,26 @@ impl<R: Wait> Diagrams<R> for Applier {
         self.names.refer(x)
     }
 
-    /// Stops for nodes and for references as `literal` does.
+    /// Stops for nodes and for references as `apply_forked` does, which it is.
     fn apply(&mut self, rt: &R, op: Op, f: &Ref, g: &Ref) -> Result<Ref, Stop>
         requires f { IsHeld (holding_in self.old.names) (entry_of f.now) }
         requires g { IsHeld (holding_in self.old.names) (entry_of g.now) }
         ensures ok { IfOk result (λ r. Gains (holding_in self.old.names) (holding_in self.new.names) (entry_of r) (λ a. operate op (says (entry_of f.now) a) (says (entry_of g.now) a))) }
         ensures stop { OnErr result (Keeps (holding_in self.old.names) (holding_in self.new.names)) }
         ensures only { IfErr result (λ s. s ≢ Stop.Threads) }
-        ensures nodes { result ≡ Err Stop.NodeLimit → HasSeenAll self.new.names.worker.known.core }
-        ensures references { result ≡ Err Stop.References → (e : Entry) × (2 ^ 32 - 1 ≤ copies (holding_in self.old.names) e) }
+        ensures nodes { result ≡ Err Stop.NodeLimit → IsFull self.new.names.worker.known.core }
+        ensures references { result ≡ Err Stop.References → HasTaken Stop.References self.new.names.worker.known.core ⊎ ((e : Entry) × (2 ^ 32 - 1 ≤ copies (holding_in self.old.names) e)) }
         ensures worker { IsWorker self.old.names.worker self.new.names.worker }
     {
-        let x = self.answer(rt, op, f.name, g.name)?;
-        self.names.refer(x)
+        self.apply_forked(rt, op, f, g)
+    }
+
+    /// Does one operation that another worker offered, as `serve` does, which it is.
+    fn help(&mut self, rt: &R) -> bool
+        ensures kept { Keeps (holding_in self.old.names) (holding_in self.new.names) }
+        ensures worker { IsWorker self.old.names.worker self.new.names.worker }
+    {
+        self.serve(rt)
     }
 
     /// Three applies, which stop as `apply` does.

@@ -127,6 +127,8 @@ impl Applier {
             names,
             cells: _,
             tasks: _,
+            forks: _,
+            offers: _,
         } = other;
         self.cells.clear();
         self.names.absorb(names);

@@ -7,19 +7,24 @@
 //! - `names`, what a worker holds: its counts, cofactors and nodes; `reference`, what is handed out
 //! - `applier`, with the results that a worker keeps for itself; `expansion` and `apply`, the loop
 //! - `shared`, the operation cache that all workers share
+//! - `boxes` and `offering`, in which one half of an operation is offered to other workers; `serving`, which
+//!   do it
 //! - `diagrams`, the calls of the traits; `members`, the appliers of a new forest
 //! - `joining`, one applier takes another one in; `closing`, the last one closes the forest
 #![tactic(auto)]
 
 mod applier;
 mod apply;
+mod boxes;
 mod closing;
 mod diagrams;
 mod expansion;
 mod joining;
 mod members;
 mod names;
+mod offering;
 mod reference;
+mod serving;
 mod shared;
 
 pub use applier::Applier;

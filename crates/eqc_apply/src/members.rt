@@ -12,7 +12,14 @@ use eqc_tree::Stop;
 use std::alloc::Global;
 
 // The first member, whose forest is new.
-fn found(alloc: Global, vars: u16, nodes: u32, cells: u32, workers: u32) -> Result<Applier, Stop>
+fn found(
+    alloc: Global,
+    vars: u16,
+    nodes: u32,
+    cells: u32,
+    workers: u32,
+    forks: u32,
+) -> Result<Applier, Stop>
     requires nodes { (1 ≤ nodes) × (nodes ≤ 1048574) }
     requires cells { (1 ≤ cells) × (cells ≤ 1048576) }
     requires workers { (1 ≤ workers) × (workers ≤ 64) }
@@ -29,6 +36,9 @@ fn found(alloc: Global, vars: u16, nodes: u32, cells: u32, workers: u32) -> Resu
         },
         cells: Cache::new(alloc),
         tasks: Vec::new(alloc),
+        // One that is alone has nobody to offer to.
+        forks: if workers > 1 { forks } else { 0 },
+        offers: Vec::new(alloc),
     })
 }
 
@@ -40,6 +50,7 @@ fn join(alloc: Global, lead: &mut Applier) -> Result<Applier, Stop>
     ensures only { IfErr result (λ s. s ≡ Stop.Memory) }
 {
     let variables = lead.names.variables;
+    let forks = lead.forks;
     match lead.names.worker.split() {
         Ok(worker) => Ok(Applier {
             names: Names {
@@ -50,6 +61,8 @@ fn join(alloc: Global, lead: &mut Applier) -> Result<Applier, Stop>
             },
             cells: Cache::new(alloc),
             tasks: Vec::new(alloc),
+            forks,
+            offers: Vec::new(alloc),
         }),
         Err(_) => Err(Stop::Memory),
     }
@@ -60,22 +73,25 @@ fn join(alloc: Global, lead: &mut Applier) -> Result<Applier, Stop>
 ///
 /// `vars` is the number of variables, `nodes` the room for nodes, from 1 to 1,048,574, that all
 /// share, `cells` the number of cells of the cache, from 1 to 1,048,576, that all share, and
-/// `workers` the number of members, from 1 to 64. The error is 72 alone.
+/// `workers` the number of members, from 1 to 64. In the first `forks` levels of an operation, of which
+/// there are at most 16, one half is offered to the other members. The error is 72 alone.
 pub fn team(
     alloc: Global,
     vars: u16,
     nodes: u32,
     cells: u32,
     workers: u32,
+    forks: u32,
 ) -> Result<Vec<Applier>, Stop>
     requires nodes { (1 ≤ nodes) × (nodes ≤ 1048574) }
     requires cells { (1 ≤ cells) × (cells ≤ 1048576) }
     requires workers { (1 ≤ workers) × (workers ≤ 64) }
+    requires forks { forks ≤ 16 }
     ensures team { IfOk result (λ members. IsTeam vars workers members.items) }
     ensures count { IfOk result (λ members. vec_len members ≡ workers) }
     ensures only { IfErr result (λ s. s ≡ Stop.Memory) }
 {
-    let mut lead = found(alloc, vars, nodes, cells, workers)?;
+    let mut lead = found(alloc, vars, nodes, cells, workers, forks)?;
     let mut members = Vec::new(alloc);
     for _ in 1..workers {
         let Ok(()) = members.push(join(alloc, &mut lead)?) else {

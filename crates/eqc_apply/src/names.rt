@@ -1,5 +1,5 @@
 //! The names that an applier holds: each once, with how many references stand on it.
-ghost use Rattle.std.specs.Prelude.{◌≡◌, ◌≢◌, ℕ, ◌<◌, ◌≤◌, ◌-◌, ◌^◌, [], ◌∷◌, ◌⊎◌, get_or, length, true, false, IfOk, IfErr, OnOk, OnErr};
+ghost use Rattle.std.specs.Prelude.{◌≡◌, ◌≢◌, ℕ, ◌<◌, ◌≤◌, ◌-◌, ◌^◌, List, [], ◌∷◌, ◌++◌, ◌⊎◌, get_or, length, true, false, IfOk, IfErr, OnOk, OnErr};
 ghost use Rattle.eqc_core.specs.Words.{slots_of, times};
 ghost use Rattle.eqc_core.specs.Moves.{IsReady};
 ghost use Rattle.eqc_core.specs.Making.{read_node};
@@ -9,7 +9,7 @@ ghost use Rattle.eqc_guard.specs.Known.{IsHeld, IsKnown, tree_of};
 ghost use Rattle.eqc_arena.specs.Nodes.{MayCount, KeepsTrees};
 ghost use Rattle.std.proofs.Props.{props};
 ghost use Rattle.eqc_apply.specs.Resting.{quiet_prop};
-ghost use Rattle.eqc_apply.specs.Names.{Has, Settles, Drops, SameReferences, IsThere};
+ghost use Rattle.eqc_apply.specs.Names.{Has, Settles, Drops, SameReferences, IsCounted, IsThere};
 
 use crate::reference::Ref;
 use eqc_arena::making::mk;
@@ -46,7 +46,7 @@ fn is_counted(counts: &[u64], x: u32) -> bool
 }
 
 // Makes room for the count of a name.
-fn make_room(counts: &mut Vec<u64>, x: u32) -> Result<(), Stop>
+pub(crate) fn make_room(counts: &mut Vec<u64>, x: u32) -> Result<(), Stop>
     ensures room { OnOk result (x < length counts.new.items) }
     ensures same { (y : ℕ) → get_or counts.new.items y 0 ≡ get_or counts.old.items y 0 }
     ensures only { IfErr result (λ s. s ≡ Stop.Memory) }
@@ -62,7 +62,32 @@ fn make_room(counts: &mut Vec<u64>, x: u32) -> Result<(), Stop>
 }
 
 // Counts a name that came, where it isn't counted, and gives it back where it is: then it is held
-// once.
+// once. There is room for its count.
+pub(crate) fn count_in(worker: &mut Worker, counts: &mut Vec<u64>, name: Name) -> u32
+    requires has { (n : ℕ) × ((more : List ℕ) × Has (slots_of (name.number ∷ []) ++ more) n worker.old counts.old.items) }
+    requires room { name.number < length counts.old.items }
+    ensures has { (n : ℕ) (more : List ℕ) → Has (slots_of (name.number ∷ []) ++ more) n worker.old counts.old.items → Has more n worker.new counts.new.items }
+    ensures settles { Settles counts.old.items worker.old worker.new }
+    ensures references { SameReferences counts.old.items counts.new.items }
+    ensures there { (result ≡ name.number) × IsThere result worker.old worker.new }
+    ensures known { IsKnown worker.new.known }
+    ensures length { length counts.new.items ≡ length counts.old.items }
+    ensures now { IsCounted counts.new.items result }
+    ensures still { (x : ℕ) → IsCounted counts.old.items x → IsCounted counts.new.items x }
+{
+    // What the worker knows is in order.
+    let _cells = worker.cells();
+    let x = name.number();
+    if x < 2 || is_counted(counts.as_slice(), x) {
+        worker.down(name);
+        return x;
+    }
+    counts[x as usize] = 1;
+    name.into_number()
+}
+
+// Counts a name that came, as `count_in` does. Where there is no room for its count, it is given
+// back.
 pub(crate) fn settle(worker: &mut Worker, counts: &mut Vec<u64>, name: Name) -> Result<u32, Stop>
     requires { (n : ℕ) × Has (slots_of (name.number ∷ [])) n worker.old counts.old.items }
     ensures has { (n : ℕ) → Has (slots_of (name.number ∷ [])) n worker.old counts.old.items → Has [] n worker.new counts.new.items }
@@ -74,16 +99,8 @@ pub(crate) fn settle(worker: &mut Worker, counts: &mut Vec<u64>, name: Name) -> 
 {
     // What the worker knows is in order.
     let _cells = worker.cells();
-    let x = name.number();
-    if x < 2 || is_counted(counts.as_slice(), x) {
-        worker.down(name);
-        return Ok(x);
-    }
-    match make_room(counts, x) {
-        Ok(()) => {
-            counts[x as usize] = 1;
-            Ok(name.into_number())
-        }
+    match make_room(counts, name.number()) {
+        Ok(()) => Ok(count_in(worker, counts, name)),
         Err(stop) => {
             worker.down(name);
             Err(stop)

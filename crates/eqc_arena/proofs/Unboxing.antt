@@ -8,16 +8,17 @@ use Rattle.eqc_core.specs.Moves.{without_each}
 use Rattle.eqc_core.specs.Sharing.{boxed}
 use Rattle.eqc_core.proofs.Names.{times-append, times-nil, times-same, times-slots_of, times-without_each, two_cases}
 use Rattle.eqc_guard.specs.declared.parcel.Parcel.{Parcel}
+use Rattle.eqc_guard.specs.declared.parcel.Parcel.TheVariants.{Empty, Task, Done, Stopped}
 use Rattle.eqc_guard.specs.Known.{Known, IsHeld}
 use Rattle.eqc_guard.specs.Standing.{Standing, Steps}
 use Rattle.eqc_guard.specs.Rule.{boxes_from}
 use Rattle.eqc_guard.specs.Copying.{box_in, SetsBox}
-use Rattle.eqc_guard.specs.Sharing.{parcel_word, parcel_names, parcel_stops, IsWhole}
-use Rattle.eqc_guard.proofs.Counts.{length-without_all}
+use Rattle.eqc_guard.specs.Sharing.{parcel_word, parcel_names, parcel_stops, IsWhole, MayPut}
+use Rattle.eqc_guard.proofs.Counts.{length-without_all, slots_held}
 use Rattle.eqc_guard.proofs.Parcels.{names_of_word, stops_of_word}
 use Rattle.eqc_cache.proofs.Trading.{slots_times, slots_length}
 use Rattle.eqc_arena.specs.Changing.{Exchanges}
-use Rattle.eqc_arena.specs.Unboxing.{HoldsParcel, AreUnboxed}
+use Rattle.eqc_arena.specs.Unboxing.{HoldsParcel, AreUnboxed, KeepsMarks, NotesStop}
 use Rattle.eqc_arena.specs.Emptying.{MayEmpty}
 use Rattle.eqc_arena.proofs.Changing.{changed, here, on, names_now, lengths_now, quiet_now}
 use Rattle.eqc_guard.proofs.Learning.{keeps_on}
@@ -125,3 +126,21 @@ may_empty old new ws copy none few t empty =
     none_left : (xs : List ℕ) → length xs ≤ 0 → xs ≡ []
     none_left [] le = refl
     none_left (x ∷ xs) le = absurd (omega arith)
+
+-- a parcel that may be put into a box is held
+pub put_held : (k : Known) (b : ℕ) (parcel : Parcel) → MayPut k b parcel → HoldsParcel k.core parcel
+put_held k b Empty may x = omega (arith, times-nil x)
+put_held k b (Task op f g) may x = slots_held (f.number ∷ g.number ∷ []) k.core.held may.parcel_is x
+put_held k b (Done e) may x = slots_held (e.r.number ∷ e.f.number ∷ e.g.number ∷ []) k.core.held may.parcel_is.0 x
+put_held k b (Stopped stop f g) may x = slots_held (f.number ∷ g.number ∷ []) k.core.held may.parcel_is.0 x
+
+-- a swap leaves the search where it was, and notes the stop that came
+pub swap_marks : (out given : Parcel) (old new : Standing) → IsWhole out → Steps old (boxed old.known.core (parcel_word out) (parcel_word given)) new → KeepsMarks old.known.core new.known.core
+swap_marks out given old new whole s = record {
+  sizes = ap (λ (v : View). v.sizes) s.known.core;
+  turn = ap (λ (v : View). v.turn) s.known.core;
+  stops = λ x. omega (arith, ap (times x) (notes_stop out given old new whole s), times-append x old.known.core.stops (parcel_stops out));
+}
+
+pub swap_notes : (out given : Parcel) (old new : Standing) → IsWhole out → Steps old (boxed old.known.core (parcel_word out) (parcel_word given)) new → NotesStop out new.known.core
+swap_notes out given old new whole s x = omega (arith, ap (times x) (notes_stop out given old new whole s), times-append x old.known.core.stops (parcel_stops out))

@@ -1,12 +1,12 @@
-//! What came out of a box is given back, and all boxes are emptied.
+//! Parcels go into boxes and come out of them, what came out is given back, and all boxes are emptied.
 ghost use Rattle.std.specs.Prelude.{◌≡◌, ◌*◌, ◌^◌, ◌<◌, ◌≤◌, [], ◌∷◌, length};
 ghost use Rattle.eqc_core.specs.Words.{slots_of};
 ghost use Rattle.eqc_core.specs.Moves.{IsReady};
 ghost use Rattle.eqc_guard.specs.Known.{IsHeld};
 ghost use Rattle.eqc_guard.specs.Copying.{KeepsCells, SetsBox};
-ghost use Rattle.eqc_guard.specs.Sharing.{parcel_names};
+ghost use Rattle.eqc_guard.specs.Sharing.{MayPut, IsGenuine, IsWhole, parcel_names};
 ghost use Rattle.eqc_arena.specs.Changing.{Exchanges};
-ghost use Rattle.eqc_arena.specs.Unboxing.{HoldsParcel, AreUnboxed};
+ghost use Rattle.eqc_arena.specs.Unboxing.{HoldsParcel, AreUnboxed, KeepsMarks, NotesStop};
 
 use eqc_guard::filled::Filled;
 use eqc_guard::parcel::Parcel;
@@ -19,6 +19,7 @@ fn give(worker: &mut Worker, f: Ref)
     requires held { IsHeld worker.old.known.core f.number }
     ensures changes { Exchanges (slots_of (f.number ∷ [])) [] worker.old worker.new }
     ensures cells { KeepsCells worker.old.known worker.new.known }
+    ensures marks { KeepsMarks worker.old.known.core worker.new.known.core }
 {
     // What the worker knows is in order.
     let _cells = worker.cells();
@@ -31,6 +32,7 @@ pub fn give_parcel(worker: &mut Worker, parcel: Parcel)
     requires held { HoldsParcel worker.old.known.core parcel }
     ensures changes { Exchanges (parcel_names parcel) [] worker.old worker.new }
     ensures cells { KeepsCells worker.old.known worker.new.known }
+    ensures marks { KeepsMarks worker.old.known.core worker.new.known.core }
 {
     // What the worker knows is in order.
     let _cells = worker.cells();
@@ -50,6 +52,23 @@ pub fn give_parcel(worker: &mut Worker, parcel: Parcel)
             give(worker, g);
         }
     }
+}
+
+/// Puts a parcel into a box, whose references the box then has, and gives the one that it had: its
+/// references are held, a result is right, and a stop is noted.
+///
+/// No scan is under way, and at most 2^39 names are held.
+pub fn exchange(worker: &mut Worker, b: u32, parcel: Parcel) -> Parcel
+    requires may { MayPut worker.old.known b parcel }
+    ensures changes { Exchanges (parcel_names parcel) (parcel_names result) worker.old worker.new }
+    ensures whole { IsWhole result }
+    ensures right { IsGenuine worker.new.known result }
+    ensures marks { KeepsMarks worker.old.known.core worker.new.known.core }
+    ensures noted { NotesStop result worker.new.known.core }
+{
+    // What the worker knows is in order.
+    let _cells = worker.cells();
+    worker.swap_box(b, parcel)
 }
 
 // Empties a box, and gives the references back that it had.

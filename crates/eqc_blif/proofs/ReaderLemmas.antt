@@ -77,11 +77,8 @@ pub model_again : (closed : List ModelOf) (old new : After) (ws : List (List ℕ
 model_again closed old new ws name there are first answer used = (rw (asked closed old ws name there are first answer ∙ used) refl, λ none. cc)
 
 -- the name is new
-pub model_opened : (closed : List ModelOf) (old : After) (ws : List (List ℕ)) (name : List ℕ) (there : Bool) (m : OpenModel) → closed ≡ models old → name ≡ first_of ws → there ≡ is_named (map (λ m. m.name) closed) name → there ≡ false → m ≡ begun name → Takes old Model ws [] None (record { closed = closed; open_model = Some m })
-model_opened closed old ws name there m are first answer new opened = (rw (asked closed old ws name there are first answer ∙ new) refl, λ _. rw (are, opened, first) refl)
-
-pub new_named : (closed : List ModelOf) (name : List ℕ) (there : Bool) (m : OpenModel) → there ≡ is_named (map (λ c. c.name) closed) name → there ≡ false → m ≡ begun name → is_new_name closed (Some m) ≡ true
-new_named closed name there m answer new opened = rw (opened, sym answer ∙ new) refl
+pub model_opened : (closed : List ModelOf) (old new : After) (ws : List (List ℕ)) (name : List ℕ) (there : Bool) → closed ≡ models old → name ≡ first_of ws → there ≡ is_named (map (λ m. m.name) closed) name → there ≡ false → new ≡ record { closed = closed; open_model = Some (begun name) } → Takes old Model ws [] None new
+model_opened closed old new ws name there are first answer fresh opened = (rw (asked closed old ws name there are first answer ∙ fresh) refl, λ _. opened ∙ rw (are, first) refl)
 
 -- keys of which none equals a later one have none twice
 once_distinct : (names : List (List ℕ)) → IsDistinct bytes_eq names → has_twice names ≡ false

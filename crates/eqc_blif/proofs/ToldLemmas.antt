@@ -1,11 +1,11 @@
 -- What the code of a statement says of it.
-use Rattle.std.proofs.Common.{◌≡◌, ℕ, Bool, true, false, not, cond, List, length, Option, Some, None, refl, subst, arith}
+use Rattle.std.proofs.Common.{◌≡◌, ◌≢◌, ℕ, Bool, true, false, not, cond, List, length, Option, Some, None, refl, subst, arith}
 use Rattle.std.specs.Prelude.{is_some, map}
 use Rattle.std.specs.List.{list_all}
-use Rattle.std.proofs.lemmas.Bool.{not-true, and_parts}
+use Rattle.std.proofs.lemmas.Bool.{not-true, not-false, and_parts}
 use Rattle.eqc_blif.specs.Words.{first_of, behind_first, is_pair}
 use Rattle.eqc_blif.specs.Names.{is_named}
-use Rattle.eqc_blif.specs.Reading.{After, models, current, is_in_cover, stands_in_model, last_cover, has_row_shape, differs_from_first, is_unknown, is_outside, is_row_outside, is_misshapen, is_mixed, has_bad_pair, lacks_words, is_model_again, statement_code}
+use Rattle.eqc_blif.specs.Reading.{After, models, current, is_in_cover, stands_in_model, last_cover, has_row_shape, differs_from_first, is_unknown, is_outside, is_row_outside, is_misshapen, is_mixed, has_bad_pair, lacks_words, is_model_again, is_name_again, statement_code}
 use Rattle.eqc_blif.specs.declared.kind.Kind.{Kind}
 use Rattle.eqc_blif.specs.declared.kind.Kind.TheVariants.{Model, Inputs, Outputs, Names, Subckt, End, Latch, Skipped, Unknown, Row}
 use Rattle.eqc_blif.proofs.CodeLemmas.{condition_holds, alone}
@@ -152,3 +152,51 @@ told_model st kind ws row is =
     let holds = alone (is_model_again st kind ws) (condition_holds st kind ws row 11 is) in
     let at = at_model st kind ws holds in
     (at, subst (λ k. is_model_again st k ws ≡ true) at holds)
+
+-- a condition of another code does not hold
+passed : (n : ℕ) (holds : Bool) (rest : Option ℕ) (code : ℕ) → cond holds (Some n) rest ≡ Some code → code ≢ n → (holds ≡ false) × (rest ≡ Some code)
+passed n true rest code is other = absurd (other cc)
+passed n false rest code is other = (refl, is)
+
+last : (n : ℕ) (holds : Bool) (code : ℕ) → cond holds (Some n) None ≡ Some code → (holds ≡ true) × (code ≡ n)
+last n true code is = (refl, cc)
+last n false code is = cc
+
+named_again : (st : After) (kind : Kind) (ws : List (List ℕ)) → is_outside st kind ≡ false → is_name_again st kind ws ≡ true → is_some st.open_model ≡ true
+named_again st Inputs ws inside again = not-false (is_some st.open_model) inside
+named_again st Outputs ws inside again = not-false (is_some st.open_model) inside
+named_again st Model ws inside again = cc
+named_again st Names ws inside again = cc
+named_again st Subckt ws inside again = cc
+named_again st End ws inside again = cc
+named_again st Latch ws inside again = cc
+named_again st Skipped ws inside again = cc
+named_again st Unknown ws inside again = cc
+named_again st Row ws inside again = cc
+
+-- the codes that are looked at before 12
+pub record IsNoOther (code : ℕ) : Type 0 where
+  pub unknown : code ≢ 3
+  pub latch : code ≢ 4
+  pub behind : code ≢ 5
+  pub outside : code ≢ 6
+  pub shape : code ≢ 7
+  pub mixed : code ≢ 8
+  pub pair : code ≢ 9
+  pub word : code ≢ 10
+  pub model : code ≢ 11
+
+-- 12, where it is no other code
+pub told_twice : (st : After) (kind : Kind) (ws : List (List ℕ)) (row : List ℕ) (code : ℕ) → statement_code st kind ws row ≡ Some code → IsNoOther code → (is_some st.open_model ≡ true) × (is_name_again st kind ws ≡ true) × (code ≡ 12)
+told_twice st kind ws row code is none =
+    let from_4 = (passed 3 (is_unknown kind) _ code is none.unknown).1 in
+    let from_5 = (passed 4 _ _ code from_4 none.latch).1 in
+    let (inside, from_6) = passed 5 (is_outside st kind) _ code from_5 none.behind in
+    let from_7 = (passed 6 _ _ code from_6 none.outside).1 in
+    let from_8 = (passed 7 _ _ code from_7 none.shape).1 in
+    let from_9 = (passed 8 _ _ code from_8 none.mixed).1 in
+    let from_10 = (passed 9 _ _ code from_9 none.pair).1 in
+    let from_11 = (passed 10 _ _ code from_10 none.word).1 in
+    let from_12 = (passed 11 _ _ code from_11 none.model).1 in
+    let (again, by) = last 12 (is_name_again st kind ws) code from_12 in
+    (named_again st kind ws inside again, again, by)

@@ -125,7 +125,8 @@ impl NameList {
         'words: loop {
             let _ = self.as_slice();
             let (word, others) = split_word(rest).unwrap();
-            if !self.add(alloc, Name::new(alloc, word)?)? {
+            let name = Name::new(alloc, word)?;
+            if !self.add(alloc, name)? {
                 return Name::new(alloc, word);
             }
             rest = others;

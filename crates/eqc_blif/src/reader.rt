@@ -1,8 +1,8 @@
-ghost use Rattle.std.specs.Prelude.{◌≡◌, ◌++◌, IfOk, OnOk, IsTrue, true, is_some, None, []};
+ghost use Rattle.std.specs.Prelude.{◌≡◌, ◌++◌, IfOk, OnOk, IsTrue, true, false, is_some, Some, None, [], map};
 ghost use Rattle.std.specs.List.{list_any};
 ghost use Rattle.eqc_blif.specs.Words.{words, without_blanks};
-ghost use Rattle.eqc_blif.specs.Reading.{start, models, current, is_in_cover, last_cover, opened, stands_in_model, is_bad_byte};
-ghost use Rattle.eqc_blif.specs.Names.{has_twice};
+ghost use Rattle.eqc_blif.specs.Reading.{start, begun, models, current, is_in_cover, last_cover, opened, stands_in_model, is_bad_byte};
+ghost use Rattle.eqc_blif.specs.Names.{is_named, has_twice};
 ghost use Rattle.eqc_blif.specs.Finding.{StandsTwice};
 ghost use Rattle.eqc_blif.specs.Steps.{Takes, TakesLine, declares};
 
@@ -71,6 +71,14 @@ impl Reader {
         }
     }
 
+    /// Opens a model of this name, which no closed one has, in place of the open one.
+    fn open(&mut self, alloc: Global, name: Name)
+        requires { is_named (map (λ m. m.name) self.old.closed) name ≡ false }
+        ensures { self.new ≡ record { closed = self.old.closed; open_model = Some (begun name) } }
+    {
+        self.open_model = Some(OpenModel::new(alloc, name));
+    }
+
     /// Opens a model without a name before a first statement of another kind than `.model`.
     pub(crate) fn open_before(&mut self, alloc: Global, kind: Kind) -> Result<(), AllocError>
         ensures { OnOk result (self.new ≡ opened kind self.old) }
@@ -79,12 +87,12 @@ impl Reader {
             return Ok(());
         }
         let name = Name::new(alloc, &[])?;
-        self.open_model = Some(OpenModel::new(alloc, name));
+        self.open(alloc, name);
         Ok(())
     }
 
     /// Puts the open model, if there is one, to the closed ones.
-    fn close(&mut self) -> Result<(), AllocError>
+    pub(crate) fn close(&mut self) -> Result<(), AllocError>
         ensures { OnOk result (self.new ≡ record { closed = models self.old; open_model = None }) }
     {
         let Some(mut model) = self.open_model.take() else {
@@ -106,7 +114,7 @@ impl Reader {
         if self.closed.has(&name) {
             return Ok(Some(Rule::ModelTwice.code()));
         }
-        self.open_model = Some(OpenModel::new(alloc, name));
+        self.open(alloc, name);
         Ok(None)
     }
 
@@ -219,15 +227,10 @@ impl Reader {
         model.output_twice(alloc, line)
     }
 
-    /// The library of all models that were read.
-    pub(crate) fn finish(mut self) -> Result<Library, AllocError>
-        ensures { IfOk result (λ library. library ≡ models self) }
+    /// The library of the closed models.
+    pub(crate) fn into_closed(self) -> Library
+        ensures { result ≡ self.closed }
     {
-        self.close()?;
-        let Reader {
-            closed,
-            open_model: _,
-        } = self;
-        Ok(closed)
+        self.closed
     }
 }

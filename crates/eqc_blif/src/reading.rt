@@ -1,6 +1,6 @@
 ghost use Rattle.std.specs.Prelude.{◌≡◌, ◌<◌, ◌^◌, ◌⊎◌, length, IfOk, IfErr, Ok, Err, Some, None};
 ghost use Rattle.eqc_blif.specs.Lines.{logical_lines};
-ghost use Rattle.eqc_blif.specs.Reading.{after, first_fault, outcome};
+ghost use Rattle.eqc_blif.specs.Reading.{start, after, models, first_fault, outcome};
 
 use crate::library::Library;
 use crate::lines::Lines;
@@ -32,6 +32,31 @@ fn take_lines(alloc: Global, text: &[u8], reader: &mut Reader) -> Result<(), Ref
     Ok(())
 }
 
+/// Takes all lines of a text, and closes the model that they leave open. Fails at the first fault, or where memory is
+/// refused.
+fn take_text(alloc: Global, text: &[u8], reader: &mut Reader) -> Result<(), Refusal>
+    requires short { length text.now < 2 ^ 31 }
+    ensures taken { IfOk result (λ _. (first_fault reader.old (logical_lines text.now) ≡ None) × (reader.new.closed ≡ models (after reader.old (logical_lines text.now)))) }
+    ensures fault { IfErr result (λ refusal. (refusal ≡ record { line = 0; code = 72 }) ⊎ (first_fault reader.old (logical_lines text.now) ≡ Some (refusal.line, refusal.code))) }
+{
+    take_lines(alloc, text, reader)?;
+    reader.close()?;
+    Ok(())
+}
+
+/// The models of a text, of which there may be none. Fails at the first fault, or where memory is refused.
+fn models_in(alloc: Global, text: &[u8]) -> Result<Library, Refusal>
+    requires short { length text.now < 2 ^ 31 }
+    ensures models { IfOk result (λ library. (first_fault start (logical_lines text.now) ≡ None) × (library ≡ models (after start (logical_lines text.now)))) }
+    ensures fault { IfErr result (λ refusal. (refusal ≡ record { line = 0; code = 72 }) ⊎ (first_fault start (logical_lines text.now) ≡ Some (refusal.line, refusal.code))) }
+{
+    let mut reader = Reader::new(alloc);
+    match take_text(alloc, text, &mut reader) {
+        Ok(()) => Ok(reader.into_closed()),
+        Err(refusal) => Err(refusal),
+    }
+}
+
 /// Reads a netlist (BLIF 1992, in the profile of `docs/blif.md`).
 ///
 /// The library has the models of the text in their order. Else the refusal is the first fault: code 2 on line 0 for a
@@ -44,9 +69,7 @@ pub fn read(alloc: Global, text: &[u8]) -> Result<Library, Refusal>
     if text.len() > MAX_BYTES {
         return Err(Rule::TextTooLong.without_line());
     }
-    let mut reader = Reader::new(alloc);
-    take_lines(alloc, text, &mut reader)?;
-    let library = reader.finish()?;
+    let library = models_in(alloc, text)?;
     if library.models() == 0 {
         return Err(Rule::NoModel.without_line());
     }

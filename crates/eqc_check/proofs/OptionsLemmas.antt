@@ -1,9 +1,9 @@
 -- Numbers with one bit are the powers of two.
-use Rattle.std.proofs.Common.{◌≡◌, ℕ, zero, suc, ◌+◌, ◌*◌, ◌/◌, ◌%◌, ◌^◌, ◌<◌, ◌≤◌, Bool, true, false, not, if◌then◌else◌, Option, Some, None, ◌==◌, count_ones, sym, ap, subst, ◌∙◌, arith, inl, inr, get_or, leb, zero-add}
+use Rattle.std.proofs.Common.{◌≡◌, ℕ, zero, suc, ◌+◌, ◌*◌, ◌/◌, ◌%◌, ◌^◌, ◌<◌, ◌≤◌, Bool, true, false, not, if◌then◌else◌, Option, Some, None, ◌==◌, count_ones, refl, sym, ap, subst, ◌∙◌, arith, inl, inr, get_or, leb, zero-add}
 use Rattle.std.proofs.Math.Nat.{pow-suc}
 use Rattle.std.proofs.Math.Pow.{pow_mono}
 use Rattle.std.proofs.lemmas.Nat.{zero_from_ones, ones_le_self, ones_cat, pow_pos}
-use Rattle.std.proofs.lemmas.Bool.{cases_lt, cases_Bool, eqb-true, eq-eqb}
+use Rattle.std.proofs.lemmas.Bool.{cases_lt, cases_Bool, and_parts, leb-true, eqb-true, eq-eqb}
 use Rattle.std.proofs.lemmas.List.Folds.{list_any_at, Any-from_list_any}
 use Rattle.std.proofs.lemmas.List.FromFn.{length-range_with_len, get_or-range_with_len}
 use Rattle.std.specs.Int.Count.{ones_step}
@@ -60,17 +60,26 @@ abbrev is_fault : Option ℕ → Type 0
 is_fault None = ⊥
 is_fault (Some code) = Unit {0}
 
-abbrev in_turn : Bool → Bool → Option ℕ
-in_turn a b = if not a then Some 81 else if not b then Some 82 else Some 83
+abbrev in_turn : Bool → Bool → Bool → Bool → Option ℕ
+in_turn a b c d = if not a then Some 81 else if not b then Some 82 else if not c then Some 83 else if not d then Some 84 else None
 
-never : (a b : Bool) → in_turn a b ≡ None → ⊥
-never false b e = subst is_fault e tt
-never true false e = subst is_fault e tt
-never true true e = subst is_fault e tt
+-- where no code comes the last two tests hold
+last_two : (a b c d : Bool) → in_turn a b c d ≡ None → (c ≡ true) × (d ≡ true)
+last_two false b c d e = absurd (subst is_fault e tt)
+last_two true false c d e = absurd (subst is_fault e tt)
+last_two true true false d e = absurd (subst is_fault e tt)
+last_two true true true false e = absurd (subst is_fault e tt)
+last_two true true true true e = (refl, refl)
+
+last_options : (o : Options) → options_code o ≡ None → (is_cell_count o.cells ≡ true) × (is_between 0 16 o.forks ≡ true)
+last_options o e = last_two (is_between 1 64 o.workers) (is_between 1 1048574 o.nodes) (is_cell_count o.cells) (is_between 0 16 o.forks) e
 
 -- options in their ranges have some cells, and not too many
 pub cells_in_range : (o : Options) → options_code o ≡ None → (1 ≤ o.cells) × (o.cells ≤ 1048576)
-cells_in_range o e = elim (cases_Bool (is_cell_count o.cells)) [
-  | inl is ↦ let b = cell_count_bits o.cells is in (let one = b.0 in omega (arith, ones_le_self o.cells), b.1)
-  | inr isnt ↦ absurd (never (is_between 1 64 o.workers) (is_between 1 1048574 o.nodes) (rw isnt at e))
-]
+cells_in_range o e =
+    let b = cell_count_bits o.cells (last_options o e).0 in
+    (let one = b.0 in omega (arith, ones_le_self o.cells), b.1)
+
+-- options in their ranges have at most 16 forks
+pub forks_in_range : (o : Options) → options_code o ≡ None → o.forks ≤ 16
+forks_in_range o e = leb-true o.forks 16 (and_parts _ _ (last_options o e).1).1

@@ -1,7 +1,8 @@
 //! All outputs of a pair, compared by members that run in threads of their own: each output is drawn once, and the first
 //! that differs is the same whichever member drew it.
 //!
-//! - `ticket`, the word from which outputs are drawn; `member`, what a member compares with; `gate`, what is told of it
+//! - `ticket`, the word from which outputs are drawn; `member`, what a member compares with; `gate`, what is told of it;
+//!   `help`, what a member does for others
 //! - `task`, what members do; `alike`, what structures tell of a pair, so that members need not do it
 //! - `group`, members that share a seat; `share`, members in threads and what they give back; `verdict`, all of it put in order
 ghost use Rattle.std.specs.Prelude.{◌≡◌, ◌≤◌, None, length, vec_len, IfOk, IfErr};
@@ -17,6 +18,7 @@ ghost use Rattle.eqc_check.specs.Verdicts.{AreMembers, AreVerdicts, IsShare};
 mod alike;
 pub(crate) mod gate;
 mod group;
+mod help;
 mod member;
 mod share;
 pub(crate) mod task;
@@ -162,8 +164,8 @@ fn check_known<R: Threads + Wait + Sync, D: Diagrams<R> + Send + Drop, G: Gate<R
 /// Compares a pair by these members, of which each runs in a thread of its own: the report, or why it stopped.
 ///
 /// There is at least one member, and each has at least as many variables as the pair has inputs; they are consumed. The
-/// gate is told of each comparison before it begins. A member that has found a difference compares no later output. The
-/// call may wait, since it waits for all members, and for the gate.
+/// gate is told of each comparison before it begins. A member that has found a difference compares no later output, and one
+/// that has drawn its last helps the others. The call may wait, since it waits for all members, and for the gate.
 ///
 /// The errors are those of the members' diagrams, 71, 72 and 73; 72 also where memory is refused, or where 32 bits don't
 /// number the members or the outputs; and 74 where a thread could not be started. Where several came it is one of them.
@@ -181,7 +183,8 @@ pub fn check_with<R: Threads + Wait + Sync, D: Diagrams<R> + Send + Drop, G: Gat
     check_known(rt, alloc, pair, members, Alike::nothing(alloc), gate)
 }
 
-/// The team of workers that the options ask for, with a variable for each input of a pair: they share one forest.
+/// The team of workers that the options ask for, with a variable for each input of a pair: they share one forest, and as
+/// many levels of an operation as there are forks.
 fn team_for(alloc: Global, pair: &Pair<'_>, options: &Options) -> Result<Vec<Applier>, Stop>
     requires { options_code options.now ≡ None }
     ensures some { IfOk result (λ all. 1 ≤ vec_len all) }
@@ -193,18 +196,19 @@ fn team_for(alloc: Global, pair: &Pair<'_>, options: &Options) -> Result<Vec<App
         workers,
         nodes,
         cells,
-        ..
+        forks,
     } = *options;
     let inputs = pair.first().inputs().len() as u16;
-    team(alloc, inputs, nodes, cells, workers)
+    team(alloc, inputs, nodes, cells, workers, forks)
 }
 
 /// Compares a pair by as many workers as the options say, each in a thread of its own: they share one forest of `nodes` nodes
-/// and one operation cache of `cells` cells. Gives the report, or why it stopped.
+/// and one operation cache of `cells` cells. In the first `forks` levels of an operation one half is offered to members that
+/// have nothing to do. Gives the report, or why it stopped.
 ///
-/// The options are in their ranges; their forks play no part. The gate is told of each comparison before it
-/// begins. The call may wait, as `check_with` may. The errors are the node limit 71, want of memory 72, the limit of
-/// references 73, and 74 where a thread could not be started.
+/// The options are in their ranges. The gate is told of each comparison before it begins. The call may wait, as `check_with`
+/// may. The errors are the node limit 71, want of memory 72, the limit of references 73, and 74 where a thread could not be
+/// started.
 pub fn check<R: Threads + Wait + Sync, G: Gate<R> + Sync>(
     rt: &R,
     alloc: Global,

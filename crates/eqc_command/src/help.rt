@@ -19,7 +19,8 @@ pub const NODES: &str =
 pub const CELLS: &str =
     "Remembers this many operations for all workers, a power of two up to 1048576";
 
-pub const FORKS: &str = "Shares this many levels of an operation among workers, 0 to 16";
+pub const FORKS: &str =
+    "Offers one half of an operation to idle workers in this many levels, 0 to 16";
 
 pub const ORDER: &str =
     "Takes the variables in this file's order, a word for each input of the first netlist";
@@ -42,7 +43,8 @@ text both choose from it. A warning on standard error says that a model was comp
 text contains, as where a tool wrote a part of a design first. --explain names what is at fault where there is no
 verdict. `--` ends the options. Numbers go from 0 to 4294967295.
 Each worker has a thread. All build in one store of --nodes nodes with one operation cache of --cells cells; nodes
-that are no longer needed are given back. So far --forks is checked, and changes nothing else.
+that are no longer needed are given back. With --forks N one half of an operation is offered in its first N
+levels to workers that have nothing left to compare.
 
 Statuses and reports:
   0  equivalent              each output has equal values under every assignment of the inputs

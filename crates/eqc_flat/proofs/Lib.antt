@@ -1,5 +1,6 @@
 pub mod Depth
 pub mod Values
+pub mod Growing
 pub mod Orders
 pub mod Members
 pub mod CallLaws

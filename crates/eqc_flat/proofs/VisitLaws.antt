@@ -1,5 +1,5 @@
 -- A search from a root, step by step: by the last of its path.
-use Rattle.std.proofs.Common.{◌==◌, ◌≡◌, ℕ, ◌+◌, ◌-◌, ◌<◌, ◌≤◌, inl, inr, true, false, not, ◌&&◌, List, [], ◌∷◌, ◌++◌, length, take, set, get_or, refl, sym, ◌∙◌, ap, subst, arith, Some, None, nat_lt}
+use Rattle.std.proofs.Common.{◌==◌, ◌≡◌, ℕ, Bool, zero, suc, ◌+◌, ◌-◌, ◌<◌, ◌≤◌, inl, inr, true, false, not, ◌&&◌, List, [], ◌∷◌, ◌++◌, length, take, set, get_or, refl, sym, ◌∙◌, ap, subst, arith, Some, None, nat_lt}
 use Rattle.std.specs.Prelude.{Contains}
 use Rattle.std.specs.List.{slice_get}
 use Rattle.std.proofs.lemmas.Bool.{and_parts, ltb-true, not-true, true≢false, cases_lt, or_left, eq-eqb}
@@ -23,6 +23,14 @@ split_last path n p size some e =
     let one : n - 1 + 1 ≡ n = omega arith in
     let all : take (n - 1 + 1) path ≡ path = rw one (take_all n path (omega arith)) in
     sym all ∙ (take_more path (n - 1) (0, 0) (omega arith) ∙ ap (λ q. take (n - 1) path ++ q ∷ []) (sym here))
+
+-- the same, of a path that a test found not to be empty
+pub split_top : (path : List (ℕ × ℕ)) (n : ℕ) (p : ℕ × ℕ) (len : ℕ) (empty : Bool) → len ≡ length path → n ≡ len → empty ≡ (len == 0) → empty ≡ false → p ≡ get_or path (n - 1) p → path ≡ take (n - 1) path ++ p ∷ []
+split_top path n p len empty long count tested some e = split_last path n p (count ∙ long) (rw count (some_left len (sym tested ∙ some))) e
+  where
+    some_left : (k : ℕ) → (k == 0) ≡ false → 0 < k
+    some_left zero none = cc
+    some_left (suc k) none = omega arith
 
 -- what is on the path is a node that was begun
 here : (deps : ℕ → List ℕ) (n : ℕ) (stages : List Stage) (front : List (ℕ × ℕ)) (order : List ℕ) (p : ℕ × ℕ) → IsSearch deps n stages (front ++ p ∷ []) order → (nat_lt p.0 n ≡ true) × (not (is_fresh (stage_at stages p.0)) ≡ true)

@@ -84,11 +84,27 @@ fn trail_in(
     let Ok(drivers) = drivers_of(alloc, hierarchy, &rows, columns) else {
         return Err(AllocError);
     };
-    let trail = trail_of(alloc, &drivers)?;
-    Ok(trail)
+    trail_of(alloc, &drivers)
 }
 
-/// A circle of signals, in a hierarchy that is refused for one. Fails where memory is refused.
+/// A circle of signals, in a hierarchy with these places of columns that is refused for one. Fails where memory is refused.
+fn circle_in<'a>(
+    alloc: Global,
+    library: &Library,
+    hierarchy: &Hierarchy<'a>,
+    columns: Vec<Vec<u32>>,
+) -> Result<Circle<'a>, AllocError>
+    requires same { library.now ≡ hierarchy.now.0 }
+    requires refused { flat_code hierarchy.now.0 hierarchy.now.1 ≡ Some 28 }
+    requires columns { map (λ c. c.items) columns.items ≡ all_columns hierarchy.now.0 }
+    ensures { IfOk result (λ circle. IsCircle hierarchy.now.0 hierarchy.now.1 circle) }
+{
+    let trail = trail_in(alloc, library, hierarchy, columns)?;
+    let circle = named_circle(alloc, hierarchy, &trail)?;
+    Ok(circle)
+}
+
+/// A circle of signals, below a model that is refused for one. Fails where memory is refused.
 pub(crate) fn circle_below(
     alloc: Global,
     library: &Library,
@@ -99,7 +115,5 @@ pub(crate) fn circle_below(
     ensures { IfOk result (λ circle. IsCircle library.now top circle) }
 {
     let (hierarchy, columns) = expanded_below(alloc, library, top)?;
-    let trail = trail_in(alloc, library, &hierarchy, columns)?;
-    let circle = named_circle(alloc, &hierarchy, &trail)?;
-    Ok(circle)
+    circle_in(alloc, library, &hierarchy, columns)
 }

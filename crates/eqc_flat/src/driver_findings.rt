@@ -59,8 +59,7 @@ fn table_in(
     ensures { IfOk result (λ table. IsTable hierarchy.now.0 hierarchy.now.1 table.0 table.1 (drivings hierarchy.now.0 hierarchy.now.1)) }
 {
     let rows = RowTable::of(alloc, library)?;
-    let table = DriverTable::of(alloc, hierarchy, &rows)?;
-    Ok(table)
+    DriverTable::of(alloc, hierarchy, &rows)
 }
 
 /// A signal that is driven twice, in a hierarchy that is refused for one. Fails where memory is refused.
@@ -79,6 +78,20 @@ fn twice_in(
 }
 
 /// The name of a signal that is driven twice, in a hierarchy that is refused for one. Fails where memory is refused.
+fn twice_named<'a>(
+    alloc: Global,
+    library: &Library,
+    hierarchy: &Hierarchy<'a>,
+) -> Result<HierarchicalName<'a>, AllocError>
+    requires same { library.now ≡ hierarchy.now.0 }
+    requires refused { flat_code hierarchy.now.0 hierarchy.now.1 ≡ Some 26 }
+    ensures { IfOk result (λ name. NamesDrivenTwice hierarchy.now.0 hierarchy.now.1 name) }
+{
+    let signal = twice_in(alloc, library, hierarchy)?;
+    hierarchy.name_of(alloc, signal)
+}
+
+/// The name of a signal that is driven twice, below a model that is refused for one. Fails where memory is refused.
 pub(crate) fn driven_twice(
     alloc: Global,
     library: &Library,
@@ -89,9 +102,7 @@ pub(crate) fn driven_twice(
     ensures { IfOk result (λ name. NamesDrivenTwice library.now top name) }
 {
     let hierarchy = hierarchy_below(alloc, library, top)?;
-    let signal = twice_in(alloc, library, &hierarchy)?;
-    let name = hierarchy.name_of(alloc, signal)?;
-    Ok(name)
+    twice_named(alloc, library, &hierarchy)
 }
 
 /// The first signal that nothing drives, in a hierarchy that is refused for one. Fails where memory is refused.
@@ -110,6 +121,20 @@ fn undriven_in(
 }
 
 /// The name of a signal that nothing drives, in a hierarchy that is refused for one. Fails where memory is refused.
+fn undriven_named<'a>(
+    alloc: Global,
+    library: &Library,
+    hierarchy: &Hierarchy<'a>,
+) -> Result<HierarchicalName<'a>, AllocError>
+    requires same { library.now ≡ hierarchy.now.0 }
+    requires refused { flat_code hierarchy.now.0 hierarchy.now.1 ≡ Some 27 }
+    ensures { IfOk result (λ name. NamesUndriven hierarchy.now.0 hierarchy.now.1 name) }
+{
+    let signal = undriven_in(alloc, library, hierarchy)?;
+    hierarchy.name_of(alloc, signal)
+}
+
+/// The name of a signal that nothing drives, below a model that is refused for one. Fails where memory is refused.
 pub(crate) fn undriven(
     alloc: Global,
     library: &Library,
@@ -120,7 +145,5 @@ pub(crate) fn undriven(
     ensures { IfOk result (λ name. NamesUndriven library.now top name) }
 {
     let hierarchy = hierarchy_below(alloc, library, top)?;
-    let signal = undriven_in(alloc, library, &hierarchy)?;
-    let name = hierarchy.name_of(alloc, signal)?;
-    Ok(name)
+    undriven_named(alloc, library, &hierarchy)
 }

@@ -1,4 +1,5 @@
-ghost use Rattle.std.specs.Prelude.{◌≡◌, ◌⊎◌, ℕ, ◌<◌, ◌≤◌, length, map, slice_index_or, None, Some, IfOk, IfErr};
+ghost use Rattle.std.specs.Prelude.{◌≡◌, ◌⊎◌, ℕ, ◌<◌, ◌≤◌, false, length, map, slice_index_or, None, Some, IfOk, IfErr};
+ghost use Rattle.eqc_blif.specs.Names.{has_twice};
 ghost use Rattle.eqc_flat.specs.Hierarchy.{model};
 ghost use Rattle.eqc_flat.specs.Signals.{signals};
 ghost use Rattle.eqc_flat.specs.Codes.{flat_code};
@@ -19,7 +20,7 @@ use crate::model_faults::first_model_fault;
 use crate::row_table::RowTable;
 use crate::rule::Rule;
 use crate::signal_order::order_of;
-use eqc_blif::Library;
+use eqc_blif::{Library, Name};
 use std::alloc::{AllocError, Global};
 
 /// How many inputs a main model may have.
@@ -40,6 +41,18 @@ fn listed<'a>(
     Ok((output_signals, signals))
 }
 
+/// The inputs and the outputs of the main model.
+fn main_ports<'a>(hierarchy: &Hierarchy<'a>) -> (&'a [Name], &'a [Name])
+    ensures inputs { result.0.now ≡ (model hierarchy.now.0 hierarchy.now.1).inputs }
+    ensures outputs { result.1.now ≡ (model hierarchy.now.0 hierarchy.now.1).outputs }
+    ensures inputs_once { has_twice result.0.now ≡ false }
+    ensures outputs_once { has_twice result.1.now ≡ false }
+{
+    let library = hierarchy.library();
+    let top = hierarchy.top();
+    (library.inputs(top), library.outputs(top))
+}
+
 /// The flat netlist of a hierarchy with these rows, drivers and order. Fails where memory is refused.
 fn put_together<'a>(
     alloc: Global,
@@ -54,10 +67,7 @@ fn put_together<'a>(
     requires ordered { IsOrder drivers steps.items }
     ensures { IfOk result (λ flat. IsFlatOf hierarchy.entry.0 hierarchy.entry.1 flat) }
 {
-    let library = hierarchy.library();
-    let top = hierarchy.top();
-    let inputs = library.inputs(top);
-    let outputs = library.outputs(top);
+    let (inputs, outputs) = main_ports(&hierarchy);
     let (output_signals, signals) = listed(alloc, &hierarchy)?;
     let places = hierarchy.into_places();
     let rows = rows.into_rows();
@@ -97,6 +107,28 @@ fn ordered_drivers(
     Ok((drivers, steps))
 }
 
+/// The rows of all covers, and the drivers of a hierarchy's signals with an order of them, or a code from 26 to 28. 72 where
+/// memory is refused.
+fn driven_in_order<'a>(
+    alloc: Global,
+    library: &'a Library,
+    hierarchy: &Hierarchy<'a>,
+    columns: Vec<Vec<u32>>,
+) -> Result<(RowTable<'a>, (Drivers, Vec<u32>)), Fault>
+    requires same { library.now ≡ hierarchy.now.0 }
+    requires numbered { IsNumberable hierarchy.now.0 hierarchy.now.1 }
+    requires columns { map (λ c. c.items) columns.items ≡ all_columns hierarchy.now.0 }
+    ensures rows { IfOk result (λ found. found.0 ≡ hierarchy.now.0) }
+    ensures ordered { IfOk result (λ found. IsDriven hierarchy.now.0 hierarchy.now.1 found.1.0 × IsOrder found.1.0 found.1.1.items) }
+    ensures refused { IfErr result (λ fault. IsFlatFault hierarchy.now.0 hierarchy.now.1 fault.code) }
+{
+    let rows = RowTable::of(alloc, library)?;
+    match ordered_drivers(alloc, hierarchy, &rows, columns) {
+        Ok(ordered) => Ok((rows, ordered)),
+        Err(fault) => Err(fault),
+    }
+}
+
 /// The flat netlist of a hierarchy with these places of columns, or a code from 26 to 28. 72 where memory is refused.
 fn netlist<'a>(
     alloc: Global,
@@ -111,13 +143,27 @@ fn netlist<'a>(
     ensures flat { IfOk result (λ flat. IsFlatOf hierarchy.entry.0 hierarchy.entry.1 flat) }
     ensures refused { IfErr result (λ fault. IsFlatFault hierarchy.entry.0 hierarchy.entry.1 fault.code) }
 {
-    let rows = RowTable::of(alloc, library)?;
-    let (drivers, steps) = match ordered_drivers(alloc, &hierarchy, &rows, columns) {
-        Ok(ordered) => ordered,
+    let (rows, (drivers, steps)) = match driven_in_order(alloc, library, &hierarchy, columns) {
+        Ok(found) => found,
         Err(fault) => return Err(fault),
     };
     let flat = put_together(alloc, hierarchy, rows, drivers, steps)?;
     Ok(flat)
+}
+
+/// The models that call one another in a library, where none that model `top` reaches is at fault, or a code from 21 to 25.
+/// 72 where memory is refused.
+fn calls_below(alloc: Global, library: &Library, top: usize) -> Result<Calls<'_>, Fault>
+    requires { top < length library.now }
+    ensures calls { IfOk result (λ calls. calls ≡ library.now) }
+    ensures models { IfOk result (λ calls. HasNoModelFault library.now top) }
+    ensures refused { IfErr result (λ fault. IsFlatFault library.now top fault.code) }
+{
+    let calls = Calls::of(alloc, library)?;
+    match first_model_fault(alloc, &calls, top)? {
+        Some(code) => Err(Fault { code }),
+        None => Ok(calls),
+    }
 }
 
 /// The hierarchy below model `top` and the places of the columns of each cover, or a code from 21 to 25, or 29. 72 where
@@ -132,14 +178,14 @@ fn expanded(
     ensures made { IfOk result (λ made. IsExpansion library.now top made.0 (map (λ c. c.items) made.1.items)) }
     ensures refused { IfErr result (λ fault. IsFlatFault library.now top fault.code) }
 {
-    let calls = Calls::of(alloc, library)?;
-    if let Some(code) = first_model_fault(alloc, &calls, top)? {
-        return Err(Fault { code });
-    }
-    let Some(made) = Hierarchy::of(alloc, calls, top)? else {
-        return Err(Rule::TooLarge.fault());
+    let calls = match calls_below(alloc, library, top) {
+        Ok(calls) => calls,
+        Err(fault) => return Err(fault),
     };
-    Ok(made)
+    match Hierarchy::of(alloc, calls, top)? {
+        Some(made) => Ok(made),
+        None => Err(Rule::TooLarge.fault()),
+    }
 }
 
 /// The flat netlist of the hierarchy below model `top` of a library, which is below the number of models: one list of

@@ -134,7 +134,7 @@ impl<'a> Hierarchy<'a> {
         ensures small { result < 1048576 }
         ensures signal { signal_at self.now.0 self.now.1 result ≡ record { path = path_at self.now.0 self.now.1 i; name = name.now } }
     {
-        let k = self.naming.position(self.instances.models[i], name);
+        let k = self.naming.position(self.model(i), name);
         self.signal_of(i, k)
     }
 
@@ -147,7 +147,7 @@ impl<'a> Hierarchy<'a> {
         ensures signal { signal_at self.now.0 self.now.1 result.0 ≡ record { path = path_at self.now.0 self.now.1 i; name = name.now } }
         ensures input { result.1 ≡ is_named (model_of self.now.0 self.now.1 i).inputs name.now }
     {
-        let (k, is_input) = self.naming.port(self.instances.models[i], name);
+        let (k, is_input) = self.naming.port(self.model(i), name);
         (self.signal_of(i, k), is_input)
     }
 
@@ -223,7 +223,7 @@ impl<'a> Hierarchy<'a> {
         requires { i < length (paths self.now.0 self.now.1) }
         ensures { OnOk result (map (λ s. (s.0, s.1.now)) all.new.items ≡ map (λ s. (s.0, s.1.now)) all.old.items ++ named_here self.now.0 self.now.1 i) }
     {
-        let m = self.instances.models[i];
+        let m = self.model(i);
         for k in 0..self.naming.count(m) {
             all.push((i as u32, self.naming.name(m, k)))?;
         }

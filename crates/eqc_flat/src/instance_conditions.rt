@@ -1,4 +1,4 @@
-ghost use Rattle.std.specs.Prelude.{◌≡◌, ◌<◌, [], true, not, map, take, length, position, is_some, slice_index_or, IfOk, IfSome};
+ghost use Rattle.std.specs.Prelude.{◌≡◌, ◌<◌, [], true, not, map, take, length, position, is_some, slice_index_or, IfOk, OnOk, IfSome};
 ghost use Rattle.std.specs.List.{list_any, fold};
 ghost use Rattle.std.specs.Str.{bytes_eq};
 ghost use Rattle.eqc_blif.specs.Names.{is_named, has_twice};
@@ -69,15 +69,42 @@ impl<'a> Model for NamesNoFormal<'a> {
     ghost invariant = { λ a. a.ports.items ≡ ports_of a.library.now };
 }
 
-/// The inputs and outputs of model `m`, each once.
+/// Puts the inputs and outputs of model `m` into an empty set. Fails where memory is refused.
+fn put_ports<'a>(all: &mut NameSet<'a>, library: &'a Library, m: usize) -> Result<(), AllocError>
+    requires there { m < length library.now }
+    requires empty { all.old ≡ [] }
+    ensures { OnOk result (all.new ≡ ports library.now m) }
+{
+    all.insert_all(library.inputs(m))?;
+    all.insert_all(library.outputs(m))?;
+    Ok(())
+}
+
+/// The inputs and outputs of model `m`, each once. Fails where memory is refused.
 fn ports_of<'a>(alloc: Global, library: &'a Library, m: usize) -> Result<NameSet<'a>, AllocError>
     requires { m < length library.now }
     ensures { IfOk result (λ all. all ≡ ports library.now m) }
 {
     let mut all = NameSet::new(alloc);
-    all.insert_all(library.inputs(m))?;
-    all.insert_all(library.outputs(m))?;
+    put_ports(&mut all, library, m)?;
     Ok(all)
+}
+
+/// Puts the inputs and outputs of each model into an empty list, and behind them those of a model that isn't there. Fails
+/// where memory is refused.
+fn put_all_ports<'a>(
+    alloc: Global,
+    library: &'a Library,
+    all: &mut Vec<NameSet<'a>>,
+) -> Result<(), AllocError>
+    requires { all.old.items ≡ [] }
+    ensures { OnOk result (all.new.items ≡ ports_of library.now) }
+{
+    for m in 0..library.models() {
+        all.push(ports_of(alloc, library, m)?)?;
+    }
+    all.push(NameSet::new(alloc))?;
+    Ok(())
 }
 
 /// The position of the first of these pairs whose formal is not among the names, if there is one.
@@ -105,10 +132,7 @@ impl<'a> NamesNoFormal<'a> {
         ensures { IfOk result (λ test. test ≡ library.now) }
     {
         let mut ports = Vec::new(alloc);
-        for m in 0..library.models() {
-            ports.push(ports_of(alloc, library, m)?)?;
-        }
-        ports.push(NameSet::new(alloc))?;
+        put_all_ports(alloc, library, &mut ports)?;
         Ok(NamesNoFormal { library, ports })
     }
 
@@ -167,7 +191,27 @@ fn stands_twice(pairs: &[(Name, Name)]) -> bool
     false
 }
 
-/// The position of the first of these pairs whose formal stands in an earlier one, if there is one.
+/// The position of the first of these pairs whose formal stands in an earlier one, if there is one. The formals before it
+/// are put into an empty set. Fails where memory is refused.
+fn first_known<'a>(
+    names: &mut NameSet<'a>,
+    pairs: &'a [(Name, Name)],
+) -> Result<Option<usize>, AllocError>
+    requires { names.old ≡ [] }
+    ensures some { IfOk result (λ found. is_some found ≡ has_twice (map (λ pair. pair.0) pairs.now)) }
+    ensures first { IfOk result (λ found. IfSome found (λ k. (k < length pairs.now) × (is_named (map (λ pair. pair.0) (take k pairs.now)) (slice_index_or pairs.now k ([], [])).0 ≡ true))) }
+{
+    for k in 0..pairs.len() {
+        let pair = &pairs[k];
+        if !names.insert(&pair.0)? {
+            return Ok(Some(k));
+        }
+    }
+    Ok(None)
+}
+
+/// The position of the first of these pairs whose formal stands in an earlier one, if there is one. Fails where memory is
+/// refused.
 pub(crate) fn first_repeated(
     alloc: Global,
     pairs: &[(Name, Name)],
@@ -176,13 +220,7 @@ pub(crate) fn first_repeated(
     ensures first { IfOk result (λ found. IfSome found (λ k. (k < length pairs.now) × (is_named (map (λ pair. pair.0) (take k pairs.now)) (slice_index_or pairs.now k ([], [])).0 ≡ true))) }
 {
     let mut names = NameSet::new(alloc);
-    for k in 0..pairs.len() {
-        let pair = &pairs[k];
-        if !names.insert(&pair.0)? {
-            return Ok(Some(k));
-        }
-    }
-    Ok(None)
+    first_known(&mut names, pairs)
 }
 
 /// Whether a formal stands twice in an instance.
@@ -211,7 +249,18 @@ impl<'a> Model for LeavesInputOut<'a> {
     ghost view = { λ a. a.library.now };
 }
 
-/// The formals of an instance, each once.
+/// Puts the formals of an instance into an empty set. Fails where memory is refused.
+fn put_formals<'a>(names: &mut NameSet<'a>, instance: &'a Instance) -> Result<(), AllocError>
+    requires { names.old ≡ [] }
+    ensures { OnOk result (names.new ≡ fold with_name [] (formals instance.now)) }
+{
+    'pairs: for pair in &instance.pairs {
+        names.insert(&pair.0)?;
+    }
+    Ok(())
+}
+
+/// The formals of an instance, each once. Fails where memory is refused.
 pub(crate) fn formals_of<'a>(
     alloc: Global,
     instance: &'a Instance,
@@ -219,9 +268,7 @@ pub(crate) fn formals_of<'a>(
     ensures { IfOk result (λ names. names ≡ fold with_name [] (formals instance.now)) }
 {
     let mut names = NameSet::new(alloc);
-    'pairs: for pair in &instance.pairs {
-        names.insert(&pair.0)?;
-    }
+    put_formals(&mut names, instance)?;
     Ok(names)
 }
 

@@ -18,8 +18,7 @@ fn has_no_such_model(alloc: Global, library: &Library, models: &[usize]) -> Resu
     ensures { IfOk result (λ some. (top : ℕ) → ((m : ℕ) → among models.now m ≡ among (reached library.now top) m) → some ≡ has_no_such_model library.now top) }
 {
     let condition = NamesNoModel::new(library);
-    let some = some_instance(alloc, library, models, &condition)?;
-    Ok(some)
+    some_instance(alloc, library, models, &condition)
 }
 
 /// Whether model `top`, which is at most the number of models, reaches a model that reaches itself.
@@ -41,16 +40,14 @@ fn has_unknown_formal(
     ensures { IfOk result (λ some. (top : ℕ) → ((m : ℕ) → among models.now m ≡ among (reached library.now top) m) → some ≡ has_unknown_formal library.now top) }
 {
     let condition = NamesNoFormal::of(alloc, library)?;
-    let some = some_instance(alloc, library, models, &condition)?;
-    Ok(some)
+    some_instance(alloc, library, models, &condition)
 }
 
 /// Whether an instance in one of these models has a formal twice.
 fn has_formal_twice(alloc: Global, library: &Library, models: &[usize]) -> Result<bool, AllocError>
     ensures { IfOk result (λ some. (top : ℕ) → ((m : ℕ) → among models.now m ≡ among (reached library.now top) m) → some ≡ has_formal_twice library.now top) }
 {
-    let some = some_instance(alloc, library, models, &NamesFormalTwice)?;
-    Ok(some)
+    some_instance(alloc, library, models, &NamesFormalTwice)
 }
 
 /// Whether an instance in one of these models has no pair for an input of its model.
@@ -62,8 +59,38 @@ fn has_missing_formal(
     ensures { IfOk result (λ some. (top : ℕ) → ((m : ℕ) → among models.now m ≡ among (reached library.now top) m) → some ≡ has_missing_formal library.now top) }
 {
     let condition = LeavesInputOut::new(library);
-    let some = some_instance(alloc, library, models, &condition)?;
-    Ok(some)
+    some_instance(alloc, library, models, &condition)
+}
+
+/// The first code of these models, which are those that model `top` reaches, or none where none applies. Fails where memory
+/// is refused.
+fn fault_of(
+    alloc: Global,
+    calls: &Calls<'_>,
+    top: usize,
+    models: &[usize],
+) -> Result<Option<u8>, AllocError>
+    requires there { top < length calls.now }
+    requires each { (m : ℕ) → among models.now m ≡ among (reached calls.now top) m }
+    ensures { IfOk result (λ found. MatchOption found (HasNoModelFault calls.now top) (λ code. flat_code calls.now top ≡ Some code)) }
+{
+    let library = calls.library();
+    if has_no_such_model(alloc, library, models)? {
+        return Ok(Some(Rule::NoSuchModel.code()));
+    }
+    if is_recursive(alloc, calls, top)? {
+        return Ok(Some(Rule::Recursion.code()));
+    }
+    if has_unknown_formal(alloc, library, models)? {
+        return Ok(Some(Rule::UnknownFormal.code()));
+    }
+    if has_formal_twice(alloc, library, models)? {
+        return Ok(Some(Rule::FormalTwice.code()));
+    }
+    if has_missing_formal(alloc, library, models)? {
+        return Ok(Some(Rule::MissingInput.code()));
+    }
+    Ok(None)
 }
 
 /// The first code of the models that model `top` of a library reaches, which is below the number of models, or none where
@@ -78,22 +105,6 @@ pub(crate) fn first_model_fault(
     requires { top < length calls.now }
     ensures { IfOk result (λ found. MatchOption found (HasNoModelFault calls.now top) (λ code. flat_code calls.now top ≡ Some code)) }
 {
-    let library = calls.library();
     let models = reached_models(alloc, calls, top)?;
-    if has_no_such_model(alloc, library, &models)? {
-        return Ok(Some(Rule::NoSuchModel.code()));
-    }
-    if is_recursive(alloc, calls, top)? {
-        return Ok(Some(Rule::Recursion.code()));
-    }
-    if has_unknown_formal(alloc, library, &models)? {
-        return Ok(Some(Rule::UnknownFormal.code()));
-    }
-    if has_formal_twice(alloc, library, &models)? {
-        return Ok(Some(Rule::FormalTwice.code()));
-    }
-    if has_missing_formal(alloc, library, &models)? {
-        return Ok(Some(Rule::MissingInput.code()));
-    }
-    Ok(None)
+    fault_of(alloc, calls, top, &models)
 }

@@ -1,5 +1,5 @@
 -- The words and tables with which a forest begins.
-use Rattle.std.proofs.Common.{◌≡◌, ◌≢◌, ◌⊎◌, ℕ, zero, suc, ◌+◌, ◌-◌, ◌*◌, ◌%◌, ◌<◌, ◌≤◌, List, [], ◌∷◌, ◌++◌, length, map, length-append, eq-eqb, ne_eqb, refl, sym, ap, ◌∙◌, arith, inl, inr}
+use Rattle.std.proofs.Common.{◌≡◌, ◌≢◌, ◌⊎◌, ℕ, zero, suc, ◌+◌, ◌-◌, ◌*◌, ◌%◌, ◌<◌, ◌≤◌, List, [], ◌∷◌, ◌++◌, length, take, replicate, take_all, if◌then◌else◌, is_ok, Result, Ok, Err, OnOk, map, length-append, eq-eqb, ne_eqb, refl, sym, ap, ◌∙◌, arith, inl, inr}
 use Rattle.std.specs.HashMap.{HashMap}
 use Rattle.std.proofs.lemmas.List.{append_assoc, map-append}
 use mathlib.Core.Option.{some}
@@ -9,9 +9,9 @@ use Rattle.eqc_core.specs.View.{View}
 use Rattle.eqc_core.specs.Words.{Words, announced_words, stripe_of}
 use Rattle.eqc_core.specs.Tables.{Homes}
 use Rattle.eqc_core.specs.Lawful.{IsSized}
-use Rattle.eqc_core.specs.State.{repeated, literal, literals, slots_from, stripe_entries, homes_from, literal_homes, opening}
+use Rattle.eqc_core.specs.State.{repeated, literal, literals, slots_from, stripe_entries, homes_from, opening}
 use Rattle.eqc_core.proofs.Literals.{literal_variable, literal_low, literal_high}
-use Rattle.eqc_core.proofs.Stocks.{repeated-push, literals-push, slots-push, homes-push}
+use Rattle.eqc_core.proofs.Stocks.{literals-push, slots-push, homes-push}
 use Rattle.eqc_guard.specs.declared.reference.Ref.{Ref}
 use Rattle.eqc_guard.specs.Known.{flat}
 use Rattle.eqc_guard.specs.Rule.{all_words, homes_of}
@@ -20,9 +20,16 @@ repeated_more : (x m n : ℕ) → repeated x m ++ repeated x n ≡ repeated x (m
 repeated_more x zero n = let e : n ≡ 0 + n = omega arith in ap (λ (k : ℕ). repeated x k) e
 repeated_more x (suc m) n = let e : suc (m + n) ≡ suc m + n = omega arith in ap (λ (l : List ℕ). x ∷ l) (repeated_more x m n) ∙ ap (λ (k : ℕ). repeated x k) e
 
--- one word more behind a list
-pub one_repeated : (l : List ℕ) (x n : ℕ) → (l ++ repeated x n) ++ x ∷ [] ≡ l ++ repeated x (n + 1)
-one_repeated l x n = append_assoc l (repeated x n) (x ∷ []) ∙ ap (λ (r : List ℕ). l ++ r) (sym (repeated-push x n))
+replicated : (x n : ℕ) → replicate n x ≡ repeated x n
+replicated x zero = refl
+replicated x (suc n) = ap (λ (l : List ℕ). x ∷ l) (replicated x n)
+
+-- a word so many times behind a list that is filled up with it
+pub filled_up : {E : Type 0} (r : Result (Unit {0}) E) (l m : List ℕ) (x n had k : ℕ) → had ≡ length l → k ≡ had + n → m ≡ (if is_ok r then take k l ++ replicate (k - had) x else l) → OnOk r (m ≡ l ++ repeated x n)
+filled_up (Ok _) l m x n had k long more is =
+    let rest : k - had ≡ n = omega arith in
+    is ∙ ((λ i. take_all k l (omega arith) i ++ replicate (rest i) x) ∙ ap (λ (r : List ℕ). l ++ r) (replicated x n))
+filled_up (Err _) l m x n had k long more is = tt
 
 pub one_literal : (l : List ℕ) (n : ℕ) → (l ++ literals 0 n) ++ literal n ∷ [] ≡ l ++ literals 0 (n + 1)
 one_literal l n = append_assoc l (literals 0 n) (literal n ∷ []) ∙ ap (λ (r : List ℕ). l ++ r) (sym (literals-push n))

@@ -19,10 +19,8 @@ const STRIPES: u32 = 16;
 fn extend_with(words: &mut Vec<u64>, word: u64, n: u32) -> Result<(), AllocError>
     ensures { OnOk result (words.new.items ≡ words.old.items ++ repeated word n) }
 {
-    for _k in 0..n {
-        words.push(word)?;
-    }
-    Ok(())
+    let len = words.len() + n as usize;
+    words.resize(len, word)
 }
 
 // Puts the node words of the literals of the first n variables behind the others.

@@ -3,7 +3,8 @@
 //!
 //! - `words`, `operations`, of `eqc_tree`; `diagrams`, of `eqc_plain`; `machine`, of `eqc_core`
 //! - `forests`, of `eqc_guard`; `cached_results`, of `eqc_cache`; `random_steps`, of both; `drivers`, what takes their steps
-//! - `arenas` and `random_nodes`, of `eqc_arena`; `makers`, what makes its calls; `appliers`, of `eqc_apply`
+//! - `arenas` and `random_nodes`, of `eqc_arena`; `makers`, what makes its calls
+//! - `appliers`, `teams` and `forks`, of `eqc_apply`; `builders`, what makes its calls
 //! - `reading` and `text_findings`, of `eqc_blif`; `hierarchies`, `random_hierarchies` and `explanations`, of `eqc_flat`
 //! - `pair_findings`, of `eqc_pair`; `pairs`, `workers`, `structures`, `parities`, `reports`, `runs`, of `eqc_check`
 //! - `program`, `program_ends`, `models`, `explained_runs`, `compared_hierarchies`, `costs`, of `eqc_command` and the program
@@ -16,6 +17,7 @@
 
 mod appliers;
 mod arenas;
+mod builders;
 mod cached_results;
 mod compared_hierarchies;
 mod costs;
@@ -24,6 +26,7 @@ mod drivers;
 mod explained_runs;
 mod explanations;
 mod forests;
+mod forks;
 mod hierarchies;
 mod machine;
 mod makers;
@@ -43,6 +46,7 @@ mod reports;
 mod runs;
 mod streams;
 mod structures;
+mod teams;
 mod text_findings;
 mod words;
 mod workers;

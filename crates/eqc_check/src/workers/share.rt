@@ -8,6 +8,7 @@ ghost use Rattle.eqc_check.specs.Verdicts.{DiffersBefore, IsFoundAt, IsShare, Is
 use crate::build::schedule::is_marked;
 use crate::workers::gate::Gate;
 use crate::workers::group::{Group, halves};
+use crate::workers::help::help_others;
 use crate::workers::member::{self, Member};
 use crate::workers::task::Task;
 use crate::workers::ticket::{Drawer, Words, draw, take_in};
@@ -101,8 +102,9 @@ fn draw_all<R, D: Diagrams<R>, G: Gate<R>>(
     Ok(Share { seat, verdicts })
 }
 
-/// All that one member does: it draws, compares, and gives its diagrams up.
-fn work_alone<R, D: Diagrams<R> + Drop, G: Gate<R>>(
+/// All that one member does: it draws, compares, helps others, and gives its diagrams up. What it kept it gives back before
+/// it helps, so that what it holds takes no room from members that work.
+fn work_alone<R: Wait, D: Diagrams<R> + Drop, G: Gate<R>>(
     rt: &R,
     alloc: Global,
     pair: &Pair<'_>,
@@ -120,7 +122,7 @@ fn work_alone<R, D: Diagrams<R> + Drop, G: Gate<R>>(
     ensures only { IfErr result (λ s. s ≢ Stop.Threads) }
 {
     let mut member = member::begin(alloc, diagrams, pair)?;
-    let share = draw_all(
+    let drawn = draw_all(
         rt,
         alloc,
         pair,
@@ -131,12 +133,14 @@ fn work_alone<R, D: Diagrams<R> + Drop, G: Gate<R>>(
         seat,
         &mut member,
     );
-    member::end(member, pair);
-    share
+    let mut diagrams = member::end(member, pair);
+    let share = drawn?;
+    help_others(rt, &mut diagrams);
+    Ok(share)
 }
 
 /// What the only member of a group does.
-fn work_only<R, D: Diagrams<R> + Drop, G: Gate<R>>(
+fn work_only<R: Wait, D: Diagrams<R> + Drop, G: Gate<R>>(
     rt: &R,
     alloc: Global,
     pair: &Pair<'_>,
@@ -215,7 +219,7 @@ impl<'f> Promise<Result<Share, Stop>> for Kept<'f> {
 fn work<
     's,
     E: 's,
-    R: Threads + Sync + 's,
+    R: Threads + Wait + Sync + 's,
     D: Diagrams<R> + Send + Drop + 's,
     G: Gate<R> + Sync + 's,
 >(

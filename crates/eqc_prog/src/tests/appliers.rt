@@ -5,8 +5,9 @@ ghost use Rattle.std.specs.Prelude.{◌≡◌, ◌<◌, ◌+◌, ℕ, OnErr, IfO
 ghost use Rattle.eqc_tree.specs.Holding.{Entry, IsHeld, IsNew, Keeps, copies, weight};
 ghost use Rattle.std.specs.List.{All};
 
+use crate::tests::builders::members;
 use crate::tests::same;
-use eqc_apply::{Applier, team};
+use eqc_apply::Applier;
 use eqc_tree::{Diagrams, Op, References, Stop};
 use std::process::Abort;
 use std::thread::join_mut;
@@ -129,9 +130,7 @@ fn last(rt: &impl Abort, members: &mut Vec<Applier>) -> Applier
 
 #[test]
 fn two_members_build_at_once(rt: HostRuntime) {
-    let Ok(mut members) = team(rt.alloc(), 3, 100, 64, 2) else {
-        panic!(rt; "there is no memory");
-    };
+    let mut members = members(&rt, 3, 100, 64, 2, 0);
     let mut second = last(&rt, &mut members);
     let mut first = last(&rt, &mut members);
     let (one, other) = join_mut(

@@ -98,13 +98,13 @@ pub fn reports<RT: AllocGlobal + Threads + Wait + Sync>(
 }
 
 /// Each text on standard input, which is the first in its row, gives its report and status, whatever the number of
-/// workers.
+/// workers and of forks.
 pub fn check_texts(
     rt: &(impl Abort + AllocGlobal + Threads + Wait + Sync),
     rows: &[(&str, &str, u8)],
 ) {
     for (text, report, status) in rows {
-        for line in ["eqc --workers 1", "eqc", "eqc --workers 8"] {
+        for line in ["eqc --workers 1", "eqc", "eqc --workers 8 --forks 16"] {
             holds_at(
                 rt,
                 reports(rt, line, Feed::whole(text), report, *status),

@@ -1,9 +1,9 @@
-use Rattle.std.proofs.Common.{◌∙◌, Some, ap, sym, ℕ, List, map}
+use Rattle.std.proofs.Common.{◌≢◌, ◌∙◌, Some, ap, sym, ℕ, List, map}
 use Rattle.eqc_blif.specs.Words.{arguments, without_blanks}
 use Rattle.eqc_blif.specs.Kind.{kind_of, kind_of_line}
 use Rattle.eqc_blif.specs.Names.{is_named}
 use Rattle.eqc_blif.specs.Reading.{stands_in_model, lacks_words, models}
-use Rattle.eqc_blif.proofs.ToldLemmas.{told_unknown, told_behind, told_outside, told_misshapen, told_mixed, told_pair, told_word, told_model}
+use Rattle.eqc_blif.proofs.ToldLemmas.{told_unknown, told_behind, told_outside, told_misshapen, told_mixed, told_pair, told_word, told_model, IsNoOther, told_twice}
 use Rattle.eqc_blif.proofs.line_findings.line_finding.Goals as goal
 
 pub row_shape-requires : goal.row_shape-requires
@@ -74,3 +74,37 @@ returns-then-code-6 c = (sym (c.if-code-6.true ∙ c.code-6.ensures), c.in_ok-ou
 
 pub returns-then-code-7 : goal.returns-then-code-7
 returns-then-code-7 c = (sym (c.if-code-7.true ∙ c.code-7.ensures), c.in_ok-no_pair.ensures)
+
+pub name_twice-requires : goal.name_twice-requires
+name_twice-requires c =
+    let line = c.args.line.now in
+    let none : IsNoOther c.args.code = record {
+      unknown = λ e. c.if-code.false (e ∙ sym c.code.ensures);
+      latch = λ e. c.if-code-2.false (e ∙ sym c.code-2.ensures);
+      behind = λ e. c.if-code-3.false (e ∙ sym c.code-3.ensures);
+      outside = λ e. c.if-code-4.false (e ∙ sym c.code-4.ensures);
+      shape = λ e. c.if-code-5.false (e ∙ sym c.code-5.ensures);
+      mixed = λ e. c.if-code-6.false (e ∙ sym c.code-6.ensures);
+      pair = λ e. c.if-code-7.false (e ∙ sym c.code-7.ensures);
+      word = λ e. c.if-code-8.false (e ∙ sym c.code-8.ensures);
+      model = λ e. c.if-code-9.false (e ∙ sym c.code-9.ensures);
+    } in
+    let told = told_twice c.args.reader.now (kind_of_line line) (arguments line) (without_blanks line) c.args.code c.requires none in
+    record { opened = told.0; twice = told.1 }
+
+pub returns : goal.returns
+returns c =
+    let line = c.args.line.now in
+    let none : IsNoOther c.args.code = record {
+      unknown = λ e. c.if-code.false (e ∙ sym c.code.ensures);
+      latch = λ e. c.if-code-2.false (e ∙ sym c.code-2.ensures);
+      behind = λ e. c.if-code-3.false (e ∙ sym c.code-3.ensures);
+      outside = λ e. c.if-code-4.false (e ∙ sym c.code-4.ensures);
+      shape = λ e. c.if-code-5.false (e ∙ sym c.code-5.ensures);
+      mixed = λ e. c.if-code-6.false (e ∙ sym c.code-6.ensures);
+      pair = λ e. c.if-code-7.false (e ∙ sym c.code-7.ensures);
+      word = λ e. c.if-code-8.false (e ∙ sym c.code-8.ensures);
+      model = λ e. c.if-code-9.false (e ∙ sym c.code-9.ensures);
+    } in
+    let told = told_twice c.args.reader.now (kind_of_line line) (arguments line) (without_blanks line) c.args.code c.requires none in
+    (c.in_ok-name_twice.ensures.0 ∙ sym told.2, c.in_ok-name_twice.ensures.1)

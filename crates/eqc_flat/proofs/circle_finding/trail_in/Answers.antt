@@ -1,4 +1,6 @@
 use Rattle.std.proofs.Common.{refl, arith, length}
+use Rattle.eqc_flat.specs.Ordering.{IsTrailBelow}
+use Rattle.std.proofs.lemmas.Result.{IfOk-weaker}
 use Rattle.eqc_flat.proofs.CodeLaws.{driven_closed, few_drivers}
 use Rattle.eqc_flat.proofs.FindingLaws.{numbered, circle_left}
 use Rattle.eqc_flat.proofs.circle_finding.trail_in.Goals as goal
@@ -21,4 +23,4 @@ trail_of-requires-clause-circular c =
     circle_left c.args.hierarchy.now.0 c.args.hierarchy.now.1 c.in-Ok.drivers (numbered c.args.hierarchy.now.0 c.args.hierarchy.now.1 28 (omega arith) (omega arith) c.requires.refused) (rw c.in-Ok.is at c.drivers_of.ensures.driven)
 
 pub returns : goal.returns
-returns c = (c.in-Ok.drivers, rw c.in-Ok.is at c.drivers_of.ensures.driven, c.in_ok-trail.ensures)
+returns c = IfOk-weaker _ _ (λ trail. IsTrailBelow c.args.hierarchy.now.0 c.args.hierarchy.now.1 trail.items) (λ trail is. (c.in-Ok.drivers, rw c.in-Ok.is at c.drivers_of.ensures.driven, is)) c.trail_of.ensures

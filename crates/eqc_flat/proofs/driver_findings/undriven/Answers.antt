@@ -1,4 +1,4 @@
-use Rattle.std.proofs.Common.{◌≡◌, sym, subst, arith, ℕ, List, Some}
+use Rattle.std.proofs.Common.{◌≡◌, sym, subst, arith, ℕ, List, Some, IfOk}
 use Rattle.eqc_blif.specs.Netlist.{ModelOf}
 use Rattle.eqc_flat.specs.Codes.{flat_code}
 use Rattle.eqc_flat.specs.Finding.{NamesUndriven}
@@ -11,12 +11,12 @@ hierarchy_below-requires-clause-ends c = (numbered c.args.library.now c.args.top
 pub hierarchy_below-requires-clause-small : goal.hierarchy_below-requires-clause-small
 hierarchy_below-requires-clause-small c = (numbered c.args.library.now c.args.top 27 (omega arith) (omega arith) c.requires.refused).small
 
-pub undriven_in-requires-clause-refused : goal.undriven_in-requires-clause-refused
-undriven_in-requires-clause-refused c =
+pub undriven_named-requires-clause-refused : goal.undriven_named-requires-clause-refused
+undriven_named-requires-clause-refused c =
     let P : List ModelOf × ℕ → Type 0 = λ v. flat_code v.0 v.1 ≡ Some 27 in
     subst P (sym c.in_ok-hierarchy.ensures) c.requires.refused
 
 pub returns : goal.returns
 returns c =
-    let P : List ModelOf × ℕ → Type 0 = λ v. NamesUndriven v.0 v.1 c.in_ok-name.name in
-    subst P c.in_ok-hierarchy.ensures (c.in_ok-signal.signal, c.in_ok-signal.ensures.within, c.in_ok-name.ensures, c.in_ok-signal.ensures.undriven)
+    let P : List ModelOf × ℕ → Type 0 = λ v. IfOk c.undriven_named.result (λ name. NamesUndriven v.0 v.1 name) in
+    subst P c.in_ok-hierarchy.ensures c.undriven_named.ensures

@@ -1,26 +1,24 @@
 use Rattle.std.proofs.Common.{◌≡◌, ◌∙◌, List, map, Vec, ℕ, Global, inr, sym, ap, subst, true}
 use Rattle.eqc_blif.specs.Netlist.{ModelOf}
 use Rattle.eqc_flat.specs.Codes.{is_too_large}
-use Rattle.eqc_flat.specs.ModelFaults.{HasNoModelFault}
 use Rattle.eqc_flat.specs.Instances.{IsExpansion}
 use Rattle.eqc_flat.proofs.CodeLaws.{code_29}
 use Rattle.eqc_flat.proofs.flattening.expanded.Goals as goal
 
-pub returns-in_default-2-clause-refused : goal.returns-in_default-2-clause-refused
-returns-in_default-2-clause-refused c =
+pub returns-in-None-clause-refused : goal.returns-in-None-clause-refused
+returns-in-None-clause-refused c =
     let library = c.args.library.now in
     let top = c.args.top in
-    let P : List ModelOf → Type 0 = λ l. HasNoModelFault l top in
-    let none : HasNoModelFault library top = subst P c.in_ok-calls.ensures (rw c.in_default.is at c.in_ok-code.ensures) in
-    let large : is_too_large library top ≡ true = sym (ap (λ (l : List ModelOf). is_too_large l top) c.in_ok-calls.ensures) ∙ (rw c.in_default-2.is at c.in_ok-made.ensures) in
+    let same = rw c.in-Ok.is at c.calls_below.ensures.calls in
+    let none = rw c.in-Ok.is at c.calls_below.ensures.models in
+    let large : is_too_large library top ≡ true = sym (ap (λ (l : List ModelOf). is_too_large l top) same) ∙ (rw c.in-None.is at c.in_ok-made.ensures) in
     rw c.fault.ensures (inr (code_29 library top none large))
 
-pub returns-clause-models : goal.returns-clause-models
-returns-clause-models c =
-    let P : List ModelOf → Type 0 = λ l. HasNoModelFault l c.args.top in
-    subst P c.in_ok-calls.ensures (rw c.in_default.is at c.in_ok-code.ensures)
+pub returns-in-Some-clause-models : goal.returns-in-Some-clause-models
+returns-in-Some-clause-models c = rw c.in-Ok.is at c.calls_below.ensures.models
 
-pub returns-clause-made : goal.returns-clause-made
-returns-clause-made c =
-    let P : List ModelOf → Type 0 = λ l. IsExpansion l c.args.top c.in-Some-2.made.0 (map (λ (v : Vec ℕ Global). v.items) c.in-Some-2.made.1.items) in
-    subst P c.in_ok-calls.ensures (rw c.in-Some-2.is at c.in_ok-made.ensures)
+pub returns-in-Some-clause-made : goal.returns-in-Some-clause-made
+returns-in-Some-clause-made c =
+    let same = rw c.in-Ok.is at c.calls_below.ensures.calls in
+    let P : List ModelOf → Type 0 = λ l. IsExpansion l c.args.top c.in-Some.made.0 (map (λ (v : Vec ℕ Global). v.items) c.in-Some.made.1.items) in
+    subst P same (rw c.in-Some.is at c.in_ok-made.ensures)

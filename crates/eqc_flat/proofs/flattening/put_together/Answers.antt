@@ -4,8 +4,9 @@ use Rattle.eqc_blif.specs.Names.{is_named, has_twice}
 use Rattle.eqc_flat.specs.Graph.{FlatOf, IsFlat}
 use Rattle.eqc_flat.specs.Hierarchy.{model}
 use Rattle.eqc_flat.specs.Signals.{names_of, signals}
-use Rattle.eqc_flat.specs.Flattened.{signals_here, IsFlatOf}
+use Rattle.eqc_flat.specs.Flattened.{path_at, signals_here, IsFlatOf}
 use Rattle.eqc_flat.specs.RowTable.{all_rows}
+use Rattle.eqc_flat.proofs.InstanceLaws.{root_path}
 use Rattle.eqc_flat.proofs.NamingLaws.{output_named}
 use Rattle.eqc_flat.proofs.FlatLaws.{IsParts, flat_same, expanded_few, parts_flat, parts_flat_of}
 use Rattle.eqc_flat.proofs.flattening.put_together.Goals as goal
@@ -14,8 +15,8 @@ pub new-requires : goal.new-requires
 new-requires c =
     let library = c.args.hierarchy.0 in
     let top = c.args.hierarchy.1 in
-    let inputs : c.inputs-inputs.result.now ≡ (model library top).inputs = c.inputs-inputs.ensures.names ∙ (ap (λ (n : ℕ). (model c.library-library.result.now n).inputs) c.top-top.ensures.top ∙ ap (λ (l : List ModelOf). (model l top).inputs) c.library-library.ensures) in
-    let outputs : c.outputs-outputs.result.now ≡ (model library top).outputs = c.outputs-outputs.ensures.names ∙ (ap (λ (n : ℕ). (model c.library-library.result.now n).outputs) c.top-top.ensures.top ∙ ap (λ (l : List ModelOf). (model l top).outputs) c.library-library.ensures) in
+    let inputs = c.main_ports.ensures.inputs in
+    let outputs = c.main_ports.ensures.outputs in
     let rows = c.into_rows-rows.ensures ∙ ap all_rows c.requires.same in
     let all = c.hierarchy.inside.instances in
     let few : length (signals library top) ≤ 1048576 = let P : List ModelOf × ℕ → Type 0 = λ v. length (signals v.0 v.1) ≤ 1048576 in subst P c.hierarchy.view_is (expanded_few c.hierarchy.inside.calls c.hierarchy.inside.naming all.top all.signals all.models.items all.firsts.items all.places.items c.hierarchy.invariant) in
@@ -27,18 +28,18 @@ new-requires c =
     let parts : IsParts library top os named places drivers steps = record {
       few_inputs = c.requires.few;
       few_signals = few;
-      inputs_once = sym (ap has_twice inputs) ∙ c.inputs-inputs.ensures.once;
-      outputs_once = sym (ap has_twice outputs) ∙ c.outputs-outputs.ensures.once;
+      inputs_once = sym (ap has_twice inputs) ∙ c.main_ports.ensures.inputs_once;
+      outputs_once = sym (ap has_twice outputs) ∙ c.main_ports.ensures.outputs_once;
       outputs_of = c.in_ok-output_signals.ensures.outputs;
       outputs_within = c.in_ok-output_signals.ensures.within;
-      root = c.top-top.ensures.root;
+      root = let P : List ModelOf × ℕ → Type 0 = λ v. path_at v.0 v.1 0 ≡ [] in subst P c.hierarchy.view_is (root_path c.hierarchy.inside.calls all.top c.hierarchy.invariant.growing);
       named_all = c.in_ok-output_signals.ensures.named;
       placed = c.into_places-places.ensures.placed;
       parents = c.into_places-places.ensures.parents;
       driven = c.requires.driven;
       ordered = c.requires.ordered;
     } in
-    let same = flat_same library top c.inputs-inputs.result.now c.outputs-outputs.result.now os named places drivers c.into_rows-rows.result.items steps inputs outputs rows in
+    let same = flat_same library top c.main_ports.result.0.now c.main_ports.result.1.now os named places drivers c.into_rows-rows.result.items steps inputs outputs rows in
     let P : FlatOf → Type 0 = λ f. IsFlat f in
     subst P same (parts_flat library top os named places drivers steps parts)
 
@@ -46,8 +47,8 @@ pub returns : goal.returns
 returns c =
     let library = c.args.hierarchy.0 in
     let top = c.args.hierarchy.1 in
-    let inputs : c.inputs-inputs.result.now ≡ (model library top).inputs = c.inputs-inputs.ensures.names ∙ (ap (λ (n : ℕ). (model c.library-library.result.now n).inputs) c.top-top.ensures.top ∙ ap (λ (l : List ModelOf). (model l top).inputs) c.library-library.ensures) in
-    let outputs : c.outputs-outputs.result.now ≡ (model library top).outputs = c.outputs-outputs.ensures.names ∙ (ap (λ (n : ℕ). (model c.library-library.result.now n).outputs) c.top-top.ensures.top ∙ ap (λ (l : List ModelOf). (model l top).outputs) c.library-library.ensures) in
+    let inputs = c.main_ports.ensures.inputs in
+    let outputs = c.main_ports.ensures.outputs in
     let rows = c.into_rows-rows.ensures ∙ ap all_rows c.requires.same in
     let all = c.hierarchy.inside.instances in
     let few : length (signals library top) ≤ 1048576 = let P : List ModelOf × ℕ → Type 0 = λ v. length (signals v.0 v.1) ≤ 1048576 in subst P c.hierarchy.view_is (expanded_few c.hierarchy.inside.calls c.hierarchy.inside.naming all.top all.signals all.models.items all.firsts.items all.places.items c.hierarchy.invariant) in
@@ -59,17 +60,17 @@ returns c =
     let parts : IsParts library top os named places drivers steps = record {
       few_inputs = c.requires.few;
       few_signals = few;
-      inputs_once = sym (ap has_twice inputs) ∙ c.inputs-inputs.ensures.once;
-      outputs_once = sym (ap has_twice outputs) ∙ c.outputs-outputs.ensures.once;
+      inputs_once = sym (ap has_twice inputs) ∙ c.main_ports.ensures.inputs_once;
+      outputs_once = sym (ap has_twice outputs) ∙ c.main_ports.ensures.outputs_once;
       outputs_of = c.in_ok-output_signals.ensures.outputs;
       outputs_within = c.in_ok-output_signals.ensures.within;
-      root = c.top-top.ensures.root;
+      root = let P : List ModelOf × ℕ → Type 0 = λ v. path_at v.0 v.1 0 ≡ [] in subst P c.hierarchy.view_is (root_path c.hierarchy.inside.calls all.top c.hierarchy.invariant.growing);
       named_all = c.in_ok-output_signals.ensures.named;
       placed = c.into_places-places.ensures.placed;
       parents = c.into_places-places.ensures.parents;
       driven = c.requires.driven;
       ordered = c.requires.ordered;
     } in
-    let same = flat_same library top c.inputs-inputs.result.now c.outputs-outputs.result.now os named places drivers c.into_rows-rows.result.items steps inputs outputs rows in
+    let same = flat_same library top c.main_ports.result.0.now c.main_ports.result.1.now os named places drivers c.into_rows-rows.result.items steps inputs outputs rows in
     let P : FlatOf → Type 0 = λ f. IsFlatOf library top f in
     subst P (same ∙ sym c.new.ensures) (parts_flat_of library top os named places drivers steps parts)

@@ -48,4 +48,4 @@ returns-clause-ok c =
     let t = hits _ _ _ c.in-Some.name.number c.args.self.now.worker c.lookup-hit.new.worker c.in-Some.ensures.hit in
     let b = came_before 0 c.args.f c.args.g c.args.self.now.variables c.args.self.now.counts.items c.args.self.now.worker c.lookup-hit.new.worker c.args.self.now.once c.cells-cells.ensures.known c.requires.f c.requires.g c.in-Some.name.number t c.settle.new.worker c.settle.ensures.settles in
     let there = c.in_ok-x.ensures.there in
-    found_result c.args.self.now.variables c.args.self.now.counts.items c.args.op c.args.f c.args.g c.in-Some.name.number c.in_ok-x.x c.args.self.now.worker c.lookup-hit.new.worker c.settle.new.worker hit c.requires.f c.requires.g b there.0 there.1 c.settle.ensures.known
+    found_result c.args.self.now.variables c.args.self.now.counts.items c.args.op c.args.f c.args.g c.in-Some.name.number c.in_ok-x.x c.args.self.now.worker c.lookup-hit.new.worker c.settle.new.worker hit.result c.requires.f c.requires.g b there.0 there.1 c.settle.ensures.known

@@ -1,0 +1,17 @@
+use Rattle.eqc_apply.specs.Extending.{holding_in}
+use Rattle.eqc_apply.proofs.Answering.{worker_stays, worker_trans, extends_stays}
+use Rattle.eqc_apply.proofs.Meanings.{extends_refl}
+use Rattle.eqc_apply.proofs.Helping.{keeps_refl, keeps_trans}
+use Rattle.eqc_apply.proofs.applier.Applier.look_through.Goals as goal
+
+pub loop-init : goal.loop-init
+loop-init g c = let n = c.args.self.now.names in record { kept = keeps_refl (holding_in n); worker = worker_stays n n (extends_stays n n (extends_refl n)) }
+
+pub loop-preserved : goal.loop-preserved
+loop-preserved g c = record { kept = keeps_trans c.loop.invariant.kept c.serve_levels.ensures.kept; worker = worker_trans c.loop.invariant.worker c.serve_levels.ensures.worker }
+
+pub returns-then-serve_levels-clause-kept : goal.returns-then-serve_levels-clause-kept
+returns-then-serve_levels-clause-kept g c = keeps_trans c.loop.invariant.kept c.serve_levels.ensures.kept
+
+pub returns-then-serve_levels-clause-worker : goal.returns-then-serve_levels-clause-worker
+returns-then-serve_levels-clause-worker g c = worker_trans c.loop.invariant.worker c.serve_levels.ensures.worker

@@ -1,0 +1,10 @@
+use Rattle.eqc_tree.specs.Holding.{Keeps}
+use Rattle.eqc_apply.specs.Before.{IsWorker}
+use Rattle.eqc_apply.specs.Extending.{holding_in}
+use Rattle.eqc_apply.proofs.applier.Applier.serve_levels.Given as goal
+
+abbrev pub invariant-loop-turn : goal.invariant-loop-turn
+invariant-loop-turn g l = record {
+  kept : Keeps (holding_in l.fn.self.names) (holding_in l.self.names);
+  worker : IsWorker l.fn.self.names.worker l.self.names.worker;
+}

@@ -1,0 +1,132 @@
+//! A worker that has nothing to do does an operation that another one offered.
+ghost use Rattle.std.specs.Prelude.{◌*◌, ◌<◌};
+ghost use Rattle.eqc_tree.specs.Holding.{Keeps, IsHeld};
+ghost use Rattle.eqc_guard.specs.Known.{IsHeld as IsName};
+ghost use Rattle.eqc_apply.specs.Before.{IsWorker};
+ghost use Rattle.eqc_apply.specs.Extending.{holding_in};
+ghost use Rattle.eqc_apply.specs.Referring.{entry_of};
+
+use crate::applier::Applier;
+use crate::reference::Ref;
+use crossbeam_utils::Backoff;
+use eqc_tree::{Op, References};
+use std::mem;
+use std::sync::Wait;
+
+/// So often a worker without work looks through the boxes of others before it says that there is
+/// nothing to do. In the last pause it leaves the processor to others.
+const LOOKS: u32 = 8;
+
+impl Applier {
+    /// Puts the result of an operation into the box from which it was taken, or why it stopped.
+    fn answer_task<R: Wait>(&mut self, rt: &R, b: u32, op: Op, f: &Ref, g: &Ref)
+        requires there { b < 16 * self.old.names.worker.known.core.sizes.workers }
+        requires f { IsHeld (holding_in self.old.names) (entry_of f.now) }
+        requires g { IsHeld (holding_in self.old.names) (entry_of g.now) }
+        ensures kept { Keeps (holding_in self.old.names) (holding_in self.new.names) }
+        ensures worker { IsWorker self.old.names.worker self.new.names.worker }
+    {
+        match self.apply_forked(rt, op, f, g) {
+            Ok(r) => {
+                self.names.put_done(b, op, f.name, g.name, r.name);
+                self.give_back(r);
+            }
+            Err(stop) => self.names.put_stop(b, stop, f.name, g.name),
+        }
+    }
+
+    /// The same, where the second operand is a name yet.
+    fn answer_with<R: Wait>(&mut self, rt: &R, b: u32, op: Op, f: &Ref, g: u32)
+        requires there { b < 16 * self.old.names.worker.known.core.sizes.workers }
+        requires f { IsHeld (holding_in self.old.names) (entry_of f.now) }
+        requires g { IsName self.old.names.worker.known.core g }
+        ensures kept { Keeps (holding_in self.old.names) (holding_in self.new.names) }
+        ensures worker { IsWorker self.old.names.worker self.new.names.worker }
+    {
+        match self.names.refer(g) {
+            Ok(second) => {
+                self.answer_task(rt, b, op, f, &second);
+                self.give_back(second);
+            }
+            Err(stop) => self.names.put_stop(b, stop, f.name, g),
+        }
+    }
+
+    /// Does the operation in a box of another worker, if it is still to be done, and says whether it
+    /// was.
+    fn serve_box<R: Wait>(&mut self, rt: &R, b: u32) -> bool
+        requires there { b < 16 * self.old.names.worker.known.core.sizes.workers }
+        ensures kept { Keeps (holding_in self.old.names) (holding_in self.new.names) }
+        ensures worker { IsWorker self.old.names.worker self.new.names.worker }
+    {
+        let Some((op, f, g)) = self.names.take_task(b) else {
+            return false;
+        };
+        match self.names.refer(f) {
+            Ok(first) => {
+                self.answer_with(rt, b, op, &first, g);
+                self.give_back(first);
+            }
+            Err(stop) => self.names.put_stop(b, stop, f, g),
+        }
+        true
+    }
+
+    /// Looks into one box, and does the operation in it, if there is one.
+    fn serve_turn<R: Wait>(&mut self, rt: &R, turn: u32) -> bool
+        ensures kept { Keeps (holding_in self.old.names) (holding_in self.new.names) }
+        ensures worker { IsWorker self.old.names.worker self.new.names.worker }
+    {
+        let Some(b) = self.names.other_box(turn) else {
+            return false;
+        };
+        self.names.is_offered(b) && self.serve_box(rt, b)
+    }
+
+    /// Looks through the boxes of so many levels, up to one with an operation to be done.
+    fn serve_levels<R: Wait>(&mut self, rt: &R, levels: u32) -> bool
+        ensures kept { Keeps (holding_in self.old.names) (holding_in self.new.names) }
+        ensures worker { IsWorker self.old.names.worker self.new.names.worker }
+    {
+        let turns = levels.saturating_mul(self.names.worker.announcement_words());
+        for turn in 0..turns {
+            if self.serve_turn(rt, turn) {
+                return true;
+            }
+        }
+        false
+    }
+
+    /// Looks through the boxes of so many levels a few times, with pauses between.
+    fn look_through<R: Wait>(&mut self, rt: &R, levels: u32) -> bool
+        ensures kept { Keeps (holding_in self.old.names) (holding_in self.new.names) }
+        ensures worker { IsWorker self.old.names.worker self.new.names.worker }
+    {
+        if levels == 0 {
+            return false;
+        }
+        let backoff = Backoff::new();
+        for _ in 0..LOOKS {
+            if self.serve_levels(rt, levels) {
+                return true;
+            }
+            backoff.snooze();
+        }
+        false
+    }
+
+    /// Does one operation that another member of the team offered, if there is one, and says whether
+    /// it did. Why it stopped, if it did, its owner is told.
+    ///
+    /// What is held is as before. The call may wait.
+    pub fn serve<R: Wait>(&mut self, rt: &R) -> bool
+        ensures kept { Keeps (holding_in self.old.names) (holding_in self.new.names) }
+        ensures worker { IsWorker self.old.names.worker self.new.names.worker }
+    {
+        // What is taken is not forked again.
+        let forks = mem::replace(&mut self.forks, 0);
+        let served = self.look_through(rt, forks);
+        self.forks = forks;
+        served
+    }
+}
