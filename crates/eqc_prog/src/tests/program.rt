@@ -97,6 +97,14 @@ pub fn reports<RT: AllocGlobal + Threads + Wait + Sync>(
     writes(rt, line, input, status, report, "")
 }
 
+/// Numbers of workers and of forks, which change no report.
+static BY_WORKERS: [&str; 4] = [
+    "eqc --workers 1",
+    "eqc",
+    "eqc --workers 8 --forks 16",
+    "eqc --workers 64",
+];
+
 /// Each text on standard input, which is the first in its row, gives its report and status, whatever the number of
 /// workers and of forks.
 pub fn check_texts(
@@ -104,7 +112,7 @@ pub fn check_texts(
     rows: &[(&str, &str, u8)],
 ) {
     for (text, report, status) in rows {
-        for line in ["eqc --workers 1", "eqc", "eqc --workers 8 --forks 16"] {
+        for line in &BY_WORKERS {
             holds_at(
                 rt,
                 reports(rt, line, Feed::whole(text), report, *status),

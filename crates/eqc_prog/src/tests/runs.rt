@@ -6,47 +6,59 @@ use super::streams::{Drain, Endless, Feed, NEVER};
 use super::{DIFFERENCE, EQUAL, PERMUTED, XOR, is_text, lines};
 use eqc_check::{Options, RunFault, Status, Texts, options_fault, run};
 use std::alloc::AllocError;
+use std::fmt::Display;
 use std::io::{Read, Write};
+use std::process::Abort;
 use std::sync::Wait;
 use std::thread::Threads;
 
-/// How many workers the runs are made with.
-const WORKERS: [u32; 3] = [1, 2, 8];
+/// How many workers and forks the runs are made with.
+const TEAMS: [(u32, u32); 5] = [(1, 0), (2, 0), (8, 0), (8, 16), (64, 0)];
 
-/// The default options, save the number of workers.
-fn options_of(workers: u32) -> Options {
+/// Two workers, who share no operation.
+const TWO: (u32, u32) = (2, 0);
+
+/// The default options, save the numbers of workers and of forks.
+fn options_of(team: (u32, u32)) -> Options {
+    let (workers, forks) = team;
     Options {
         workers,
         nodes: 65_536,
         cells: 8_192,
-        forks: 0,
+        forks,
     }
 }
 
 const EMPTY: &str = ".model f;.end;.model g;.end;";
 
-/// Runs with so many workers and the default options.
+/// Runs with so many workers and forks and the default options.
 fn ran<RT: AllocGlobal + Threads + Wait + Sync, R: Read + Drop, W: Write>(
     rt: &RT,
     texts: Texts<R>,
     order: Option<R>,
-    workers: u32,
+    team: (u32, u32),
     out: &mut W,
 ) -> Result<Status, RunFault> {
-    run(rt, rt.alloc(), texts, order, &options_of(workers), out)
+    run(rt, rt.alloc(), texts, order, &options_of(team), out)
 }
 
-/// Whether a run with so many workers writes this report and tells that it did.
+/// Whether a run with so many workers and forks writes this report, and tells its kind.
 fn reports<R: Read + Drop>(
     rt: &(impl AllocGlobal + Threads + Wait + Sync),
     texts: Texts<R>,
     order: Option<R>,
-    workers: u32,
+    team: (u32, u32),
+    status: Status,
     report: &str,
 ) -> bool {
     let mut out = Vec::new(rt.alloc());
-    let done = ran(rt, texts, order, workers, &mut out);
-    done.is_ok() && is_text(&out, report)
+    let done = ran(rt, texts, order, team, &mut out);
+    done == Ok(status) && is_text(&out, report)
+}
+
+/// Ends the test, and names the row and the numbers of workers and forks, where it doesn't hold.
+fn holds_by(rt: &impl Abort, found: bool, row: impl Display + Copy, team: (u32, u32)) {
+    assert!(rt; found, "{row} {team:?}");
 }
 
 /// Options, by their workers, nodes, cells and forks, with the code of the first that is out of its range.
@@ -149,18 +161,32 @@ fn refused_options_keep_texts_unread(rt: HostRuntime) {
 /// How many bytes a read gives at most, and how many reads it takes to read `.model m;` and to see its end.
 static READS: [(usize, usize); 3] = [(1, 10), (4, 4), (100, 2)];
 
+/// Whether a text of one model is read whole in so many reads, each of at most so many bytes.
+fn is_read_whole(
+    rt: &(impl AllocGlobal + Threads + Wait + Sync),
+    text: &str,
+    step: usize,
+    reads: usize,
+    team: (u32, u32),
+) -> bool {
+    let mut feed = Feed::new(text, step, NEVER);
+    let is_refused = reports(
+        rt,
+        Texts::One(&mut feed),
+        None,
+        team,
+        Status::Refused,
+        "refused second 0 13;",
+    );
+    is_refused && feed.is_at_end() && feed.calls == reads
+}
+
 #[test]
 fn a_text_is_read_whole(rt: HostRuntime) {
-    for workers in WORKERS {
+    for team in TEAMS {
         for (step, reads) in &READS {
-            let mut feed = Feed::new(".model m;", *step, NEVER);
-            let mut out = Vec::new(rt.alloc());
-            let texts = Texts::One(&mut feed);
-            let done = ran(&rt, texts, None, workers, &mut out);
-            assert_eq!(rt; done, Ok(Status::Refused), "by {step}");
-            assert!(rt; is_text(&out, "refused second 0 13;"), "by {step}");
-            assert!(rt; feed.is_at_end(), "by {step}");
-            assert_eq!(rt; feed.calls, *reads, "by {step}");
+            let found = is_read_whole(&rt, ".model m;", *step, *reads, team);
+            holds_by(&rt, found, step, team);
         }
     }
 }
@@ -171,7 +197,7 @@ fn a_failed_read_is_not_tried_again(rt: HostRuntime) {
         let mut feed = Feed::new(".model m;", 1, call);
         let mut out = Vec::new(rt.alloc());
         let texts = Texts::One(&mut feed);
-        let done = ran(&rt, texts, None, 2, &mut out);
+        let done = ran(&rt, texts, None, TWO, &mut out);
         assert_eq!(rt; done, Err(RunFault::Read), "at {call}");
         assert_eq!(rt;
             feed.calls,
@@ -184,13 +210,11 @@ fn a_failed_read_is_not_tried_again(rt: HostRuntime) {
 
 #[test]
 fn a_text_may_come_byte_by_byte(rt: HostRuntime) {
-    for workers in WORKERS {
+    for team in TEAMS {
         for step in [1, 2, 7, 1000] {
-            let mut out = Vec::new(rt.alloc());
             let texts = Texts::One(Feed::new(EQUAL, step, NEVER));
-            let done = ran(&rt, texts, None, workers, &mut out);
-            assert_eq!(rt; done, Ok(Status::Equivalent), "by {step}");
-            assert!(rt; is_text(&out, "equivalent;"), "by {step}");
+            let found = reports(&rt, texts, None, team, Status::Equivalent, "equivalent;");
+            holds_by(&rt, found, step, team);
         }
     }
 }
@@ -202,7 +226,7 @@ fn fails_unwritten(
     order: Option<Feed<'_>>,
 ) -> bool {
     let mut out = Drain::new(Vec::new(rt.alloc()), NEVER, NEVER, true);
-    let done = ran(rt, texts, order, 2, &mut out);
+    let done = ran(rt, texts, order, TWO, &mut out);
     done == Err(RunFault::Read) && out.calls == 0
 }
 
@@ -219,19 +243,26 @@ fn nothing_is_written_after_a_failed_read(rt: HostRuntime) {
     }
 }
 
+/// Whether a run ends so over a writer, which takes this before it fails.
+fn is_written(
+    rt: &(impl AllocGlobal + Threads + Wait + Sync),
+    out: Drain,
+    team: (u32, u32),
+    outcome: Result<(), RunFault>,
+    written: &str,
+) -> bool {
+    let mut out = out;
+    let done = ran(rt, Texts::One(Feed::whole(EMPTY)), None, team, &mut out);
+    done == outcome.map(|()| Status::Equivalent) && is_text(&out.bytes, written)
+}
+
 #[test]
 fn a_part_is_written_before_a_failed_write(rt: HostRuntime) {
-    for workers in WORKERS {
-        for (step, fails_at, flushes, outcome, written) in &WRITERS {
-            let mut out = Drain::new(Vec::new(rt.alloc()), *step, *fails_at, *flushes);
-            let texts = Texts::One(Feed::whole(EMPTY));
-            let done = ran(&rt, texts, None, workers, &mut out);
-            assert_eq!(rt;
-                done,
-                outcome.map(|()| Status::Equivalent),
-                "{step} {fails_at}"
-            );
-            assert!(rt; is_text(&out.bytes, written), "{step} {fails_at}");
+    for team in TEAMS {
+        for (row, (step, fails_at, flushes, outcome, written)) in WRITERS.iter().enumerate() {
+            let out = Drain::new(Vec::new(rt.alloc()), *step, *fails_at, *flushes);
+            let found = is_written(&rt, out, team, *outcome, written);
+            holds_by(&rt, found, row, team);
         }
     }
 }
@@ -242,66 +273,75 @@ fn a_text_without_end_is_too_long(rt: HostRuntime) {
     let mut endless = Endless::new();
     let mut out = Vec::new(rt.alloc());
     let texts = Texts::One(&mut endless);
-    let done = ran(&rt, texts, None, 2, &mut out);
+    let done = ran(&rt, texts, None, TWO, &mut out);
     assert_eq!(rt; done, Ok(Status::Refused));
     assert!(rt; is_text(&out, "refused first 0 2;"));
     assert_eq!(rt; endless.given, 16_777_217);
     assert_eq!(rt; endless.calls, 257);
 }
 
-/// Texts and order texts with their reports.
-static ORDERED: [(&str, &str, &str); 5] = [
-    (XOR, "y x;", DIFFERENCE),
-    (EQUAL, "y # x;x;", "equivalent;"),
-    (PERMUTED, "a b a;", "refused order 0 52;"),
-    (PERMUTED, "a d a;", "refused order 0 51;"),
-    (PERMUTED, "a;", "refused order 0 53;"),
+/// Texts and order texts with the kinds and texts of their reports.
+static ORDERED: [(&str, &str, Status, &str); 5] = [
+    (XOR, "y x;", Status::Differs, DIFFERENCE),
+    (EQUAL, "y # x;x;", Status::Equivalent, "equivalent;"),
+    (PERMUTED, "a b a;", Status::Refused, "refused order 0 52;"),
+    (PERMUTED, "a d a;", Status::Refused, "refused order 0 51;"),
+    (PERMUTED, "a;", Status::Refused, "refused order 0 53;"),
 ];
 
 #[test]
 fn order_texts_change_no_answer(rt: HostRuntime) {
-    for workers in WORKERS {
-        for (text, order, report) in &ORDERED {
+    for team in TEAMS {
+        for (text, order, status, report) in &ORDERED {
             let texts = Texts::One(Feed::whole(text));
             let order = Some(Feed::whole(order));
-            assert!(rt;
-                reports(&rt, texts, order, workers, report),
-                "{workers} {report}"
-            );
+            let found = reports(&rt, texts, order, team, *status, report);
+            holds_by(&rt, found, report, team);
         }
     }
 }
 
-/// Two texts with their reports.
-static SIDES: [(&str, &str, &str); 5] = [
+/// Two texts with the kind and text of their report.
+static SIDES: [(&str, &str, Status, &str); 5] = [
     (
         ".model f;.inputs a;.outputs;.end;",
         ".model g;.inputs a;.outputs;.end;",
+        Status::Equivalent,
         "equivalent;",
     ),
-    (".model f;.latch;", ".model g;.gate;", "refused first 2 4;"),
-    (".model f;", ".model g;.gate;", "refused second 2 3;"),
+    (
+        ".model f;.latch;",
+        ".model g;.gate;",
+        Status::Refused,
+        "refused first 2 4;",
+    ),
+    (
+        ".model f;",
+        ".model g;.gate;",
+        Status::Refused,
+        "refused second 2 3;",
+    ),
     (
         ".model f;.inputs a;",
         ".model g;.inputs b;",
+        Status::Refused,
         "refused pair 0 41;",
     ),
     (
         ".model f;.inputs a;",
         ".model g;.inputs a;.outputs z;.names z;",
+        Status::Refused,
         "refused pair 0 42;",
     ),
 ];
 
 #[test]
 fn two_texts_have_sides(rt: HostRuntime) {
-    for workers in WORKERS {
-        for (first, second, report) in &SIDES {
+    for team in TEAMS {
+        for (first, second, status, report) in &SIDES {
             let texts = Texts::Two(Feed::whole(first), Feed::whole(second));
-            assert!(rt;
-                reports(&rt, texts, None, workers, report),
-                "{workers} {report}"
-            );
+            let found = reports(&rt, texts, None, team, *status, report);
+            holds_by(&rt, found, report, team);
         }
     }
 }

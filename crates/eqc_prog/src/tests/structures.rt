@@ -2,16 +2,36 @@
 //! them. Covers that only mean the same are not looked into.
 ghost use Rattle.std.specs.Prelude.{◌+◌, ◌<◌, ◌^◌};
 
+use super::holds_at;
 use super::program::reports;
 use super::streams::Feed;
 use super::workers::{Way, gives};
 use eqc_check::NoGate;
 use std::alloc::{AllocError, Global};
+use std::process::Abort;
 use std::sync::Wait;
 use std::thread::Threads;
 
-/// What a text gives, with a store of one node for each worker: its report, with a status.
+/// What is compared, its text, and its report, with a status.
 type Row = (&'static str, &'static str, &'static str, u8);
+
+/// Each row's text on standard input gives its report and status under each of these command lines.
+fn check_rows(
+    rt: &(impl Abort + AllocGlobal + Threads + Wait + Sync),
+    lines: &[&str],
+    rows: &[Row],
+) {
+    for (case, text, report, status) in rows {
+        for line in lines {
+            holds_at(
+                rt,
+                reports(rt, line, Feed::whole(text), report, *status),
+                line,
+                case,
+            );
+        }
+    }
+}
 
 /// What is compared, its text, and its report with one node.
 static ROWS: [Row; 15] = [
@@ -107,15 +127,64 @@ static ROWS: [Row; 15] = [
     ),
 ];
 
+/// Command lines with a store of one node.
+static WITH_ONE_NODE: [&str; 4] = [
+    "eqc --nodes 1 --workers 1",
+    "eqc --nodes 1",
+    "eqc --nodes 1 --workers 8 --forks 16",
+    "eqc --nodes 1 --workers 64",
+];
+
 #[test]
-fn one_node_is_enough_where_structures_are_equal(rt: HostRuntime) -> Result<(), AllocError> {
-    for (case, text, report, status) in &ROWS {
-        for line in ["eqc --nodes 1 --workers 1", "eqc --nodes 1"] {
-            let found = reports(&rt, line, Feed::whole(text), report, *status)?;
-            assert!(rt; found, "{line}: {case}");
-        }
-    }
-    Ok(())
+fn one_node_is_enough_where_structures_are_equal(rt: HostRuntime) {
+    check_rows(&rt, &WITH_ONE_NODE, &ROWS);
+}
+
+/// What two netlists have in common under outputs that are compared, their text, and their report.
+static SHARED: [Row; 5] = [
+    (
+        "a gate under columns in another order",
+        ".model f;.inputs x y w;.outputs z;.names x y s;11 1;.names s w z;1- 1;-1 1;.end;.model g;.inputs x y w;.outputs z;.names x y s;11 1;.names w s z;1- 1;-1 1;.end;",
+        "equivalent;",
+        0,
+    ),
+    (
+        "a gate that two outputs need, behind a connection in the second netlist",
+        ".model f;.inputs x y w;.outputs z v;.names x y s;11 1;.names s w z;1- 1;-1 1;.names s w v;11 1;.end;.model g;.inputs x y w;.outputs z v;.names x y t;11 1;.names t s;1 1;.names w s z;1- 1;-1 1;.names w s v;11 1;.end;",
+        "equivalent;",
+        0,
+    ),
+    (
+        "a gate that only the second netlist needs for the first output",
+        ".model f;.inputs x y;.outputs z v;.names x z;1 1;.names x y v;11 1;.end;.model g;.inputs x y;.outputs z v;.names x y s;11 1;.names x s z;1- 1;-1 1;.names s x v;11 1;.end;",
+        "equivalent;",
+        0,
+    ),
+    (
+        "a gate under another cover",
+        ".model f;.inputs x y w;.outputs z;.names x y s;11 1;.names s w z;11 1;.end;.model g;.inputs x y w;.outputs z;.names x y s;11 1;.names s w z;1- 1;-1 1;.end;",
+        "differs at z;x=0;y=0;w=1;first=0;second=1;",
+        1,
+    ),
+    (
+        "an output of one structure between others",
+        ".model f;.inputs x y;.outputs u v w;.names x y s;10 1;.names s y u;1- 1;-1 1;.names s v;1 1;.names s x w;11 1;.end;.model g;.inputs x y;.outputs u v w;.names x y s;10 1;.names y s u;1- 1;-1 1;.names s v;1 1;.names s x w;0- 1;.end;",
+        "differs at w;x=0;y=0;first=0;second=1;",
+        1,
+    ),
+];
+
+/// Command lines with numbers of workers and of forks.
+static BY_WORKERS: [&str; 4] = [
+    "eqc --workers 1",
+    "eqc --workers 3",
+    "eqc --workers 8 --forks 16",
+    "eqc --workers 64",
+];
+
+#[test]
+fn what_both_netlists_have_is_built_for_both(rt: HostRuntime) {
+    check_rows(&rt, &BY_WORKERS, &SHARED);
 }
 
 /// Declares the bits of two numbers as inputs and those of a result as outputs, and drives the first carry.
