@@ -10,14 +10,14 @@ use Rattle.eqc_class.specs.Structure.{structure_of}
 use Rattle.eqc_class.proofs.ValueLaws.{equal_values}
 use Rattle.eqc_class.specs.Classes.{ClassesOf, AreClasses, HaveOneValueEach, TellStructures}
 use Rattle.eqc_pair.specs.PairOf.{PairOf, IsPair, first_variables, second_variables, second_signals}
-use Rattle.eqc_check.specs.Steps.{IsChoice, chosen_for, inputs_under, steps_in, value_at}
+use Rattle.eqc_build.specs.Steps.{IsChoice, chosen_for, inputs_under, steps_in, value_at}
 use Rattle.eqc_check.specs.Verdict.{is_different}
 use Rattle.eqc_check.specs.Comparing.{differs_at, difference_at}
-use Rattle.eqc_check.specs.Turns.{is_marked}
+use Rattle.eqc_build.specs.Turns.{is_marked}
 use Rattle.eqc_check.specs.Alike.{IsAlike, TellAlike, TellShared, AreEqual, AreFirst, step_structure}
-use Rattle.eqc_check.proofs.PairLaws.{pair_matched}
+use Rattle.eqc_build.proofs.PairLaws.{pair_matched}
 use Rattle.eqc_check.proofs.DifferenceLaws.{none_is}
-use Rattle.eqc_check.proofs.StepLaws.{value_first, value_second}
+use Rattle.eqc_build.proofs.StepLaws.{value_first, value_second}
 
 -- a pair's classes
 abbrev pub ArePairClasses : PairOf → ClassesOf → Type 0

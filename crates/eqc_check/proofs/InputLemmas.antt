@@ -10,7 +10,7 @@ use Rattle.eqc_tree.proofs.AssignedLemmas.{assigned_at}
 use Rattle.eqc_check.proofs.CompareLaws.{below_all}
 use Rattle.eqc_tree.proofs.FindLemmas.{find_same}
 use Rattle.eqc_check.proofs.LeastLemmas.{found_least}
-use Rattle.eqc_check.proofs.PairLaws.{variables_at, variables_distinct}
+use Rattle.eqc_build.proofs.PairLaws.{variables_at, variables_distinct}
 
 variables_long : (p : PairOf) → length (first_variables p) ≡ length p.first.inputs
 unfolding first_variables

@@ -1,10 +1,3 @@
-pub mod TableLaws
-pub mod StepLaws
-pub mod BuildLaws
-pub mod ScheduleLaws
-pub mod ListedLaws
-pub mod WantedLaws
-pub mod ConeLaws
 pub mod LeastLemmas
 pub mod VerdictLemmas
 pub mod MatchedLemmas
@@ -12,7 +5,7 @@ pub mod CompareLaws
 pub mod OptionsLemmas
 pub mod KnownBytes
 pub mod ReportLemmas
-pub mod PairLaws
+pub mod FoundLaws
 pub mod DifferenceLaws
 pub mod InputLemmas
 pub mod ReportsLaws

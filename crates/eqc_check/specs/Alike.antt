@@ -4,8 +4,8 @@ use Rattle.std.specs.Prelude.{◌≡◌, ◌↔◌, ℕ, ◌-◌, ◌<◌, ◌�
 use Rattle.eqc_class.specs.Structure.{Structure, structure_of}
 use Rattle.eqc_pair.specs.PairOf.{PairOf, first_variables, second_variables, second_signals}
 use Rattle.eqc_check.specs.Comparing.{difference_at}
-use Rattle.eqc_check.specs.Steps.{IsChoice, chosen_for, steps_in}
-use Rattle.eqc_check.specs.Turns.{is_marked, AreTurns}
+use Rattle.eqc_build.specs.Steps.{IsChoice, chosen_for, steps_in}
+use Rattle.eqc_build.specs.Turns.{is_marked, AreTurns}
 use Rattle.eqc_check.specs.declared.workers.alike.Alike.{Alike}
 use Rattle.eqc_check.specs.declared.workers.task.Task.{Task}
 

@@ -3,7 +3,7 @@ use Rattle.std.specs.Prelude.{◌≡◌, ℕ, ◌<◌, Bool, List, length, slice
 use Rattle.std.specs.declared.alloc.Global.{Global}
 use Rattle.std.specs.Option.{option_map}
 use Rattle.eqc_flat.specs.Graph.{FlatOf, value_of}
-use Rattle.eqc_check.specs.Steps.{inputs_under}
+use Rattle.eqc_build.specs.Steps.{inputs_under}
 use Rattle.eqc_pair.specs.PairOf.{PairOf, first_variables, second_variables, second_signals}
 use Rattle.eqc_pair.specs.Matched.{position_of}
 use Rattle.eqc_check.specs.Verdict.{NetlistOf, is_different, least_difference, first_difference}

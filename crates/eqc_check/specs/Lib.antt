@@ -4,14 +4,8 @@ pub mod Verdict
 pub mod VerdictLaws
 pub mod Report
 pub mod ReportView
-pub mod Building
-pub mod Schedule
-pub mod Steps
-pub mod StepDrivers
-pub mod Listed
 pub mod Assigned
 pub mod Comparing
-pub mod Turns
 pub mod Refusing
 pub mod Sources
 pub mod Answer

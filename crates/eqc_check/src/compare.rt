@@ -1,24 +1,20 @@
 ghost use Rattle.std.specs.Prelude.{◌≡◌, ◌≢◌, ◌<◌, ◌≤◌, [], None, length, slice_index_or, IfOk, IfErr, OnErr};
 ghost use Rattle.std.specs.Option.{option_map};
-ghost use Rattle.eqc_tree.specs.Holding.{Holding, IsHeld, says, Keeps, Gains, Loses};
+ghost use Rattle.eqc_tree.specs.Holding.{IsHeld, says, Keeps, Gains, Loses};
 ghost use Rattle.eqc_check.specs.Verdict.{least_difference};
-ghost use Rattle.eqc_check.specs.Building.{AreReady, Moves};
-ghost use Rattle.eqc_check.specs.Steps.{roots_of};
-ghost use Rattle.eqc_check.specs.Turns.{IsTurn, AreTurns, AreKept, IsComparable, MovesKept};
+ghost use Rattle.eqc_build.specs.Building.{AreReady};
+ghost use Rattle.eqc_build.specs.Steps.{roots_of};
+ghost use Rattle.eqc_build.specs.Turns.{IsTurn, AreTurns, AreKept, IsComparable, MovesKept};
 ghost use Rattle.eqc_check.specs.Comparing.{netlist_of, differs_at, SaysDifference, IsDifferenceAt, IsFirstFound};
 
-use crate::build::cone::moments_below;
-use crate::build::kept::{
-    Kept, clear, give_back_kept, nothing_kept, nothing_kept_of_few, release_due,
+use eqc_build::{
+    Kept, Plan, Steps, Table, clear, complete, give_back_kept, moment, nothing_built,
+    nothing_kept_of_few, plan_below, plan_of, reference_at, release_due,
 };
-use crate::build::schedule::{moment, moments_of};
-use crate::build::steps::Steps;
-use crate::build::table::{Table, reference_at};
-use crate::build::{Plan, complete};
 use eqc_cover::{is_false, least_over};
 use eqc_pair::Pair;
 use eqc_tree::{Diagrams, Op, References, Stop};
-use std::alloc::{AllocError, Global};
+use std::alloc::Global;
 
 /// The diagram that is true where an output differs.
 fn output_difference<R, D: Diagrams<R>>(
@@ -137,47 +133,6 @@ pub(crate) fn compare_kept<R, D: Diagrams<R>>(
     let _count = plan.steps.len();
     clear(d, kept);
     compare_turn(alloc, rt, d, plan, kept, output, turn)
-}
-
-/// No references, for the steps of a pair.
-pub(crate) fn nothing_built<D: References>(
-    alloc: Global,
-    pair: &Pair<'_>,
-) -> Result<Kept<D::Ref>, AllocError>
-    ensures { IfOk result (λ kept. (d : Holding) → length pair.now.first.inputs ≤ d.variables → AreKept D.entry pair.now d kept.table × Moves D.entry d [] d kept.table) }
-{
-    pair.recall_laws();
-    let count = pair.first().steps().len() + pair.second().steps().len();
-    let kept = nothing_kept(alloc, count)?;
-    Ok(kept)
-}
-
-/// The plan of a comparison of all outputs in their order that are not marked. Fails where memory is refused.
-pub(crate) fn plan_of<'a>(
-    alloc: Global,
-    steps: Steps<'a>,
-    marks: &[bool],
-) -> Result<Plan<'a>, AllocError>
-    ensures turns { IfOk result (λ plan. AreTurns plan marks.now) }
-    ensures steps { IfOk result (λ plan. plan.steps ≡ steps.entry) }
-{
-    // The names alone of so many outputs would take a hundred gigabytes.
-    let outputs = steps.pair().first().outputs().len();
-    if outputs > 4294967295 {
-        return Err(AllocError);
-    }
-    let last = moments_of(alloc, &steps, outputs as u32, marks)?;
-    Ok(Plan { steps, last })
-}
-
-/// The plan of a comparison of one output.
-fn plan_below<'a>(alloc: Global, steps: Steps<'a>, output: usize) -> Result<Plan<'a>, AllocError>
-    requires output { output < length steps.pair.first.outputs }
-    ensures turn { IfOk result (λ plan. IsTurn plan output 1) }
-    ensures steps { IfOk result (λ plan. plan.steps ≡ steps.entry) }
-{
-    let last = moments_below(alloc, &steps, output)?;
-    Ok(Plan { steps, last })
 }
 
 /// The first output that differs, with its least assignment.

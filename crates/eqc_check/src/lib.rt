@@ -1,5 +1,6 @@
-//! Compares two netlists and reports: the diagrams of a pair's outputs over any `Diagrams`, the first differing output with its
-//! least assignment, and the report's bytes. What makes a pair stands in `eqc_pair`, whose calls are offered here too.
+//! Compares two netlists and reports: the first differing output of a pair with its least assignment, over any `Diagrams`, and
+//! the report's bytes. What makes a pair stands in `eqc_pair`, whose calls are offered here too; the diagrams of its signals are
+//! built by `eqc_build`.
 //!
 //! What the report has to be is said in `specs/Answer.antt`, `specs/Verdict.antt` and `specs/Report.antt`. Read the modules in this
 //! order, the way of the data:
@@ -8,12 +9,11 @@
 //!   `explaining`, what is at fault in texts that are refused, told to `diagnostics`;
 //!   `choice`, which models are compared; `warning`, models that are contained in others
 //! - `options`, what is asked for
-//! - `build`, the diagrams of signals; `least`, the least assignment of a pair's inputs
-//! - `compare`, one output; `checking`, all outputs on one thread; `workers`, on several
+//! - `compare`, one output; `checking`, all outputs on one thread; `workers`, on several; `least`, the least assignment of a
+//!   pair's inputs
 //! - `report`, reports and their bytes; `laws`, facts about the definitions, as functions without a body
 #![tactic(auto, using(eqc_tree::proofs::HoldingLemmas::counts_itself))]
 
-mod build;
 mod checking;
 mod choice;
 mod compare;

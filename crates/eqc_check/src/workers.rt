@@ -25,9 +25,7 @@ pub(crate) mod task;
 mod ticket;
 mod verdict;
 
-use crate::build::steps::Steps;
 use crate::checking::found_report;
-use crate::compare::plan_of;
 use crate::options::Options;
 use crate::report::Report;
 use crate::workers::alike::{Alike, alike_or_nothing, are_all_marked};
@@ -38,6 +36,7 @@ use crate::workers::task::Task;
 use crate::workers::ticket::{Key, TicketTable, open, settle};
 use crate::workers::verdict::{Verdict, first_of, in_order};
 use eqc_apply::{Applier, team};
+use eqc_build::{Steps, plan_of};
 use eqc_pair::Pair;
 use eqc_tree::{Diagrams, References, Stop};
 use std::alloc::Global;

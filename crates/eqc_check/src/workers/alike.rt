@@ -6,7 +6,7 @@ ghost use Rattle.eqc_pair.specs.PairOf.{first_variables, second_variables};
 ghost use Rattle.eqc_check.specs.Comparing.{difference_at};
 ghost use Rattle.eqc_check.specs.Alike.{AreEqual, AreFirst, IsKnown, TellAlike, TellShared};
 
-use crate::build::schedule::is_marked;
+use eqc_build::is_marked;
 use eqc_class::{SignalClasses, classes};
 use eqc_pair::{Pair, recall_laws};
 use std::alloc::{AllocError, Global};

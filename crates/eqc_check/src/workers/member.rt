@@ -1,12 +1,12 @@
 //! What a member compares with.
 ghost use Rattle.std.specs.Prelude.{◌≡◌, ◌≢◌, ◌<◌, ◌≤◌, false, length, IfOk, IfErr};
-ghost use Rattle.eqc_check.specs.Turns.{AreKept, is_marked};
+ghost use Rattle.eqc_build.specs.Turns.{AreKept, is_marked};
 ghost use Rattle.eqc_check.specs.Alike.{IsTask};
 ghost use Rattle.eqc_check.specs.Comparing.{IsDifferenceAt};
 
-use crate::build::kept::{Kept, give_back_kept};
-use crate::compare::{compare_kept, nothing_built};
+use crate::compare::compare_kept;
 use crate::workers::task::Task;
+use eqc_build::{Kept, give_back_kept, nothing_built};
 use eqc_pair::Pair;
 use eqc_tree::{Diagrams, References, Stop};
 use std::alloc::Global;

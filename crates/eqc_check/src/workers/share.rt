@@ -1,11 +1,10 @@
 //! Members that draw outputs and compare them, each in a thread of its own, and what they give back.
 ghost use Rattle.std.specs.Prelude.{◌≡◌, ◌≢◌, ◌+◌, ◌<◌, ◌≤◌, IsTrue, length, vec_len, IfOk, IfErr};
 ghost use Rattle.std.specs.Thread.{IsSync, IsSend};
-ghost use Rattle.eqc_check.specs.Turns.{AreKept};
+ghost use Rattle.eqc_build.specs.Turns.{AreKept};
 ghost use Rattle.eqc_check.specs.Alike.{IsTask};
 ghost use Rattle.eqc_check.specs.Verdicts.{DiffersBefore, IsFoundAt, IsShare, IsFresh, AreSeated};
 
-use crate::build::schedule::is_marked;
 use crate::workers::gate::Gate;
 use crate::workers::group::{Group, halves};
 use crate::workers::help::help_others;
@@ -13,6 +12,7 @@ use crate::workers::member::{self, Member};
 use crate::workers::task::Task;
 use crate::workers::ticket::{Drawer, Words, draw, take_in};
 use crate::workers::verdict::{Finding, Verdict};
+use eqc_build::is_marked;
 use eqc_pair::Pair;
 use eqc_tree::{Diagrams, References, Stop};
 use std::alloc::Global;

@@ -1,5 +1,5 @@
 //! What members do, and for which outputs they need do nothing.
-use crate::build::Plan;
+use eqc_build::Plan;
 
 /// What members do for the outputs of a pair.
 #[derive(Drop)]

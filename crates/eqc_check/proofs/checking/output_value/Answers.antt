@@ -2,7 +2,7 @@ use Rattle.std.proofs.Common.{◌<◌, ◌∙◌, sym, ap, arith, List, Bool, ge
 use Rattle.std.proofs.lemmas.List.{get_or-map}
 use Rattle.eqc_flat.specs.Graph.{value_of}
 use Rattle.eqc_flat.specs.Evaluating.{values_of}
-use Rattle.eqc_check.proofs.PairLaws.{own_value}
+use Rattle.eqc_check.proofs.FoundLaws.{own_value}
 use Rattle.eqc_check.proofs.checking.output_value.Goals as goal
 
 pub returns-in-Ok : goal.returns-in-Ok

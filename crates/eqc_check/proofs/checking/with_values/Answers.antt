@@ -1,5 +1,5 @@
 use Rattle.std.proofs.Common.{arith, rules}
-use Rattle.eqc_check.proofs.PairLaws.{pairs_more}
+use Rattle.eqc_check.proofs.FoundLaws.{pairs_more}
 use Rattle.eqc_check.proofs.checking.with_values.Goals as goal
 
 pub loop-i-preserved : goal.loop-i-preserved

@@ -2,7 +2,7 @@ use Rattle.std.proofs.Common.{arith, refl, ap, sym, ◌∙◌, length, ◌<◌, 
 use Rattle.std.specs.Option.{option_map}
 use Rattle.eqc_check.specs.Comparing.{netlist_of}
 use Rattle.eqc_check.proofs.CompareLaws.{none_more, found_first}
-use Rattle.eqc_check.proofs.DifferenceLaws.{kept_twice, moved_kept, comparable_next}
+use Rattle.eqc_build.proofs.KeptLaws.{kept_twice, moved_kept, comparable_next}
 use Rattle.eqc_check.proofs.compare.compare_in_turn.Goals as goal
 
 pub returns-in-Some-clause-found : goal.returns-in-Some-clause-found

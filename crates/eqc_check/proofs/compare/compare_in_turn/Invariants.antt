@@ -1,7 +1,7 @@
 use Rattle.std.proofs.Common.{◌≡◌, take, None}
 use Rattle.eqc_check.specs.Verdict.{first_difference}
 use Rattle.eqc_check.specs.Comparing.{netlist_of}
-use Rattle.eqc_check.specs.Turns.{MovesKept}
+use Rattle.eqc_build.specs.Turns.{MovesKept}
 use Rattle.eqc_check.proofs.compare.compare_in_turn.Given as goal
 
 abbrev pub invariant-loop-o : goal.invariant-loop-o

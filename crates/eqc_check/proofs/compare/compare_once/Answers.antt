@@ -1,5 +1,5 @@
 use Rattle.std.proofs.Common.{◌∙◌}
-use Rattle.eqc_check.proofs.DifferenceLaws.{none_kept, none_moved, moved_kept, nothing_moved}
+use Rattle.eqc_build.proofs.KeptLaws.{none_kept, none_moved, moved_kept, nothing_moved}
 use Rattle.eqc_check.proofs.compare.compare_once.Goals as goal
 
 pub compare_turn-found-requires : goal.compare_turn-found-requires

@@ -1,6 +1,6 @@
 use Rattle.std.proofs.Common.{sym, ◌∙◌}
 use Rattle.eqc_tree.specs.Holding.{says}
-use Rattle.eqc_check.proofs.PairLaws.{variables_distinct}
+use Rattle.eqc_build.proofs.PairLaws.{variables_distinct}
 use Rattle.eqc_check.proofs.InputLemmas.{variables_below}
 use Rattle.eqc_check.proofs.DifferenceLaws.{differs_depends, least_is, none_is, kept_lost}
 use Rattle.eqc_cover.proofs.HeldLaws.{kept_held}

@@ -1,10 +1,10 @@
 use Rattle.std.proofs.Common.{◌≡◌, Some, ap, sym, ◌∙◌, get_or}
-use Rattle.eqc_check.specs.Building.{reference_of}
+use Rattle.eqc_build.specs.Building.{reference_of}
 use Rattle.eqc_check.specs.Comparing.{differs_at}
-use Rattle.eqc_check.specs.Steps.{first_root, second_root}
+use Rattle.eqc_build.specs.Steps.{first_root, second_root}
 use Rattle.eqc_cover.proofs.HeldLaws.{gains_as}
-use Rattle.eqc_check.proofs.TableLaws.{owned_held}
-use Rattle.eqc_check.proofs.StepLaws.{root_first, root_second}
+use Rattle.eqc_build.proofs.TableLaws.{owned_held}
+use Rattle.eqc_build.proofs.StepLaws.{root_first, root_second}
 use Rattle.eqc_check.proofs.DifferenceLaws.{xor_says}
 use Rattle.eqc_check.proofs.compare.output_difference.Goals as goal
 

@@ -1,5 +1,5 @@
 use Rattle.eqc_tree.specs.Holding.{says}
-use Rattle.eqc_check.proofs.PairLaws.{variables_distinct}
+use Rattle.eqc_build.proofs.PairLaws.{variables_distinct}
 use Rattle.eqc_check.proofs.InputLemmas.{variables_below, depends_on, least_found}
 use Rattle.eqc_check.proofs.least.least_assignment.Goals as goal
 

@@ -1,4 +1,4 @@
-use Rattle.eqc_check.proofs.PairLaws.{pair_matched}
+use Rattle.eqc_build.proofs.PairLaws.{pair_matched}
 use Rattle.eqc_check.proofs.AlikeLaws.{ArePairClasses, alike_equal, shared_choice}
 use Rattle.eqc_check.proofs.workers.alike.by_structures.Goals as goal
 

@@ -1,6 +1,6 @@
 use Rattle.std.proofs.Common.{◌<◌, length, get_or, ap, arith}
 use Rattle.eqc_pair.specs.PairOf.{second_signals}
-use Rattle.eqc_check.proofs.PairLaws.{pair_matched}
+use Rattle.eqc_build.proofs.PairLaws.{pair_matched}
 use Rattle.eqc_check.proofs.AlikeLaws.{marked_more}
 use Rattle.eqc_check.proofs.workers.alike.outputs_of_one_class.Goals as goal
 

@@ -1,5 +1,5 @@
 use Rattle.std.specs.Prelude.{◌≡◌, ◌-◌, length}
-use Rattle.eqc_check.specs.Turns.{AreKept}
+use Rattle.eqc_build.specs.Turns.{AreKept}
 use Rattle.eqc_check.specs.Verdicts.{IsWork}
 use Rattle.eqc_check.proofs.workers.share.draw_all.Given as goal
 

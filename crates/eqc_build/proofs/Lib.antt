@@ -1,0 +1,9 @@
+pub mod PairLaws
+pub mod StepLaws
+pub mod ListedLaws
+pub mod TableLaws
+pub mod BuildLaws
+pub mod KeptLaws
+pub mod ScheduleLaws
+pub mod WantedLaws
+pub mod ConeLaws

@@ -1,0 +1,199 @@
+-- The steps of a pair: what they use comes before them, and their values are those of signals.
+use Rattle.std.proofs.Common.{◌≡◌, ℕ, zero, suc, ◌+◌, ◌-◌, ◌<◌, ◌≤◌, Bool, List, [], ◌∷◌, length, map, get_or, refl, sym, ◌∙◌, ap, arith, inl, inr, subst}
+use Rattle.std.proofs.lemmas.List.{get_or-map, length-map}
+use Rattle.std.proofs.lemmas.Bool.{lt-ltb, le-ltb, cases_lt}
+use Rattle.eqc_flat.specs.Graph.{FlatOf, IsFlat, FollowsDrivers, DriverOf, input, tie, cover, driver_at, dependencies, driven, value_of}
+use Rattle.eqc_flat.proofs.EvaluationLaws.{dep_before}
+use Rattle.eqc_pair.specs.PairOf.{PairOf, ArePlaces, first_variables, second_variables, second_signals}
+use Rattle.eqc_build.specs.Steps.{StepsOf, AreSteps, IsChoice, inputs_under, steps_in, value_at, chosen_for, step_in, uses_in, uses_of, first_root, second_root, roots_of}
+use Rattle.eqc_build.specs.StepDrivers.{IsDriverIn, IsMadeBy}
+use Rattle.eqc_build.specs.declared.steps.StepDriver.{StepDriver}
+use Rattle.eqc_build.specs.declared.steps.StepDriver.TheVariants.{Variable, Copy, Cover}
+use Rattle.eqc_build.proofs.PairLaws.{pair_matched}
+
+-- ---- steps of the first netlist and of the second
+
+pub value_first : (p : PairOf) (a : ℕ → Bool) (k : ℕ) → k < length p.first.drivers → value_at p a k ≡ value_of p.first (inputs_under (first_variables p) a) (get_or p.first.steps k 0)
+unfolding value_at
+value_first p a k lt = rw (lt-ltb k (length p.first.drivers) lt) refl
+
+behind : (n j : ℕ) → n + j - n ≡ j
+behind n j = omega arith
+
+pub value_second : (p : PairOf) (a : ℕ → Bool) (j : ℕ) → value_at p a (length p.first.drivers + j) ≡ value_of p.second (inputs_under (second_variables p) a) (get_or p.second.steps j 0)
+unfolding value_at
+value_second p a j = rw (le-ltb (length p.first.drivers + j) (length p.first.drivers) (omega arith)) (ap (λ i. value_of p.second (inputs_under (second_variables p) a) (get_or p.second.steps i 0)) (behind (length p.first.drivers) j))
+
+pub uses_first : (g : StepsOf) (k : ℕ) → k < length g.pair.first.drivers → uses_of g k ≡ uses_in g.pair.first g.chosen g.places 0 k
+unfolding uses_of
+uses_first g k lt = rw (lt-ltb k (length g.pair.first.drivers) lt) refl
+
+pub uses_second : (g : StepsOf) (j : ℕ) → uses_of g (length g.pair.first.drivers + j) ≡ uses_in g.pair.second g.chosen g.others (length g.pair.first.drivers) j
+unfolding uses_of
+uses_second g j = rw (le-ltb (length g.pair.first.drivers + j) (length g.pair.first.drivers) (omega arith)) (ap (uses_in g.pair.second g.chosen g.others (length g.pair.first.drivers)) (behind (length g.pair.first.drivers) j))
+
+-- ---- what a step uses
+
+-- the place of a step's signal is the step
+pub place_of_step : (f : FlatOf) (places : List ℕ) (k : ℕ) → IsFlat f → ArePlaces f places → k < length f.steps → get_or places (get_or f.steps k 0) 0 ≡ k
+place_of_step f places k flat p lt =
+    let inside = flat.steps_within k lt in
+    flat.once (get_or places (get_or f.steps k 0) 0) k (p.within (get_or f.steps k 0) inside) lt (p.at (get_or f.steps k 0) inside)
+
+side_before : (f : FlatOf) (chosen places : List ℕ) (start k c : ℕ) → IsFlat f → ArePlaces f places → ((i : ℕ) → i < start + length f.drivers → chosen_for chosen i ≤ i) → k < length f.drivers → c < length (uses_in f chosen places start k) → get_or (uses_in f chosen places start k) c 0 < start + k
+unfolding step_in
+side_before f chosen places start k c flat p early inside within =
+    let deps = dependencies (driver_at f (get_or f.steps k 0)) in
+    let lt : c < length deps = omega (arith, within, length-map deps (step_in chosen places start)) in
+    let b = dep_before f k c flat (omega (arith, inside, flat.step_count)) lt in
+    let place : get_or places (get_or deps c 0) 0 ≡ b.0 = ap (λ s. get_or places s 0) (sym b.2) ∙ place_of_step f places b.0 flat p (omega (arith, b.1, inside, flat.step_count)) in
+    let at : get_or (map (step_in chosen places start) deps) c 0 ≡ step_in chosen places start (get_or deps c 0) = get_or-map (step_in chosen places start) deps c 0 0 lt in
+    omega (arith, at, early (start + get_or places (get_or deps c 0) 0) (omega (arith, place, b.1, inside)), place, b.1)
+
+-- it comes before the step
+pub uses_before : (g : StepsOf) (k c : ℕ) → AreSteps g → k < steps_in g.pair → c < length (uses_of g k) → get_or (uses_of g k) c 0 < k
+uses_before g k c h inside within = elim (cases_lt k (length g.pair.first.drivers)) [
+  | inl lt ↦ subst (λ us. c < length us → get_or us c 0 < k) (sym (uses_first g k lt)) (λ w. omega (arith, side_before g.pair.first g.chosen g.places 0 k c h.lawful.first_flat h.places (λ i less. h.choice.early i (omega (arith, less))) lt w)) within
+  | inr past ↦
+      let n = length g.pair.first.drivers in
+      let is : n + (k - n) ≡ k = omega (arith, past) in
+      let second : n + (k - n) < steps_in g.pair → c < length (uses_of g (n + (k - n))) → get_or (uses_of g (n + (k - n))) c 0 < n + (k - n) =
+      λ less. subst (λ us. c < length us → get_or us c 0 < n + (k - n)) (sym (uses_second g (k - n))) (side_before g.pair.second g.chosen g.others n (k - n) c h.lawful.second_flat h.others (λ i low. h.choice.early i low) (omega (arith, inside, past))) in
+      subst (λ i. i < steps_in g.pair → c < length (uses_of g i) → get_or (uses_of g i) c 0 < i) is second inside within
+]
+
+pub uses_within : (g : StepsOf) (k c : ℕ) → AreSteps g → k < steps_in g.pair → c < length (uses_of g k) → get_or (uses_of g k) c 0 < steps_in g.pair
+uses_within g k c h inside within = omega (arith, uses_before g k c h inside within, inside)
+
+-- ---- the step of a signal
+
+pub first_made : (g : StepsOf) (a : ℕ → Bool) (s : ℕ) → AreSteps g → s < length g.pair.first.drivers → value_at g.pair a (step_in g.chosen g.places 0 s) ≡ value_of g.pair.first (inputs_under (first_variables g.pair) a) s
+unfolding step_in
+first_made g a s h inside =
+    let lt : get_or g.places s 0 < length g.pair.first.drivers = omega (arith, h.places.within s inside, h.lawful.first_flat.step_count) in
+    let zero : 0 + get_or g.places s 0 ≡ get_or g.places s 0 = omega arith in
+    h.choice.same (0 + get_or g.places s 0) a (omega (arith, lt))
+    ∙ (ap (value_at g.pair a) zero
+    ∙ (value_first g.pair a (get_or g.places s 0) lt
+    ∙ ap (value_of g.pair.first (inputs_under (first_variables g.pair) a)) (h.places.at s inside)))
+
+pub second_made : (g : StepsOf) (a : ℕ → Bool) (t : ℕ) → AreSteps g → t < length g.pair.second.drivers → value_at g.pair a (step_in g.chosen g.others (length g.pair.first.drivers) t) ≡ value_of g.pair.second (inputs_under (second_variables g.pair) a) t
+unfolding step_in
+second_made g a t h inside =
+    let n = length g.pair.first.drivers in
+    let lt : get_or g.others t 0 < length g.pair.second.drivers = omega (arith, h.others.within t inside, h.lawful.second_flat.step_count) in
+    h.choice.same (n + get_or g.others t 0) a (omega (arith, lt))
+    ∙ (value_second g.pair a (get_or g.others t 0)
+    ∙ ap (value_of g.pair.second (inputs_under (second_variables g.pair) a)) (h.others.at t inside))
+
+-- the steps of an output's two signals
+pub first_root_within : (g : StepsOf) (output : ℕ) → AreSteps g → output < length g.pair.first.outputs → first_root g output < steps_in g.pair
+unfolding step_in
+first_root_within g output h inside =
+    let s = get_or g.pair.first.output_signals output 0 in
+    let place = h.places.within s (h.lawful.first_flat.outputs_within output inside) in
+    omega (arith, place, h.lawful.first_flat.step_count, h.choice.early (0 + get_or g.places s 0) (omega (arith, place, h.lawful.first_flat.step_count)))
+
+pub second_root_within : (g : StepsOf) (output : ℕ) → AreSteps g → output < length g.pair.first.outputs → second_root g output < steps_in g.pair
+unfolding step_in
+second_root_within g output h inside =
+    let n = length g.pair.first.drivers in
+    let t = get_or (second_signals g.pair) output 0 in
+    let place = h.others.within t ((pair_matched g.pair h.lawful).within output inside) in
+    omega (arith, place, h.lawful.second_flat.step_count, h.choice.early (n + get_or g.others t 0) (omega (arith, place, h.lawful.second_flat.step_count)))
+
+pub root_first : (g : StepsOf) (output : ℕ) → get_or (roots_of g output) 0 0 ≡ first_root g output
+unfolding roots_of
+root_first g output = refl
+
+pub root_second : (g : StepsOf) (output : ℕ) → get_or (roots_of g output) 1 0 ≡ second_root g output
+unfolding roots_of
+root_second g output = refl
+
+-- they are two
+pub roots_twice : (g : StepsOf) (output : ℕ) (roots : List ℕ) → roots ≡ roots_of g output → get_or roots 0 0 ∷ get_or roots 1 0 ∷ [] ≡ roots_of g output
+unfolding roots_of
+roots_twice g output roots is = rw is refl
+
+pub roots_within : (g : StepsOf) (output k : ℕ) → AreSteps g → output < length g.pair.first.outputs → k < length (roots_of g output) → get_or (roots_of g output) k 0 < steps_in g.pair
+unfolding roots_of
+roots_within g output zero h inside lt = first_root_within g output h inside
+roots_within g output (suc zero) h inside lt = second_root_within g output h inside
+roots_within g output (suc (suc k)) h inside lt = absurd (omega arith)
+
+-- ---- what makes a step's value
+
+-- values of steps that are those of signals
+values_mapped : (v w : ℕ → Bool) (t : ℕ → ℕ) (signals : List ℕ) → ((k : ℕ) → k < length signals → v (t (get_or signals k 0)) ≡ w (get_or signals k 0)) → map v (map t signals) ≡ map w signals
+values_mapped v w t [] same = refl
+values_mapped v w t (s ∷ signals) same =
+    let here : v (t s) ≡ w s = same 0 (omega arith) in
+    let others = values_mapped v w t signals (λ k h. same (suc k) (omega arith)) in
+    cc
+
+-- number k of a netlist's own steps is a step of a pair, and the pair's steps for the netlist's signals have their values
+pub record IsSide (g : StepsOf) (f : FlatOf) (variables places : List ℕ) (start k at : ℕ) : Type 0 where
+  pub lawful : IsFlat f
+  pub follows : FollowsDrivers f
+  pub inside : k < length f.drivers
+  pub below : (position : ℕ) → position < length f.inputs → get_or variables position 0 < length g.pair.first.inputs
+  pub uses : uses_of g at ≡ uses_in f g.chosen places start k
+  pub value : (a : ℕ → Bool) → value_at g.pair a at ≡ value_of f (inputs_under variables a) (get_or f.steps k 0)
+  pub signal : (a : ℕ → Bool) (s : ℕ) → s < length f.drivers → value_at g.pair a (step_in g.chosen places start s) ≡ value_of f (inputs_under variables a) s
+
+-- what a driver makes is the value of its signal
+driven_value : (f : FlatOf) (b : ℕ → Bool) (s : ℕ) (driver : DriverOf) → FollowsDrivers f → s < length f.drivers → driver_at f s ≡ driver → driven f.rows b (value_of f b) driver ≡ value_of f b s
+driven_value f b s driver follows inside is = ap (driven f.rows b (value_of f b)) (sym is) ∙ sym (follows b s inside)
+
+pub made_in : (g : StepsOf) (f : FlatOf) (variables places : List ℕ) (start k at : ℕ) (driver : StepDriver) → IsSide g f variables places start k at → IsDriverIn f variables g.chosen places start k driver → IsMadeBy g at driver
+made_in g f variables places start k at (Variable v) side is =
+    let s = get_or f.steps k 0 in
+    let inside : s < length f.drivers = side.lawful.steps_within k (omega (arith, side.inside, side.lawful.step_count)) in
+    let position : is.0 < length f.inputs = rw is.1 at (side.lawful.drivers_within s inside) in
+    (omega (arith, is.2, side.below is.0 position), λ a. ap a is.2 ∙ (driven_value f (inputs_under variables a) s (input is.0) side.follows inside is.1 ∙ sym (side.value a)))
+made_in g f variables places start k at (Copy other) side is =
+    let s = get_or f.steps k 0 in
+    let inside : s < length f.drivers = side.lawful.steps_within k (omega (arith, side.inside, side.lawful.step_count)) in
+    let there : is.0 < length f.drivers = rw is.1 at (side.lawful.drivers_within s inside) in (
+      side.uses ∙ (ap (λ d. map (step_in g.chosen places start) (dependencies d)) is.1 ∙ ap (λ x. x ∷ []) (sym is.2)),
+      λ a. ap (value_at g.pair a) is.2 ∙ (side.signal a is.0 there ∙ (driven_value f (inputs_under variables a) s (tie is.0) side.follows inside is.1 ∙ sym (side.value a))),
+    )
+made_in g f variables places start k at (Cover columns rows) side is =
+    let s = get_or f.steps k 0 in
+    let inside : s < length f.drivers = side.lawful.steps_within k (omega (arith, side.inside, side.lawful.step_count)) in
+    let there = rw is.2 at (side.lawful.drivers_within s inside) in (
+      side.uses ∙ (ap (λ d. map (step_in g.chosen places start) (dependencies d)) is.2 ∙ sym is.3),
+      λ a.
+          let b = inputs_under variables a in
+          let columns_are : map (value_at g.pair a) columns ≡ map (value_of f b) is.0 = ap (map (value_at g.pair a)) is.3 ∙ values_mapped (value_at g.pair a) (value_of f b) (step_in g.chosen places start) is.0 (λ i lt. side.signal a (get_or is.0 i 0) (there.0 i lt)) in
+          rw (is.4, columns_are) (driven_value f b s (cover is.0 is.1) side.follows inside is.2 ∙ sym (side.value a)),
+    )
+
+pub side_first : (g : StepsOf) (k : ℕ) → AreSteps g → k < length g.pair.first.drivers → IsSide g g.pair.first (first_variables g.pair) g.places 0 k k
+side_first g k h lt = record {
+  lawful = h.lawful.first_flat;
+  follows = h.first_follows;
+  inside = lt;
+  below = λ position inside. (let m = (pair_matched g.pair h.lawful).first in m.below position (omega (arith, inside, m.size)));
+  uses = uses_first g k lt;
+  value = λ a. value_first g.pair a k lt;
+  signal = λ a s inside. first_made g a s h inside;
+}
+
+pub side_second : (g : StepsOf) (k : ℕ) → AreSteps g → length g.pair.first.drivers ≤ k → k < steps_in g.pair → IsSide g g.pair.second (second_variables g.pair) g.others (length g.pair.first.drivers) (k - length g.pair.first.drivers) k
+side_second g k h past lt = record {
+  lawful = h.lawful.second_flat;
+  follows = h.second_follows;
+  inside = omega (arith, lt, past);
+  below = λ position inside. (let m = (pair_matched g.pair h.lawful).second in m.below position (omega (arith, inside, m.size)));
+  uses = ap (uses_of g) (sym is) ∙ uses_second g (k - length g.pair.first.drivers);
+  value = λ a. ap (value_at g.pair a) (sym is) ∙ value_second g.pair a (k - length g.pair.first.drivers);
+  signal = λ a s inside. second_made g a s h inside;
+}
+  where
+    is : length g.pair.first.drivers + (k - length g.pair.first.drivers) ≡ k
+    is = omega (arith, past)
+
+-- steps each of which is made
+pub each_choice : (p : PairOf) → IsChoice p []
+each_choice p = record { early = λ k lt. omega arith; same = λ k a lt. refl }

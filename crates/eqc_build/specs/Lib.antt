@@ -1,0 +1,6 @@
+pub mod Steps
+pub mod StepDrivers
+pub mod Building
+pub mod Listed
+pub mod Schedule
+pub mod Turns

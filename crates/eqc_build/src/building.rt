@@ -1,0 +1,159 @@
+ghost use Rattle.std.specs.Prelude.{◌≡◌, ◌≢◌, ℕ, ◌+◌, ◌<◌, length, IfOk, IfErr, OnOk, OnErr, IsSome, Some, map, slice_index};
+ghost use Rattle.eqc_tree.specs.Holding.{Keeps};
+ghost use Rattle.eqc_cover.specs.Making.{Makes};
+ghost use Rattle.eqc_build.specs.Building.{IsBuilt, AreReady, Adds, Advances, Moves, reference_of};
+ghost use Rattle.eqc_build.specs.Steps.{roots_of, steps_in, uses_of, value_at};
+ghost use Rattle.eqc_build.specs.Schedule.{moment, end_of};
+ghost use Rattle.eqc_build.specs.Turns.{AreKept, IsTurn};
+
+use crate::kept::Kept;
+use crate::plan::Plan;
+use crate::schedule::moment;
+use crate::steps::{StepDriver, Steps, Uses};
+use crate::table::{Table, put, reference_at, release};
+use crate::wanted::wanted;
+use eqc_cover::cover_diagram;
+use eqc_tree::{Diagrams, References, Stop};
+use std::alloc::{AllocError, Global};
+use std::cmp::Reverse;
+use std::collections::BinaryHeap;
+
+/// The references of steps that have one.
+fn references<'a, X>(
+    alloc: Global,
+    table: &'a Table<X>,
+    steps: &Uses<'_>,
+) -> Result<Vec<&'a X>, AllocError>
+    requires within { (k : ℕ) → k < length steps.now → slice_index steps.now k < length table.now }
+    requires ready { AreReady table.now steps.now }
+    ensures { IfOk result (λ found. map (λ r. Some r.now) found.items ≡ map (reference_of table.now) steps.now) }
+{
+    let mut found = Vec::new(alloc);
+    for k in 0..steps.len() {
+        found.push(reference_at(table, steps.get(k)))?;
+    }
+    Ok(found)
+}
+
+/// The diagram of a step, by what makes its value and the diagrams of the steps that it uses.
+fn step_diagram<R, D: Diagrams<R>>(
+    alloc: Global,
+    rt: &R,
+    d: &mut D,
+    steps: &Steps<'_>,
+    table: &Table<D::Ref>,
+    step: u32,
+) -> Result<D::Ref, Stop>
+    requires within { step < steps_in steps.now.pair }
+    requires kept { AreKept D.entry steps.now.pair (D.holding d.old) table.now }
+    requires ready { AreReady table.now (uses_of steps.now step) }
+    ensures { Makes D.entry (D.holding d.old) (D.holding d.new) result (λ a. value_at steps.now.pair a step) }
+{
+    let _count = steps.len();
+    match steps.driver(step) {
+        StepDriver::Variable(variable) => d.literal(rt, variable),
+        StepDriver::Copy(other) => d.copy(reference_at(table, other)),
+        StepDriver::Cover { columns, rows } => {
+            let Ok(columns) = references(alloc, table, &columns) else {
+                return Err(Stop::Memory);
+            };
+            cover_diagram(alloc, rt, d, &columns, rows)
+        }
+    }
+}
+
+/// Puts the diagram of a step into the table.
+fn build_step<R, D: Diagrams<R>>(
+    alloc: Global,
+    rt: &R,
+    d: &mut D,
+    steps: &Steps<'_>,
+    table: &mut Table<D::Ref>,
+    step: u32,
+) -> Result<(), Stop>
+    requires within { step < steps_in steps.now.pair }
+    requires kept { AreKept D.entry steps.now.pair (D.holding d.old) table.old }
+    requires ready { AreReady table.old (uses_of steps.now step) }
+    ensures ok { OnOk result (Adds D.entry steps.now.pair (D.holding d.old) table.old (D.holding d.new) table.new step) }
+    ensures stop { OnErr result (Keeps (D.holding d.old) (D.holding d.new)) }
+    ensures table { OnErr result (table.new ≡ table.old) }
+    ensures only { IfErr result (λ s. s ≢ Stop.Threads) }
+{
+    let reference = step_diagram(alloc, rt, d, steps, table, step)?;
+    put(d, table, step, reference)
+}
+
+/// Puts the diagram of a step into the table, at a moment, and gives back what is used there for the last time.
+fn advance<R, D: Diagrams<R>>(
+    alloc: Global,
+    rt: &R,
+    d: &mut D,
+    plan: &Plan<'_>,
+    table: &mut Table<D::Ref>,
+    step: u32,
+    at: u64,
+) -> Result<(), Stop>
+    requires within { step < steps_in plan.now.steps.pair }
+    requires size { length plan.now.last ≡ steps_in plan.now.steps.pair }
+    requires kept { AreKept D.entry plan.now.steps.pair (D.holding d.old) table.old }
+    requires ready { AreReady table.old (uses_of plan.now.steps step) }
+    ensures ok { OnOk result (Advances D.entry plan.now.steps.pair plan.now.last (D.holding d.old) table.old (D.holding d.new) table.new step at) }
+    ensures stop { OnErr result (Keeps (D.holding d.old) (D.holding d.new)) }
+    ensures table { OnErr result (table.new ≡ table.old) }
+    ensures only { IfErr result (λ s. s ≢ Stop.Threads) }
+{
+    build_step(alloc, rt, d, &plan.steps, table, step)?;
+    release(d, table, &plan.last, &plan.steps.uses(step), at);
+    Ok(())
+}
+
+/// Notes a step that is used later than all steps of an output, so that it is given back then.
+fn note_due(
+    due: &mut BinaryHeap<Reverse<(u64, u32)>>,
+    last: u64,
+    step: u32,
+    end: u64,
+) -> Result<(), Stop>
+    ensures only { IfErr result (λ s. s ≡ Stop.Memory) }
+{
+    if last <= end {
+        return Ok(());
+    }
+    match due.push(Reverse((last, step))) {
+        Ok(()) => Ok(()),
+        Err(_) => Err(Stop::Memory),
+    }
+}
+
+/// Brings the diagrams of an output's two signals into the table, where they aren't there yet, in the output's turn, counted
+/// from 1. Outputs come in rising order. Each step that the two need is made once, unless it is kept, and no other; it stays
+/// where a later output needs it, and is else given back after its last use.
+pub fn complete<R, D: Diagrams<R>>(
+    alloc: Global,
+    rt: &R,
+    d: &mut D,
+    plan: &Plan<'_>,
+    kept: &mut Kept<D::Ref>,
+    output: usize,
+    turn: u32,
+) -> Result<(), Stop>
+    requires output { output < length plan.now.steps.pair.first.outputs }
+    requires turn { IsTurn plan.now output turn }
+    requires kept { AreKept D.entry plan.now.steps.pair (D.holding d.old) kept.old.table }
+    ensures moves { Moves D.entry (D.holding d.old) kept.old.table (D.holding d.new) kept.new.table }
+    ensures built { IsBuilt D.entry plan.now.steps.pair kept.new.table }
+    ensures ready { OnOk result (AreReady kept.new.table (roots_of plan.now.steps output)) }
+    ensures kept { (s : ℕ) → end_of plan.now.steps turn < slice_index plan.now.last s → IsSome (reference_of kept.old.table s) → IsSome (reference_of kept.new.table s) }
+    ensures only { IfErr result (λ s. s ≢ Stop.Threads) }
+{
+    let Ok(mut steps) = wanted(alloc, plan, &kept.table, output, turn) else {
+        return Err(Stop::Memory);
+    };
+    let end = moment(turn, plan.steps.len());
+    while let Some(step) = steps.pop() {
+        note_due(&mut kept.due, plan.last.at(step), step, end)?;
+        let at = moment(turn, step + 1);
+        advance(alloc, rt, d, plan, &mut kept.table, step, at)?;
+    }
+    Ok(())
+}

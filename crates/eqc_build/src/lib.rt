@@ -1,0 +1,30 @@
+//! Diagrams of the signals of a pair that its outputs depend on, for any store of diagrams: each is built once, kept while a
+//! later output needs it, and given back after its last use.
+//!
+//! When a table of diagrams is right is said in `specs/Building.antt`, and what comparing the outputs in turn asks of it and
+//! leaves in `specs/Turns.antt`. Read the modules in this order:
+//!
+//! - `building`, the diagrams of an output's two signals; `plan`, what they are built by
+//! - `steps`, both netlists in one row, and what makes each value; `wanted`, the steps that an output still needs
+//! - `schedule`, when each step is used for the last time, where all outputs are compared; `cone`, where one is; `moments`, how
+//!   that is noted
+//! - `kept`, what stays from one output to the next; `table`, the references of steps
+#![tactic(auto, using(eqc_tree::proofs::HoldingLemmas::counts_itself))]
+
+mod building;
+mod cone;
+mod kept;
+mod moments;
+mod plan;
+mod schedule;
+mod steps;
+mod table;
+mod wanted;
+
+pub use building::complete;
+pub use kept::{Kept, clear, give_back_kept, nothing_built, nothing_kept_of_few, release_due};
+pub use moments::Moments;
+pub use plan::{Plan, plan_below, plan_of};
+pub use schedule::{is_marked, moment};
+pub use steps::Steps;
+pub use table::{Table, reference_at};

@@ -1,0 +1,44 @@
+ghost use Rattle.std.specs.Prelude.{◌≡◌, ◌<◌, length, IfOk};
+ghost use Rattle.eqc_build.specs.Turns.{IsTurn, AreTurns};
+
+use crate::cone::moments_below;
+use crate::moments::Moments;
+use crate::schedule::moments_of;
+use crate::steps::Steps;
+use std::alloc::{AllocError, Global};
+
+/// What the diagrams of a pair's steps are built by.
+#[derive(Drop)]
+pub struct Plan<'a> {
+    pub steps: Steps<'a>,
+    /// The last moment at which each step is used.
+    pub last: Moments,
+}
+
+/// The plan of a comparison of all outputs in their order that are not marked. Fails where memory is refused.
+pub fn plan_of<'a>(alloc: Global, steps: Steps<'a>, marks: &[bool]) -> Result<Plan<'a>, AllocError>
+    ensures turns { IfOk result (λ plan. AreTurns plan marks.now) }
+    ensures steps { IfOk result (λ plan. plan.steps ≡ steps.entry) }
+{
+    // The names alone of so many outputs would take a hundred gigabytes.
+    let outputs = steps.pair().first().outputs().len();
+    if outputs > 4294967295 {
+        return Err(AllocError);
+    }
+    let last = moments_of(alloc, &steps, outputs as u32, marks)?;
+    Ok(Plan { steps, last })
+}
+
+/// The plan of a comparison of one output.
+pub fn plan_below<'a>(
+    alloc: Global,
+    steps: Steps<'a>,
+    output: usize,
+) -> Result<Plan<'a>, AllocError>
+    requires output { output < length steps.pair.first.outputs }
+    ensures turn { IfOk result (λ plan. IsTurn plan output 1) }
+    ensures steps { IfOk result (λ plan. plan.steps ≡ steps.entry) }
+{
+    let last = moments_below(alloc, &steps, output)?;
+    Ok(Plan { steps, last })
+}

@@ -1,6 +1,0 @@
-use Rattle.std.proofs.Common.{◌≡◌, ◌<◌, ℕ, None, length}
-use Rattle.eqc_check.specs.Building.{Moves, reference_of}
-use Rattle.eqc_check.proofs.build.kept.clear.Given as goal
-
-abbrev pub invariant-loop-s : goal.invariant-loop-s
-invariant-loop-s g l = Moves g.D.References.entry (g.D.References.holding l.fn.d) l.fn.kept.table (g.D.References.holding l.d) l.kept.table × (length l.kept.table ≡ length l.fn.kept.table) × ((i : ℕ) → i < l.s → reference_of l.kept.table i ≡ None)

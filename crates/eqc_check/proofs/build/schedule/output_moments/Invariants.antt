@@ -1,5 +1,0 @@
-use Rattle.eqc_check.proofs.ScheduleLaws.{AreEnded}
-use Rattle.eqc_check.proofs.build.schedule.output_moments.Given as goal
-
-abbrev pub invariant-loop-o : goal.invariant-loop-o
-invariant-loop-o l = AreEnded l.steps l.marks l.last.items l.o

@@ -1,6 +1,0 @@
-use Rattle.std.specs.BinaryHeap.{heap_items}
-use Rattle.eqc_check.proofs.WantedLaws.{opened_one}
-use Rattle.eqc_check.proofs.build.wanted.open_one.Goals as goal
-
-pub returns-in_ok-push-clause-opened : goal.returns-in_ok-push-clause-opened
-returns-in_ok-push-clause-opened g c = opened_one c.args.table.now c.args.step (heap_items c.args.heap.now) (heap_items c.push.new.self) c.in_ok-push.ensures.permutation
