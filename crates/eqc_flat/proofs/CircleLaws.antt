@@ -5,9 +5,8 @@ use Rattle.std.specs.Prelude.{Contains}
 use Rattle.std.specs.List.{list_all}
 use Rattle.std.proofs.lemmas.Bool.{true≢false, and_parts}
 use Rattle.eqc_flat.specs.HierarchyLaws.{Reaches, directly, through}
-use Rattle.eqc_flat.proofs.Distinct.{Member, Distinct}
+use Rattle.eqc_hierarchy.proofs.Distinct.{Member, Distinct, member_place}
 use Rattle.eqc_flat.proofs.OrderLaws.{at_most}
-use Rattle.eqc_flat.proofs.SignalLaws.{member_place}
 
 -- the elements of a graph, what one step reaches from each, and whether all its chains end within so many steps
 pub record IsFinite {X : Type 0} (next : X → List X) (all : List X) (ends : ℕ → X → Bool) : Type 0 where

@@ -6,15 +6,14 @@ use Rattle.std.specs.Option.{option_map, option_and_then}
 use Rattle.std.proofs.lemmas.Bool.{true≢false, lt-ltb, or_cases}
 use Rattle.std.proofs.lemmas.List.{append-nil}
 use Rattle.eqc_blif.specs.Netlist.{ModelOf}
-use Rattle.eqc_flat.specs.Signals.{SignalOf, same_signal, SourceOf, signals, sources, needs, all_some, made, value_at}
-use Rattle.eqc_flat.specs.Codes.{is_driven_twice, is_undriven, is_cyclic, code_if, flat_code}
+use Rattle.eqc_hierarchy.specs.Signals.{SignalOf, same_signal, SourceOf, signals, sources, needs, all_some, made, value_at}
+use Rattle.eqc_hierarchy.specs.Codes.{is_driven_twice, is_undriven, is_cyclic, code_if, flat_code}
 use Rattle.eqc_flat.specs.Flattened.{no_signal, signal_at}
 use Rattle.eqc_flat.specs.HierarchyLaws.{Reaches, needed, CyclicWhereReached}
-use Rattle.eqc_flat.proofs.Distinct.{Member, member_get}
+use Rattle.eqc_hierarchy.proofs.Distinct.{Member, member_get, member_place}
 use Rattle.eqc_flat.proofs.NumberLaws.{signals_same, same_self}
-use Rattle.eqc_flat.proofs.SignalLaws.{member_place}
 use Rattle.eqc_flat.proofs.DepthLaws.{HasNoOtherCode, no_other_code, accepted_have_values}
-use Rattle.eqc_flat.proofs.NamingLaws.{none_member}
+use Rattle.eqc_hierarchy.proofs.NamingLaws.{none_member}
 use Rattle.eqc_flat.proofs.NeedLaws.{needed_there}
 use Rattle.eqc_flat.proofs.CircleLaws.{IsFinite, circle_found, never_ends}
 

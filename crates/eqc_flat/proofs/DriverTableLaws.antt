@@ -8,9 +8,9 @@ use Rattle.std.proofs.lemmas.Grind.{flat_map-append}
 use Rattle.std.proofs.lemmas.List.{append_assoc, take-append-drop, get_or-set_same, get_or-set_other, length-set, append-nil, get_or-map, map-append, length-append, length-map, get_or-replicate, length-replicate}
 use Rattle.eqc_blif.specs.Netlist.{ModelOf}
 use Rattle.eqc_flat.specs.Graph.{DriverOf, input, IsWithinSizes}
-use Rattle.eqc_flat.specs.Hierarchy.{model}
-use Rattle.eqc_flat.specs.Signals.{SignalOf, SourceOf, Driving, same_signal, sources_in, signals, drivings, sources}
-use Rattle.eqc_flat.specs.Codes.{is_driven_twice, is_undriven}
+use Rattle.eqc_hierarchy.specs.Hierarchy.{model}
+use Rattle.eqc_hierarchy.specs.Signals.{SignalOf, SourceOf, Driving, same_signal, sources_in, signals, drivings, sources}
+use Rattle.eqc_hierarchy.specs.Codes.{is_driven_twice, is_undriven}
 use Rattle.eqc_flat.specs.Flattened.{no_signal, signal_at, source_of}
 use Rattle.eqc_flat.specs.RowTable.{all_rows}
 use Rattle.eqc_flat.specs.DriverTable.{in_slot, IsFilled}

@@ -1,26 +1,13 @@
 -- Evaluating in an order gives the values.
-use Rattle.std.proofs.Common.{◌⊎◌, zero, ◌≡◌, ℕ, suc, ◌+◌, ◌<◌, Bool, true, false, List, [], ◌∷◌, length, map, get_or, set, refl, sym, ◌∙◌, ap, arith, inl, inr, subst}
+use Rattle.std.proofs.Common.{◌≡◌, ℕ, suc, ◌+◌, ◌<◌, Bool, false, List, [], ◌∷◌, length, map, get_or, set, refl, sym, ◌∙◌, ap, arith, inl, inr, subst}
 use Rattle.std.proofs.lemmas.List.{get_or-set_same, get_or-set_other}
-use Rattle.std.specs.List.{list_all}
-use Rattle.std.proofs.lemmas.Bool.{cases_eq, and_parts, true≢false}
+use Rattle.std.proofs.lemmas.Bool.{cases_eq, true≢false}
 use Rattle.std.proofs.Math.ListN.{length-set}
 use Rattle.eqc_blif.specs.Cover.{cover_value}
-use Rattle.eqc_flat.specs.Graph.{FlatOf, IsFlat, DriverOf, input, tie, cover, driver_at, dependencies, driven, value_of, FollowsDrivers, among, in_order}
+use Rattle.eqc_flat.specs.Graph.{FlatOf, IsFlat, DriverOf, input, tie, cover, driver_at, dependencies, driven, value_of, FollowsDrivers}
 use Rattle.eqc_flat.specs.Evaluating.{values_of}
 use Rattle.eqc_flat.specs.Known.{AreKnown}
-use Rattle.eqc_flat.proofs.Depth.{among_cases}
-use Rattle.eqc_flat.proofs.Orders.{all_among}
-use Rattle.eqc_flat.proofs.Members.{among_at, at_among}
-
--- what a signal of an order depends on stands before it
-pub before_at : (deps : ℕ → List ℕ) (done order : List ℕ) (k t : ℕ) → in_order deps done order ≡ true → k < length order → among (deps (get_or order k 0)) t ≡ true → (among done t ≡ true) ⊎ ((i : ℕ) × (i < k) × (get_or order i 0 ≡ t))
-before_at deps done [] k t o h e = absurd (omega arith)
-before_at deps done (s ∷ ss) zero t o h e = inl (all_among (among done) (deps s) t ((and_parts (list_all (among done) (deps s)) (in_order deps (s ∷ done) ss) o).0) e)
-before_at deps done (s ∷ ss) (suc k) t o h e =
-    elim (before_at deps (s ∷ done) ss k t ((and_parts (list_all (among done) (deps s)) (in_order deps (s ∷ done) ss) o).1) (omega arith) e) [
-      | inl there ↦ elim (among_cases s done t there) [ inl same ↦ inr (0, omega arith, same) | inr old ↦ inl old ]
-      | inr w ↦ inr (suc w.0, omega (arith, w.1), w.2)
-    ]
+use Rattle.eqc_hierarchy.proofs.Members.{among_at, at_among, before_at}
 
 pub dep_before : (f : FlatOf) (k c : ℕ) → IsFlat f → k < length f.steps → c < length (dependencies (driver_at f (get_or f.steps k 0))) → (i : ℕ) × (i < k) × (get_or f.steps i 0 ≡ get_or (dependencies (driver_at f (get_or f.steps k 0))) c 0)
 dep_before f k c h inside within =

@@ -1,23 +1,26 @@
 -- What is read off a hierarchy whose instances were all found.
-use Rattle.std.proofs.Common.{◌≡◌, ℕ, suc, ◌+◌, ◌<◌, ◌≤◌, inl, inr, Bool, true, false, not, ◌||◌, List, [], ◌∷◌, ◌++◌, length, map, take, drop, get_or, refl, sym, ◌∙◌, ap, arith, nat_lt, if◌then◌else◌}
-use Rattle.std.specs.Prelude.{slice_index_or, filter}
-use Rattle.std.specs.List.{flat_map, list_any, position_or_len, range_with_len}
-use Rattle.std.specs.Str.{bytes_eq}
-use Rattle.std.proofs.lemmas.Bool.{true≢false, cases_lt, lt-ltb, le-ltb}
-use Rattle.std.proofs.lemmas.List.{ext_get_or, take-append-drop, length-append, map-append, append_assoc, append-nil, take_more, map-id}
+use Rattle.std.proofs.Common.{◌≡◌, ℕ, suc, ◌+◌, ◌<◌, ◌≤◌, Bool, true, false, not, List, [], ◌∷◌, ◌++◌, length, map, take, drop, get_or, refl, sym, ◌∙◌, ap, arith, subst}
+use Rattle.std.specs.Prelude.{slice_index_or}
+use Rattle.std.specs.List.{flat_map, range_with_len}
+use Rattle.std.proofs.lemmas.Bool.{true≢false}
+use Rattle.std.proofs.lemmas.List.{ext_get_or, take-append-drop, length-append, map-append, append-nil, take_more, map-id, get_or-map, length-map}
 use Rattle.std.proofs.lemmas.List.FromFn.{get_or-map-range_with_len, length-map-range_with_len, map-range_with_len_more}
 use Rattle.std.proofs.lemmas.Grind.{flat_map-append}
-use Rattle.eqc_blif.specs.Netlist.{ModelOf, no_model}
-use Rattle.eqc_blif.specs.Names.{is_named, has_twice}
-use Rattle.eqc_flat.specs.Hierarchy.{model, callees, paths}
-use Rattle.eqc_flat.specs.Graph.{ends_within}
-use Rattle.eqc_flat.specs.Codes.{is_recursive}
-use Rattle.eqc_flat.specs.RowTable.{rows_of, IsRowTable}
-use Rattle.eqc_flat.specs.Signals.{once_each, cover_names, actuals, names_of, signals_at, signals}
+use Rattle.eqc_blif.specs.Netlist.{ModelOf, no_model, CoverOf, no_cover}
+use Rattle.eqc_blif.specs.Names.{is_named}
+use Rattle.eqc_hierarchy.specs.Hierarchy.{model, callees, paths, model_number, model_at}
+use Rattle.eqc_hierarchy.specs.Dependency.{ends_within}
+use Rattle.eqc_hierarchy.specs.Codes.{is_recursive, has_unknown_formal}
+use Rattle.eqc_flat.specs.RowTable.{rows_of, IsRowTable, all_rows}
+use Rattle.eqc_hierarchy.specs.Signals.{names_of, signals_at, signals}
 use Rattle.eqc_flat.specs.Flattened.{path_at, model_of, signal_at, first_signal, named_here, all_named}
 use Rattle.eqc_flat.specs.Instances.{IsGrowing}
-use Rattle.eqc_flat.proofs.PathLaws.{paths_fixed}
+use Rattle.eqc_hierarchy.proofs.PathLaws.{paths_fixed}
 use Rattle.eqc_flat.proofs.NumberLaws.{signal_here, signal_inside}
+use Rattle.std.proofs.lemmas.List.Concat.{get_or-flat_map}
+use Rattle.std.proofs.lemmas.List.Folds.{length-flat_map-take}
+use Rattle.eqc_hierarchy.proofs.Distinct.{member_get}
+use Rattle.eqc_hierarchy.proofs.NamingLaws.{no_instance, callee_at, formal_there}
 
 -- the signal of a name of an instance, by the instance's first signal and the name's place
 pub signal_is : (library : List ModelOf) (top i n k : ℕ) (name : List ℕ) → i < length (paths library top) → n ≡ first_signal library top i → k < length (names_of (model_of library top i)) → slice_index_or (names_of (model_of library top i)) k [] ≡ name → signal_at library top (n + k) ≡ record { path = path_at library top i; name = name }
@@ -58,58 +61,6 @@ signals_named library top =
     ∙ (same_pieces (λ i. signals_at library top (path_at library top i)) (λ i. map (λ (s : ℕ × List ℕ). record { path = path_at library top s.0; name = s.1 }) (named_here library top i)) (range_with_len 0 n) (λ i. sym (two_maps (λ (s : ℕ × List ℕ). record { path = path_at library top s.0; name = s.1 }) (λ name. (i, name)) (names_of (model_of library top i))))
     ∙ sym (map_pieces (λ (s : ℕ × List ℕ). record { path = path_at library top s.0; name = s.1 }) (named_here library top) (range_with_len 0 n)))
 
--- some more elements stand behind the names that are put in once
-once_front : (xs ys : List (List ℕ)) → (zs : List (List ℕ)) × (once_each (xs ++ ys) ≡ once_each xs ++ zs)
-once_front [] ys = (once_each ys, refl)
-once_front (x ∷ xs) ys =
-    let rest = once_front xs ys in
-    let p = λ (other : List ℕ). not (bytes_eq x other) in
-    (filter p rest.0, ap (λ zs. x ∷ filter p zs) rest.1 ∙ ap (λ zs. x ∷ zs) (filter_join p (once_each xs) rest.0))
-  where
-    filter_join : (p : List ℕ → Bool) (xs ys : List (List ℕ)) → filter p (xs ++ ys) ≡ filter p xs ++ filter p ys
-    filter_join p [] ys = refl
-    filter_join p (x ∷ xs) ys = by_test (p x) (filter_join p xs ys)
-      where
-        by_test : (b : Bool) → filter p (xs ++ ys) ≡ filter p xs ++ filter p ys → (if b then x ∷ filter p (xs ++ ys) else filter p (xs ++ ys)) ≡ (if b then x ∷ filter p xs else filter p xs) ++ filter p ys
-        by_test true e = ap (λ zs. x ∷ zs) e
-        by_test false e = e
-
-neither : (a b : Bool) → (a || b) ≡ false → (a ≡ false) × (b ≡ false)
-neither false b e = (refl, e)
-neither true b e = absurd (true≢false e)
-
-unnamed_kept : (x : List ℕ) (xs : List (List ℕ)) → is_named xs x ≡ false → filter (λ other. not (bytes_eq x other)) xs ≡ xs
-unnamed_kept x [] e = refl
-unnamed_kept x (y ∷ xs) e = let both = neither (bytes_eq x y) (is_named xs x) e in rw (both.0) (ap (λ ys. y ∷ ys) (unnamed_kept x xs both.1))
-
-once_same : (xs : List (List ℕ)) → has_twice xs ≡ false → once_each xs ≡ xs
-once_same [] e = refl
-once_same (x ∷ xs) e = let both = neither (is_named xs x) (has_twice xs) e in rw (once_same xs both.1) (ap (λ ys. x ∷ ys) (unnamed_kept x xs both.0))
-
-succ_lt : (a b : ℕ) → nat_lt (1 + a) (suc b) ≡ nat_lt a b
-succ_lt a b = elim (cases_lt a b) [
-  | inl less ↦ lt-ltb (1 + a) (suc b) (omega (arith, less)) ∙ sym (lt-ltb a b less)
-  | inr more ↦ le-ltb (1 + a) (suc b) (omega (arith, more)) ∙ sym (le-ltb a b more)
-]
-
-pub front_place : {X : Type 0} (p : X → Bool) (xs ys : List X) → nat_lt (position_or_len p (xs ++ ys)) (length xs) ≡ list_any p xs
-front_place p [] ys = le-ltb (position_or_len p ys) 0 (omega arith)
-front_place p (x ∷ xs) ys = by_test (p x) refl (front_place p xs ys)
-  where
-    by_test : (b : Bool) → p x ≡ b → nat_lt (position_or_len p (xs ++ ys)) (length xs) ≡ list_any p xs → nat_lt (position_or_len p (x ∷ xs ++ ys)) (length (x ∷ xs)) ≡ list_any p (x ∷ xs)
-    by_test true e up = rw e (lt-ltb 0 (suc (length xs)) (omega arith))
-    by_test false e up = rw e (succ_lt (position_or_len p (xs ++ ys)) (length xs) ∙ up)
-
--- a name is an input where it stands among the first names of its model
-pub input_place : (m : ModelOf) (name : List ℕ) (k : ℕ) → has_twice m.inputs ≡ false → k ≡ position_or_len (λ other. bytes_eq name other) (names_of m) → nat_lt k (length m.inputs) ≡ is_named m.inputs name
-unfolding names_of
-input_place m name k once at =
-    let rest = m.outputs ++ (flat_map cover_names m.covers ++ flat_map actuals m.instances) in
-    let whole : m.inputs ++ m.outputs ++ flat_map cover_names m.covers ++ flat_map actuals m.instances ≡ m.inputs ++ rest = append_assoc (m.inputs ++ m.outputs) (flat_map cover_names m.covers) (flat_map actuals m.instances) ∙ append_assoc m.inputs m.outputs (flat_map cover_names m.covers ++ flat_map actuals m.instances) in
-    let front = once_front m.inputs rest in
-    let names : names_of m ≡ m.inputs ++ front.0 = ap once_each whole ∙ (front.1 ∙ ap (λ xs. xs ++ front.0) (once_same m.inputs once)) in
-    ap (λ j. nat_lt j (length m.inputs)) (at ∙ ap (position_or_len (λ other. bytes_eq name other)) names) ∙ front_place (λ other. bytes_eq name other) m.inputs front.0
-
 -- a main model whose models never reach themselves has a list of instances
 pub growing : (library : List ModelOf) (top : ℕ) → is_recursive library top ≡ false → IsGrowing library top
 unfolding is_recursive
@@ -144,3 +95,24 @@ first_most library top i =
     let all = paths library top in
     let whole : flat_map f all ≡ flat_map f (take i all) ++ flat_map f (drop i all) = ap (flat_map f) (sym (take-append-drop i all)) ∙ flat_map-append f (take i all) (drop i all) in
     omega (arith, ap length whole, length-append (flat_map f (take i all)) (flat_map f (drop i all)))
+
+-- the same by the numbers of the instance, its position and the pair
+pub formal_known : (library : List ModelOf) (top i p j : ℕ) → has_unknown_formal library top ≡ false → i < length (paths library top) → p < length (model library (model_at library top (path_at library top i))).instances → j < length (slice_index_or (model library (model_at library top (path_at library top i))).instances p no_instance).pairs → (callee : ℕ) → callee ≡ slice_index_or (callees library (model_at library top (path_at library top i))) p (length library) → is_named ((model library callee).inputs ++ (model library callee).outputs) (slice_index_or (slice_index_or (model library (model_at library top (path_at library top i))).instances p no_instance).pairs j ([], [])).0 ≡ true
+formal_known library top i p j none inside here there callee calls =
+    let path = path_at library top i in
+    let instances = (model library (model_at library top path)).instances in
+    let one = get_or instances p no_instance in
+    let pair = get_or one.pairs j ([], []) in
+    let same : callee ≡ model_number library one.model = calls ∙ callee_at library (model_at library top path) p here in
+    let R : ℕ → Type 0 = λ c. is_named ((model library c).inputs ++ (model library c).outputs) pair.0 ≡ true in
+    subst R (sym same) (formal_there library top path one pair none (member_get (paths library top) i [] inside) (member_get instances p no_instance here) (member_get one.pairs j ([], []) there))
+
+-- the rows of a model's cover, among those of all covers
+pub rows_at : (library : List ModelOf) (m k : ℕ) → m < length library → k < length (model library m).covers → slice_index_or (all_rows library) (length (flat_map rows_of (take m library)) + k) [] ≡ (slice_index_or (model library m).covers k no_cover).rows
+rows_at library m k inside here =
+    get_or-flat_map rows_of library m k no_model [] inside (rw length-map here) ∙ get_or-map (λ (c : CoverOf). c.rows) (model library m).covers k no_cover [] here
+
+pub rows_inside : (library : List ModelOf) (m k : ℕ) → m < length library → k < length (model library m).covers → length (flat_map rows_of (take m library)) + k < length (all_rows library)
+rows_inside library m k inside here =
+    let most = length-flat_map-take rows_of library m no_model inside in
+    omega (arith, most, length-map (model library m).covers (λ (c : CoverOf). c.rows), here)

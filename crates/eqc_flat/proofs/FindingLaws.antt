@@ -1,46 +1,36 @@
 -- What is at fault is found, and told by its place.
-use Rattle.std.proofs.Common.{◌==◌, ◌≡◌, ℕ, zero, suc, ◌+◌, ◌-◌, ◌<◌, ◌≤◌, inl, inr, Bool, true, false, not, ◌||◌, ◌&&◌, List, [], ◌∷◌, ◌++◌, length, map, take, drop, get_or, refl, sym, ◌∙◌, ap, subst, arith, Option, Some, None, nat_lt, cond}
+use Rattle.std.proofs.Common.{◌==◌, ◌≡◌, ℕ, zero, suc, ◌+◌, ◌-◌, ◌<◌, ◌≤◌, inl, inr, Bool, true, false, ◌||◌, List, [], ◌∷◌, ◌++◌, length, map, take, drop, get_or, refl, sym, ◌∙◌, ap, subst, arith, Option, Some, None, nat_lt}
 use Rattle.std.specs.Prelude.{slice_index_or, is_some, is_none, position, IsSome, Contains, MatchOption}
-use Rattle.std.specs.List.{list_any, flat_map, fold, position_or_len}
+use Rattle.std.specs.List.{list_any, flat_map}
 use Rattle.std.specs.Option.{option_map}
 use Rattle.std.proofs.lemmas.Bool.{true≢false, cases_lt, lt-ltb, eq-eqb, eqb-true, ltb-true}
 use Rattle.std.proofs.lemmas.List.Quantifiers.{position-Some}
 use Rattle.std.proofs.lemmas.List.{append_assoc, append-nil, get_or-map, get_or-take, get_or-drop, length-map, length-take-le, length-drop, take_all, take_more}
-use Rattle.eqc_blif.specs.Netlist.{ModelOf, InstanceOf}
-use Rattle.eqc_blif.specs.Names.{is_named}
+use Rattle.eqc_blif.specs.Netlist.{ModelOf}
 use Rattle.eqc_blif.proofs.CodeLemmas.{alone}
 use Rattle.eqc_flat.specs.Graph.{DriverOf, input, tie, cover, dependencies}
 use Rattle.eqc_flat.specs.HierarchyLaws.{needed}
 use Rattle.eqc_flat.specs.Ordering.{signal_deps, IsTrail, HasNoOrder}
-use Rattle.eqc_flat.specs.Walks.{IsWalk, from_on}
-use Rattle.eqc_flat.specs.Hierarchy.{model, model_number, model_at, reached, paths_within, paths}
-use Rattle.eqc_flat.specs.Signals.{SignalOf, needs, names_of, signals, sources, drivings}
-use Rattle.eqc_flat.specs.Codes.{formals, has_no_such_model, is_recursive, has_unknown_formal, has_formal_twice, has_missing_formal, is_too_large, has_many_inputs, is_driven_twice, is_undriven, is_cyclic, code_if, flat_code}
+use Rattle.eqc_hierarchy.specs.Walks.{IsWalk, from_on}
+use Rattle.eqc_hierarchy.specs.Hierarchy.{model, model_at, paths_within, paths}
+use Rattle.eqc_hierarchy.specs.Signals.{SignalOf, needs, names_of, signals, sources, drivings}
+use Rattle.eqc_hierarchy.specs.Codes.{has_no_such_model, is_recursive, has_unknown_formal, has_formal_twice, has_missing_formal, is_too_large, has_many_inputs, is_driven_twice, is_undriven, is_cyclic, code_if, flat_code}
 use Rattle.eqc_flat.specs.Flattened.{path_at, model_of, first_signal, signal_at, source_of}
 use Rattle.eqc_flat.specs.DriverTable.{in_slot, IsFilled, IsDriven}
 use Rattle.eqc_flat.specs.RowTable.{all_rows}
 use Rattle.eqc_flat.specs.StoredDrivers.{driver_from}
-use Rattle.eqc_flat.specs.Finding.{steps_of, hierarchical_name, callee, IsCircle}
-use Rattle.eqc_flat.specs.NameSets.{with_name}
-use Rattle.eqc_flat.specs.Reaching.{some_instance_in}
-use Rattle.eqc_flat.specs.ModelFaults.{names_no_model, names_no_formal, names_formal_twice, leaves_input_out, ports}
-use Rattle.eqc_flat.specs.Rule.{rule_code}
+use Rattle.eqc_flat.specs.Finding.{steps_of, hierarchical_name, IsCircle}
+use Rattle.eqc_hierarchy.specs.Rule.{rule_code}
 use Rattle.eqc_flat.specs.declared.hierarchical_name.Step.{Step}
-use Rattle.eqc_flat.specs.declared.rule.Rule.{Rule}
-use Rattle.eqc_flat.specs.declared.rule.Rule.TheVariants.{NoSuchModel, Recursion, UnknownFormal, FormalTwice, MissingInput, DrivenTwice, Undriven, Circle, TooLarge, ManyInputs}
+use Rattle.eqc_hierarchy.specs.declared.rule.Rule.{Rule}
 use Rattle.eqc_flat.specs.declared.stored_driver.StoredDriver.{StoredDriver}
 use Rattle.eqc_flat.proofs.InstanceLaws.{first_more, first_all}
-use Rattle.eqc_flat.proofs.ExpandedLaws.{front_place}
 use Rattle.eqc_flat.proofs.DrivingLaws.{slot_empty}
 use Rattle.eqc_flat.proofs.DepthLaws.{no_code}
-use Rattle.eqc_flat.proofs.Depth.{or_right}
-use Rattle.eqc_flat.proofs.Distinct.{Member, member_get}
+use Rattle.eqc_hierarchy.proofs.Distinct.{Member, member_get}
 use Rattle.eqc_flat.proofs.FlatLaws.{are_sourced, in_order_not_cyclic}
-use Rattle.eqc_flat.proofs.SignalLaws.{member_place}
-use Rattle.eqc_flat.proofs.NamingLaws.{member_named, named_member}
-use Rattle.eqc_flat.proofs.NameSetLaws.{any_mapped, once_named, fold_once}
-use Rattle.eqc_flat.proofs.ModelFaultLaws.{no_formal_is, input_out_is}
 use Rattle.eqc_flat.proofs.DriverTableLaws.{none_place, sourced, driven_twice, not_driven_twice}
+use Rattle.eqc_hierarchy.proofs.FaultLaws.{none_some, unplaced, conditions, first_code, code_first, told_code}
 
 -- the first instance is the main model
 pub first_path : (library : List ModelOf) (top : ℕ) → path_at library top 0 ≡ []
@@ -50,14 +40,6 @@ first_path library top = by (length library)
     by : (n : ℕ) → slice_index_or (paths_within library top n) 0 [] ≡ []
     by zero = refl
     by (suc n) = refl
-
-pub first_inside : (library : List ModelOf) (top : ℕ) → 0 < length (paths library top)
-unfolding paths_within
-first_inside library top = by (length library)
-  where
-    by : (n : ℕ) → 0 < length (paths_within library top n)
-    by zero = omega arith
-    by (suc n) = omega arith
 
 -- one step further up
 pub step_more : (library : List ModelOf) (top inner parent position m : ℕ) (all done now : List Step) → all ≡ done ++ steps_of library top (path_at library top inner) → path_at library top inner ≡ position ∷ path_at library top parent → m ≡ model_at library top (path_at library top inner) → now ≡ done ++ record { position = position; model = m } ∷ [] → all ≡ now ++ steps_of library top (path_at library top parent)
@@ -88,9 +70,6 @@ apart n m other e = other (inside e)
   where
     inside : Some n ≡ Some m → n ≡ m
     inside e = cc
-
-none_some : (n : ℕ) → None ≡ Some n → ⊥
-none_some n e = cc
 
 -- what holds of a hierarchy whose signals were numbered, and what is left to be told
 pub record IsNumbered (library : List ModelOf) (top code : ℕ) : Type 0 where
@@ -176,14 +155,6 @@ all_taken library top columns slots h e = none_place (λ s. length (sources libr
         let taken : slice_index_or (map (option_map (driver_from columns)) slots) i None ≡ Some (driver_from columns d) = get_or-map (option_map (driver_from columns)) slots i None None room ∙ ap (option_map (driver_from columns)) is in
         rw (sourced library top (map (option_map (driver_from columns)) slots) i (driver_from columns d) h (omega (arith, room, length-map slots (option_map (driver_from columns)))) taken) refl
 
--- what is nowhere stands at no place
-unplaced : {X : Type 0} (p : X → Bool) (xs : List X) → is_some (position p xs) ≡ false → list_any p xs ≡ false
-unplaced {X} p xs e = sym (sym (ap (λ (ys : List X). nat_lt (position_or_len p ys) (length xs)) (append-nil xs)) ∙ front_place p xs []) ∙ by (nat_lt (position_or_len p xs) (length xs)) (position_or_len p xs) e
-  where
-    by : (b : Bool) (n : ℕ) → is_some (cond b (Some n) None) ≡ false → b ≡ false
-    by true n k = absurd (true≢false k)
-    by false n k = refl
-
 -- a table of a hierarchy that is refused by 27 has an empty slot
 pub empty_known : (library : List ModelOf) (top : ℕ) (columns : List (List ℕ)) (slots : List (Option StoredDriver)) (twice : Option ℕ) → IsNumbered library top 27 → IsFilled library top (map (option_map (driver_from columns)) slots) twice (drivings library top) → is_some (position is_none slots) ≡ true
 empty_known library top columns slots twice h filled = by (is_some (position is_none slots)) refl
@@ -210,35 +181,6 @@ empty_undriven library top columns slots twice s h filled e =
     none_there None k = refl
     none_there (Some d) k = absurd (true≢false (sym k))
 
--- what is known is there
-pub there : (o : Option ℕ) → is_some o ≡ true → IsSome o
-there None e = absurd (true≢false (sym e))
-there (Some s) e = refl
-
--- the conditions of the codes, each with its rule, in their order
-abbrev conditions : List ModelOf → ℕ → List (Bool × Rule)
-conditions library top =
-    (has_no_such_model library top, NoSuchModel) ∷ (is_recursive library top, Recursion) ∷ (has_unknown_formal library top, UnknownFormal) ∷ (has_formal_twice library top, FormalTwice) ∷ (has_missing_formal library top, MissingInput)
-    ∷ (is_too_large library top, TooLarge) ∷ (has_many_inputs library top, ManyInputs) ∷ (is_driven_twice library top, DrivenTwice) ∷ (is_undriven library top, Undriven) ∷ (is_cyclic library top, Circle) ∷ []
-
--- the code of the first condition that holds
-abbrev first_code : List (Bool × Rule) → Option ℕ
-first_code [] = None
-first_code (c ∷ cs) = code_if c.0 (rule_code c.1) (first_code cs)
-
-code_first : (library : List ModelOf) (top : ℕ) → flat_code library top ≡ first_code (conditions library top)
-unfolding flat_code
-code_first library top = refl
-
--- where a code is told, a condition with it holds
-told_by : (cs : List (Bool × Rule)) (code : ℕ) → first_code cs ≡ Some code → list_any (λ c. (rule_code c.1 == code) && c.0) cs ≡ true
-told_by [] code e = absurd (none_some code e)
-told_by ((true, rule) ∷ cs) code e = rw (eq-eqb (rule_code rule) code (inside e)) refl
-  where
-    inside : Some (rule_code rule) ≡ Some code → rule_code rule ≡ code
-    inside e = cc
-told_by ((false, rule) ∷ cs) code e = or_right ((rule_code rule == code) && false) (list_any (λ c. (rule_code c.1 == code) && c.0) cs) (told_by cs code e)
-
 -- a code that is told is that of a rule
 pub code_rule : (library : List ModelOf) (top code : ℕ) → flat_code library top ≡ Some code → (rule : Rule) × (rule_code rule ≡ code)
 code_rule library top code e = by (conditions library top) (sym (code_first library top) ∙ e)
@@ -250,29 +192,6 @@ code_rule library top code e = by (conditions library top) (sym (code_first libr
         inside : Some (rule_code rule) ≡ Some code → rule_code rule ≡ code
         inside e = cc
     by ((false, rule) ∷ cs) k = by cs k
-
-told_code : (library : List ModelOf) (top code : ℕ) → flat_code library top ≡ Some code → list_any (λ c. (rule_code c.1 == code) && c.0) (conditions library top) ≡ true
-told_code library top code e = told_by (conditions library top) code (sym (code_first library top) ∙ e)
-
--- the conditions of the codes of models, over the models that are reached
-pub model_missing : (library : List ModelOf) (top : ℕ) → flat_code library top ≡ Some 21 → some_instance_in library (reached library top) (names_no_model library) ≡ true
-unfolding has_no_such_model
-model_missing library top e = alone (has_no_such_model library top) (told_code library top 21 e)
-
-pub recursive : (library : List ModelOf) (top : ℕ) → flat_code library top ≡ Some 22 → is_recursive library top ≡ true
-recursive library top e = alone (is_recursive library top) (told_code library top 22 e)
-
-pub formal_unknown : (library : List ModelOf) (top : ℕ) → flat_code library top ≡ Some 23 → some_instance_in library (reached library top) (names_no_formal library) ≡ true
-unfolding has_unknown_formal
-formal_unknown library top e = alone (has_unknown_formal library top) (told_code library top 23 e)
-
-pub formal_repeated : (library : List ModelOf) (top : ℕ) → flat_code library top ≡ Some 24 → some_instance_in library (reached library top) names_formal_twice ≡ true
-unfolding has_formal_twice
-formal_repeated library top e = alone (has_formal_twice library top) (told_code library top 24 e)
-
-pub input_missing : (library : List ModelOf) (top : ℕ) → flat_code library top ≡ Some 25 → some_instance_in library (reached library top) (leaves_input_out library) ≡ true
-unfolding has_missing_formal
-input_missing library top e = alone (has_missing_formal library top) (told_code library top 25 e)
 
 pub inputs_many : (library : List ModelOf) (top : ℕ) → flat_code library top ≡ Some 30 → 2048 < length (model library top).inputs
 unfolding has_many_inputs
@@ -287,64 +206,6 @@ unfolding flat_code
 size_ends library top e =
     let a = no_code (Some 29) (has_no_such_model library top) 21 _ (apart 21 29 (λ k. absurd (omega (arith, k)))) e in
     (no_code (Some 29) (is_recursive library top) 22 _ (apart 22 29 (λ k. absurd (omega (arith, k)))) a.1).0
-
--- what stands somewhere has a first place
-pub place_known : {X : Type 0} (p : X → Bool) (xs : List X) → list_any p xs ≡ true → is_some (position p xs) ≡ true
-place_known p xs e = by (is_some (position p xs)) refl
-  where
-    by : (b : Bool) → is_some (position p xs) ≡ b → is_some (position p xs) ≡ true
-    by true k = k
-    by false k = absurd (true≢false (sym e ∙ unplaced p xs k))
-
-pub not_true : (b : Bool) → not b ≡ true → b ≡ false
-not_true false e = refl
-not_true true e = absurd (true≢false (sym e))
-
--- the first formal that isn't among the ports of an instance's model
-pub unknown_known : (library : List ModelOf) (i : InstanceOf) → names_no_formal library i ≡ true → is_some (position (λ (pair : List ℕ × List ℕ). not (is_named (ports library (model_number library i.model)) pair.0)) i.pairs) ≡ true
-unknown_known library i e =
-    let known = ports library (model_number library i.model) in
-    place_known (λ (pair : List ℕ × List ℕ). not (is_named known pair.0)) i.pairs (sym (any_mapped (λ formal. not (is_named known formal)) (λ (pair : List ℕ × List ℕ). pair.0) i.pairs) ∙ (no_formal_is library i known refl ∙ e))
-
--- a pair's formal is one of its instance
-pub formal_here : (i : InstanceOf) (k : ℕ) → k < length i.pairs → is_named (formals i) (get_or i.pairs k ([], [])).0 ≡ true
-formal_here i k inside =
-    let same : get_or (formals i) k [] ≡ (get_or i.pairs k ([], [])).0 = get_or-map (λ (pair : List ℕ × List ℕ). pair.0) i.pairs k ([], []) [] inside in
-    ap (is_named (formals i)) (sym same) ∙ member_named (get_or (formals i) k []) (formals i) (member_get (formals i) k [] (omega (arith, length-map i.pairs (λ (pair : List ℕ × List ℕ). pair.0), inside)))
-
-pub unknown_is : (library : List ModelOf) (i : InstanceOf) (k : ℕ) → position (λ (pair : List ℕ × List ℕ). not (is_named (ports library (model_number library i.model)) pair.0)) i.pairs ≡ Some k → (k < length i.pairs) × (is_named (formals i) (get_or i.pairs k ([], [])).0 ≡ true) × (is_named ((callee library i).inputs ++ (callee library i).outputs) (get_or i.pairs k ([], [])).0 ≡ false)
-unknown_is library i k e =
-    let found = position-Some (λ (pair : List ℕ × List ℕ). not (is_named (ports library (model_number library i.model)) pair.0)) i.pairs k ([], []) e in
-    let name = (get_or i.pairs k ([], [])).0 in (
-      found.0,
-      formal_here i k found.0,
-      sym (once_named ((callee library i).inputs ++ (callee library i).outputs) name) ∙ not_true (is_named (ports library (model_number library i.model)) name) found.1,
-    )
-
--- the two places of a formal that stands in an earlier pair
-pub repeated_is : (i : InstanceOf) (k : ℕ) → k < length i.pairs → is_named (map (λ (pair : List ℕ × List ℕ). pair.0) (take k i.pairs)) (get_or i.pairs k ([], [])).0 ≡ true → (j : ℕ) × (l : ℕ) × (j < l) × (l < length (formals i)) × (get_or (formals i) j [] ≡ (get_or i.pairs k ([], [])).0) × (get_or (formals i) l [] ≡ (get_or i.pairs k ([], [])).0)
-repeated_is i k inside e =
-    let f = λ (pair : List ℕ × List ℕ). pair.0 in
-    let name = (get_or i.pairs k ([], [])).0 in
-    let (j, less, same) = member_place (map f (take k i.pairs)) name [] (named_member name (map f (take k i.pairs)) e) in
-    let before : j < k = omega (arith, less, length-map (take k i.pairs) f, length-take-le k i.pairs (omega (arith, inside))) in
-    let there : get_or (formals i) j [] ≡ get_or (map f (take k i.pairs)) j [] =
-    get_or-map f i.pairs j ([], []) [] (omega (arith, before, inside)) ∙ (ap f (sym (get_or-take k i.pairs j ([], []) before)) ∙ sym (get_or-map f (take k i.pairs) j ([], []) [] (omega (arith, less, length-map (take k i.pairs) f)))) in
-    (j, k, before, omega (arith, inside, length-map i.pairs f), there ∙ same, get_or-map f i.pairs k ([], []) [] inside)
-
--- the first input that an instance leaves out
-pub input_known : (library : List ModelOf) (i : InstanceOf) (names inputs : List (List ℕ)) → names ≡ fold with_name [] (formals i) → inputs ≡ (callee library i).inputs → leaves_input_out library i ≡ true → is_some (position (λ word. not (is_named names word)) inputs) ≡ true
-input_known library i names inputs made same e =
-    place_known (λ word. not (is_named names word)) inputs (ap (list_any (λ word. not (is_named names word))) same ∙ (input_out_is library i names made ∙ e))
-
-pub input_is : (library : List ModelOf) (i : InstanceOf) (names inputs : List (List ℕ)) (k : ℕ) → names ≡ fold with_name [] (formals i) → inputs ≡ (callee library i).inputs → position (λ word. not (is_named names word)) inputs ≡ Some k → (k < length inputs) × (is_named (callee library i).inputs (get_or inputs k []) ≡ true) × (is_named (formals i) (get_or inputs k []) ≡ false)
-input_is library i names inputs k made same e =
-    let found = position-Some (λ word. not (is_named names word)) inputs k [] e in
-    let name = get_or inputs k [] in (
-      found.0,
-      ap (λ (all : List (List ℕ)). is_named all name) (sym same) ∙ member_named name inputs (member_get inputs k [] found.0),
-      sym (once_named (formals i) name) ∙ (ap (λ (all : List (List ℕ)). is_named all name) (sym (made ∙ fold_once (formals i))) ∙ not_true (is_named names name) found.1),
-    )
 
 -- walks go on from any place
 walk_drop : {X : Type 0} (next : X → List X) (k : ℕ) (xs : List X) → IsWalk next xs → IsWalk next (drop k xs)

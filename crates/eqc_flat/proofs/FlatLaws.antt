@@ -5,9 +5,10 @@ use Rattle.std.specs.List.{range_with_len}
 use Rattle.std.proofs.lemmas.List.{length-map, get_or-map}
 use Rattle.eqc_blif.specs.Netlist.{ModelOf}
 use Rattle.eqc_blif.specs.Names.{has_twice}
-use Rattle.eqc_flat.specs.Graph.{DriverOf, input, tie, cover, dependencies, ends_within, IsWithinSizes, IsFlat}
-use Rattle.eqc_flat.specs.Hierarchy.{model, paths}
-use Rattle.eqc_flat.specs.Signals.{SignalOf, signals}
+use Rattle.eqc_flat.specs.Graph.{DriverOf, input, tie, cover, dependencies, IsWithinSizes, IsFlat}
+use Rattle.eqc_hierarchy.specs.Dependency.{ends_within}
+use Rattle.eqc_hierarchy.specs.Hierarchy.{model, paths}
+use Rattle.eqc_hierarchy.specs.Signals.{SignalOf, signals}
 use Rattle.eqc_flat.specs.Flattened.{no_signal, path_at, signal_at, signals_here, named_here, all_named, IsFlatOf}
 use Rattle.eqc_flat.specs.RowTable.{all_rows}
 use Rattle.eqc_flat.specs.DriverTable.{IsDriven}
@@ -15,9 +16,9 @@ use Rattle.eqc_flat.specs.Ordering.{signal_deps, IsOrder, IsCircular}
 use Rattle.eqc_flat.specs.Flattening.{put_together}
 use Rattle.eqc_flat.specs.Instances.{IsExpanded}
 use Rattle.eqc_flat.proofs.InstanceLaws.{found_signals}
-use Rattle.eqc_flat.specs.Codes.{is_cyclic}
-use Rattle.eqc_flat.proofs.Distinct.{Member, member_get, all_pieces, member_of_map}
-use Rattle.eqc_flat.proofs.Depth.{ordered_ends}
+use Rattle.eqc_hierarchy.specs.Codes.{is_cyclic}
+use Rattle.eqc_hierarchy.proofs.Distinct.{Member, member_get, all_pieces, member_of_map}
+use Rattle.eqc_hierarchy.proofs.Depth.{ordered_ends}
 use Rattle.eqc_flat.proofs.DriverTableLaws.{sourced}
 use Rattle.eqc_flat.proofs.ExpandedLaws.{signals_named}
 use Rattle.eqc_flat.proofs.HierarchyValues.{IsSourced, not_cyclic, cyclic, output_there}

@@ -5,11 +5,12 @@ use Rattle.std.specs.List.{list_all, list_any}
 use Rattle.std.specs.Option.{option_map, option_and_then}
 use Rattle.std.proofs.lemmas.Bool.{true≢false, and_parts}
 use Rattle.eqc_blif.specs.Netlist.{ModelOf}
-use Rattle.eqc_flat.specs.Graph.{DriverOf, input, tie, cover, FlatOf, driver_at, dependencies, driven, settled, value_of, ends_within}
-use Rattle.eqc_flat.specs.Signals.{SignalOf, signals, sources, needs, all_some, made, value_at, output_value}
-use Rattle.eqc_flat.specs.Codes.{is_cyclic}
+use Rattle.eqc_flat.specs.Graph.{DriverOf, input, tie, cover, FlatOf, driver_at, dependencies, driven, settled, value_of}
+use Rattle.eqc_hierarchy.specs.Dependency.{ends_within}
+use Rattle.eqc_hierarchy.specs.Signals.{SignalOf, signals, sources, needs, all_some, made, value_at, output_value}
+use Rattle.eqc_hierarchy.specs.Codes.{is_cyclic}
 use Rattle.eqc_flat.specs.Flattened.{no_signal, signal_at, source_of}
-use Rattle.eqc_flat.proofs.Distinct.{Member}
+use Rattle.eqc_hierarchy.proofs.Distinct.{Member}
 
 -- each signal of a numbered list has the driver that the hierarchy gives it, and depends on signals of the list
 pub record IsSourced (library : List ModelOf) (top : ℕ) (f : FlatOf) : Type 0 where

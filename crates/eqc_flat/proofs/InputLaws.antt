@@ -5,10 +5,10 @@ use Rattle.std.specs.List.{flat_map, enumerate_from}
 use Rattle.std.specs.Option.{option_map, option_and_then}
 use Rattle.eqc_blif.specs.Netlist.{ModelOf, InstanceOf}
 use Rattle.eqc_blif.specs.Names.{is_named}
-use Rattle.eqc_flat.specs.Hierarchy.{model, model_at, paths}
-use Rattle.eqc_flat.specs.Signals.{SignalOf, same_signal, SourceOf, from_signal, from_cover, Driving, input_drivings, cover_driving, pair_driving, instance_drivings, drivings_at, drivings, sources_in, sources, needs, all_some, made, value_at}
+use Rattle.eqc_hierarchy.specs.Hierarchy.{model, model_at, paths}
+use Rattle.eqc_hierarchy.specs.Signals.{SignalOf, same_signal, SourceOf, from_signal, from_cover, Driving, input_drivings, cover_driving, pair_driving, instance_drivings, drivings_at, drivings, sources_in, sources, needs, all_some, made, value_at}
 use Rattle.eqc_flat.specs.ValueLaws.{ValuesDependOnInputsAlone, CoversDependOnColumnsAlone}
-use Rattle.eqc_flat.proofs.Distinct.{Member, member_append, member_of_map, all_pieces}
+use Rattle.eqc_hierarchy.proofs.Distinct.{Member, member_append, member_of_map, all_pieces}
 
 -- a source that makes the same under two assignments, whatever values the signals have
 abbrev IsSame : (ℕ → Bool) → (ℕ → Bool) → SourceOf → Type 0

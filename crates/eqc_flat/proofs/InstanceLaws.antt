@@ -8,15 +8,15 @@ use Rattle.std.proofs.lemmas.List.Folds.{length-flat_map-take}
 use Rattle.std.proofs.lemmas.List.FromFn.{get_or-map-range_with_len, length-map-range_with_len, map-range_with_len_more}
 use Rattle.std.proofs.lemmas.Grind.{flat_map-append}
 use Rattle.eqc_blif.specs.Netlist.{ModelOf}
-use Rattle.eqc_flat.specs.Hierarchy.{model, callees, model_at, below, paths}
-use Rattle.eqc_flat.specs.Signals.{names_of, signals_at}
-use Rattle.eqc_flat.specs.Signals as sig
-use Rattle.eqc_flat.specs.Codes.{is_too_large}
+use Rattle.eqc_hierarchy.specs.Hierarchy.{model, callees, model_at, below, paths}
+use Rattle.eqc_hierarchy.specs.Signals.{names_of, signals_at}
+use Rattle.eqc_hierarchy.specs.Signals as sig
+use Rattle.eqc_hierarchy.specs.Codes.{is_too_large}
 use Rattle.eqc_flat.specs.Flattened.{path_at, first_signal}
 use Rattle.eqc_flat.specs.Instances.{first_below, IsGrowing, IsFound}
-use Rattle.eqc_flat.proofs.CallLaws.{number_within}
-use Rattle.eqc_flat.proofs.NamingLaws.{no_instance, callee_at, callee_count}
-use Rattle.eqc_flat.proofs.PathLaws as tree
+use Rattle.eqc_hierarchy.proofs.CallLaws.{number_within}
+use Rattle.eqc_hierarchy.proofs.NamingLaws.{no_instance, callee_at, callee_count}
+use Rattle.eqc_hierarchy.proofs.PathLaws as tree
 
 -- the signals of one instance more
 pub first_more : (library : List ModelOf) (top q : ℕ) → q < length (paths library top) → first_signal library top (q + 1) ≡ first_signal library top q + length (names_of (model library (model_at library top (path_at library top q))))

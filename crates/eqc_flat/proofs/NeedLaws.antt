@@ -4,12 +4,12 @@ use Rattle.std.specs.Prelude.{filter}
 use Rattle.std.specs.List.{flat_map, enumerate_from}
 use Rattle.eqc_blif.specs.Netlist.{ModelOf, InstanceOf, CoverOf}
 use Rattle.eqc_blif.specs.Names.{is_named}
-use Rattle.eqc_flat.specs.Hierarchy.{model, model_number, model_at, paths}
-use Rattle.eqc_flat.specs.Signals.{SignalOf, same_signal, SourceOf, from_input, Driving, input_drivings, cover_driving, pair_driving, instance_drivings, drivings_at, drivings, sources_in, sources, needs, cover_names, actuals, signals}
-use Rattle.eqc_flat.specs.Codes.{is_recursive, has_unknown_formal}
+use Rattle.eqc_hierarchy.specs.Hierarchy.{model, model_number, model_at, paths}
+use Rattle.eqc_hierarchy.specs.Signals.{SignalOf, same_signal, SourceOf, from_input, Driving, input_drivings, cover_driving, pair_driving, instance_drivings, drivings_at, drivings, sources_in, sources, needs, cover_names, actuals, signals}
+use Rattle.eqc_hierarchy.specs.Codes.{is_recursive, has_unknown_formal}
 use Rattle.eqc_flat.specs.HierarchyLaws.{IsInstance, inner, needed, occurring}
-use Rattle.eqc_flat.proofs.Distinct.{Member, member_append, member_left, member_right, member_map, member_of_map, member_piece, all_pieces}
-use Rattle.eqc_flat.proofs.NamingLaws.{no_instance, member_named, named_member, callee_at, callee_count, formal_there}
+use Rattle.eqc_hierarchy.proofs.Distinct.{Member, member_append, member_left, member_right, member_map, member_of_map, member_piece, all_pieces}
+use Rattle.eqc_hierarchy.proofs.NamingLaws.{no_instance, member_named, named_member, callee_at, callee_count, formal_there}
 use Rattle.eqc_flat.proofs.ExpandedLaws.{growing}
 use Rattle.eqc_flat.proofs.DrivingLaws.{pair_input, pair_output}
 use Rattle.eqc_flat.proofs.SignalLaws.{there_instance, signal_member}

@@ -5,21 +5,16 @@ use Rattle.std.specs.Prelude.{slice_index_or, filter}
 use Rattle.std.specs.List.{flat_map}
 use Rattle.std.specs.Str.{bytes_eq}
 use Rattle.std.proofs.lemmas.Bool.{true≢false, and_parts, and_from}
-use Rattle.std.proofs.lemmas.Slice.Eq.{bytes_eq-Decides}
 use Rattle.std.proofs.lemmas.List.{length-map, get_or-map}
 use Rattle.std.proofs.lemmas.List.Concat.{get_or-flat_map}
 use Rattle.std.proofs.lemmas.List.Folds.{length-flat_map-take}
 use Rattle.eqc_blif.specs.Netlist.{ModelOf}
-use Rattle.eqc_flat.specs.Hierarchy.{model, model_at, paths}
-use Rattle.eqc_flat.specs.Signals.{SignalOf, same_signal, cover_names, actuals, once_each, names_of, signals_at, signals}
+use Rattle.eqc_hierarchy.specs.Hierarchy.{model, model_at, paths}
+use Rattle.eqc_hierarchy.specs.Signals.{SignalOf, same_signal, cover_names, actuals, once_each, names_of, signals_at, signals}
 use Rattle.eqc_flat.specs.Flattened.{no_signal, signal_at, path_at, first_signal}
-use Rattle.eqc_flat.proofs.Distinct.{Member, Distinct, member_of_map, distinct_flat_map, distinct_map, distinct_places}
-use Rattle.eqc_flat.proofs.PathLaws.{paths_distinct}
-use Rattle.eqc_flat.proofs.NameSetLaws.{bytes_same}
-
--- equal names, and names that are told apart
-pub same_bytes : (xs : List ℕ) → bytes_eq xs xs ≡ true
-same_bytes xs = (bytes_eq-Decides xs xs).1 refl
+use Rattle.eqc_hierarchy.proofs.Distinct.{Member, Distinct, member_of_map, distinct_flat_map, distinct_map, distinct_places}
+use Rattle.eqc_hierarchy.proofs.PathLaws.{paths_distinct}
+use Rattle.eqc_hierarchy.proofs.NameSetLaws.{bytes_same, bytes_self}
 
 -- signals are the same where the test says so
 pub signals_same : (s t : SignalOf) → same_signal s t ≡ true → s ≡ t
@@ -31,7 +26,7 @@ signals_same s t e =
     ap (λ p. record { path = p; name = s.name }) path ∙ ap (λ n. record { path = t.path; name = n }) name
 
 pub same_self : (s : SignalOf) → same_signal s s ≡ true
-same_self s = and_from (bytes_eq s.path s.path) (bytes_eq s.name s.name) (same_bytes s.path) (same_bytes s.name)
+same_self s = and_from (bytes_eq s.path s.path) (bytes_eq s.name s.name) (bytes_self s.path) (bytes_self s.name)
 
 -- what a filter keeps stood there before and passes
 kept_member : (p : List ℕ → Bool) (y : List ℕ) (xs : List (List ℕ)) → Member y (filter p xs) → Member y xs × (p y ≡ true)
@@ -57,7 +52,7 @@ distinct_filter p (x ∷ xs) d = by_test (p x) refl (distinct_filter p xs d.1)
 pub distinct_once : (names : List (List ℕ)) → Distinct (once_each names)
 distinct_once [] = tt
 distinct_once (name ∷ names) =
-    (λ h. let (there, other) = kept_member (λ z. not (bytes_eq name z)) name (once_each names) h in true≢false (sym other ∙ ap not (same_bytes name)), distinct_filter (λ z. not (bytes_eq name z)) (once_each names) (distinct_once names))
+    (λ h. let (there, other) = kept_member (λ z. not (bytes_eq name z)) name (once_each names) h in true≢false (sym other ∙ ap not (bytes_self name)), distinct_filter (λ z. not (bytes_eq name z)) (once_each names) (distinct_once names))
 
 pub names_distinct : (m : ModelOf) → Distinct (names_of m)
 unfolding names_of

@@ -1,16 +1,18 @@
 -- An order that has each of n signals and no more than n places has each once.
 use Rattle.std.proofs.Common.{◌==◌, ◌≡◌, ℕ, zero, suc, ◌+◌, ◌<◌, ◌≤◌, inl, inr, Bool, true, false, List, [], ◌∷◌, ◌++◌, length, take, drop, get_or, refl, sym, ◌∙◌, ap, subst, arith, nat_lt}
 use Rattle.std.specs.List.{range_with_len, list_all}
-use Rattle.std.proofs.lemmas.Bool.{and_parts, true≢false, or_cases, eqb-true, cases_lt, cases_eq, ltb-true, lt-ltb}
+use Rattle.std.proofs.lemmas.Bool.{true≢false, or_cases, eqb-true, cases_lt, cases_eq, ltb-true, lt-ltb}
 use Rattle.std.proofs.lemmas.List.{length-append, length-take-le, length-drop}
 use Rattle.std.proofs.lemmas.List.FromFn.{length-range_with_len}
-use Rattle.eqc_flat.specs.Graph.{DriverOf, among}
-use Rattle.eqc_flat.specs.Searching.{IsSearch}
+use Rattle.eqc_flat.specs.Graph.{DriverOf}
+use Rattle.eqc_hierarchy.specs.Dependency.{among}
+use Rattle.eqc_hierarchy.specs.Searching.{IsSearch}
 use Rattle.eqc_flat.specs.Ordering.{signal_deps, IsOrder, HasNoOrder}
-use Rattle.eqc_flat.specs.declared.search.Stage.{Stage}
-use Rattle.eqc_flat.proofs.Depth.{all_more}
-use Rattle.eqc_flat.proofs.Distinct.{Member, Distinct, member_append, member_left, member_right, distinct_range}
-use Rattle.eqc_flat.proofs.PathLaws.{range_below}
+use Rattle.eqc_hierarchy.specs.declared.search.Stage.{Stage}
+use Rattle.eqc_hierarchy.proofs.Depth.{all_more}
+use Rattle.eqc_hierarchy.proofs.Distinct.{Member, Distinct, member_append, member_left, member_right, distinct_range}
+use Rattle.eqc_hierarchy.proofs.PathLaws.{range_below}
+use Rattle.eqc_hierarchy.proofs.Members.{all_at}
 
 pub among_member : (xs : List ℕ) (x : ℕ) → among xs x ≡ true → Member x xs
 among_member [] x e = absurd (true≢false (sym e))
@@ -79,11 +81,6 @@ order_once n xs h few i j a b e = elim (cases_lt i j) [
 
 pub order_length : (n : ℕ) (xs : List ℕ) → ((s : ℕ) → s < n → among xs s ≡ true) → length xs ≤ n → length xs ≡ n
 order_length n xs h few = let least = covered n xs (λ s k. among_member xs s (h s k)) in omega (arith, least, few)
-
-pub all_at : (p : ℕ → Bool) (xs : List ℕ) (k d : ℕ) → list_all p xs ≡ true → k < length xs → p (get_or xs k d) ≡ true
-all_at p [] k d e h = absurd (omega arith)
-all_at p (x ∷ xs) zero d e h = (and_parts (p x) (list_all p xs) e).0
-all_at p (x ∷ xs) (suc k) d e h = all_at p xs k d ((and_parts (p x) (list_all p xs) e).1) (omega arith)
 
 -- a search that went over all signals has an order of them
 pub search_order : (drivers : List DriverOf) (n : ℕ) (stages : List Stage) (order : List ℕ) → IsSearch (signal_deps drivers) n stages [] order → n ≡ length drivers → ((s : ℕ) → s < n → among order s ≡ true) → IsOrder drivers order

@@ -1,20 +1,20 @@
 -- The list of signals has the names that occur in the models of the instances, each once.
-use Rattle.std.proofs.Common.{◌≡◌, ℕ, zero, suc, ◌+◌, ◌<◌, ◌≤◌, inl, inr, true, List, [], ◌∷◌, length, get_or, refl, sym, ◌∙◌, subst, arith}
+use Rattle.std.proofs.Common.{◌≡◌, ℕ, zero, suc, ◌+◌, ◌<◌, ◌≤◌, inl, inr, true, List, [], ◌∷◌, length, refl, sym, ◌∙◌, subst, arith}
 use Rattle.std.specs.List.{range_with_len}
 use Rattle.std.proofs.lemmas.Bool.{cases_eq}
 use Rattle.eqc_blif.specs.Netlist.{ModelOf}
 use Rattle.eqc_blif.specs.Names.{is_named}
-use Rattle.eqc_flat.specs.Hierarchy.{model, callees, model_at, below, paths_within, paths}
-use Rattle.eqc_flat.specs.Signals.{SignalOf, names_of, signals_at, signals}
+use Rattle.eqc_hierarchy.specs.Hierarchy.{model, callees, model_at, below, paths_within, paths}
+use Rattle.eqc_hierarchy.specs.Signals.{SignalOf, names_of, signals_at, signals}
 use Rattle.eqc_flat.specs.Flattened.{no_signal}
 use Rattle.eqc_flat.specs.Instances.{IsGrowing}
 use Rattle.eqc_flat.specs.HierarchyLaws.{IsInstance, main, inner, occurring, SignalsStandOnce, SignalsAreNamesOfInstances}
-use Rattle.eqc_flat.proofs.Distinct.{Member, member_get, member_map, member_of_map, member_piece, all_pieces, distinct_places}
+use Rattle.eqc_hierarchy.proofs.Distinct.{Member, member_get, member_map, member_of_map, member_piece, all_pieces, distinct_places, member_place}
 use Rattle.eqc_flat.proofs.NumberLaws.{signals_distinct}
-use Rattle.eqc_flat.proofs.NameSetLaws.{once_named}
-use Rattle.eqc_flat.proofs.NamingLaws.{named_member, member_named}
+use Rattle.eqc_hierarchy.proofs.NameSetLaws.{once_named}
+use Rattle.eqc_hierarchy.proofs.NamingLaws.{named_member, member_named}
 use Rattle.eqc_flat.proofs.ExpandedLaws.{growing}
-use Rattle.eqc_flat.proofs.PathLaws.{range_below}
+use Rattle.eqc_hierarchy.proofs.PathLaws.{range_below}
 
 pub signals_stand_once : SignalsStandOnce
 signals_stand_once = λ library top i j a b e. distinct_places (signals library top) no_signal i j (signals_distinct library top) a b e
@@ -23,12 +23,6 @@ signals_stand_once = λ library top i j a b e. distinct_places (signals library 
 pub range_has : (a n y : ℕ) → a ≤ y → y < a + n → Member y (range_with_len a n)
 range_has a zero y h k = absurd (omega (arith, h, k))
 range_has a (suc n) y h k = elim (cases_eq a y) [ inl same ↦ inl same | inr other ↦ inr (range_has (a + 1) n y (omega arith) (omega (arith, k))) ]
-
--- where a member stands
-pub member_place : {X : Type 0} (xs : List X) (x d : X) → Member x xs → (k : ℕ) × (k < length xs) × (get_or xs k d ≡ x)
-member_place [] x d h = absurd h
-member_place (y ∷ xs) x d (inl same) = (0, omega arith, same)
-member_place (y ∷ xs) x d (inr there) = let (k, inside, is) = member_place xs x d there in (suc k, omega (arith, inside), is)
 
 -- an instance is among the paths
 instance_there : (library : List ModelOf) (top : ℕ) (path : List ℕ) → IsGrowing library top → IsInstance library top path → Member path (paths library top)

@@ -1,17 +1,17 @@
 -- Columns are kept once for all instances of a model.
-use Rattle.std.proofs.Common.{◌≡◌, ℕ, ◌+◌, ◌<◌, ◌≤◌, List, [], ◌∷◌, ◌++◌, length, map, take, refl, sym, ◌∙◌, ap, arith, Some, None}
+use Rattle.std.proofs.Common.{◌≡◌, ℕ, ◌+◌, ◌<◌, ◌≤◌, List, [], ◌∷◌, length, map, take, refl, sym, ◌∙◌, ap, arith, Some, None}
 use Rattle.std.specs.Prelude.{slice_index_or}
 use Rattle.std.specs.List.{flat_map}
-use Rattle.std.proofs.lemmas.List.{length-map, length-append, get_or-map, append-nil, take_more}
+use Rattle.std.proofs.lemmas.List.{length-map, length-append, get_or-map}
 use Rattle.std.proofs.lemmas.List.Concat.{get_or-flat_map}
-use Rattle.std.proofs.lemmas.Grind.{flat_map-append}
 use Rattle.eqc_blif.specs.Netlist.{ModelOf, CoverOf, no_cover, no_model}
 use Rattle.eqc_flat.specs.Graph.{DriverOf, input, tie, cover, IsWithinSizes}
-use Rattle.eqc_flat.specs.Hierarchy.{model}
-use Rattle.eqc_flat.specs.Signals.{names_of, signals}
+use Rattle.eqc_hierarchy.specs.Hierarchy.{model}
+use Rattle.eqc_hierarchy.specs.Signals.{names_of, signals}
 use Rattle.eqc_flat.specs.RowTable.{rows_of, all_rows}
 use Rattle.eqc_flat.specs.DriverTable.{IsDriven}
-use Rattle.eqc_flat.specs.StoredDrivers.{places_in, columns_of, all_columns, AreInRange}
+use Rattle.eqc_hierarchy.specs.Columns.{places_in, columns_of, all_columns}
+use Rattle.eqc_flat.specs.StoredDrivers.{AreInRange}
 
 -- there are columns for as many covers as there are rows
 pub same_count : (library : List ModelOf) → length (flat_map columns_of library) ≡ length (flat_map rows_of library)
@@ -27,10 +27,6 @@ columns_at library m k inside here =
     let names = names_of (model library m) in
     ap (λ n. slice_index_or (all_columns library) (n + k) []) (sym (same_count (take m library)))
     ∙ (get_or-flat_map columns_of library m k no_model [] inside (rw length-map here) ∙ get_or-map (λ (c : CoverOf). places_in names c.columns) (model library m).covers k no_cover [] here)
-
--- the columns of one model more
-pub columns_more : (library : List ModelOf) (m : ℕ) → m < length library → flat_map columns_of (take (m + 1) library) ≡ flat_map columns_of (take m library) ++ columns_of (model library m)
-columns_more library m inside = ap (flat_map columns_of) (take_more library m no_model inside) ∙ (flat_map-append columns_of (take m library) (model library m ∷ []) ∙ ap (λ xs. flat_map columns_of (take m library) ++ xs) (append-nil (columns_of (model library m))))
 
 -- fewer inputs, signals and rows
 within_more : (a b c d e f : ℕ) (driver : DriverOf) → a ≤ b → c ≤ d → e ≡ f → IsWithinSizes a c e driver → IsWithinSizes b d f driver

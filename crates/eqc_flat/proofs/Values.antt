@@ -3,8 +3,9 @@ use Rattle.std.proofs.Common.{◌≡◌, ℕ, zero, suc, Bool, true, List, [], �
 use Rattle.std.specs.List.{list_all}
 use Rattle.std.proofs.lemmas.Bool.{and_parts, true≢false}
 use Rattle.eqc_blif.specs.Cover.{cover_value}
-use Rattle.eqc_flat.specs.Graph.{ends_within, DriverOf, input, tie, cover, FlatOf, driver_at, dependencies, driven, settled, value_of, IsFlat, FollowsDrivers}
-use Rattle.eqc_flat.proofs.Depth.{ordered_ends}
+use Rattle.eqc_hierarchy.specs.Dependency.{ends_within}
+use Rattle.eqc_flat.specs.Graph.{DriverOf, input, tie, cover, FlatOf, driver_at, dependencies, driven, settled, value_of, IsFlat, FollowsDrivers}
+use Rattle.eqc_hierarchy.proofs.Depth.{ordered_ends}
 use Rattle.std.specs.Prelude.{slice_index_or}
 
 -- two functions that agree where a test holds map a list on which it holds throughout to the same list

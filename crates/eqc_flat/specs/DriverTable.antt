@@ -3,12 +3,13 @@ use Rattle.std.specs.Prelude.{◌≡◌, ◌⊎◌, ℕ, ◌<◌, true, false, L
 use Rattle.std.specs.Option.{option_map}
 use Rattle.eqc_blif.specs.Netlist.{ModelOf}
 use Rattle.eqc_flat.specs.Graph.{DriverOf, IsWithinSizes}
-use Rattle.eqc_flat.specs.Hierarchy.{model}
-use Rattle.eqc_flat.specs.Signals.{Driving, sources_in, signals, drivings}
-use Rattle.eqc_flat.specs.Codes.{is_driven_twice, is_undriven}
+use Rattle.eqc_hierarchy.specs.Hierarchy.{model}
+use Rattle.eqc_hierarchy.specs.Signals.{Driving, sources_in, signals, drivings}
+use Rattle.eqc_hierarchy.specs.Codes.{is_driven_twice, is_undriven}
 use Rattle.eqc_flat.specs.Flattened.{signal_at, source_of}
 use Rattle.eqc_flat.specs.RowTable.{all_rows}
-use Rattle.eqc_flat.specs.StoredDrivers.{all_columns, driver_from}
+use Rattle.eqc_hierarchy.specs.Columns.{all_columns}
+use Rattle.eqc_flat.specs.StoredDrivers.{driver_from}
 use Rattle.eqc_flat.specs.declared.stored_driver.StoredDriver.{StoredDriver}
 
 -- the driver of a slot as a list

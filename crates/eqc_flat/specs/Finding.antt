@@ -1,18 +1,17 @@
 -- What is at fault in a hierarchy that is refused, named so that it can be found in the text.
-use Rattle.std.specs.Prelude.{◌≡◌, ℕ, ◌<◌, ◌+◌, ◌-◌, true, false, List, [], ◌∷◌, ◌++◌, length, map, take, slice_index_or, Option, Some, None}
-use Rattle.eqc_blif.specs.Netlist.{ModelOf, InstanceOf}
-use Rattle.eqc_blif.specs.Names.{is_named}
-use Rattle.eqc_flat.specs.Graph.{among}
-use Rattle.eqc_flat.specs.Hierarchy.{model, model_number, callees, model_at, reached, paths}
-use Rattle.eqc_flat.specs.Walks.{IsWalk, WalksBack}
+use Rattle.std.specs.Prelude.{◌≡◌, ℕ, ◌<◌, ◌+◌, ◌-◌, List, [], ◌∷◌, ◌++◌, length, map, take, slice_index_or, Option, Some, None}
+use Rattle.eqc_blif.specs.Netlist.{ModelOf}
+use Rattle.eqc_hierarchy.specs.Hierarchy.{model, callees, model_at, paths}
+use Rattle.eqc_hierarchy.specs.Walks.{IsWalk, WalksBack}
 use Rattle.eqc_flat.specs.HierarchyLaws.{needed}
-use Rattle.eqc_flat.specs.Reaching.{no_instance}
-use Rattle.eqc_flat.specs.Signals.{SignalOf, signals, sources}
-use Rattle.eqc_flat.specs.Codes.{formals, flat_code}
+use Rattle.eqc_hierarchy.specs.Signals.{SignalOf, signals, sources}
+use Rattle.eqc_hierarchy.specs.Codes.{flat_code}
 use Rattle.eqc_flat.specs.Flattened.{signal_at}
 use Rattle.eqc_flat.specs.declared.hierarchical_name.Step.{Step}
 use Rattle.eqc_flat.specs.declared.finding.Finding.{Finding}
 use Rattle.eqc_flat.specs.declared.finding.Finding.TheVariants.{NoSuchModel, Recursion, UnknownFormal, FormalTwice, MissingInput, DrivenTwice, Undriven, Circular, TooLarge, ManyInputs}
+use Rattle.eqc_hierarchy.specs.InstanceFinding.{IsMissingModel, IsUnknownFormal, IsRepeatedFormal, IsMissingInput}
+use Rattle.eqc_hierarchy.specs.Sizes.{IsTold}
 
 -- the instances from one up to the main model, the innermost first, each with its position in the model around it and
 -- with its own model
@@ -23,34 +22,6 @@ steps_of library top (position ∷ up) = record { position = position; model = m
 -- the hierarchical name of a flat signal: its instance, and its name there
 abbrev pub hierarchical_name : List ModelOf → ℕ → SignalOf → List Step × List ℕ
 hierarchical_name library top s = (steps_of library top s.path, s.name)
-
--- an instance of a model that the main model reaches, by the number of that model and the instance's position there
-abbrev pub StandsAt : List ModelOf → ℕ → ℕ × ℕ → InstanceOf → Type 0
-StandsAt library top place i =
-    (among (reached library top) place.0 ≡ true) × (place.1 < length (model library place.0).instances) × (i ≡ slice_index_or (model library place.0).instances place.1 no_instance)
-
--- the model of an instance
-abbrev pub callee : List ModelOf → InstanceOf → ModelOf
-callee library i = model library (model_number library i.model)
-
--- 21: an instance asks for a model that isn't there
-abbrev pub IsMissingModel : List ModelOf → ℕ → (ℕ × ℕ) × InstanceOf → Type 0
-IsMissingModel library top found = StandsAt library top found.0 found.1 × (model_number library found.1.model ≡ length library)
-
--- 23: a formal of an instance is neither input nor output of its model
-abbrev pub IsUnknownFormal : List ModelOf → ℕ → ((ℕ × ℕ) × InstanceOf) × List ℕ → Type 0
-IsUnknownFormal library top found =
-    StandsAt library top found.0.0 found.0.1 × (is_named (formals found.0.1) found.1 ≡ true) × (is_named ((callee library found.0.1).inputs ++ (callee library found.0.1).outputs) found.1 ≡ false)
-
--- 24: a formal stands at two places of an instance
-abbrev pub IsRepeatedFormal : List ModelOf → ℕ → ((ℕ × ℕ) × InstanceOf) × List ℕ → Type 0
-IsRepeatedFormal library top found =
-    StandsAt library top found.0.0 found.0.1 × ((j : ℕ) × (k : ℕ) × (j < k) × (k < length (formals found.0.1)) × (slice_index_or (formals found.0.1) j [] ≡ found.1) × (slice_index_or (formals found.0.1) k [] ≡ found.1))
-
--- 25: an input of an instance's model is no formal of the instance
-abbrev pub IsMissingInput : List ModelOf → ℕ → ((ℕ × ℕ) × InstanceOf) × List ℕ → Type 0
-IsMissingInput library top found =
-    StandsAt library top found.0.0 found.0.1 × (is_named (callee library found.0.1).inputs found.1 ≡ true) × (is_named (formals found.0.1) found.1 ≡ false)
 
 -- 26: a flat signal of this name is driven twice
 abbrev pub NamesDrivenTwice : List ModelOf → ℕ → List Step × List ℕ → Type 0
@@ -67,11 +38,6 @@ NamesUndriven library top name =
 abbrev pub IsCircle : List ModelOf → ℕ → List (List Step × List ℕ) × ℕ → Type 0
 IsCircle library top circle =
     (members : List ℕ) × (0 < length members) × (circle.1 ≡ length members) × (circle.0 ≡ map (λ s. hierarchical_name library top (signal_at library top s)) (take 20 members)) × ((k : ℕ) → k < length members → slice_index_or members k 0 < length (signals library top)) × IsWalk (needed library top) (map (signal_at library top) (members ++ slice_index_or members 0 0 ∷ []))
-
--- a number that is told, or isn't told since it is over 2^64 - 1
-abbrev pub IsTold : Option ℕ → ℕ → Type 0
-IsTold None number = 18446744073709551615 < number
-IsTold (Some told) number = told ≡ number
 
 -- what is named holds of the hierarchy, which is refused for it
 abbrev pub IsAtFault : List ModelOf → ℕ → Finding → Type 0

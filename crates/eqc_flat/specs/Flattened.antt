@@ -4,8 +4,8 @@ use Rattle.std.specs.Prelude.{◌≡◌, ℕ, ◌<◌, ◌≤◌, Bool, List, []
 use Rattle.std.specs.List.{flat_map, range_with_len}
 use Rattle.eqc_blif.specs.Netlist.{ModelOf}
 use Rattle.eqc_flat.specs.Graph.{DriverOf, input, tie, cover, FlatOf, driver_at, value_of}
-use Rattle.eqc_flat.specs.Hierarchy.{model, model_at, paths}
-use Rattle.eqc_flat.specs.Signals.{SignalOf, SourceOf, from_input, from_signal, from_cover, names_of, signals_at, signals, sources, output_value}
+use Rattle.eqc_hierarchy.specs.Hierarchy.{model, model_at, paths}
+use Rattle.eqc_hierarchy.specs.Signals.{SignalOf, SourceOf, from_input, from_signal, from_cover, names_of, signals_at, signals, sources, output_value}
 
 -- what stands for a signal where there is none
 abbrev pub no_signal : SignalOf

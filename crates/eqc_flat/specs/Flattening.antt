@@ -1,9 +1,11 @@
--- For the proofs alone: the flat netlist of a main model, put together from its parts.
-use Rattle.std.specs.Prelude.{ℕ, List}
+-- For the proofs alone: what is known on the way to a flat netlist, and the netlist put together from its parts.
+use Rattle.std.specs.Prelude.{ℕ, List, ◌≡◌, ◌⊎◌, ◌≤◌, false, length, Some}
 use Rattle.eqc_blif.specs.Netlist.{ModelOf}
 use Rattle.eqc_flat.specs.Graph.{DriverOf, FlatOf}
-use Rattle.eqc_flat.specs.Hierarchy.{model}
+use Rattle.eqc_hierarchy.specs.Hierarchy.{model}
 use Rattle.eqc_flat.specs.RowTable.{all_rows}
+use Rattle.eqc_hierarchy.specs.Codes.{is_too_large, flat_code}
+use Rattle.eqc_hierarchy.specs.ModelFaults.{HasNoModelFault}
 
 abbrev pub put_together : List ModelOf → ℕ → List ℕ → List (ℕ × List ℕ) → List (ℕ × ℕ) → List DriverOf → List ℕ → FlatOf
 put_together library top output_signals signals places drivers steps = record {
@@ -16,3 +18,13 @@ put_together library top output_signals signals places drivers steps = record {
   rows = all_rows library;
   steps = steps;
 }
+
+-- whether its signals can be numbered and their drivers told: nor is the hierarchy too large, or has too many inputs
+pub record IsNumberable (library : List ModelOf) (top : ℕ) : Type 0 where
+  pub models : HasNoModelFault library top
+  pub small : is_too_large library top ≡ false
+  pub few : length (model library top).inputs ≤ 2048
+
+-- memory was refused, or the hierarchy is refused by a code
+abbrev pub IsFlatFault : List ModelOf → ℕ → ℕ → Type 0
+IsFlatFault library top code = (code ≡ 72) ⊎ (flat_code library top ≡ Some code)

@@ -1,8 +1,8 @@
 -- A flat netlist: numbered signals, each with what drives it, and the value of each under values of the inputs.
-use Rattle.std.specs.Prelude.{◌≡◌, ℕ, zero, suc, ◌-◌, ◌<◌, ◌≤◌, Bool, true, false, ◌||◌, ◌&&◌, List, [], ◌∷◌, length, map, slice_index_or, ◌==◌}
-use Rattle.std.specs.List.{list_all}
+use Rattle.std.specs.Prelude.{◌≡◌, ℕ, zero, suc, ◌-◌, ◌<◌, ◌≤◌, Bool, true, false, List, [], ◌∷◌, length, map, slice_index_or}
 use Rattle.eqc_blif.specs.Cover.{cover_value}
 use Rattle.eqc_blif.specs.Names.{has_twice}
+use Rattle.eqc_hierarchy.specs.Dependency.{among, in_order}
 
 -- what drives a signal: the input at a position, the signal at the other end of a tie, or a cover over
 -- signals with the rows of a number
@@ -48,21 +48,6 @@ settled f a (suc rounds) s = driven f.rows a (settled f a rounds) (driver_at f s
 -- the value of a signal: after as many rounds as there are signals
 unfoldable pub value_of : FlatOf → (ℕ → Bool) → ℕ → Bool
 value_of f a s = settled f a (length f.drivers) s
-
--- whether a number is in a list
-abbrev pub among : List ℕ → ℕ → Bool
-among [] x = false
-among (y ∷ ys) x = (y == x) || among ys x
-
--- whether each signal stands after all that it depends on, those of `done` standing before
-abbrev pub in_order : (ℕ → List ℕ) → List ℕ → List ℕ → Bool
-in_order deps done [] = true
-in_order deps done (s ∷ ss) = list_all (among done) (deps s) && in_order deps (s ∷ done) ss
-
--- whether all that a signal depends on, that depends on, and so on, ends within so many steps
-abbrev pub ends_within : (ℕ → List ℕ) → ℕ → ℕ → Bool
-ends_within deps zero s = false
-ends_within deps (suc steps) s = list_all (ends_within deps steps) (deps s)
 
 -- whether a driver speaks of so many inputs, signals and lists of rows
 abbrev pub IsWithinSizes : ℕ → ℕ → ℕ → DriverOf → Type 0

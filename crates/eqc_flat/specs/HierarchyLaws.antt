@@ -3,9 +3,9 @@ use Rattle.std.specs.Prelude.{◌≡◌, ◌⊎◌, ◌↔◌, ℕ, ◌<◌, tru
 use Rattle.std.specs.List.{flat_map}
 use Rattle.eqc_blif.specs.Netlist.{ModelOf}
 use Rattle.eqc_blif.specs.Names.{is_named}
-use Rattle.eqc_flat.specs.Hierarchy.{model, callees, model_at}
-use Rattle.eqc_flat.specs.Signals.{SignalOf, cover_names, actuals, signals, sources, needs}
-use Rattle.eqc_flat.specs.Codes.{is_recursive, flat_code}
+use Rattle.eqc_hierarchy.specs.Hierarchy.{model, callees, model_at}
+use Rattle.eqc_hierarchy.specs.Signals.{SignalOf, cover_names, actuals, signals, sources, needs}
+use Rattle.eqc_hierarchy.specs.Codes.{is_recursive, flat_code}
 use Rattle.eqc_flat.specs.Flattened.{signal_at}
 
 -- an instance: the main model, or a `.subckt` of the model of an instance

@@ -2,9 +2,9 @@
 use Rattle.std.specs.Prelude.{◌≡◌, ℕ, ◌+◌, ◌<◌, ◌≤◌, false, List, [], ◌∷◌, length, map, take, slice_index_or}
 use Rattle.std.specs.List.{flat_map, range_with_len}
 use Rattle.eqc_blif.specs.Netlist.{ModelOf}
-use Rattle.eqc_flat.specs.Hierarchy.{model_at, below, paths}
-use Rattle.eqc_flat.specs.Codes.{is_too_large}
-use Rattle.eqc_flat.specs.StoredDrivers.{all_columns}
+use Rattle.eqc_hierarchy.specs.Hierarchy.{model_at, below, paths}
+use Rattle.eqc_hierarchy.specs.Codes.{is_too_large}
+use Rattle.eqc_hierarchy.specs.Columns.{all_columns}
 use Rattle.eqc_flat.specs.Flattened.{path_at, first_signal}
 
 -- the number of the first instance right below another

@@ -2,8 +2,9 @@
 use Rattle.std.specs.Prelude.{◌≡◌, ℕ, ◌<◌, true, false, List, [], length, slice_index_or}
 use Rattle.eqc_blif.specs.Netlist.{ModelOf}
 use Rattle.eqc_flat.specs.DriverTable.{IsDriven}
-use Rattle.eqc_flat.specs.Walks.{WalksBack}
-use Rattle.eqc_flat.specs.Graph.{DriverOf, input, dependencies, among, in_order, ends_within}
+use Rattle.eqc_hierarchy.specs.Walks.{WalksBack}
+use Rattle.eqc_flat.specs.Graph.{DriverOf, input, dependencies}
+use Rattle.eqc_hierarchy.specs.Dependency.{among, in_order, ends_within}
 
 -- what each signal depends on
 abbrev pub signal_deps : List DriverOf → ℕ → List ℕ

@@ -1,10 +1,10 @@
 -- Laws of the values of flat signals, for readers of the definitions.
 use Rattle.std.specs.Prelude.{◌≡◌, ℕ, suc, ◌+◌, ◌<◌, Bool, true, List, length, map, Some, None, is_some, slice_get}
 use Rattle.eqc_blif.specs.Netlist.{ModelOf}
-use Rattle.eqc_flat.specs.Hierarchy.{model}
-use Rattle.eqc_flat.specs.Signals.{SignalOf, from_cover, signals, sources, value_at}
+use Rattle.eqc_hierarchy.specs.Hierarchy.{model}
+use Rattle.eqc_hierarchy.specs.Signals.{SignalOf, from_cover, signals, sources, value_at}
 use Rattle.eqc_flat.specs.Flattened.{signal_at}
-use Rattle.eqc_flat.specs.Codes.{flat_code}
+use Rattle.eqc_hierarchy.specs.Codes.{flat_code}
 
 -- a value at a depth is the value at every greater depth
 abbrev pub ValuesStay : Type 0

@@ -1,10 +1,10 @@
 ghost use Rattle.std.specs.Prelude.{◌≡◌, ℕ, ◌+◌, ◌-◌, ◌<◌, length, map, take, Some, slice_index_or, IfOk};
-ghost use Rattle.eqc_flat.specs.Codes.{flat_code};
+ghost use Rattle.eqc_hierarchy.specs.Codes.{flat_code};
 ghost use Rattle.eqc_flat.specs.Flattened.{signal_at};
-ghost use Rattle.eqc_flat.specs.Signals.{signals};
-ghost use Rattle.eqc_flat.specs.Walks.{from_on};
+ghost use Rattle.eqc_hierarchy.specs.Signals.{signals};
+ghost use Rattle.eqc_hierarchy.specs.Walks.{from_on};
 ghost use Rattle.eqc_flat.specs.Finding.{hierarchical_name, IsCircle};
-ghost use Rattle.eqc_flat.specs.StoredDrivers.{all_columns};
+ghost use Rattle.eqc_hierarchy.specs.Columns.{all_columns};
 ghost use Rattle.eqc_flat.specs.Ordering.{IsTrailBelow};
 
 use crate::circle::Circle;

@@ -1,18 +1,18 @@
 ghost use Rattle.std.specs.Prelude.{◌≡◌, ◌<◌, ◌≤◌, [], length, map, false, Some, IfOk};
-ghost use Rattle.eqc_flat.specs.Hierarchy.{model};
-ghost use Rattle.eqc_flat.specs.Signals.{signals, sources, drivings};
-ghost use Rattle.eqc_flat.specs.Codes.{flat_code, has_unknown_formal, is_recursive, is_too_large};
+ghost use Rattle.eqc_hierarchy.specs.Hierarchy.{model};
+ghost use Rattle.eqc_hierarchy.specs.Signals.{signals, sources, drivings};
+ghost use Rattle.eqc_hierarchy.specs.Codes.{flat_code, has_unknown_formal, is_recursive, is_too_large};
 ghost use Rattle.eqc_flat.specs.Flattened.{signal_at};
 ghost use Rattle.eqc_flat.specs.DriverTable.{IsTable};
 ghost use Rattle.eqc_flat.specs.Instances.{IsExpansion};
 ghost use Rattle.eqc_flat.specs.Finding.{NamesDrivenTwice, NamesUndriven};
 
-use crate::calls::Calls;
 use crate::driver_table::DriverTable;
 use crate::hierarchical_name::HierarchicalName;
 use crate::hierarchy::Hierarchy;
 use crate::row_table::RowTable;
 use eqc_blif::Library;
+use eqc_hierarchy::Calls;
 use std::alloc::{AllocError, Global};
 
 /// The hierarchy below model `top` of a library, which is neither recursive nor too large, and the places of the columns

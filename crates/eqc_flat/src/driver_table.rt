@@ -3,23 +3,23 @@ ghost use Rattle.std.specs.List.{flat_map, enumerate_from};
 ghost use Rattle.eqc_blif.specs.Netlist.{ModelOf};
 ghost use Rattle.eqc_blif.specs.Names.{is_named};
 ghost use Rattle.eqc_flat.specs.Graph.{IsWithinSizes};
-ghost use Rattle.eqc_flat.specs.StoredDrivers.{all_columns, driver_from};
-ghost use Rattle.eqc_flat.specs.Hierarchy.{model, paths};
-ghost use Rattle.eqc_flat.specs.Signals.{Driving, names_of, signals, input_drivings, cover_driving, pair_driving, instance_drivings, drivings};
-ghost use Rattle.eqc_flat.specs.Codes.{has_unknown_formal};
+ghost use Rattle.eqc_hierarchy.specs.Columns.{all_columns};
+ghost use Rattle.eqc_flat.specs.StoredDrivers.{driver_from};
+ghost use Rattle.eqc_hierarchy.specs.Hierarchy.{model, paths};
+ghost use Rattle.eqc_hierarchy.specs.Signals.{Driving, names_of, signals, input_drivings, cover_driving, pair_driving, instance_drivings, drivings};
+ghost use Rattle.eqc_hierarchy.specs.Codes.{has_unknown_formal};
 ghost use Rattle.eqc_flat.specs.Flattened.{path_at, model_of, signals_here, signal_at, source_of};
 ghost use Rattle.eqc_flat.specs.Instances.{first_below};
 ghost use Rattle.eqc_flat.specs.RowTable.{all_rows};
 ghost use Rattle.eqc_flat.specs.DriverTable.{IsTable, IsDriven, IsDriverFault};
 
-use crate::calls::instances;
 use crate::drivers::Drivers;
 use crate::fault::Fault;
 use crate::hierarchy::Hierarchy;
 use crate::row_table::RowTable;
-use crate::rule::Rule;
 use crate::stored_driver::StoredDriver;
 use eqc_blif::{Cover, Library, Name};
+use eqc_hierarchy::{Rule, instances};
 use std::alloc::{AllocError, Global};
 use std::marker::Model;
 
@@ -284,10 +284,10 @@ pub(crate) fn drivers_of(
 {
     let table = DriverTable::of(alloc, hierarchy, rows)?;
     if table.twice.is_some() {
-        return Err(Rule::DrivenTwice.fault());
+        return Err(Fault::of(Rule::DrivenTwice));
     }
     match taken(alloc, table.slots)? {
         Some(stored) => Ok(Drivers::new(stored, columns)),
-        None => Err(Rule::Undriven.fault()),
+        None => Err(Fault::of(Rule::Undriven)),
     }
 }

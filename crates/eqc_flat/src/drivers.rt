@@ -4,9 +4,9 @@ ghost use Rattle.eqc_flat.specs.Drivers.{driver_of};
 ghost use Rattle.eqc_flat.specs.StoredDrivers.{driver_from, AreInRange};
 
 use crate::driver::Driver;
-use crate::graph::Graph;
 use crate::signals::Signals;
 use crate::stored_driver::StoredDriver;
+use eqc_hierarchy::Graph;
 use std::marker::Model;
 
 /// The driver of each flat signal. The columns of a cover are kept once for all instances of its model, by the number of

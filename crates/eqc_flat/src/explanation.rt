@@ -1,19 +1,19 @@
 ghost use Rattle.std.specs.Prelude.{◌≡◌, ◌<◌, length, IfOk, Some};
 ghost use Rattle.std.specs.Option.{option_map};
-ghost use Rattle.eqc_flat.specs.Codes.{flat_code};
+ghost use Rattle.eqc_hierarchy.specs.Codes.{flat_code};
 ghost use Rattle.eqc_flat.specs.Finding.{IsAtFault, IsExplained};
-ghost use Rattle.eqc_flat.specs.Rule.{rule_code};
+ghost use Rattle.eqc_hierarchy.specs.Rule.{rule_code};
 
 use crate::circle_finding::circle_below;
 use crate::driver_findings::{driven_twice, undriven};
 use crate::finding::Finding;
 use crate::flattening::{MAX_INPUTS, flatten};
-use crate::instance_findings::{formal_twice, missing_input, missing_model, unknown_formal};
 use crate::instances::LIMIT;
-use crate::recursion::recursive_chain;
-use crate::rule::Rule;
-use crate::size::hierarchy_size;
 use eqc_blif::Library;
+use eqc_hierarchy::{
+    Rule, formal_twice, hierarchy_size, missing_input, missing_model, recursive_chain,
+    unknown_formal,
+};
 use std::alloc::{AllocError, Global};
 
 /// The rule by which the hierarchy below model `top` is refused, or none where it is accepted. Fails where memory is

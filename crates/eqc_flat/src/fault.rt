@@ -1,7 +1,7 @@
 ghost use Rattle.std.specs.Prelude.{◌≡◌, nat_eq, position};
-ghost use Rattle.eqc_flat.specs.Rule.{rule_code};
+ghost use Rattle.eqc_hierarchy.specs.Rule.{rule_code};
 
-use crate::rule::{RULES, Rule};
+use eqc_hierarchy::{RULES, Rule};
 use std::alloc::AllocError;
 use thiserror::Error;
 
@@ -30,21 +30,16 @@ fn rule_of(code: &u8) -> Rule
     }
 }
 
-impl Rule {
-    ghost use Rattle.std.specs.Prelude.{◌≡◌};
-    ghost use Rattle.eqc_flat.specs.Rule.{rule_code};
-
-    /// The fault by this rule.
-    pub(crate) fn fault(self) -> Fault
-        ensures { result.code ≡ rule_code self }
-    {
-        Fault { code: self.code() }
-    }
-}
-
 impl Fault {
     ghost use Rattle.std.specs.Prelude.{◌≡◌, ◌↔◌, IsTrue};
-    ghost use Rattle.eqc_flat.specs.Rule.{rule_code};
+    ghost use Rattle.eqc_hierarchy.specs.Rule.{rule_code};
+
+    /// The fault by a rule.
+    pub(crate) fn of(rule: Rule) -> Fault
+        ensures { result.code ≡ rule_code rule }
+    {
+        Fault { code: rule.code() }
+    }
 
     /// The rule of the code.
     pub(crate) fn rule(&self) -> Rule
@@ -67,6 +62,6 @@ impl From<AllocError> for Fault {
     ghost from_gives = { λ _ e. e ≡ record { code = 72 } };
 
     fn from(_: AllocError) -> Fault {
-        Rule::Memory.fault()
+        Fault::of(Rule::Memory)
     }
 }

@@ -1,6 +1,6 @@
 use crate::circle::Circle;
-use crate::found_instance::{FoundFormal, FoundInstance};
 use crate::hierarchical_name::HierarchicalName;
+use eqc_hierarchy::{FoundFormal, FoundInstance};
 
 /// What is at fault in a hierarchy that is refused.
 #[derive(Drop)]

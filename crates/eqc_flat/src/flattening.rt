@@ -1,26 +1,25 @@
 ghost use Rattle.std.specs.Prelude.{◌≡◌, ◌⊎◌, ℕ, ◌<◌, ◌≤◌, false, length, map, slice_index_or, None, Some, IfOk, IfErr};
 ghost use Rattle.eqc_blif.specs.Names.{has_twice};
-ghost use Rattle.eqc_flat.specs.Hierarchy.{model};
-ghost use Rattle.eqc_flat.specs.Signals.{signals};
-ghost use Rattle.eqc_flat.specs.Codes.{flat_code};
+ghost use Rattle.eqc_hierarchy.specs.Hierarchy.{model};
+ghost use Rattle.eqc_hierarchy.specs.Signals.{signals};
+ghost use Rattle.eqc_hierarchy.specs.Codes.{flat_code};
 ghost use Rattle.eqc_flat.specs.DriverTable.{IsDriven};
 ghost use Rattle.eqc_flat.specs.Ordering.{IsOrder};
 ghost use Rattle.eqc_flat.specs.Flattened.{signals_here, signal_at, all_named, IsFlatOf};
 ghost use Rattle.eqc_flat.specs.Instances.{IsExpansion};
-ghost use Rattle.eqc_flat.specs.StoredDrivers.{all_columns};
-ghost use Rattle.eqc_flat.specs.ModelFaults.{HasNoModelFault, IsNumberable, IsFlatFault};
+ghost use Rattle.eqc_hierarchy.specs.Columns.{all_columns};
+ghost use Rattle.eqc_hierarchy.specs.ModelFaults.{HasNoModelFault};
+ghost use Rattle.eqc_flat.specs.Flattening.{IsNumberable, IsFlatFault};
 
-use crate::calls::Calls;
 use crate::driver_table::{drivers_of, signals_of};
 use crate::drivers::Drivers;
 use crate::fault::Fault;
 use crate::flat::Flat;
 use crate::hierarchy::Hierarchy;
-use crate::model_faults::first_model_fault;
 use crate::row_table::RowTable;
-use crate::rule::Rule;
 use crate::signal_order::order_of;
 use eqc_blif::{Library, Name};
+use eqc_hierarchy::{Calls, Rule, first_model_fault};
 use std::alloc::{AllocError, Global};
 
 /// How many inputs a main model may have.
@@ -102,7 +101,7 @@ fn ordered_drivers(
         Err(fault) => return Err(fault),
     };
     let Some(steps) = order_of(alloc, &drivers)? else {
-        return Err(Rule::Circle.fault());
+        return Err(Fault::of(Rule::Circle));
     };
     Ok((drivers, steps))
 }
@@ -184,7 +183,7 @@ fn expanded(
     };
     match Hierarchy::of(alloc, calls, top)? {
         Some(made) => Ok(made),
-        None => Err(Rule::TooLarge.fault()),
+        None => Err(Fault::of(Rule::TooLarge)),
     }
 }
 
@@ -208,7 +207,7 @@ pub fn flatten(alloc: Global, library: &Library, top: usize) -> Result<Flat<'_>,
         Err(fault) => return Err(fault),
     };
     if library.inputs(top).len() > MAX_INPUTS {
-        return Err(Rule::ManyInputs.fault());
+        return Err(Fault::of(Rule::ManyInputs));
     }
     netlist(alloc, library, hierarchy, columns)
 }

@@ -1,17 +1,16 @@
 ghost use Rattle.std.specs.Prelude.{◌≡◌, ℕ, ◌+◌, ◌<◌, ◌≤◌, ◌++◌, ◌∷◌, [], length, map, true, false, slice_index_or, IfOk, OnOk, MatchOption};
 ghost use Rattle.eqc_blif.specs.Names.{is_named};
-ghost use Rattle.eqc_flat.specs.Hierarchy.{model, model_at, paths};
-ghost use Rattle.eqc_flat.specs.Signals.{names_of, signals};
-ghost use Rattle.eqc_flat.specs.Codes.{is_recursive, is_too_large};
+ghost use Rattle.eqc_hierarchy.specs.Hierarchy.{model, model_at, paths};
+ghost use Rattle.eqc_hierarchy.specs.Signals.{names_of, signals};
+ghost use Rattle.eqc_hierarchy.specs.Codes.{is_recursive, is_too_large};
 ghost use Rattle.eqc_flat.specs.Instances.{IsGrowing, IsExpansion};
 ghost use Rattle.eqc_flat.specs.Flattened.{path_at, model_of, first_signal, signal_at, named_here, all_named};
 ghost use Rattle.eqc_flat.specs.Finding.{steps_of, hierarchical_name};
 
-use crate::calls::Calls;
 use crate::hierarchical_name::{HierarchicalName, Step};
 use crate::instances::Instances;
-use crate::naming::Naming;
 use eqc_blif::Library;
+use eqc_hierarchy::{Calls, Naming};
 use std::alloc::{AllocError, Global};
 use std::marker::Model;
 

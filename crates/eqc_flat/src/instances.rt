@@ -1,10 +1,9 @@
 ghost use Rattle.std.specs.Prelude.{◌≡◌, ◌+◌, ◌<◌, ◌≤◌, ◌++◌, ◌∷◌, [], length, vec_len, true, false, IfOk, MatchOption};
-ghost use Rattle.eqc_flat.specs.Hierarchy.{paths};
-ghost use Rattle.eqc_flat.specs.Codes.{is_too_large};
+ghost use Rattle.eqc_hierarchy.specs.Hierarchy.{paths};
+ghost use Rattle.eqc_hierarchy.specs.Codes.{is_too_large};
 ghost use Rattle.eqc_flat.specs.Instances.{first_below, IsGrowing, IsFound};
 
-use crate::calls::Calls;
-use crate::naming::Naming;
+use eqc_hierarchy::{Calls, Naming};
 use std::alloc::{AllocError, Global};
 
 /// How many flat signals and instances there may be together, where the main model is no instance.

@@ -1,9 +1,9 @@
 ghost use Rattle.std.specs.Prelude.{◌≡◌, ◌+◌, ◌<◌, ◌++◌, [], length, map, slice_index_or, IfOk, OnOk};
 ghost use Rattle.eqc_blif.specs.Netlist.{no_cover};
-ghost use Rattle.eqc_flat.specs.Hierarchy.{model};
+ghost use Rattle.eqc_hierarchy.specs.Hierarchy.{model};
 ghost use Rattle.eqc_flat.specs.RowTable.{all_rows};
-ghost use Rattle.eqc_flat.specs.Signals.{names_of};
-ghost use Rattle.eqc_flat.specs.StoredDrivers.{places_in, all_columns};
+ghost use Rattle.eqc_hierarchy.specs.Signals.{names_of};
+ghost use Rattle.eqc_hierarchy.specs.Columns.{places_in, all_columns};
 
 use eqc_blif::{Cover, Library, Rows};
 use std::alloc::{AllocError, Global};

@@ -1,10 +1,10 @@
 ghost use Rattle.std.specs.Prelude.{◌≡◌, ◌<◌, ◌≤◌, length, nat_lt, true, false, IfOk, MatchOption};
 ghost use Rattle.std.specs.List.{list_all};
-ghost use Rattle.eqc_flat.specs.Searching.{IsClosed};
+ghost use Rattle.eqc_hierarchy.specs.Searching.{IsClosed};
 ghost use Rattle.eqc_flat.specs.Ordering.{signal_deps, IsOrder, IsCircular, IsTrail, HasNoOrder};
 
 use crate::drivers::Drivers;
-use crate::search::Search;
+use eqc_hierarchy::Search;
 use std::alloc::{AllocError, Global};
 
 /// The same numbers in less room. Fails where memory is refused.

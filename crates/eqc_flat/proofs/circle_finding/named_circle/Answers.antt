@@ -1,6 +1,6 @@
 use Rattle.std.proofs.Common.{◌≡◌, ◌-◌, ◌∙◌, ap, map, take, length, ℕ, List}
 use Rattle.eqc_flat.specs.Flattened.{signal_at}
-use Rattle.eqc_flat.specs.Walks.{from_on}
+use Rattle.eqc_hierarchy.specs.Walks.{from_on}
 use Rattle.eqc_flat.specs.Finding.{hierarchical_name}
 use Rattle.eqc_flat.specs.declared.hierarchical_name.Step.{Step}
 use Rattle.eqc_flat.proofs.circle_finding.named_circle.Goals as goal

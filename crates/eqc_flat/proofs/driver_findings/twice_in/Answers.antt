@@ -1,8 +1,10 @@
 use Rattle.std.proofs.Common.{◌∙◌, sym, subst, arith, ℕ, Option, map}
 use Rattle.std.specs.Prelude.{IsSome}
-use Rattle.eqc_flat.specs.StoredDrivers.{all_columns, driver_from}
+use Rattle.eqc_hierarchy.specs.Columns.{all_columns}
+use Rattle.eqc_flat.specs.StoredDrivers.{driver_from}
 use Rattle.std.specs.Option.{option_map}
-use Rattle.eqc_flat.proofs.FindingLaws.{numbered, twice_known, there}
+use Rattle.eqc_flat.proofs.FindingLaws.{numbered, twice_known}
+use Rattle.eqc_hierarchy.proofs.FaultLaws.{there}
 use Rattle.eqc_flat.proofs.driver_findings.twice_in.Goals as goal
 
 pub table_in-requires-clause-few : goal.table_in-requires-clause-few

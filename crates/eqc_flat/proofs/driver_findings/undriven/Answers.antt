@@ -1,6 +1,6 @@
 use Rattle.std.proofs.Common.{◌≡◌, sym, subst, arith, ℕ, List, Some, IfOk}
 use Rattle.eqc_blif.specs.Netlist.{ModelOf}
-use Rattle.eqc_flat.specs.Codes.{flat_code}
+use Rattle.eqc_hierarchy.specs.Codes.{flat_code}
 use Rattle.eqc_flat.specs.Finding.{NamesUndriven}
 use Rattle.eqc_flat.proofs.FindingLaws.{numbered}
 use Rattle.eqc_flat.proofs.driver_findings.undriven.Goals as goal

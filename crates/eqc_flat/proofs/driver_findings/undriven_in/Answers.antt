@@ -1,7 +1,8 @@
 use Rattle.std.proofs.Common.{◌∙◌, sym, subst, arith, ℕ, Option}
 use Rattle.std.specs.Prelude.{IsSome, is_none, position}
-use Rattle.eqc_flat.specs.StoredDrivers.{all_columns}
-use Rattle.eqc_flat.proofs.FindingLaws.{numbered, empty_known, empty_undriven, there}
+use Rattle.eqc_hierarchy.specs.Columns.{all_columns}
+use Rattle.eqc_flat.proofs.FindingLaws.{numbered, empty_known, empty_undriven}
+use Rattle.eqc_hierarchy.proofs.FaultLaws.{there}
 use Rattle.eqc_flat.proofs.driver_findings.undriven_in.Goals as goal
 
 pub table_in-requires-clause-few : goal.table_in-requires-clause-few

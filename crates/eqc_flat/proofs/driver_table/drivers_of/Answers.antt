@@ -2,9 +2,10 @@ use Rattle.std.proofs.Common.{◌≡◌, ◌∙◌, sym, arith, ap, subst, inl, 
 use Rattle.std.proofs.lemmas.List.{length-map}
 use Rattle.std.specs.Option.{option_map}
 use Rattle.eqc_flat.specs.Graph.{DriverOf}
-use Rattle.eqc_flat.specs.Signals.{drivings}
+use Rattle.eqc_hierarchy.specs.Signals.{drivings}
 use Rattle.eqc_flat.specs.DriverTable.{IsFilled, IsTable, IsDriven}
-use Rattle.eqc_flat.specs.StoredDrivers.{all_columns, driver_from, AreInRange}
+use Rattle.eqc_hierarchy.specs.Columns.{all_columns}
+use Rattle.eqc_flat.specs.StoredDrivers.{driver_from, AreInRange}
 use Rattle.eqc_flat.specs.declared.stored_driver.StoredDriver.{StoredDriver}
 use Rattle.eqc_flat.proofs.DriverTableLaws.{some_known, none_known, driven_twice, not_driven_twice, undriven}
 use Rattle.eqc_flat.proofs.DrivingLaws.{some_mapped, slot_empty}
@@ -19,7 +20,7 @@ returns-then-is_some-clause-refused c =
     let P : List (Option StoredDriver) × Option ℕ → Type 0 = λ v. IsTable library top v.0 v.1 (drivings library top) in
     let Q : Option ℕ → Type 0 = λ b. IsTable library top c.table.inside.slots.items b (drivings library top) in
     let (s, known) = some_known c.table.inside.twice (sym c.is_some.ensures ∙ c.if-is_some.true) in
-    inr (inl (c.fault.ensures, driven_twice library top (map (option_map (driver_from (all_columns library))) c.table.inside.slots.items) s (subst Q known (subst P (sym c.table.view_is) filled))))
+    inr (inl (c.of-then-is_some.ensures, driven_twice library top (map (option_map (driver_from (all_columns library))) c.table.inside.slots.items) s (subst Q known (subst P (sym c.table.view_is) filled))))
 
 pub new-requires : goal.new-requires
 new-requires c =
@@ -59,4 +60,4 @@ returns-in-None-clause-refused c =
     let kept = map (option_map (driver_from (all_columns library))) c.table.inside.slots.items in
     let once = subst Q (none_known c.table.inside.twice (sym c.is_some.ensures ∙ c.if-is_some.false)) (subst P (sym c.table.view_is) filled) in
     let (s, inside, free) = rw c.in-None.is at c.in_ok-stored.ensures in
-    inr (inr (c.fault-in-None.ensures, not_driven_twice library top kept once, undriven library top kept s once (omega (arith, inside, length-map c.table.inside.slots.items (option_map (driver_from (all_columns library))))) (slot_empty (all_columns library) c.table.inside.slots.items s inside free)))
+    inr (inr (c.of-in-None.ensures, not_driven_twice library top kept once, undriven library top kept s once (omega (arith, inside, length-map c.table.inside.slots.items (option_map (driver_from (all_columns library))))) (slot_empty (all_columns library) c.table.inside.slots.items s inside free)))

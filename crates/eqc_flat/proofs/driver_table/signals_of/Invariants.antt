@@ -1,5 +1,5 @@
 use Rattle.std.proofs.Common.{◌≡◌, ◌<◌, map, take, length, slice_index_or, ℕ}
-use Rattle.eqc_flat.specs.Signals.{signals}
+use Rattle.eqc_hierarchy.specs.Signals.{signals}
 use Rattle.eqc_flat.specs.Flattened.{signals_here, signal_at}
 use Rattle.eqc_flat.proofs.driver_table.signals_of.Given as goal
 

@@ -2,9 +2,9 @@ use Rattle.std.proofs.Common.{◌≡◌, ◌==◌, ◌∙◌, ℕ, List, [], ◌
 use Rattle.std.specs.Prelude.{position}
 use Rattle.std.proofs.lemmas.Bool.{eqb-true}
 use Rattle.std.proofs.lemmas.List.Quantifiers.{position-Some}
-use Rattle.eqc_flat.specs.Rule.{rule_code}
-use Rattle.eqc_flat.specs.declared.rule.Rule.{Rule}
-use Rattle.eqc_flat.specs.declared.rule.Rule.TheVariants.{NoSuchModel, Recursion, UnknownFormal, FormalTwice, MissingInput, DrivenTwice, Undriven, Circle, TooLarge, ManyInputs, Memory}
+use Rattle.eqc_hierarchy.specs.Rule.{rule_code}
+use Rattle.eqc_hierarchy.specs.declared.rule.Rule.{Rule}
+use Rattle.eqc_hierarchy.specs.declared.rule.Rule.TheVariants.{NoSuchModel, Recursion, UnknownFormal, FormalTwice, MissingInput, DrivenTwice, Undriven, Circle, TooLarge, ManyInputs, Memory}
 use Rattle.eqc_flat.proofs.fault.rule_of.Goals as goal
 
 all : List Rule

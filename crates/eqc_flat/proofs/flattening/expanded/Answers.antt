@@ -1,6 +1,6 @@
 use Rattle.std.proofs.Common.{◌≡◌, ◌∙◌, List, map, Vec, ℕ, Global, inr, sym, ap, subst, true}
 use Rattle.eqc_blif.specs.Netlist.{ModelOf}
-use Rattle.eqc_flat.specs.Codes.{is_too_large}
+use Rattle.eqc_hierarchy.specs.Codes.{is_too_large}
 use Rattle.eqc_flat.specs.Instances.{IsExpansion}
 use Rattle.eqc_flat.proofs.CodeLaws.{code_29}
 use Rattle.eqc_flat.proofs.flattening.expanded.Goals as goal
@@ -12,7 +12,7 @@ returns-in-None-clause-refused c =
     let same = rw c.in-Ok.is at c.calls_below.ensures.calls in
     let none = rw c.in-Ok.is at c.calls_below.ensures.models in
     let large : is_too_large library top ≡ true = sym (ap (λ (l : List ModelOf). is_too_large l top) same) ∙ (rw c.in-None.is at c.in_ok-made.ensures) in
-    rw c.fault.ensures (inr (code_29 library top none large))
+    rw c.of-in-None.ensures (inr (code_29 library top none large))
 
 pub returns-in-Some-clause-models : goal.returns-in-Some-clause-models
 returns-in-Some-clause-models c = rw c.in-Ok.is at c.calls_below.ensures.models

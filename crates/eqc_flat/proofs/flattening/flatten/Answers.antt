@@ -1,9 +1,9 @@
 use Rattle.std.proofs.Common.{◌≡◌, ℕ, List, length, inr, sym, ap, subst, arith, None}
 use Rattle.std.specs.Prelude.{IfOk, IfErr}
 use Rattle.eqc_blif.specs.Netlist.{ModelOf}
-use Rattle.eqc_flat.specs.Codes.{flat_code}
+use Rattle.eqc_hierarchy.specs.Codes.{flat_code}
 use Rattle.eqc_flat.specs.Flattened.{IsFlatOf}
-use Rattle.eqc_flat.specs.ModelFaults.{IsNumberable, IsFlatFault}
+use Rattle.eqc_flat.specs.Flattening.{IsNumberable, IsFlatFault}
 use Rattle.eqc_flat.proofs.CodeLaws.{code_30, many_inputs}
 use Rattle.eqc_flat.proofs.flattening.flatten.Goals as goal
 
@@ -13,7 +13,7 @@ returns-then-inputs-gt-MAX_INPUTS-clause-refused c =
     let top = c.args.top in
     let none = rw c.in-Ok.is at c.expanded.ensures.models in
     let made = rw c.in-Ok.is at c.expanded.ensures.made in
-    rw c.fault.ensures (inr (code_30 library top none made.small (many_inputs library top (omega (arith, c.if-inputs-gt-MAX_INPUTS.true, ap length c.inputs.ensures.names)))))
+    rw c.of.ensures (inr (code_30 library top none made.small (many_inputs library top (omega (arith, c.if-inputs-gt-MAX_INPUTS.true, ap length c.inputs.ensures.names)))))
 
 pub netlist-requires-clause-numbered : goal.netlist-requires-clause-numbered
 netlist-requires-clause-numbered c =

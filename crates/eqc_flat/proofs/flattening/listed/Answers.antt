@@ -1,10 +1,10 @@
 use Rattle.std.proofs.Common.{◌≡◌, ◌∙◌, [], ℕ, List, length, get_or, ap, arith}
 use Rattle.eqc_blif.specs.Netlist.{ModelOf}
 use Rattle.eqc_blif.specs.Names.{is_named}
-use Rattle.eqc_flat.specs.Hierarchy.{model}
-use Rattle.eqc_flat.specs.Signals.{names_of}
+use Rattle.eqc_hierarchy.specs.Hierarchy.{model}
+use Rattle.eqc_hierarchy.specs.Signals.{names_of}
 use Rattle.eqc_flat.specs.Flattened.{signals_here}
-use Rattle.eqc_flat.proofs.NamingLaws.{output_named}
+use Rattle.eqc_hierarchy.proofs.NamingLaws.{output_named}
 use Rattle.eqc_flat.proofs.flattening.listed.Goals as goal
 
 pub signals_of-requires-clause-named : goal.signals_of-requires-clause-named

@@ -1,6 +1,6 @@
 use Rattle.std.proofs.Common.{◌∙◌, ap, ℕ, List}
 use Rattle.eqc_blif.specs.Netlist.{ModelOf}
-use Rattle.eqc_flat.specs.Hierarchy.{model}
+use Rattle.eqc_hierarchy.specs.Hierarchy.{model}
 use Rattle.eqc_flat.proofs.flattening.main_ports.Goals as goal
 
 pub returns-clause-inputs : goal.returns-clause-inputs

@@ -1,13 +1,11 @@
-use Rattle.std.proofs.Common.{◌≡◌, ◌≤◌, ◌∙◌, [], ℕ, List, Bor, map, length, get_or, sym, ap, subst, arith}
+use Rattle.std.proofs.Common.{◌≡◌, ◌≤◌, ◌∙◌, [], ℕ, List, Bor, map, length, sym, ap, subst}
 use Rattle.eqc_blif.specs.Netlist.{ModelOf}
-use Rattle.eqc_blif.specs.Names.{is_named, has_twice}
+use Rattle.eqc_blif.specs.Names.{has_twice}
 use Rattle.eqc_flat.specs.Graph.{FlatOf, IsFlat}
-use Rattle.eqc_flat.specs.Hierarchy.{model}
-use Rattle.eqc_flat.specs.Signals.{names_of, signals}
-use Rattle.eqc_flat.specs.Flattened.{path_at, signals_here, IsFlatOf}
+use Rattle.eqc_hierarchy.specs.Signals.{signals}
+use Rattle.eqc_flat.specs.Flattened.{path_at, IsFlatOf}
 use Rattle.eqc_flat.specs.RowTable.{all_rows}
 use Rattle.eqc_flat.proofs.InstanceLaws.{root_path}
-use Rattle.eqc_flat.proofs.NamingLaws.{output_named}
 use Rattle.eqc_flat.proofs.FlatLaws.{IsParts, flat_same, expanded_few, parts_flat, parts_flat_of}
 use Rattle.eqc_flat.proofs.flattening.put_together.Goals as goal
 

@@ -1,6 +1,6 @@
 use Rattle.std.proofs.Common.{arith, nat_lt}
 use Rattle.std.proofs.lemmas.Bool.{ltb-true}
-use Rattle.eqc_flat.proofs.OrderLaws.{all_at}
+use Rattle.eqc_hierarchy.proofs.Members.{all_at}
 use Rattle.eqc_flat.proofs.signal_order.narrow.Goals as goal
 
 pub overflow_cast-numbers : goal.overflow_cast-numbers

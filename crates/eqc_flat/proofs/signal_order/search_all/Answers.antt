@@ -1,5 +1,5 @@
 use Rattle.std.proofs.Common.{[], arith, refl, subst, length, ℕ}
-use Rattle.eqc_flat.specs.Searching.{IsSearch}
+use Rattle.eqc_hierarchy.specs.Searching.{IsSearch}
 use Rattle.eqc_flat.specs.Ordering.{signal_deps}
 use Rattle.eqc_flat.proofs.OrderLaws.{search_order, small_order}
 use Rattle.eqc_flat.proofs.signal_order.search_all.Goals as goal

@@ -1,6 +1,6 @@
 use Rattle.std.proofs.Common.{◌≡◌, ◌<◌, [], length, true, ℕ}
-use Rattle.eqc_flat.specs.Graph.{among}
-use Rattle.eqc_flat.specs.Searching.{IsSearch}
+use Rattle.eqc_hierarchy.specs.Dependency.{among}
+use Rattle.eqc_hierarchy.specs.Searching.{IsSearch}
 use Rattle.eqc_flat.specs.Ordering.{signal_deps}
 use Rattle.eqc_flat.proofs.signal_order.search_all.Given as goal
 

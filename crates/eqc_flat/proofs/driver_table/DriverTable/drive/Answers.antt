@@ -1,5 +1,5 @@
 use Rattle.std.proofs.Common.{◌<◌, ◌∙◌, sym, ap, subst, arith, ℕ, List, Option, length}
-use Rattle.eqc_flat.specs.StoredDrivers.{all_columns}
+use Rattle.eqc_hierarchy.specs.Columns.{all_columns}
 use Rattle.eqc_flat.specs.declared.stored_driver.StoredDriver.{StoredDriver}
 use Rattle.eqc_flat.specs.DriverTable.{IsTable}
 use Rattle.eqc_flat.proofs.DrivingLaws.{drive_taken, drive_free}

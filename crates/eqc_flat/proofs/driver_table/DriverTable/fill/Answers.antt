@@ -1,17 +1,18 @@
 use Rattle.std.proofs.Common.{arith, ◌≡◌, ◌<◌, ◌+◌, ◌++◌, ◌∙◌, sym, ap, subst, [], ℕ, List, map, take, length}
 use Rattle.std.specs.List.{flat_map, enumerate_from}
 use Rattle.std.specs.Option.{option_map}
-use Rattle.eqc_flat.specs.StoredDrivers.{all_columns, driver_from}
+use Rattle.eqc_hierarchy.specs.Columns.{all_columns}
+use Rattle.eqc_flat.specs.StoredDrivers.{driver_from}
 use Rattle.std.proofs.lemmas.List.{append_assoc, take_all}
 use Rattle.eqc_blif.specs.Netlist.{ModelOf}
-use Rattle.eqc_flat.specs.Hierarchy.{model, callees, model_at, paths}
-use Rattle.eqc_flat.specs.Signals.{Driving, input_drivings, cover_driving, instance_drivings, drivings_at}
+use Rattle.eqc_hierarchy.specs.Hierarchy.{model, callees, model_at, paths}
+use Rattle.eqc_hierarchy.specs.Signals.{Driving, input_drivings, cover_driving, instance_drivings, drivings_at}
 use Rattle.eqc_flat.specs.Flattened.{path_at, model_of}
 use Rattle.eqc_flat.specs.Instances.{first_below}
 use Rattle.eqc_flat.specs.DriverTable.{IsTable}
 use Rattle.eqc_flat.proofs.InstanceLaws.{first_next, first_bound}
 use Rattle.eqc_flat.proofs.DriverTableLaws.{filled_pieces}
-use Rattle.eqc_flat.proofs.NamingLaws.{callee_count}
+use Rattle.eqc_hierarchy.proofs.NamingLaws.{callee_count}
 use Rattle.eqc_flat.proofs.DrivingLaws.{piece_more, drivings_all}
 use Rattle.eqc_flat.proofs.driver_table.DriverTable.fill.Goals as goal
 

@@ -1,7 +1,7 @@
 use Rattle.std.proofs.Common.{◌≡◌, ◌++◌, take, length, List}
 use Rattle.std.specs.List.{flat_map, enumerate_from}
-use Rattle.eqc_flat.specs.Hierarchy.{model, paths}
-use Rattle.eqc_flat.specs.Signals.{Driving, input_drivings, drivings_at}
+use Rattle.eqc_hierarchy.specs.Hierarchy.{model, paths}
+use Rattle.eqc_hierarchy.specs.Signals.{Driving, input_drivings, drivings_at}
 use Rattle.eqc_flat.specs.Instances.{first_below}
 use Rattle.eqc_flat.specs.DriverTable.{IsTable}
 use Rattle.eqc_flat.proofs.driver_table.DriverTable.fill.Given as goal

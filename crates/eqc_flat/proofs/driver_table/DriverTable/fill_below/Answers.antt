@@ -4,13 +4,14 @@ use Rattle.std.proofs.lemmas.List.{get_or_default, take_all}
 use Rattle.std.proofs.lemmas.List.FromFn.{length-enumerate_from}
 use Rattle.eqc_blif.specs.Netlist.{ModelOf, InstanceOf}
 use Rattle.eqc_blif.specs.Names.{is_named}
-use Rattle.eqc_flat.specs.Hierarchy.{model, callees, model_at}
-use Rattle.eqc_flat.specs.Signals.{Driving, names_of, pair_driving, instance_drivings}
+use Rattle.eqc_hierarchy.specs.Hierarchy.{model, callees, model_at}
+use Rattle.eqc_hierarchy.specs.Signals.{Driving, names_of, pair_driving, instance_drivings}
 use Rattle.eqc_flat.specs.Flattened.{path_at, model_of}
 use Rattle.eqc_flat.specs.Instances.{first_below}
 use Rattle.eqc_flat.specs.DriverTable.{IsTable}
 use Rattle.eqc_flat.proofs.InstanceLaws.{next_path, next_inside, next_model}
-use Rattle.eqc_flat.proofs.NamingLaws.{no_instance, callee_count, formal_known, formal_named, actual_named}
+use Rattle.eqc_hierarchy.proofs.NamingLaws.{no_instance, callee_count, formal_named, actual_named}
+use Rattle.eqc_flat.proofs.ExpandedLaws.{formal_known}
 use Rattle.eqc_flat.proofs.DrivingLaws.{piece_more, instance_at}
 use Rattle.eqc_flat.proofs.driver_table.DriverTable.fill_below.Goals as goal
 

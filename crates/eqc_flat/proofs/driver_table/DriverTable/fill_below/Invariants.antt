@@ -1,6 +1,6 @@
 use Rattle.std.proofs.Common.{◌≡◌, ◌++◌, take, length, List}
 use Rattle.std.specs.List.{flat_map, enumerate_from}
-use Rattle.eqc_flat.specs.Signals.{Driving, instance_drivings}
+use Rattle.eqc_hierarchy.specs.Signals.{Driving, instance_drivings}
 use Rattle.eqc_flat.specs.Flattened.{path_at, model_of}
 use Rattle.eqc_flat.specs.DriverTable.{IsTable}
 use Rattle.eqc_flat.proofs.driver_table.DriverTable.fill_below.Given as goal

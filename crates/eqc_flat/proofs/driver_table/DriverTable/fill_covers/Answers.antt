@@ -2,15 +2,16 @@ use Rattle.std.proofs.Common.{arith, ◌≡◌, ◌+◌, ◌<◌, true, ◌++◌
 use Rattle.std.proofs.lemmas.List.{get_or_default, length-map}
 use Rattle.eqc_blif.specs.Netlist.{ModelOf, CoverOf, no_cover}
 use Rattle.eqc_blif.specs.Names.{is_named}
-use Rattle.eqc_flat.specs.Hierarchy.{model}
+use Rattle.eqc_hierarchy.specs.Hierarchy.{model}
 use Rattle.std.specs.Option.{option_map}
-use Rattle.eqc_flat.specs.StoredDrivers.{places_in, all_columns, driver_from}
-use Rattle.eqc_flat.specs.Signals.{Driving, names_of, signals, cover_driving}
+use Rattle.eqc_hierarchy.specs.Columns.{places_in, all_columns}
+use Rattle.eqc_flat.specs.StoredDrivers.{driver_from}
+use Rattle.eqc_hierarchy.specs.Signals.{Driving, names_of, signals, cover_driving}
 use Rattle.eqc_flat.specs.Flattened.{path_at, model_of, signal_at, signals_here}
 use Rattle.eqc_flat.specs.RowTable.{all_rows}
 use Rattle.eqc_flat.specs.DriverTable.{IsTable}
 use Rattle.eqc_flat.proofs.DriverTableLaws.{filled_list}
-use Rattle.eqc_flat.proofs.NamingLaws.{column_named, driven_named}
+use Rattle.eqc_hierarchy.proofs.NamingLaws.{column_named, driven_named}
 use Rattle.eqc_flat.proofs.DrivingLaws.{no_driving, behind_more, behind_all, cover_at, cover_source, covers_of, cover_there, column_signals, columns_inside}
 use Rattle.eqc_flat.proofs.driver_table.DriverTable.fill_covers.Goals as goal
 

@@ -3,11 +3,11 @@ use Rattle.std.specs.List.{enumerate_from}
 use Rattle.std.proofs.lemmas.List.{get_or_default}
 use Rattle.eqc_blif.specs.Netlist.{ModelOf}
 use Rattle.eqc_blif.specs.Names.{is_named}
-use Rattle.eqc_flat.specs.Hierarchy.{model}
-use Rattle.eqc_flat.specs.Signals.{Driving, names_of, input_drivings}
+use Rattle.eqc_hierarchy.specs.Hierarchy.{model}
+use Rattle.eqc_hierarchy.specs.Signals.{Driving, names_of, input_drivings}
 use Rattle.eqc_flat.specs.Flattened.{signal_at}
 use Rattle.eqc_flat.specs.DriverTable.{IsTable}
-use Rattle.eqc_flat.proofs.NamingLaws.{input_named}
+use Rattle.eqc_hierarchy.proofs.NamingLaws.{input_named}
 use Rattle.eqc_flat.proofs.DrivingLaws.{no_driving, behind_more, behind_all, input_at, input_count}
 use Rattle.eqc_flat.proofs.driver_table.DriverTable.fill_inputs.Goals as goal
 

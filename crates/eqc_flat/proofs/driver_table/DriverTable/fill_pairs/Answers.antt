@@ -2,7 +2,7 @@ use Rattle.std.proofs.Common.{arith, ◌≡◌, ◌<◌, ◌+◌, ◌++◌, ◌�
 use Rattle.std.proofs.lemmas.List.{get_or_default, length-map}
 use Rattle.eqc_blif.specs.Names.{is_named}
 use Rattle.eqc_flat.specs.declared.stored_driver.StoredDriver.{StoredDriver}
-use Rattle.eqc_flat.specs.Signals.{Driving, from_signal, names_of, pair_driving}
+use Rattle.eqc_hierarchy.specs.Signals.{Driving, from_signal, names_of, pair_driving}
 use Rattle.eqc_flat.specs.Flattened.{path_at, model_of, signal_at}
 use Rattle.eqc_flat.specs.DriverTable.{IsTable}
 use Rattle.eqc_flat.proofs.DrivingLaws.{no_driving, behind_more, behind_all, pair_at, pair_input, pair_output}

@@ -1,5 +1,5 @@
 use Rattle.std.proofs.Common.{◌≡◌, ◌++◌, map, take, length, List}
-use Rattle.eqc_flat.specs.Signals.{Driving, pair_driving}
+use Rattle.eqc_hierarchy.specs.Signals.{Driving, pair_driving}
 use Rattle.eqc_flat.specs.Flattened.{path_at, model_of}
 use Rattle.eqc_flat.specs.DriverTable.{IsTable}
 use Rattle.eqc_flat.proofs.driver_table.DriverTable.fill_pairs.Given as goal

@@ -3,7 +3,8 @@ use Rattle.std.proofs.lemmas.List.{replicate_more}
 use Rattle.eqc_flat.specs.declared.stored_driver.StoredDriver.{StoredDriver}
 use Rattle.std.specs.Option.{option_map}
 use Rattle.eqc_flat.specs.Graph.{DriverOf}
-use Rattle.eqc_flat.specs.StoredDrivers.{all_columns, driver_from}
+use Rattle.eqc_hierarchy.specs.Columns.{all_columns}
+use Rattle.eqc_flat.specs.StoredDrivers.{driver_from}
 use Rattle.eqc_flat.proofs.DriverTableLaws.{filled_none}
 use Rattle.eqc_flat.proofs.DrivingLaws.{none_mapped}
 use Rattle.eqc_flat.proofs.driver_table.DriverTable.new.Goals as goal

@@ -1,6 +1,6 @@
 use Rattle.std.proofs.Common.{◌≡◌, ◌<◌, ℕ, List, length, arith, refl, ap, subst}
 use Rattle.eqc_blif.specs.Netlist.{ModelOf}
-use Rattle.eqc_flat.specs.Hierarchy.{paths}
+use Rattle.eqc_hierarchy.specs.Hierarchy.{paths}
 use Rattle.eqc_flat.specs.Flattened.{first_signal}
 use Rattle.eqc_flat.proofs.InstanceLaws.{found_firsts, found_first, found_signals}
 use Rattle.eqc_flat.proofs.ExpandedLaws.{first_most}

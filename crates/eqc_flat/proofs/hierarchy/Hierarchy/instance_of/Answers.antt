@@ -1,5 +1,6 @@
 use Rattle.std.proofs.Common.{arith}
-use Rattle.eqc_flat.proofs.FindingLaws.{first_inside, next_instance}
+use Rattle.eqc_hierarchy.proofs.PathLaws.{first_inside}
+use Rattle.eqc_flat.proofs.FindingLaws.{next_instance}
 use Rattle.eqc_flat.proofs.hierarchy.Hierarchy.instance_of.Goals as goal
 
 pub instances-init : goal.instances-init

@@ -1,5 +1,5 @@
 use Rattle.std.proofs.Common.{◌≡◌, ◌<◌, ◌+◌, ◌-◌, length}
-use Rattle.eqc_flat.specs.Hierarchy.{paths}
+use Rattle.eqc_hierarchy.specs.Hierarchy.{paths}
 use Rattle.eqc_flat.specs.Flattened.{first_signal}
 use Rattle.eqc_flat.proofs.hierarchy.Hierarchy.instance_of.Given as goal
 

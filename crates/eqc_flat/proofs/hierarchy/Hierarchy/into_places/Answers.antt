@@ -1,7 +1,7 @@
 use Rattle.std.proofs.Common.{◌≡◌, ◌∷◌, ◌∙◌, [], ℕ, List, map, length, sym, subst, arith}
 use Rattle.std.proofs.lemmas.List.{take_all}
 use Rattle.eqc_blif.specs.Netlist.{ModelOf}
-use Rattle.eqc_flat.specs.Hierarchy.{paths}
+use Rattle.eqc_hierarchy.specs.Hierarchy.{paths}
 use Rattle.eqc_flat.specs.Flattened.{path_at}
 use Rattle.eqc_flat.proofs.hierarchy.Hierarchy.into_places.Goals as goal
 

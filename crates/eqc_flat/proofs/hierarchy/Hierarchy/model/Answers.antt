@@ -1,6 +1,6 @@
 use Rattle.std.proofs.Common.{◌≡◌, ◌≤◌, ℕ, List, length, subst, ap, arith}
 use Rattle.eqc_blif.specs.Netlist.{ModelOf}
-use Rattle.eqc_flat.specs.Hierarchy.{model_at, paths}
+use Rattle.eqc_hierarchy.specs.Hierarchy.{model_at, paths}
 use Rattle.eqc_flat.specs.Flattened.{path_at}
 use Rattle.eqc_flat.specs.Instances.{IsGrowing}
 use Rattle.eqc_flat.proofs.InstanceLaws.{found_count, found_models, found_model}

@@ -1,8 +1,8 @@
 use Rattle.std.proofs.Common.{◌≡◌, ◌∙◌, ap, sym, ℕ, List, []}
 use Rattle.std.specs.Prelude.{slice_index_or}
 use Rattle.eqc_blif.specs.Netlist.{ModelOf}
-use Rattle.eqc_flat.specs.Hierarchy.{model}
-use Rattle.eqc_flat.specs.Signals.{names_of}
+use Rattle.eqc_hierarchy.specs.Hierarchy.{model}
+use Rattle.eqc_hierarchy.specs.Signals.{names_of}
 use Rattle.eqc_flat.specs.Flattened.{path_at, model_of, signal_at}
 use Rattle.eqc_flat.specs.Finding.{steps_of, hierarchical_name}
 use Rattle.eqc_flat.specs.declared.hierarchical_name.Step.{Step}

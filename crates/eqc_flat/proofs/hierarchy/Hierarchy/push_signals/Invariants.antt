@@ -1,5 +1,5 @@
 use Rattle.std.proofs.Common.{◌≡◌, ◌++◌, take, map, ℕ, List, Bor}
-use Rattle.eqc_flat.specs.Signals.{names_of}
+use Rattle.eqc_hierarchy.specs.Signals.{names_of}
 use Rattle.eqc_flat.specs.Flattened.{model_of}
 use Rattle.eqc_flat.proofs.hierarchy.Hierarchy.push_signals.Given as goal
 

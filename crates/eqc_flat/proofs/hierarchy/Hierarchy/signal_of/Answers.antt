@@ -1,7 +1,7 @@
 use Rattle.std.proofs.Common.{◌≡◌, ◌+◌, ◌<◌, ℕ, List, [], length, slice_index_or, arith, refl, ap, subst}
 use Rattle.eqc_blif.specs.Netlist.{ModelOf}
-use Rattle.eqc_flat.specs.Hierarchy.{paths}
-use Rattle.eqc_flat.specs.Signals.{names_of, signals}
+use Rattle.eqc_hierarchy.specs.Hierarchy.{paths}
+use Rattle.eqc_hierarchy.specs.Signals.{names_of, signals}
 use Rattle.eqc_flat.specs.Flattened.{path_at, model_of, signal_at}
 use Rattle.eqc_flat.proofs.InstanceLaws.{found_firsts, found_first, found_signals}
 use Rattle.eqc_flat.proofs.ExpandedLaws.{signal_is, signal_within}

@@ -1,7 +1,7 @@
 use Rattle.std.proofs.Common.{◌≡◌, ℕ, List, length, refl, subst}
 use Rattle.eqc_blif.specs.Netlist.{ModelOf}
-use Rattle.eqc_flat.specs.Hierarchy.{paths}
-use Rattle.eqc_flat.specs.Signals.{signals}
+use Rattle.eqc_hierarchy.specs.Hierarchy.{paths}
+use Rattle.eqc_hierarchy.specs.Signals.{signals}
 use Rattle.eqc_flat.proofs.InstanceLaws.{found_signals}
 use Rattle.eqc_flat.proofs.hierarchy.Hierarchy.signals.Goals as goal
 

@@ -1,5 +1,5 @@
 use Rattle.std.proofs.Common.{◌≡◌, ◌<◌, ◌++◌, length}
-use Rattle.eqc_flat.specs.Hierarchy.{paths}
+use Rattle.eqc_hierarchy.specs.Hierarchy.{paths}
 use Rattle.eqc_flat.specs.Flattened.{path_at}
 use Rattle.eqc_flat.specs.Finding.{steps_of}
 use Rattle.eqc_flat.proofs.hierarchy.Hierarchy.steps.Given as goal

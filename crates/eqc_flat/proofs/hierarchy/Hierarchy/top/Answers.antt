@@ -1,6 +1,6 @@
 use Rattle.std.proofs.Common.{◌≡◌, ◌<◌, ℕ, List, [], length, subst, ap}
 use Rattle.eqc_blif.specs.Netlist.{ModelOf}
-use Rattle.eqc_flat.specs.Hierarchy.{model, paths}
+use Rattle.eqc_hierarchy.specs.Hierarchy.{model, paths}
 use Rattle.eqc_flat.specs.Flattened.{path_at, model_of}
 use Rattle.eqc_flat.proofs.InstanceLaws.{some_path, root_path, root_model}
 use Rattle.eqc_flat.proofs.hierarchy.Hierarchy.top.Goals as goal

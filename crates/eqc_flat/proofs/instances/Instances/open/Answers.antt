@@ -1,8 +1,8 @@
 use Rattle.std.proofs.Common.{arith, ◌∙◌, ap, List, length, get_or}
 use Rattle.std.proofs.lemmas.List.{get_or_default}
 use Rattle.eqc_blif.specs.Netlist.{ModelOf}
-use Rattle.eqc_flat.specs.Hierarchy.{model}
-use Rattle.eqc_flat.specs.Signals.{names_of}
+use Rattle.eqc_hierarchy.specs.Hierarchy.{model}
+use Rattle.eqc_hierarchy.specs.Signals.{names_of}
 use Rattle.eqc_flat.specs.Flattened.{path_at}
 use Rattle.eqc_flat.specs.Instances.{first_below}
 use Rattle.eqc_flat.proofs.InstanceLaws as laws

@@ -1,12 +1,11 @@
 use Rattle.std.proofs.Common.{◌≡◌, ◌+◌, ◌<◌, ℕ, List, [], length, slice_index_or, arith, ◌∙◌, ap, subst}
 use Rattle.eqc_blif.specs.Netlist.{ModelOf, no_cover}
-use Rattle.eqc_flat.specs.Hierarchy.{model}
+use Rattle.eqc_hierarchy.specs.Hierarchy.{model}
 use Rattle.eqc_flat.specs.RowTable.{all_rows}
-use Rattle.eqc_flat.proofs.NamingLaws.{rows_at, rows_inside}
-use Rattle.eqc_flat.specs.Signals.{names_of}
-use Rattle.eqc_flat.specs.StoredDrivers.{places_in, all_columns}
+use Rattle.eqc_flat.proofs.ExpandedLaws.{rows_at, rows_inside, row_first, row_firsts}
+use Rattle.eqc_hierarchy.specs.Signals.{names_of}
+use Rattle.eqc_hierarchy.specs.Columns.{places_in, all_columns}
 use Rattle.eqc_flat.proofs.StoredDriverLaws.{columns_at}
-use Rattle.eqc_flat.proofs.ExpandedLaws.{row_first, row_firsts}
 use Rattle.eqc_flat.proofs.row_table.RowTable.number.Goals as goal
 
 pub index-requires : goal.index-requires

@@ -1,0 +1,14 @@
+pub mod Depth
+pub mod Orders
+pub mod Members
+pub mod Distinct
+pub mod CallLaws
+pub mod ReachingLaws
+pub mod NameSetLaws
+pub mod PathLaws
+pub mod NamingLaws
+pub mod ModelFaultLaws
+pub mod SearchLaws
+pub mod VisitLaws
+pub mod FaultLaws
+pub mod SizeLaws

@@ -1,0 +1,13 @@
+pub mod Hierarchy
+pub mod Signals
+pub mod Dependency
+pub mod Codes
+pub mod Rule
+pub mod NameSets
+pub mod Columns
+pub mod Walks
+pub mod Reaching
+pub mod Searching
+pub mod ModelFaults
+pub mod InstanceFinding
+pub mod Sizes
