@@ -13,9 +13,12 @@ use eqc_tree::{Op, References};
 use std::mem;
 use std::sync::Wait;
 
-/// So often a worker without work looks through the boxes of others before it says that there is
-/// nothing to do. In the last pause it leaves the processor to others.
-const LOOKS: u32 = 8;
+/// So many pauses a worker without work makes, and looks through the boxes of others before each, before it says that there
+/// is nothing to do. In the last pause it leaves the processor to others.
+const PAUSES: u32 = 8;
+
+/// Where there are many boxes it looks through them before fewer pauses: at most into about so many boxes, or into each once.
+const LOOKS: u32 = 512;
 
 impl Applier {
     /// Puts the result of an operation into the box from which it was taken, or why it stopped.
@@ -83,13 +86,12 @@ impl Applier {
         self.names.is_offered(b) && self.serve_box(rt, b)
     }
 
-    /// Looks through the boxes of so many levels, up to one with an operation to be done.
-    fn serve_levels<R: Wait>(&mut self, rt: &R, levels: u32) -> bool
+    /// Looks through so many boxes, up to one with an operation to be done.
+    fn serve_boxes<R: Wait>(&mut self, rt: &R, boxes: u32) -> bool
         ensures kept { Keeps (holding_in self.old.names) (holding_in self.new.names) }
         ensures worker { IsWorker self.old.names.worker self.new.names.worker }
     {
-        let turns = levels.saturating_mul(self.names.worker.announcement_words());
-        for turn in 0..turns {
+        for turn in 0..boxes {
             if self.serve_turn(rt, turn) {
                 return true;
             }
@@ -105,9 +107,15 @@ impl Applier {
         if levels == 0 {
             return false;
         }
+        let boxes = levels.saturating_mul(self.names.worker.announcement_words());
         let backoff = Backoff::new();
-        for _ in 0..LOOKS {
-            if self.serve_levels(rt, levels) {
+        for pause in 0..PAUSES {
+            let looks = if boxes.saturating_mul(pause) < LOOKS {
+                boxes
+            } else {
+                0
+            };
+            if self.serve_boxes(rt, looks) {
                 return true;
             }
             backoff.snooze();

@@ -102,7 +102,9 @@ fn scheduled_verdicts<R: Threads + Wait + Sync, D: Diagrams<R> + Send + Drop, G:
     let Ok(plan) = plan_of(alloc, Steps::of(pair, chosen), &equal) else {
         return Err(Stop::Memory);
     };
-    let task = Task { plan, equal };
+    let outputs = pair.first().outputs().len() as u64;
+    let draws = outputs.saturating_add(members.len() as u64);
+    let task = Task { plan, equal, draws };
     all_verdicts(rt, alloc, pair, &task, members, gate)
 }
 

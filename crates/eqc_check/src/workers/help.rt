@@ -1,18 +1,32 @@
 //! What a member does once it has nothing left to draw: it helps with the operations of others.
 ghost use Rattle.eqc_tree.specs.Holding.{Keeps};
+ghost use Rattle.eqc_check.specs.Ticket.{IsSeat};
 
+use crate::workers::task::Task;
+use crate::workers::ticket::{Drawer, Words, drawn};
 use eqc_tree::{Diagrams, References};
 use std::sync::Wait;
 
 /// So often in succession a member asks for an operation to help with, and there is none, before it stops asking.
 const VAIN_ASKS: u32 = 1_000;
 
-/// Helps with the next operation that another member offers, and says whether one came before too many asks were in vain.
-/// It is for the diagrams to pause where something may come yet.
-fn help_once<R, D: Diagrams<R>>(rt: &R, diagrams: &mut D) -> bool
+/// Helps with the next operation that another member offers, and says whether one came before too many asks were in vain,
+/// or all members had drawn their last. It is for the diagrams to pause where something may come yet.
+fn help_once<R, D: Diagrams<R>>(
+    rt: &R,
+    task: &Task<'_>,
+    words: &Words,
+    seat: &Drawer,
+    diagrams: &mut D,
+) -> bool
+    requires own { IsSeat words.now.table_id seat.now }
     ensures kept { Keeps (D.holding diagrams.old) (D.holding diagrams.new) }
 {
     for _ in 0..VAIN_ASKS {
+        // A member draws its last when it has compared all others, so then there is nobody who could offer anything.
+        if drawn(words, seat) >= task.draws {
+            return false;
+        }
         if diagrams.help(rt) {
             return true;
         }
@@ -20,14 +34,22 @@ fn help_once<R, D: Diagrams<R>>(rt: &R, diagrams: &mut D) -> bool
     false
 }
 
-/// Helps with operations that other members offer, until none has come for a while. What is held is as before.
+/// Helps with operations that other members offer, until all have compared what they drew, or none has come for a while.
+/// What is held is as before.
 ///
 /// Nothing says how many come, so the call may wait: it returns once the others offer nothing more.
-pub(crate) fn help_others<R: Wait, D: Diagrams<R>>(rt: &R, diagrams: &mut D)
+pub(crate) fn help_others<R: Wait, D: Diagrams<R>>(
+    rt: &R,
+    task: &Task<'_>,
+    words: &Words,
+    seat: &Drawer,
+    diagrams: &mut D,
+)
+    requires own { IsSeat words.now.table_id seat.now }
     ensures kept { Keeps (D.holding diagrams.old) (D.holding diagrams.new) }
 {
     for _ in rt.forever() {
-        if !help_once(rt, diagrams) {
+        if !help_once(rt, task, words, seat, diagrams) {
             return;
         }
     }

@@ -135,7 +135,7 @@ fn work_alone<R: Wait, D: Diagrams<R> + Drop, G: Gate<R>>(
     );
     let mut diagrams = member::end(member, pair);
     let share = drawn?;
-    help_others(rt, &mut diagrams);
+    help_others(rt, task, words, &share.seat, &mut diagrams);
     Ok(share)
 }
 

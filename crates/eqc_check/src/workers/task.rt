@@ -8,4 +8,6 @@ pub(crate) struct Task<'a> {
     pub plan: Plan<'a>,
     /// The outputs that are marked are known to be equal, and are not compared.
     pub equal: Vec<bool>,
+    /// So many numbers are drawn in all: each output's, and by each member one beyond them.
+    pub draws: u64,
 }

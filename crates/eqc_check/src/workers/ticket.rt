@@ -82,6 +82,13 @@ pub(crate) fn draw(words: &Words, seat: &mut Drawer) -> u64
     words.fetch_add::<Drawing>(seat, 0, 1)
 }
 
+/// How many numbers have been drawn, as one look at the word tells it: there may be more by now.
+pub(crate) fn drawn(words: &Words, seat: &Drawer) -> u64
+    requires own { IsSeat words.now.table_id seat.now }
+{
+    words.peek(0)
+}
+
 /// Hands half of what a seat stands for to a new one.
 pub(crate) fn halve(words: &Words, seat: &mut Drawer) -> Drawer
     requires own { IsSeat words.now.table_id seat.old }

@@ -4,14 +4,14 @@ use Rattle.eqc_apply.proofs.Meanings.{extends_refl}
 use Rattle.eqc_apply.proofs.Helping.{keeps_refl, keeps_trans}
 use Rattle.eqc_apply.proofs.applier.Applier.look_through.Goals as goal
 
-pub loop-init : goal.loop-init
-loop-init g c = let n = c.args.self.now.names in record { kept = keeps_refl (holding_in n); worker = worker_stays n n (extends_stays n n (extends_refl n)) }
+pub loop-pause-init : goal.loop-pause-init
+loop-pause-init g c = let n = c.args.self.now.names in record { kept = keeps_refl (holding_in n); worker = worker_stays n n (extends_stays n n (extends_refl n)) }
 
-pub loop-preserved : goal.loop-preserved
-loop-preserved g c = record { kept = keeps_trans c.loop.invariant.kept c.serve_levels.ensures.kept; worker = worker_trans c.loop.invariant.worker c.serve_levels.ensures.worker }
+pub loop-pause-preserved : goal.loop-pause-preserved
+loop-pause-preserved g c = record { kept = keeps_trans c.loop-pause.invariant.kept c.serve_boxes.ensures.kept; worker = worker_trans c.loop-pause.invariant.worker c.serve_boxes.ensures.worker }
 
-pub returns-then-serve_levels-clause-kept : goal.returns-then-serve_levels-clause-kept
-returns-then-serve_levels-clause-kept g c = keeps_trans c.loop.invariant.kept c.serve_levels.ensures.kept
+pub returns-then-serve_boxes-clause-kept : goal.returns-then-serve_boxes-clause-kept
+returns-then-serve_boxes-clause-kept g c = keeps_trans c.loop-pause.invariant.kept c.serve_boxes.ensures.kept
 
-pub returns-then-serve_levels-clause-worker : goal.returns-then-serve_levels-clause-worker
-returns-then-serve_levels-clause-worker g c = worker_trans c.loop.invariant.worker c.serve_levels.ensures.worker
+pub returns-then-serve_boxes-clause-worker : goal.returns-then-serve_boxes-clause-worker
+returns-then-serve_boxes-clause-worker g c = worker_trans c.loop-pause.invariant.worker c.serve_boxes.ensures.worker

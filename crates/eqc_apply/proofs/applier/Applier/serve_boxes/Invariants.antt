@@ -1,7 +1,7 @@
 use Rattle.eqc_tree.specs.Holding.{Keeps}
 use Rattle.eqc_apply.specs.Before.{IsWorker}
 use Rattle.eqc_apply.specs.Extending.{holding_in}
-use Rattle.eqc_apply.proofs.applier.Applier.serve_levels.Given as goal
+use Rattle.eqc_apply.proofs.applier.Applier.serve_boxes.Given as goal
 
 abbrev pub invariant-loop-turn : goal.invariant-loop-turn
 invariant-loop-turn g l = record {

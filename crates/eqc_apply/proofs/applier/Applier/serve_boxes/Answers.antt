@@ -2,7 +2,7 @@ use Rattle.eqc_apply.specs.Extending.{holding_in}
 use Rattle.eqc_apply.proofs.Answering.{worker_stays, worker_trans, extends_stays}
 use Rattle.eqc_apply.proofs.Meanings.{extends_refl}
 use Rattle.eqc_apply.proofs.Helping.{keeps_refl, keeps_trans}
-use Rattle.eqc_apply.proofs.applier.Applier.serve_levels.Goals as goal
+use Rattle.eqc_apply.proofs.applier.Applier.serve_boxes.Goals as goal
 
 pub loop-turn-init : goal.loop-turn-init
 loop-turn-init g c = let n = c.args.self.now.names in record { kept = keeps_refl (holding_in n); worker = worker_stays n n (extends_stays n n (extends_refl n)) }
