@@ -18,3 +18,4 @@ pub mod Finding
 pub mod Merging
 pub mod Absorbing
 pub mod Emptied
+pub mod Copying

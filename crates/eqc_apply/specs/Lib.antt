@@ -12,3 +12,4 @@ pub mod Teaming
 pub mod Joining
 pub mod Stopping
 pub mod Handing
+pub mod Copying

@@ -11,6 +11,7 @@ ghost use Rattle.eqc_apply.specs.Stopping.{IsFull, HasTaken};
 use crate::applier::Applier;
 use crate::reference::Ref;
 use eqc_tree::{Diagrams, Op, References, Stop};
+use std::alloc::Global;
 use std::sync::Wait;
 
 impl Applier {
@@ -155,7 +156,9 @@ impl References for Applier {
 }
 
 impl<R: Wait> Diagrams<R> for Applier {
-    ghost use Rattle.std.specs.Prelude.{◌≢◌};
+    ghost use Rattle.std.specs.Prelude.{◌≢◌, IfSome, IsSome, length};
+    ghost use Rattle.std.specs.List.{All, find};
+    ghost use Rattle.eqc_tree.specs.Assigned.{assigned, assignments, AreDistinct, DependsOnlyOn, IsSatisfiable};
 
     /// Stops for nodes only where every slot was seen taken, after names without references were
     /// given up and dead nodes taken back, and for references only at 2^32 - 1 to one node.
@@ -217,5 +220,31 @@ impl<R: Wait> Diagrams<R> for Applier {
         self.give_back(both);
         self.give_back(other);
         either
+    }
+
+    /// Found on a copy of the diagram's nodes in a store of one thread: so it takes no node, and stops for want of memory
+    /// alone.
+    fn least(
+        &mut self,
+        _rt: &R,
+        alloc: Global,
+        variables: &[u16],
+        f: &Ref,
+    ) -> Result<Option<Vec<bool>>, Stop>
+        requires held { IsHeld (holding_in self.old.names) (entry_of f.now) }
+        requires within { All (λ v. v < (holding_in self.old.names).variables) variables.now }
+        requires distinct { AreDistinct variables.now }
+        requires satisfiable { IsSatisfiable (says (entry_of f.now)) }
+        requires depends { DependsOnlyOn variables.now (says (entry_of f.now)) }
+        ensures least { IfOk result (λ found. IfSome found (λ least. Some least.items ≡ find (λ values. says (entry_of f.now) (assigned variables.now values)) (assignments (length variables.now)))) }
+        ensures found { IfOk result (λ found. IsSome found) }
+        ensures kept { Keeps (holding_in self.old.names) (holding_in self.new.names) }
+        ensures only { IfErr result (λ s. s ≡ Stop.Memory) }
+        ensures worker { IsWorker self.old.names.worker self.new.names.worker }
+    {
+        match self.names.least(alloc, variables, f.name) {
+            Ok(values) => Ok(Some(values)),
+            Err(stop) => Err(stop),
+        }
     }
 }

@@ -9,6 +9,7 @@
 //! - `shared`, the operation cache that all workers share
 //! - `boxes` and `offering`, in which one half of an operation is offered to other workers; `serving`, which
 //!   do it
+//! - `least`, the least assignment, found on a `plain_copy` of a diagram
 //! - `diagrams`, the calls of the traits; `members`, the appliers of a new forest
 //! - `joining`, one applier takes another one in; `closing`, the last one closes the forest
 #![tactic(auto)]
@@ -20,9 +21,11 @@ mod closing;
 mod diagrams;
 mod expansion;
 mod joining;
+mod least;
 mod members;
 mod names;
 mod offering;
+mod plain_copy;
 mod reference;
 mod serving;
 mod shared;

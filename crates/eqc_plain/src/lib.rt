@@ -5,7 +5,8 @@
 //! the thread's stack. Read the modules in this order:
 //!
 //! - `plain`, the public type and its calls; `reference`, what is handed out
-//! - `store`, the nodes and counts; `unique_table`, the list of node words that finds a word
+//! - `store`, the nodes and counts, which is public for copies of other diagrams; `unique_table`, the list of node
+//!   words that finds a word
 //! - `apply`, the loop; `task`, its stack; `terminal`, what needs no nodes; `cache`. The last three
 //!   know no store, and are public for other diagrams' loops
 //! - `least`, the least assignment; `search`, what it keeps
@@ -17,7 +18,7 @@ mod least;
 mod plain;
 mod reference;
 mod search;
-mod store;
+pub mod store;
 pub mod task;
 pub mod terminal;
 mod unique_table;

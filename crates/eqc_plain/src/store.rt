@@ -53,6 +53,8 @@ impl Store {
         requires above_high { variable < root self.old.variables (tree_at self.old.nodes high) }
         ensures store { Extends self.old self.new }
         ensures ok { IfOk result (λ x. IsNode self.new.variables self.new.nodes variable low high x) }
+        ensures one { length self.new.nodes ≤ length self.old.nodes + 1 }
+        ensures still { OnErr result (self.new.nodes ≡ self.old.nodes) }
         ensures absent { IfErr result (λ _. (k : ℕ) → k < length self.old.nodes → slice_index self.old.nodes k ≢ node_word variable low high) }
         ensures full { result ≡ Err Stop.NodeLimit → length self.new.nodes ≡ self.new.limit }
         ensures only { IfErr result (λ s. (s ≡ Stop.NodeLimit) ⊎ (s ≡ Stop.Memory)) }
