@@ -135,6 +135,7 @@ impl References for Applier {
         requires { IsHeld (holding_in self.old.names) (entry_of f) }
         ensures loses { Loses (holding_in self.old.names) (holding_in self.new.names) (entry_of f) }
         ensures worker { IsWorker self.old.names.worker self.new.names.worker }
+        ensures still { self.new.names.worker ≡ self.old.names.worker }
     {
         self.names.release(f);
     }
@@ -197,7 +198,8 @@ impl<R: Wait> Diagrams<R> for Applier {
         self.serve(rt)
     }
 
-    /// Three applies, which stop as `apply` does.
+    /// Three applies. Stops for nodes as `apply` does, and for references where a worker that did a half told so, or at
+    /// 2^32 - 3 or more to one node, to which two more may come on the way.
     #[tactic(auto, using(eqc_tree::proofs::HoldingLemmas::counts_itself))]
     fn ite(&mut self, rt: &R, f: &Ref, g: &Ref, h: &Ref) -> Result<Ref, Stop>
         requires f { IsHeld (holding_in self.old.names) (entry_of f.now) }
@@ -206,6 +208,8 @@ impl<R: Wait> Diagrams<R> for Applier {
         ensures ok { IfOk result (λ r. Gains (holding_in self.old.names) (holding_in self.new.names) (entry_of r) (λ a. if says (entry_of f.now) a then says (entry_of g.now) a else says (entry_of h.now) a)) }
         ensures stop { OnErr result (Keeps (holding_in self.old.names) (holding_in self.new.names)) }
         ensures only { IfErr result (λ s. s ≢ Stop.Threads) }
+        ensures nodes { result ≡ Err Stop.NodeLimit → IsFull self.new.names.worker.known.core }
+        ensures references { result ≡ Err Stop.References → HasTaken Stop.References self.new.names.worker.known.core ⊎ ((e : Entry) × (2 ^ 32 - 3 ≤ copies (holding_in self.old.names) e)) }
         ensures worker { IsWorker self.old.names.worker self.new.names.worker }
     {
         let both = self.apply(rt, Op::And, f, g)?;
