@@ -168,9 +168,9 @@ def queens(size):
 
 
 MADE = {
-    **{f"multiplier{bits}": (multiplier, bits) for bits in (8, 9, 10)},
-    **{f"weighted{count}": (hidden_weighted_bit, count) for count in (24, 28, 32)},
-    **{f"queens{size}": (queens, size) for size in (6, 7)},
+    **{f"multiplier{bits}": (multiplier, bits) for bits in (10, 11, 12, 13)},
+    **{f"weighted{count}": (hidden_weighted_bit, count) for count in (32, 34, 36)},
+    **{f"queens{size}": (queens, size) for size in (7, 8)},
 }
 
 
