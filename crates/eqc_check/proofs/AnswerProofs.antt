@@ -2,8 +2,8 @@
 use Rattle.std.proofs.Common.{◌≡◌, inl, inr, ℕ, Bool, List, [], ◌++◌, map, zip, get_or, Option, Some, None, IfSome, All, sym, ap, refl, ◌∙◌, subst}
 use Rattle.std.proofs.lemmas.List.Elements.{All-from_get_or, All-get_or}
 use Rattle.eqc_check.specs.declared.options.Options.{Options}
-use Rattle.eqc_check.specs.Verdict.{first_value, second_value, first_difference}
-use Rattle.eqc_check.specs.VerdictLaws.{NeverDiffers}
+use Rattle.eqc_compare.specs.Verdict.{first_value, second_value, first_difference}
+use Rattle.eqc_compare.specs.VerdictLaws.{NeverDiffers}
 use Rattle.eqc_check.specs.Report.{ReportOf, equivalent, differs, refused, stopped, difference_report}
 use Rattle.eqc_check.specs.Answer.{NamesOf, TextsOf, inputs_of, outputs_of, netlist_of_model, options_answer, texts_answer, answer, IsComparison, Answers, as_wanted}
 use Rattle.eqc_check.specs.Options.{options_code}
@@ -11,7 +11,7 @@ use Rattle.eqc_check.specs.Running.{known_texts, known_order, IsReport, IsReport
 use Rattle.eqc_check.specs.declared.running.Texts.{Texts}
 use Rattle.eqc_pair.specs.declared.refused.Side.TheVariants as side
 use Rattle.eqc_check.specs.AnswerLaws.{first_main, second_main, AreInRange, HaveSameNames, IsAccepted, FitsInputs, IsAlwaysEqual, IsFirstToDiffer, option_checks, text_checks, order_checks, checks, AnswerIsOne, AnswerIsEquivalent, AnswerDiffers, AnswerIsFirstRefusal, AnswerCompares, ChecksAccept, AnswerIsNoStop, IsAnswerOfRuns}
-use Rattle.eqc_check.proofs.VerdictLemmas.{found_is_first, first_is_found, none_ever_differs, none_is_found}
+use Rattle.eqc_compare.proofs.VerdictLemmas.{found_is_first, first_is_found, none_ever_differs, none_is_found}
 use Rattle.eqc_check.proofs.CheckLemmas.{verdict, PassAll, pass_both, pass_or_refuse, passed_before, passed_behind, all_passed, refused_first, first_refused, compared_passed, never_stopped, compared, is_comparison, answer_checked}
 use Rattle.eqc_check.proofs.AcceptedLemmas.{range_passes, order_passes, accepted_passes, passed_accepted}
 use Rattle.eqc_check.proofs.NamedValueLemmas.{first_under, second_under, zip_assigned, never_always, always_never}

@@ -9,7 +9,7 @@ use Rattle.eqc_pair.specs.declared.refused.Refused.{Refused}
 use Rattle.eqc_pair.specs.declared.refused.Side.TheVariants as side
 use Rattle.eqc_check.specs.Options.{is_between, is_cell_count, options_code}
 use Rattle.eqc_pair.specs.Matched.{has_all, same_names, order_words}
-use Rattle.eqc_check.specs.Verdict.{NetlistOf, first_difference}
+use Rattle.eqc_compare.specs.Verdict.{NetlistOf, first_difference}
 use Rattle.eqc_check.specs.Report.{ReportOf, refused, stopped, difference_report, comparison}
 use Rattle.eqc_check.specs.Answer.{TextsOf, first_found, second_found, MainOf, inputs_of, outputs_of, netlist_of_model, order_answer, code_of_order, pair_answer, or_code, models_answer, found_answer, texts_answer, options_answer, answer, IsComparison}
 use Rattle.eqc_check.specs.AnswerLaws.{main_or_none, first_main, second_main, refused_if, refused_by_code, refused_by_fault, text_checks, order_checks, checks, IsFirstRefusal}

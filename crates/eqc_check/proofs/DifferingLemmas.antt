@@ -2,11 +2,11 @@
 use Rattle.std.proofs.Common.{◌≡◌, ◌≢◌, ◌⊎◌, inl, inr, ℕ, Bool, true, false, List, [], ◌∷◌, length, map, zip, get_or, sym, ap, refl, ◌∙◌, arith, subst}
 use Rattle.std.proofs.lemmas.Bool.{cases_Bool, true≢false}
 use Rattle.std.proofs.lemmas.List.{length-map}
-use Rattle.eqc_check.specs.Verdict.{is_different, first_value, second_value, differs_under}
-use Rattle.eqc_check.specs.VerdictLaws.{IsBelow, IsLeastDifference, IsFirstDifference}
+use Rattle.eqc_compare.specs.Verdict.{is_different, first_value, second_value, differs_under}
+use Rattle.eqc_compare.specs.VerdictLaws.{IsBelow, IsLeastDifference, IsFirstDifference}
 use Rattle.eqc_check.specs.Answer.{TextsOf, MainOf, inputs_of, outputs_of, netlist_of_model}
 use Rattle.eqc_check.specs.AnswerLaws.{first_main, second_main, HaveSameNames, value_under, IsFirstToDiffer}
-use Rattle.eqc_check.proofs.LeastLemmas.{not_both_below}
+use Rattle.eqc_compare.proofs.LeastLemmas.{not_both_below}
 use Rattle.eqc_check.proofs.NamedValueLemmas.{inputs_once, first_under, second_under, by_position, positions_back, zip_assigned, not_different, same_value, never_always, always_never}
 
 -- values that differ are not equal

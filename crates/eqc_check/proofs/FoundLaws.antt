@@ -2,12 +2,12 @@
 use Rattle.std.proofs.Common.{◌≡◌, ℕ, zero, suc, ◌+◌, ◌<◌, Bool, true, false, not, List, [], ◌∷◌, ◌++◌, length, take, get_or, refl, sym, ◌∙◌, ap, arith, Some, true≢false}
 use Rattle.std.specs.List.{zip}
 use Rattle.eqc_flat.specs.Graph.{FlatOf, IsFlat, value_of}
-use Rattle.eqc_check.specs.Verdict.{values_for, is_different, first_value, second_value, first_difference}
+use Rattle.eqc_compare.specs.Verdict.{values_for, is_different, first_value, second_value, first_difference}
 use Rattle.eqc_check.specs.Report.{ReportOf, differs, difference_report, comparison}
 use Rattle.eqc_flat.specs.Evaluating.{values_of}
-use Rattle.eqc_check.proofs.CompareLaws.{value_agrees}
-use Rattle.eqc_check.proofs.VerdictLemmas.{found_is_first}
-use Rattle.eqc_check.specs.Comparing.{netlist_of}
+use Rattle.eqc_compare.proofs.CompareLaws.{value_agrees}
+use Rattle.eqc_compare.proofs.VerdictLemmas.{found_is_first}
+use Rattle.eqc_compare.specs.Comparing.{netlist_of}
 use Rattle.eqc_pair.proofs.PlaceLemmas.{place_itself}
 
 -- one more name with its value

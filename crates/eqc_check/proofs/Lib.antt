@@ -1,13 +1,7 @@
-pub mod LeastLemmas
-pub mod VerdictLemmas
-pub mod MatchedLemmas
-pub mod CompareLaws
 pub mod OptionsLemmas
 pub mod KnownBytes
 pub mod ReportLemmas
 pub mod FoundLaws
-pub mod DifferenceLaws
-pub mod InputLemmas
 pub mod ReportsLaws
 pub mod TellingLaws
 pub mod RunLaws
@@ -17,8 +11,3 @@ pub mod NamedValueLemmas
 pub mod DifferingLemmas
 pub mod ChoiceProofs
 pub mod AnswerProofs
-pub mod TicketCounts
-pub mod TicketSteps
-pub mod ShareLemmas
-pub mod VerdictPlaces
-pub mod AlikeLaws

@@ -12,8 +12,8 @@ use Rattle.eqc_flat.specs.Hierarchy.{model}
 use Rattle.eqc_flat.specs.Signals.{signals, output_value}
 use Rattle.eqc_flat.proofs.InputLaws.{values_depend_on_inputs_alone}
 use Rattle.eqc_pair.specs.Matched.{position_of}
-use Rattle.eqc_check.specs.Verdict.{is_different, values_for, first_value, second_value}
-use Rattle.eqc_check.specs.VerdictLaws.{NeverDiffers}
+use Rattle.eqc_compare.specs.Verdict.{is_different, values_for, first_value, second_value}
+use Rattle.eqc_compare.specs.VerdictLaws.{NeverDiffers}
 use Rattle.eqc_check.specs.Answer.{TextsOf, one_text, two_texts, MainOf, chosen_number, chosen, main_of, inputs_of, netlist_of_model}
 use Rattle.eqc_check.specs.AnswerLaws.{main_or_none, first_main, HaveSameNames, value_under}
 use Rattle.eqc_pair.proofs.PlaceLemmas.{place_itself, place_below, name_at, named_index}

@@ -14,17 +14,17 @@ use Rattle.eqc_check.specs.declared.report.Report.{Report}
 use Rattle.eqc_pair.specs.declared.refused.Side.{Side}
 use Rattle.eqc_pair.specs.declared.refused.Side.TheVariants as side
 use Rattle.eqc_pair.specs.declared.refused.Refused.{Refused}
-use Rattle.eqc_check.specs.Verdict.{NetlistOf, values_for, first_value, second_value, first_difference}
+use Rattle.eqc_compare.specs.Verdict.{NetlistOf, values_for, first_value, second_value, first_difference}
 use Rattle.eqc_check.specs.Report.{ReportOf, refused, difference_report, comparison}
 use Rattle.eqc_check.specs.ReportView.{report_of}
 use Rattle.eqc_pair.specs.Matched.{position_of, same_names, order_code}
 use Rattle.eqc_pair.specs.PairOf.{pair_refusal, order_refused, no_memory}
 use Rattle.eqc_check.specs.Refusing.{IsRefused, refusal_report, flat_answer}
 use Rattle.eqc_check.specs.Answer.{MainOf, inputs_of, outputs_of, netlist_of_model, order_answer, code_of_order, pair_answer, models_answer, IsComparison, MayStop, Answers, as_wanted}
-use Rattle.eqc_check.specs.Comparing.{netlist_of}
+use Rattle.eqc_compare.specs.Comparing.{netlist_of}
 use Rattle.eqc_pair.proofs.PlaceLemmas.{place_itself, place_below, all_named, name_at}
 use Rattle.eqc_pair.proofs.OrderedLemmas.{both_ways}
-use Rattle.eqc_check.proofs.VerdictLemmas.{DiffersAlike, first_agrees, found_is_first}
+use Rattle.eqc_compare.proofs.VerdictLemmas.{DiffersAlike, first_agrees, found_is_first}
 
 -- a refusal of a pair
 pub flat_refused : (f g : FlatOf) (order : Option (List ℕ)) (r : Refused) → (r ≡ no_memory) ⊎ (pair_refusal f g order ≡ Some r) → (r.code ≡ 72 → ⊥) → refused r.side r.line r.code ≡ flat_answer f g order

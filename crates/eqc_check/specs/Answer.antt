@@ -12,7 +12,7 @@ use Rattle.eqc_pair.specs.declared.refused.Side.{Side}
 use Rattle.eqc_pair.specs.declared.refused.Side.TheVariants as side
 use Rattle.eqc_check.specs.Options.{options_code}
 use Rattle.eqc_pair.specs.Matched.{same_names, order_code}
-use Rattle.eqc_check.specs.Verdict.{NetlistOf}
+use Rattle.eqc_compare.specs.Verdict.{NetlistOf}
 use Rattle.eqc_check.specs.Report.{ReportOf, equivalent, differs, refused, stopped, comparison}
 use Rattle.eqc_tree.specs.Stopping.{code_of}
 use Rattle.eqc_tree.specs.declared.stopping.Stop.{Stop}

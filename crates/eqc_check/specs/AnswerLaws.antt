@@ -11,7 +11,7 @@ use Rattle.eqc_pair.specs.declared.refused.Side.{Side}
 use Rattle.eqc_pair.specs.declared.refused.Side.TheVariants as side
 use Rattle.eqc_check.specs.Options.{is_between, is_cell_count, options_code}
 use Rattle.eqc_pair.specs.Matched.{has_all, same_names, order_words}
-use Rattle.eqc_check.specs.VerdictLaws.{IsBelow}
+use Rattle.eqc_compare.specs.VerdictLaws.{IsBelow}
 use Rattle.eqc_check.specs.Report.{ReportOf, equivalent, differs, refused, stopped}
 use Rattle.eqc_blif.specs.Netlist.{ModelOf}
 use Rattle.eqc_blif.specs.Reading.{outcome}

@@ -8,7 +8,7 @@ use Rattle.eqc_pair.specs.declared.refused.Refused.{Refused}
 use Rattle.eqc_pair.specs.declared.refused.Side.{Side}
 use Rattle.eqc_check.specs.Report.{ReportOf, refused, comparison}
 use Rattle.eqc_pair.specs.PairOf.{pair_refusal}
-use Rattle.eqc_check.specs.Comparing.{netlist_of}
+use Rattle.eqc_compare.specs.Comparing.{netlist_of}
 use Rattle.eqc_tree.specs.declared.stopping.Stop.{Stop}
 use Rattle.eqc_tree.specs.declared.stopping.Stop.TheVariants.{Memory}
 

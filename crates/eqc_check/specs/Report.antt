@@ -5,7 +5,7 @@ use Rattle.std.specs.Fmt.{decimal}
 use Rattle.std.specs.Prelude.{Option, Some, None}
 use Rattle.eqc_pair.specs.declared.refused.Side.{Side}
 use Rattle.eqc_pair.specs.Side.{side_word}
-use Rattle.eqc_check.specs.Verdict.{NetlistOf, first_value, second_value, first_difference}
+use Rattle.eqc_compare.specs.Verdict.{NetlistOf, first_value, second_value, first_difference}
 
 -- equivalent; the first differing output with the inputs' values and its value in the two netlists; a refusal
 -- of a side at a line with a code; or the code of what stopped the run

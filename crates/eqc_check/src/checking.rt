@@ -1,13 +1,13 @@
 ghost use Rattle.std.specs.Prelude.{◌≡◌, ◌≢◌, ◌<◌, ◌≤◌, Bool, true, false, List, length, Some, IfOk, IfErr, slice_index_or, not, []};
 ghost use Rattle.std.specs.List.{zip};
-ghost use Rattle.eqc_check.specs.Verdict.{first_value, differs_under};
+ghost use Rattle.eqc_compare.specs.Verdict.{first_value, differs_under};
 ghost use Rattle.eqc_check.specs.Report.{difference_report, comparison, differs};
 ghost use Rattle.eqc_check.specs.ReportView.{report_of};
-ghost use Rattle.eqc_check.specs.Comparing.{netlist_of, IsFirstFound};
+ghost use Rattle.eqc_compare.specs.Comparing.{netlist_of, IsFirstFound};
 
-use crate::compare::compare_outputs;
 use crate::report::Report;
 use eqc_blif::Name;
+use eqc_compare::compare_outputs;
 use eqc_flat::{Flat, eval};
 use eqc_pair::{Pair, recall_laws};
 use eqc_plain::Plain;

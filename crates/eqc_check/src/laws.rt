@@ -1,42 +1,6 @@
 ghost use Rattle.eqc_check.specs.AnswerLaws.{AnswerIsOne, AnswerIsEquivalent, AnswerDiffers, AnswerIsFirstRefusal, AnswerCompares, ChecksAccept, AnswerIsNoStop, ModelIsChosen, IsAnswerOfRuns};
-ghost use Rattle.eqc_check.specs.VerdictLaws.{DifferenceLaw, MatchingLaw, LeastLaw, NoneLaw, UniqueLaw, FirstLaw, EquivalentLaw};
 
 use std::io::Read;
-
-/// An output differs under an assignment exactly where it has different values in the two netlists.
-pub fn difference_is_of_values()
-    ensures { DifferenceLaw }
-{}
-
-/// Inputs are matched by name: each has the value of the declared input of its name.
-pub fn inputs_are_matched_by_name()
-    ensures { MatchingLaw }
-{}
-
-/// The assignment of an output's difference is the least under which it differs, in lexicographic order.
-pub fn least_difference_is_least()
-    ensures { LeastLaw }
-{}
-
-/// An output has no least assignment exactly where it differs under none.
-pub fn least_difference_is_none_where_equal()
-    ensures { NoneLaw }
-{}
-
-/// An output has one least assignment at most.
-pub fn least_difference_is_unique()
-    ensures { UniqueLaw }
-{}
-
-/// The output of a verdict is the first that differs, with its least assignment.
-pub fn first_difference_is_first()
-    ensures { FirstLaw }
-{}
-
-/// A verdict has no output exactly where none differs under any assignment.
-pub fn first_difference_is_none_where_equal()
-    ensures { EquivalentLaw }
-{}
 
 /// The answer is one for all options in their ranges and all orders that name the inputs. Texts that are refused are
 /// refused alike, whatever order there is.

@@ -1,144 +1,25 @@
-//! All outputs of a pair, compared by members that run in threads of their own: each output is drawn once, and the first
-//! that differs is the same whichever member drew it.
-//!
-//! - `ticket`, the word from which outputs are drawn; `member`, what a member compares with; `gate`, what is told of it;
-//!   `help`, what a member does for others
-//! - `task`, what members do; `alike`, what structures tell of a pair, so that members need not do it
-//! - `group`, members that share a seat; `share`, members in threads and what they give back; `verdict`, all of it put in order
+//! Reports by workers: the first output that differs, found by members in threads of their own.
 ghost use Rattle.std.specs.Prelude.{◌≡◌, ◌≤◌, None, length, vec_len, IfOk, IfErr};
 ghost use Rattle.std.specs.List.{All};
 ghost use Rattle.eqc_tree.specs.Holding.{Holding};
+ghost use Rattle.eqc_compare.specs.Alike.{IsKnown};
+ghost use Rattle.eqc_compare.specs.Comparing.{netlist_of};
 ghost use Rattle.eqc_check.specs.Report.{comparison};
 ghost use Rattle.eqc_check.specs.ReportView.{report_of};
 ghost use Rattle.eqc_check.specs.Options.{options_code};
-ghost use Rattle.eqc_check.specs.Comparing.{netlist_of, IsFirstFound};
-ghost use Rattle.eqc_check.specs.Alike.{IsKnown, IsTask};
-ghost use Rattle.eqc_check.specs.Verdicts.{AreMembers, AreVerdicts, IsShare};
-
-mod alike;
-pub(crate) mod gate;
-mod group;
-mod help;
-mod member;
-mod share;
-pub(crate) mod task;
-mod ticket;
-mod verdict;
 
 use crate::checking::found_report;
 use crate::options::Options;
 use crate::report::Report;
-use crate::workers::alike::{Alike, alike_or_nothing, are_all_marked};
-use crate::workers::gate::{Gate, NoGate};
-use crate::workers::group::Group;
-use crate::workers::share::{Share, work_together};
-use crate::workers::task::Task;
-use crate::workers::ticket::{Key, TicketTable, open, settle};
-use crate::workers::verdict::{Verdict, first_of, in_order};
 use eqc_apply::{Applier, team};
-use eqc_build::{Steps, plan_of};
+use eqc_compare::{
+    Alike, Gate, NoGate, Patience, alike_or_nothing, are_all_marked, first_difference,
+};
 use eqc_pair::Pair;
 use eqc_tree::{Diagrams, References, Stop};
 use std::alloc::Global;
 use std::sync::Wait;
 use std::thread::Threads;
-
-/// The verdicts of a share that stands for all members: they name each output once.
-fn verdicts_of(table: TicketTable, pair: &Pair<'_>, share: Share) -> Vec<Verdict>
-    requires share { IsShare pair.now table.shared.table_id table.shared.key.seats share.seat share.verdicts.items }
-    requires key { table.shared.key.outputs ≡ length pair.now.first.outputs }
-    requires some { 1 ≤ table.shared.key.seats }
-    ensures { AreVerdicts pair.now result.items }
-{
-    let Share { seat, verdicts } = share;
-    settle(table, seat);
-    verdicts
-}
-
-/// The verdicts of all outputs, by these members with this task.
-fn all_verdicts<R: Threads + Wait + Sync, D: Diagrams<R> + Send + Drop, G: Gate<R> + Sync>(
-    rt: &R,
-    alloc: Global,
-    pair: &Pair<'_>,
-    task: &Task<'_>,
-    members: Vec<D>,
-    gate: &G,
-) -> Result<Vec<Verdict>, Stop>
-    requires members { AreMembers D.holding pair.now members }
-    requires task { IsTask pair.now task.now }
-    ensures { IfOk result (λ verdicts. AreVerdicts pair.now verdicts.items) }
-{
-    let key = Key {
-        outputs: pair.first().outputs().len() as u32,
-        seats: members.len() as u32,
-    };
-    let Ok((table, seat)) = open(alloc, key) else {
-        return Err(Stop::Memory);
-    };
-    let group = Group {
-        worker: 0,
-        seat,
-        members,
-    };
-    let share = work_together(rt, alloc, pair, task, &table.shared, gate, group)?;
-    Ok(verdicts_of(table, pair, share))
-}
-
-/// The verdicts of all outputs, by these members, where this is known of the pair: outputs that are marked as equal are not
-/// compared, and a step that is chosen is made in place of those that it is chosen for.
-fn scheduled_verdicts<R: Threads + Wait + Sync, D: Diagrams<R> + Send + Drop, G: Gate<R> + Sync>(
-    rt: &R,
-    alloc: Global,
-    pair: &Pair<'_>,
-    members: Vec<D>,
-    alike: Alike,
-    gate: &G,
-) -> Result<Vec<Verdict>, Stop>
-    requires members { AreMembers D.holding pair.now members }
-    requires known { IsKnown pair.now alike }
-    ensures { IfOk result (λ verdicts. AreVerdicts pair.now verdicts.items) }
-{
-    let Alike { equal, chosen } = alike;
-    let Ok(plan) = plan_of(alloc, Steps::of(pair, chosen), &equal) else {
-        return Err(Stop::Memory);
-    };
-    let outputs = pair.first().outputs().len() as u64;
-    let draws = outputs.saturating_add(members.len() as u64);
-    let task = Task { plan, equal, draws };
-    all_verdicts(rt, alloc, pair, &task, members, gate)
-}
-
-/// The first output that differs, by its position, with its least assignment, as verdicts of all outputs tell it.
-fn first_by(
-    alloc: Global,
-    pair: &Pair<'_>,
-    verdicts: Vec<Verdict>,
-) -> Result<Option<(usize, Vec<bool>)>, Stop>
-    requires { AreVerdicts pair.now verdicts.items }
-    ensures found { IfOk result (IsFirstFound pair.now) }
-{
-    match in_order(alloc, pair, verdicts) {
-        Ok(row) => Ok(first_of(pair, row)),
-        Err(_) => Err(Stop::Memory),
-    }
-}
-
-/// The first output that differs, by its position, with its least assignment, where this is known of the pair.
-fn first_found<R: Threads + Wait + Sync, D: Diagrams<R> + Send + Drop, G: Gate<R> + Sync>(
-    rt: &R,
-    alloc: Global,
-    pair: &Pair<'_>,
-    members: Vec<D>,
-    alike: Alike,
-    gate: &G,
-) -> Result<Option<(usize, Vec<bool>)>, Stop>
-    requires members { AreMembers D.holding pair.now members }
-    requires known { IsKnown pair.now alike }
-    ensures found { IfOk result (IsFirstFound pair.now) }
-{
-    let verdicts = scheduled_verdicts(rt, alloc, pair, members, alike, gate)?;
-    first_by(alloc, pair, verdicts)
-}
 
 /// The report by these members, where this is known of the pair, or why it stopped.
 fn check_known<R: Threads + Wait + Sync, D: Diagrams<R> + Send + Drop, G: Gate<R> + Sync>(
@@ -147,6 +28,7 @@ fn check_known<R: Threads + Wait + Sync, D: Diagrams<R> + Send + Drop, G: Gate<R
     pair: &Pair<'_>,
     members: Vec<D>,
     alike: Alike,
+    patience: Patience,
     gate: &G,
 ) -> Result<Report, Stop>
     requires some { 1 ≤ vec_len members }
@@ -154,11 +36,7 @@ fn check_known<R: Threads + Wait + Sync, D: Diagrams<R> + Send + Drop, G: Gate<R
     requires known { IsKnown pair.now alike }
     ensures report { IfOk result (λ report. report_of report ≡ comparison (netlist_of pair.now.first) (netlist_of pair.now.second)) }
 {
-    let most = u32::MAX as usize;
-    if members.len() > most || pair.first().outputs().len() > most {
-        return Err(Stop::Memory);
-    }
-    let found = first_found(rt, alloc, pair, members, alike, gate)?;
+    let found = first_difference(rt, alloc, pair, members, alike, patience, gate)?;
     found_report(alloc, pair, found)
 }
 
@@ -181,7 +59,15 @@ pub fn check_with<R: Threads + Wait + Sync, D: Diagrams<R> + Send + Drop, G: Gat
     requires variables { All (λ d. length pair.now.first.inputs ≤ (D.holding d).variables) members.items }
     ensures report { IfOk result (λ report. report_of report ≡ comparison (netlist_of pair.now.first) (netlist_of pair.now.second)) }
 {
-    check_known(rt, alloc, pair, members, Alike::nothing(alloc), gate)
+    check_known(
+        rt,
+        alloc,
+        pair,
+        members,
+        Alike::nothing(alloc),
+        Patience::short(),
+        gate,
+    )
 }
 
 /// The team of workers that the options ask for, with a variable for each input of a pair: they share one forest, and as
@@ -221,7 +107,16 @@ pub fn check<R: Threads + Wait + Sync, G: Gate<R> + Sync>(
     ensures report { IfOk result (λ report. report_of report ≡ comparison (netlist_of pair.now.first) (netlist_of pair.now.second)) }
 {
     let members = team_for(alloc, pair, options)?;
-    check_with(rt, alloc, pair, members, gate)
+    let patience = Patience::of_forks(options.forks);
+    check_known(
+        rt,
+        alloc,
+        pair,
+        members,
+        Alike::nothing(alloc),
+        patience,
+        gate,
+    )
 }
 
 /// Compares a pair as `check` does, but compares no output whose two signals have one structure: it is equal, and where all
@@ -241,5 +136,6 @@ pub(crate) fn check_alike<R: Threads + Wait + Sync>(
         return found_report(alloc, pair, None);
     }
     let members = team_for(alloc, pair, options)?;
-    check_known(rt, alloc, pair, members, alike, &NoGate)
+    let patience = Patience::of_forks(options.forks);
+    check_known(rt, alloc, pair, members, alike, patience, &NoGate)
 }

@@ -1,5 +1,5 @@
 use Rattle.std.proofs.Common.{◌∙◌, sym, ap}
-use Rattle.eqc_check.specs.Comparing.{found_at}
+use Rattle.eqc_compare.specs.Comparing.{found_at}
 use Rattle.eqc_check.proofs.FoundLaws.{difference_reported, difference_long}
 use Rattle.eqc_check.proofs.checking.found_report.Goals as goal
 

@@ -1,5 +1,5 @@
 use Rattle.std.proofs.Common.{length, arith}
-use Rattle.eqc_check.proofs.VerdictPlaces.{found_none}
+use Rattle.eqc_compare.proofs.VerdictPlaces.{found_none}
 use Rattle.eqc_check.proofs.workers.check_alike.Goals as goal
 
 pub found_report-requires : goal.found_report-requires

@@ -1,5 +1,0 @@
-use Rattle.eqc_check.proofs.VerdictLemmas.{found_is_first, first_is_found}
-use Rattle.eqc_check.proofs.laws.first_difference_is_first.Goals as goal
-
-pub returns : goal.returns
-returns c = λ f g outputs output a. (found_is_first f g outputs output a, first_is_found f g outputs output a)

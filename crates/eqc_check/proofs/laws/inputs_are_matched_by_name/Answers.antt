@@ -1,5 +1,0 @@
-use Rattle.eqc_check.proofs.MatchedLemmas.{matched_value}
-use Rattle.eqc_check.proofs.laws.inputs_are_matched_by_name.Goals as goal
-
-pub returns : goal.returns
-returns c = matched_value

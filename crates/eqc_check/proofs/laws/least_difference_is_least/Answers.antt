@@ -1,7 +1,0 @@
-use Rattle.std.proofs.Common.{length}
-use Rattle.eqc_check.specs.Verdict.{differs_under}
-use Rattle.eqc_check.proofs.LeastLemmas.{found_least, least_found}
-use Rattle.eqc_check.proofs.laws.least_difference_is_least.Goals as goal
-
-pub returns : goal.returns
-returns c = λ f g output a. (found_least (length f.inputs) (differs_under f g output) a, least_found (length f.inputs) (differs_under f g output) a)

@@ -1,5 +1,0 @@
-use Rattle.eqc_check.proofs.VerdictLemmas.{never_found, never_differs}
-use Rattle.eqc_check.proofs.laws.least_difference_is_none_where_equal.Goals as goal
-
-pub returns : goal.returns
-returns c = λ f g output. (never_differs f g output, never_found f g output)

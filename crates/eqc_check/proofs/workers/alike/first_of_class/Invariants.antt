@@ -1,5 +1,0 @@
-use Rattle.eqc_check.proofs.AlikeLaws.{AreMet}
-use Rattle.eqc_check.proofs.workers.alike.first_of_class.Given as goal
-
-abbrev pub invariant-loop-k : goal.invariant-loop-k
-invariant-loop-k l = AreMet l.row l.firsts.items l.places.items l.count l.k

@@ -1,0 +1,11 @@
+pub mod LeastLemmas
+pub mod VerdictLemmas
+pub mod MatchedLemmas
+pub mod CompareLaws
+pub mod DifferenceLaws
+pub mod InputLemmas
+pub mod TicketCounts
+pub mod TicketSteps
+pub mod ShareLemmas
+pub mod VerdictPlaces
+pub mod AlikeLaws

@@ -1,0 +1,7 @@
+pub mod Verdict
+pub mod VerdictLaws
+pub mod Assigned
+pub mod Comparing
+pub mod Ticket
+pub mod Verdicts
+pub mod Alike

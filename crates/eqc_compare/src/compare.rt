@@ -1,0 +1,248 @@
+ghost use Rattle.std.specs.Prelude.{◌≡◌, ◌≢◌, ◌<◌, ◌≤◌, [], None, length, slice_index_or, IfOk, IfErr, OnErr};
+ghost use Rattle.std.specs.Option.{option_map};
+ghost use Rattle.eqc_tree.specs.Holding.{IsHeld, says, Keeps, Gains, Loses};
+ghost use Rattle.eqc_compare.specs.Verdict.{least_difference};
+ghost use Rattle.eqc_build.specs.Building.{AreReady};
+ghost use Rattle.eqc_build.specs.Steps.{roots_of};
+ghost use Rattle.eqc_build.specs.Turns.{IsTurn, AreTurns, AreKept, IsComparable, MovesKept};
+ghost use Rattle.eqc_compare.specs.Comparing.{netlist_of, differs_at, SaysDifference, IsDifferenceAt, IsFirstFound};
+
+use eqc_build::{
+    Kept, Plan, Steps, Table, clear, complete, give_back_kept, moment, nothing_built,
+    nothing_kept_of_few, plan_below, plan_of, reference_at, release_due,
+};
+use eqc_cover::{is_false, least_over};
+use eqc_pair::Pair;
+use eqc_tree::{Diagrams, Op, References, Stop};
+use std::alloc::Global;
+
+/// The diagram that is true where an output differs.
+fn output_difference<R, D: Diagrams<R>>(
+    rt: &R,
+    d: &mut D,
+    steps: &Steps<'_>,
+    table: &Table<D::Ref>,
+    output: usize,
+) -> Result<D::Ref, Stop>
+    requires output { output < length steps.now.pair.first.outputs }
+    requires kept { AreKept D.entry steps.now.pair (D.holding d.old) table.now }
+    requires ready { AreReady table.now (roots_of steps.now output) }
+    ensures ok { IfOk result (λ r. Gains (D.holding d.old) (D.holding d.new) (D.entry r) (differs_at steps.now.pair output)) }
+    ensures stop { OnErr result (Keeps (D.holding d.old) (D.holding d.new)) }
+    ensures only { IfErr result (λ s. s ≢ Stop.Threads) }
+{
+    let _count = steps.len();
+    let roots = steps.roots(output);
+    let first = reference_at(table, roots[0]);
+    d.apply(rt, Op::Xor, first, reference_at(table, roots[1]))
+}
+
+/// The least assignment under which an output differs, or none where it differs under none. The diagram that is true
+/// where it differs is given back.
+fn least_of_difference<R, D: Diagrams<R>>(
+    alloc: Global,
+    rt: &R,
+    d: &mut D,
+    pair: &Pair<'_>,
+    output: usize,
+    difference: D::Ref,
+) -> Result<Option<Vec<bool>>, Stop>
+    requires variables { length pair.now.first.inputs ≤ (D.holding d.old).variables }
+    requires output { output < length pair.now.first.outputs }
+    requires held { IsHeld (D.holding d.old) (D.entry difference) }
+    requires function { SaysDifference pair.now output (says (D.entry difference)) }
+    ensures found { IfOk result (IsDifferenceAt pair.now output) }
+    ensures lost { Loses (D.holding d.old) (D.holding d.new) (D.entry difference) }
+    ensures only { IfErr result (λ s. s ≢ Stop.Threads) }
+{
+    pair.recall_laws();
+    if is_false(d, &difference) {
+        d.give_back(difference);
+        return Ok(None);
+    }
+    let least = least_over(alloc, rt, d, pair.variables(), &difference);
+    d.give_back(difference);
+    Ok(Some(least?))
+}
+
+/// The least assignment under which an output differs, or none, where the steps of its signals have their references.
+fn difference<R, D: Diagrams<R>>(
+    alloc: Global,
+    rt: &R,
+    d: &mut D,
+    steps: &Steps<'_>,
+    table: &Table<D::Ref>,
+    output: usize,
+) -> Result<Option<Vec<bool>>, Stop>
+    requires output { output < length steps.now.pair.first.outputs }
+    requires kept { AreKept D.entry steps.now.pair (D.holding d.old) table.now }
+    requires ready { AreReady table.now (roots_of steps.now output) }
+    ensures found { IfOk result (IsDifferenceAt steps.now.pair output) }
+    ensures kept { Keeps (D.holding d.old) (D.holding d.new) }
+    ensures only { IfErr result (λ s. s ≢ Stop.Threads) }
+{
+    let difference = output_difference(rt, d, steps, table, output)?;
+    least_of_difference(alloc, rt, d, steps.pair(), output, difference)
+}
+
+/// Compares an output in its turn, counted from 1; outputs come in rising order. The references that later turns need
+/// stay in the table.
+fn compare_turn<R, D: Diagrams<R>>(
+    alloc: Global,
+    rt: &R,
+    d: &mut D,
+    plan: &Plan<'_>,
+    kept: &mut Kept<D::Ref>,
+    output: usize,
+    turn: u32,
+) -> Result<Option<Vec<bool>>, Stop>
+    requires { IsComparable D.entry plan.now (D.holding d.old) kept.old.table output turn }
+    ensures found { IfOk result (IsDifferenceAt plan.now.steps.pair output) }
+    ensures moves { MovesKept D.entry plan.now.steps.pair (D.holding d.old) kept.old.table (D.holding d.new) kept.new.table }
+    ensures only { IfErr result (λ s. s ≢ Stop.Threads) }
+{
+    complete(alloc, rt, d, plan, kept, output, turn)?;
+    let found = difference(alloc, rt, d, &plan.steps, &kept.table, output);
+    release_due(d, kept, &plan.last, moment(turn, plan.steps.len() + 1));
+    found
+}
+
+/// The same, and where the store is full and references of earlier turns are kept, once more without them.
+pub(crate) fn compare_kept<R, D: Diagrams<R>>(
+    alloc: Global,
+    rt: &R,
+    d: &mut D,
+    plan: &Plan<'_>,
+    kept: &mut Kept<D::Ref>,
+    output: usize,
+    turn: u32,
+) -> Result<Option<Vec<bool>>, Stop>
+    requires { IsComparable D.entry plan.now (D.holding d.old) kept.old.table output turn }
+    ensures found { IfOk result (IsDifferenceAt plan.now.steps.pair output) }
+    ensures moves { MovesKept D.entry plan.now.steps.pair (D.holding d.old) kept.old.table (D.holding d.new) kept.new.table }
+    ensures only { IfErr result (λ s. s ≢ Stop.Threads) }
+{
+    let keeps = !kept.due.is_empty();
+    let found = compare_turn(alloc, rt, d, plan, kept, output, turn);
+    if !keeps {
+        return found;
+    }
+    let Err(Stop::NodeLimit) = found else {
+        return found;
+    };
+    let _count = plan.steps.len();
+    clear(d, kept);
+    compare_turn(alloc, rt, d, plan, kept, output, turn)
+}
+
+/// The first output that differs, with its least assignment.
+fn compare_in_turn<R, D: Diagrams<R>>(
+    alloc: Global,
+    rt: &R,
+    d: &mut D,
+    plan: &Plan<'_>,
+    kept: &mut Kept<D::Ref>,
+) -> Result<Option<(usize, Vec<bool>)>, Stop>
+    requires turns { AreTurns plan.now [] }
+    requires kept { AreKept D.entry plan.now.steps.pair (D.holding d.old) kept.old.table }
+    ensures found { IfOk result (IsFirstFound plan.now.steps.pair) }
+    ensures moves { MovesKept D.entry plan.now.steps.pair (D.holding d.old) kept.old.table (D.holding d.new) kept.new.table }
+    ensures only { IfErr result (λ s. s ≢ Stop.Threads) }
+{
+    for o in 0..plan.steps.pair().first().outputs().len() {
+        match compare_kept(alloc, rt, d, plan, kept, o, o as u32 + 1)? {
+            Some(values) => return Ok(Some((o, values))),
+            None => {}
+        }
+    }
+    Ok(None)
+}
+
+/// The first output that differs, with its least assignment, from no references to none.
+fn compare_planned<R, D: Diagrams<R>>(
+    alloc: Global,
+    rt: &R,
+    d: &mut D,
+    plan: &Plan<'_>,
+) -> Result<Option<(usize, Vec<bool>)>, Stop>
+    requires variables { length plan.now.steps.pair.first.inputs ≤ (D.holding d.old).variables }
+    requires turns { AreTurns plan.now [] }
+    ensures found { IfOk result (IsFirstFound plan.now.steps.pair) }
+    ensures kept { Keeps (D.holding d.old) (D.holding d.new) }
+    ensures only { IfErr result (λ s. s ≢ Stop.Threads) }
+{
+    let Ok(mut kept) = nothing_built::<D>(alloc, plan.steps.pair()) else {
+        return Err(Stop::Memory);
+    };
+    let found = compare_in_turn(alloc, rt, d, plan, &mut kept);
+    give_back_kept(d, kept);
+    found
+}
+
+/// The first output that differs, by its position in the first netlist, and the least assignment under which it does:
+/// what lies behind it isn't looked at. Each signal that an output depends on is built once for each netlist, unless the
+/// store is full. All references are given back.
+pub fn compare_outputs<R, D: Diagrams<R>>(
+    alloc: Global,
+    rt: &R,
+    d: &mut D,
+    pair: &Pair<'_>,
+) -> Result<Option<(usize, Vec<bool>)>, Stop>
+    requires { length pair.now.first.inputs ≤ (D.holding d.old).variables }
+    ensures found { IfOk result (IsFirstFound pair.now) }
+    ensures kept { Keeps (D.holding d.old) (D.holding d.new) }
+    ensures only { IfErr result (λ s. s ≢ Stop.Threads) }
+{
+    match plan_of(alloc, Steps::each(alloc, pair), &[]) {
+        Ok(plan) => compare_planned(alloc, rt, d, &plan),
+        Err(_) => Err(Stop::Memory),
+    }
+}
+
+/// Compares one output in the only turn, from no references to none.
+fn compare_once<R, D: Diagrams<R>>(
+    alloc: Global,
+    rt: &R,
+    d: &mut D,
+    plan: &Plan<'_>,
+    output: usize,
+) -> Result<Option<Vec<bool>>, Stop>
+    requires variables { length plan.now.steps.pair.first.inputs ≤ (D.holding d.old).variables }
+    requires output { output < length plan.now.steps.pair.first.outputs }
+    requires turn { IsTurn plan.now output 1 }
+    ensures found { IfOk result (IsDifferenceAt plan.now.steps.pair output) }
+    ensures kept { Keeps (D.holding d.old) (D.holding d.new) }
+    ensures only { IfErr result (λ s. s ≢ Stop.Threads) }
+{
+    let mut kept = nothing_kept_of_few(alloc, plan.steps.len() as usize);
+    let found = compare_turn(alloc, rt, d, plan, &mut kept, output, 1);
+    give_back_kept(d, kept);
+    found
+}
+
+/// Compares one output of a pair, by its position in the first netlist: the least assignment of the first
+/// netlist's inputs under which it differs, in lexicographic order, 0 before 1, or none where it differs under
+/// none. The pair's order of variables plays no part.
+///
+/// `d` has at least as many variables as the pair has inputs, and `output` is below the number of outputs. The
+/// diagram of each signal that the output depends on is built, and of no other: beside what the diagrams take, time and
+/// memory are in proportion to those signals and their drivers. The errors are those of the diagrams, 71, 72 and 73, and
+/// 72 where memory is refused. All references are given back, whatever the answer.
+pub fn compare_output<R, D: Diagrams<R>>(
+    rt: &R,
+    alloc: Global,
+    d: &mut D,
+    pair: &Pair<'_>,
+    output: usize,
+) -> Result<Option<Vec<bool>>, Stop>
+    requires variables { length pair.now.first.inputs ≤ (D.holding d.old).variables }
+    requires output { output < length pair.now.first.outputs }
+    ensures least { IfOk result (λ found. option_map (λ v. v.items) found ≡ least_difference (netlist_of pair.now.first) (netlist_of pair.now.second) (slice_index_or pair.now.first.outputs output [])) }
+    ensures kept { Keeps (D.holding d.old) (D.holding d.new) }
+    ensures only { IfErr result (λ s. s ≢ Stop.Threads) }
+{
+    match plan_below(alloc, Steps::each(alloc, pair), output) {
+        Ok(plan) => compare_once(alloc, rt, d, &plan, output),
+        Err(_) => Err(Stop::Memory),
+    }
+}

@@ -1,0 +1,41 @@
+//! The first output of a pair that differs, with the least assignment that shows it: over any store of diagrams, by one member
+//! or by several in threads of their own.
+//!
+//! What has to be found is said in `specs/Verdict.antt` and `specs/Comparing.antt`, what members find in `specs/Verdicts.antt`.
+//! Read the modules in this order:
+//!
+//! - `compare`, one output, and all on one thread; `least`, the least assignment of a pair's inputs; `laws`, facts about the
+//!   definitions, as functions without a body
+//! - `members`, all outputs by several members: `share`, members in threads and what they give back; `group`, members that share
+//!   a seat; `verdict`, all of it put in order
+//! - `ticket`, the word from which outputs are drawn; `member`, what a member compares with; `gate`, what is told of it; `help`,
+//!   what a member does for others, and `patience`, for how long
+//! - `task`, what members do; `alike`, what structures tell of a pair, so that members need not do it
+#![tactic(auto, using(eqc_tree::proofs::HoldingLemmas::counts_itself))]
+
+mod alike;
+mod compare;
+mod gate;
+mod group;
+mod help;
+mod laws;
+mod least;
+mod member;
+mod members;
+mod patience;
+mod share;
+mod task;
+mod ticket;
+mod verdict;
+
+pub use alike::{Alike, alike_or_nothing, are_all_marked};
+pub use compare::{compare_output, compare_outputs};
+pub use gate::{Gate, NoGate};
+pub use laws::{
+    difference_is_of_values, first_difference_is_first, first_difference_is_none_where_equal,
+    inputs_are_matched_by_name, least_difference_is_least, least_difference_is_none_where_equal,
+    least_difference_is_unique,
+};
+pub use least::least_assignment;
+pub use members::first_difference;
+pub use patience::Patience;
