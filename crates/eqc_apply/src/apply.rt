@@ -9,6 +9,13 @@ use eqc_tree::{Op, Stop};
 use std::snapshot::Snapshot;
 use std::sync::Wait;
 
+/// In so many first levels of an operation results go through the shared cells, and below them at each variable that this
+/// step divides. What another worker did is then found at once or a few levels further down, while most results are
+/// spared the counts of a cell, which all workers would wait for.
+const SHARED_LEVELS: usize = 8;
+
+const SHARED_STEP: u16 = 8;
+
 impl Applier {
     ghost use Rattle.eqc_plain.specs.Combining.{HasBoth};
     ghost use Rattle.eqc_plain.specs.Tasks.{Leads, LeadsTo, StepsTo, TurnsTo};
@@ -33,7 +40,7 @@ impl Applier {
         ensures stop { IfErr result (λ s. HasStopped s self.new.names.worker.known.core) }
         ensures withdrawn { self.new.offers.items ≡ [] }
     {
-        let made = self.go(rt, op, f, g);
+        let made = self.go_in_parts(rt, op, f, g);
         self.withdraw(rt);
         made
     }
@@ -50,7 +57,7 @@ impl Applier {
     }
 
     /// The loop of an operation, with a stack of tasks in place of the recursion.
-    fn go<R: Wait>(&mut self, rt: &R, op: Op, f: u32, g: u32) -> Result<u32, Stop>
+    pub(crate) fn go<R: Wait>(&mut self, rt: &R, op: Op, f: u32, g: u32) -> Result<u32, Stop>
         requires f { IsHeld self.old.names.worker.known.core f }
         requires g { IsHeld self.old.names.worker.known.core g }
         ensures names { Extends self.old.names self.new.names }
@@ -97,7 +104,7 @@ impl Applier {
     }
 
     /// A result that no node is made for: one that the operands decide, or that cells have.
-    fn known(&mut self, op: Op, f: u32, g: u32) -> Option<u32>
+    pub(crate) fn known(&mut self, op: Op, f: u32, g: u32) -> Option<u32>
         requires f { IsHeld self.old.names.worker.known.core f }
         requires g { IsHeld self.old.names.worker.known.core g }
         ensures names { Extends self.old.names self.new.names }
@@ -109,6 +116,11 @@ impl Applier {
             return Some(x);
         }
         self.find(op, f, g)
+    }
+
+    /// Whether results at this variable go through the shared cells.
+    fn shares(&self, variable: u16) -> bool {
+        self.tasks.len() < SHARED_LEVELS || variable % SHARED_STEP == 0
     }
 
     /// A result that the worker's own cells have, or else the shared ones.
@@ -124,7 +136,23 @@ impl Applier {
         if let Some(x) = self.cells.find(op, f, g) {
             return Some(x);
         }
-        if !self.names.has_others() {
+        if self.names.has_others() {
+            self.find_shared(op, f, g)
+        } else {
+            None
+        }
+    }
+
+    /// A result that the shared cells have, where results at this variable go through them.
+    fn find_shared(&mut self, op: Op, f: u32, g: u32) -> Option<u32>
+        requires f { IsHeld self.old.names.worker.known.core f }
+        requires g { IsHeld self.old.names.worker.known.core g }
+        ensures names { Extends self.old.names self.new.names }
+        ensures right { IfSome result (IsResult self.new.names.variables op self.new.names.worker.known f g) }
+        ensures tasks { self.new.tasks ≡ self.old.tasks }
+    {
+        let variable = self.names.higher_root(f, g);
+        if !self.shares(variable) {
             return None;
         }
         // Where memory is refused, the result is made anew.
@@ -184,8 +212,9 @@ impl Applier {
     }
 
     /// The result of the operation on the high cofactors of the task that was on top, where it was
-    /// offered and another worker did it. The call may wait. The errors are why it stopped there,
-    /// and 72.
+    /// offered and another worker did it. Where one is still at it, there is none, and it stays offered: rather than wait,
+    /// this worker does it too, and both find in the shared cells what the other did. The call may wait. The errors are
+    /// why it stopped there, and 72.
     fn take_back<R: Wait>(&mut self, rt: &R, op: Op, f: u32, g: u32) -> Result<Option<u32>, Stop>
         requires f { IsHeld self.old.names.worker.known.core f }
         requires g { IsHeld self.old.names.worker.known.core g }
@@ -198,7 +227,7 @@ impl Applier {
             Some(level) => *level,
             None => return Ok(None),
         };
-        if level as usize != self.tasks.len() {
+        if level as usize != self.tasks.len() || self.names.is_taken(level) {
             return Ok(None);
         }
         self.offers.pop();
@@ -207,6 +236,22 @@ impl Applier {
         };
         self.keep(op, f, g, x);
         Ok(Some(x))
+    }
+
+    /// Takes back what is offered at the level of the task that was on top. The call may wait.
+    fn end_offer<R: Wait>(&mut self, rt: &R)
+        ensures names { Extends self.old.names self.new.names }
+        ensures tasks { self.new.tasks ≡ self.old.tasks }
+    {
+        let level = match self.offers.last() {
+            Some(level) => *level,
+            None => return,
+        };
+        if level as usize != self.tasks.len() {
+            return;
+        }
+        self.offers.pop();
+        self.names.withdraw(rt, level);
     }
 
     /// The node over both results, which is kept for the operation.
@@ -231,7 +276,7 @@ impl Applier {
         let x = self.names.node(rt, variable, low, high)?;
         self.keep(op, f, g, x);
         // A node that is new to this worker took steps to come by: others are spared them.
-        if self.names.worker.held() > held && self.names.has_others() {
+        if self.names.worker.held() > held && self.names.has_others() && self.shares(variable) {
             self.share(op, f, g, x);
         }
         Ok(x)
@@ -304,7 +349,10 @@ impl Applier {
                     g,
                     variable,
                     low,
-                } => x = self.finish(rt, op, f, g, variable, low, x)?,
+                } => {
+                    self.end_offer(rt);
+                    x = self.finish(rt, op, f, g, variable, low, x)?;
+                }
             }
         }
         Ok(Turn::Done(x))

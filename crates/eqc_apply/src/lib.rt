@@ -5,7 +5,8 @@
 //! node that is made, or met for the first time, does. Read the modules in this order:
 //!
 //! - `names`, what a worker holds: its counts, cofactors and nodes; `reference`, what is handed out
-//! - `applier`, with the results that a worker keeps for itself; `expansion` and `apply`, the loop
+//! - `applier`, with the results that a worker keeps for itself; `expansion` and `apply`, the loop; `parts`, with which
+//!   part of an operation a worker begins
 //! - `shared`, the operation cache that all workers share
 //! - `boxes` and `offering`, in which one half of an operation is offered to other workers; `serving`, which
 //!   do it
@@ -25,6 +26,7 @@ mod least;
 mod members;
 mod names;
 mod offering;
+mod parts;
 mod plain_copy;
 mod reference;
 mod serving;

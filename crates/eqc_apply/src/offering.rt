@@ -113,6 +113,18 @@ impl Names {
         Ok(Some(x))
     }
 
+    /// Whether another worker is at the operation that was offered at this level.
+    pub(crate) fn is_taken(&mut self, level: u32) -> bool
+        ensures { Extends self.old self.new }
+    {
+        // What the worker knows is in order.
+        let _cells = self.worker.cells();
+        let Some(b) = self.own_box(level) else {
+            return false;
+        };
+        self.worker.look_box(b) == 0
+    }
+
     /// Takes an operation back that was offered at this level, and leaves it. The call may wait.
     pub(crate) fn withdraw<R: Wait>(&mut self, rt: &R, level: u32)
         ensures names { Extends self.old self.new }

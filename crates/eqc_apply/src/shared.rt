@@ -16,6 +16,17 @@ impl Names {
         self.worker.announcement_words() > 1
     }
 
+    /// The variable of the higher root of two names, or the number of variables for constants.
+    pub(crate) fn higher_root(&mut self, f: u32, g: u32) -> u16
+        requires f { IsHeld self.old.worker.known.core f }
+        requires g { IsHeld self.old.worker.known.core g }
+        ensures names { Extends self.old self.new }
+    {
+        let first = self.root(f);
+        let second = self.root(g);
+        first.min(second)
+    }
+
     /// The result of an operation, where the shared cells have it. It is held then. The error is 72
     /// alone, and then nothing was found.
     pub(crate) fn look_up(&mut self, op: Op, f: u32, g: u32) -> Result<Option<u32>, Stop>

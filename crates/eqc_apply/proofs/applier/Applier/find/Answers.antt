@@ -1,6 +1,6 @@
 use Rattle.eqc_guard.proofs.Making.{held_small}
 use Rattle.std.proofs.Common.{Some}
-use Rattle.eqc_apply.proofs.Kept.{found, cells_stay}
+use Rattle.eqc_apply.proofs.Kept.{found}
 use Rattle.eqc_apply.proofs.applier.Applier.find.Goals as goal
 
 pub find-requires-clause-f : goal.find-requires-clause-f
@@ -13,6 +13,3 @@ pub returns-in-Some-clause-right : goal.returns-in-Some-clause-right
 returns-in-Some-clause-right c =
     let n = c.args.self.now.names in
     found n.variables n.worker.known c.args.self.now.cells.cells.items c.args.op c.args.f c.args.g (Some c.in-Some.x) c.args.self.now.cached c.in-Some.ensures
-
-pub invariant_of-self : goal.invariant_of-self
-invariant_of-self c = record { cached = cells_stay c.args.self.now.names c.look_up.new.self c.args.self.now.cells.cells.items c.look_up.ensures.names c.args.self.now.cached }

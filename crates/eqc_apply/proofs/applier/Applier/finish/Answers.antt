@@ -24,5 +24,5 @@ keep-requires t c = node_right c.args.self.now.names c.node.new.self c.args.op c
 pub returns-else-held-clause-names : goal.returns-else-held-clause-names
 returns-else-held-clause-names t c = extends_trans c.args.self.now.names c.node.new.self c.keep.new.self.names c.node.ensures.names c.keep.ensures.names
 
-pub returns-then-has_others-clause-names : goal.returns-then-has_others-clause-names
-returns-then-has_others-clause-names t c = extends_trans c.args.self.now.names c.keep.new.self.names c.share.new.self.names (extends_trans c.args.self.now.names c.node.new.self c.keep.new.self.names c.node.ensures.names c.keep.ensures.names) c.share.ensures.names
+pub returns-then-shares-clause-names : goal.returns-then-shares-clause-names
+returns-then-shares-clause-names t c = extends_trans c.args.self.now.names c.keep.new.self.names c.share.new.self.names (extends_trans c.args.self.now.names c.node.new.self c.keep.new.self.names c.node.ensures.names c.keep.ensures.names) c.share.ensures.names

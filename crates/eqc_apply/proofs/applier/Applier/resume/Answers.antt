@@ -80,28 +80,35 @@ returns-in-Ok-clause-turn g c =
 pub finish-requires-in-High : goal.finish-requires-in-High
 finish-requires-in-High g c =
     let s = c.loop-task.self in
+    let n = c.end_offer.new.self.names in
     let w = c.args.whole.now.value in
     let was : s.tasks.items ≡ c.pop.new.self.items ++ High c.in-High.f c.in-High.g c.in-High.variable c.in-High.low ∷ [] = search rules in
-    (top_done (meaning_in s.names) c.args.op s.tasks.items c.pop.new.self.items w.0 w.1 c.in-High.f c.in-High.g c.in-High.variable c.in-High.low c.loop-task.x was c.loop-task.invariant.leads).both
+    (top_done (meaning_in n) c.args.op s.tasks.items c.pop.new.self.items w.0 w.1 c.in-High.f c.in-High.g c.in-High.variable c.in-High.low c.loop-task.x was (leads_to_stays (meaning_in s.names) (meaning_in n) c.args.op s.tasks.items w.0 w.1 c.loop-task.x (names_stay s.names n c.end_offer.ensures.names) c.loop-task.invariant.leads)).both
 
 pub loop-task-preserved : goal.loop-task-preserved
 loop-task-preserved g c =
     let s = c.loop-task.self in
+    let b = c.end_offer.new.self.names in
     let n = c.finish-in-High.new.self.names in
     let w = c.args.whole.now.value in
     let i = c.loop-task.invariant in
     let e = c.finish-in-High.ensures.names in
     let was : s.tasks.items ≡ c.pop.new.self.items ++ High c.in-High.f c.in-High.g c.in-High.variable c.in-High.low ∷ [] = search rules in
-    let m = meaning_in s.names in
-    let top = top_done m c.args.op s.tasks.items c.pop.new.self.items w.0 w.1 c.in-High.f c.in-High.g c.in-High.variable c.in-High.low c.loop-task.x was i.leads in
-    let leads = task_done m (meaning_in n) c.args.op c.pop.new.self.items w.0 w.1 c.in-High.f c.in-High.g c.in-High.variable c.in-High.low c.loop-task.x c.in_ok-x-in-High.x (names_stay s.names n e) top c.in_ok-x-in-High.ensures.ok in
-    let less = less_owed s.names.variables n.variables c.pop.new.self.items s.tasks.items c.args.self.now.tasks.items (High c.in-High.f c.in-High.g c.in-High.variable c.in-High.low) e.variables was i.less in
-    let x = extends_trans c.args.self.now.names s.names n i.names e in
+    let m = meaning_in b in
+    let stays = leads_to_stays (meaning_in s.names) m c.args.op s.tasks.items w.0 w.1 c.loop-task.x (names_stay s.names b c.end_offer.ensures.names) i.leads in
+    let top = top_done m c.args.op s.tasks.items c.pop.new.self.items w.0 w.1 c.in-High.f c.in-High.g c.in-High.variable c.in-High.low c.loop-task.x was stays in
+    let leads = task_done m (meaning_in n) c.args.op c.pop.new.self.items w.0 w.1 c.in-High.f c.in-High.g c.in-High.variable c.in-High.low c.loop-task.x c.in_ok-x-in-High.x (names_stay b n e) top c.in_ok-x-in-High.ensures.ok in
+    let less = less_owed s.names.variables n.variables c.pop.new.self.items s.tasks.items c.args.self.now.tasks.items (High c.in-High.f c.in-High.g c.in-High.variable c.in-High.low) (e.variables ∙ c.end_offer.ensures.names.variables) was i.less in
+    let x = extends_trans c.args.self.now.names b n (extends_trans c.args.self.now.names s.names b i.names c.end_offer.ensures.names) e in
     record {
       names = record { forest = x.forest; seat = x.seat; variables = x.variables; references = x.references; before = x.before };
-      leads = rw c.finish-in-High.ensures.tasks leads;
-      less = rw c.finish-in-High.ensures.tasks less;
+      leads = rw (c.finish-in-High.ensures.tasks, c.end_offer.ensures.tasks) leads;
+      less = rw (c.finish-in-High.ensures.tasks, c.end_offer.ensures.tasks) less;
     }
 
 pub returns-in_err-x-in-High-clause-names : goal.returns-in_err-x-in-High-clause-names
-returns-in_err-x-in-High-clause-names g c = extends_trans c.args.self.now.names c.loop-task.self.names c.finish-in-High.new.self.names c.loop-task.invariant.names c.finish-in-High.ensures.names
+returns-in_err-x-in-High-clause-names g c =
+    let n = c.args.self.now.names in
+    let s = c.loop-task.self.names in
+    let b = c.end_offer.new.self.names in
+    extends_trans n b c.finish-in-High.new.self.names (extends_trans n s b c.loop-task.invariant.names c.end_offer.ensures.names) c.finish-in-High.ensures.names
