@@ -25,10 +25,11 @@ impl Patience {
         }
     }
 
-    /// That of workers with so many forks: without any nothing can come, and they ask nobody.
+    /// That of workers with so many forks: without any nothing can come, and they ask nobody. With some they ask as long as
+    /// anybody compares, since the last outputs are often the largest.
     pub fn of_forks(forks: u32) -> Patience {
         Patience {
-            asks: if forks == 0 { 0 } else { VAIN_ASKS },
+            asks: if forks == 0 { 0 } else { u64::MAX },
             stopped: AtomicCell::new(false),
         }
     }
