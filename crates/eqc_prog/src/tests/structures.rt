@@ -73,8 +73,8 @@ static ROWS: [Row; 15] = [
     ),
     (
         "constants that differ",
-        ".model f;.outputs z;.names c;.names c z;1 1;.end;.model g;.outputs z;.names c;1;.names c z;1 1;.end;",
-        "differs at z;first=0;second=1;",
+        ".model f;.inputs x y;.outputs z;.names c;.names c y z;01 1;.end;.model g;.inputs x y;.outputs z;.names c;1;.names c y z;01 1;.end;",
+        "differs at z;x=0;y=1;first=1;second=0;",
         1,
     ),
     (
@@ -115,8 +115,8 @@ static ROWS: [Row; 15] = [
     ),
     (
         "an output that differs behind one that does not",
-        ".model f;.inputs x;.outputs z w;.names x z;0 1;.names x w;1 1;.end;.model g;.inputs x;.outputs z w;.names x z;0 1;.names w;.end;",
-        "differs at w;x=1;first=1;second=0;",
+        ".model f;.inputs x y;.outputs z w;.names x y z;11 1;.names x w;1 1;.end;.model g;.inputs x y;.outputs z w;.names x y z;11 1;.names w;.end;",
+        "differs at w;x=1;y=0;first=1;second=0;",
         1,
     ),
     (
