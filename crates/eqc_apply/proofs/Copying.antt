@@ -1,5 +1,5 @@
 -- A copy of nodes stays faithful: visits in order, numbers of names, and the steps that are left.
-use Rattle.std.proofs.Common.{◌≡◌, ◌≢◌, ℕ, zero, suc, ◌+◌, ◌-◌, ◌*◌, ◌^◌, ◌<◌, ◌≤◌, ◌⊎◌, Bool, cond, List, [], ◌∷◌, ◌++◌, length, get_or, set, replicate, Option, None, Some, refl, sym, ◌∙◌, ap, subst, arith, inl, inr, pow_pos}
+use Rattle.std.proofs.Common.{◌≡◌, ◌≢◌, ℕ, zero, suc, ◌+◌, ◌-◌, ◌*◌, ◌^◌, ◌<◌, ◌≤◌, ◌⊎◌, Bool, List, [], ◌∷◌, ◌++◌, length, get_or, set, replicate, Option, None, Some, refl, sym, ◌∙◌, ap, subst, arith, inl, inr, pow_pos}
 use Rattle.std.specs.Prelude.{Result, Ok, Err, OnOk, sum_by}
 use Rattle.std.specs.List.{All, find}
 use Rattle.std.proofs.lemmas.Bool.{cases_eq, cases_lt}
@@ -7,14 +7,13 @@ use Rattle.std.proofs.lemmas.List.{get_or-set_same, get_or-set_other, get_or_pas
 use Rattle.std.proofs.lemmas.List.Elements.{All-append, All-cons, All-nil, All-head, All-tail, All-pop, All-weaker}
 use Rattle.std.proofs.lemmas.List.Folds.{sum_by-replicate}
 use Rattle.std.proofs.lemmas.List.Sums.{sum_by-append, sum_by-cons, sum_by-set}
-use Rattle.eqc_tree.specs.Tree.{Tree, value}
+use Rattle.eqc_tree.specs.Tree.{value}
 use Rattle.eqc_plain.specs.declared.store.Store.{Store}
 use Rattle.eqc_tree.specs.Assigned.{assigned, assignments, DependsOnlyOn, IsSatisfiable}
 use Rattle.eqc_tree.specs.Holding.{IsNew}
 use Rattle.eqc_tree.proofs.FindLemmas.{find_same}
 use Rattle.eqc_plain.specs.Store.{root, tree_at, holding_of, IsNode}
 use Rattle.eqc_plain.specs.Extending.{Extends as Grows, holding_in as store_holding}
-use Rattle.eqc_plain.specs.Combining.{AreHalves}
 use Rattle.eqc_plain.proofs.Combining.{halves_stay}
 use Rattle.eqc_plain.proofs.Growing.{before}
 use Rattle.eqc_plain.proofs.Trees.{tree_at-zero, tree_at-one, root-constant}
@@ -28,7 +27,6 @@ use Rattle.eqc_apply.specs.declared.plain_copy.Visit.{Visit}
 use Rattle.eqc_apply.specs.declared.plain_copy.Visit.TheVariants.{Reached, Opened}
 use Rattle.eqc_apply.specs.Extending.{Extends}
 use Rattle.eqc_apply.specs.Combining.{AreCofactors}
-use Rattle.eqc_apply.specs.Meaning.{meaning_in}
 use Rattle.eqc_apply.specs.Copying.{IsCopyOf, name_of, IsNodeOver, IsDue, IsPlaced, Comes, IsComing, AreInOrder, free, IsFaithful, IsOnWay, toil_of, toil, IsAdvance}
 use Rattle.eqc_apply.proofs.Meanings.{names_stay, extends_refl, halves_of}
 use Rattle.eqc_apply.proofs.Reading.{root_constant}

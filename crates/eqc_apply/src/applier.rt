@@ -19,5 +19,7 @@ pub struct Applier {
     pub(crate) forks: u32,
     // The levels in which it is offered now.
     pub(crate) offers: Vec<u32>,
+    // Whether an operation begins anew, without names that no references stand on, where the forest is full.
+    pub(crate) anew: bool,
     ghost cached: { IsCache (kept_of names.variables names.worker.known) cells.cells.items } by { Prim.hlevel (props) },
 }

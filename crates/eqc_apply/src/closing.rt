@@ -81,6 +81,7 @@ impl Applier {
             tasks: _,
             forks: _,
             offers: _,
+            anew: _,
         } = self;
         Ok(names.close(rt))
     }

@@ -38,7 +38,7 @@ impl Applier {
     }
 
     /// The name of an operation's result. Where every slot is taken, names without references are
-    /// given up, and the operation begins anew.
+    /// given up, and the operation begins anew, if it is to.
     fn answer<R: Wait>(&mut self, rt: &R, op: Op, f: u32, g: u32) -> Result<u32, Stop>
         requires f { IsReferenced self.old.names f }
         requires g { IsReferenced self.old.names g }
@@ -48,7 +48,7 @@ impl Applier {
     {
         self.make_way();
         match self.combine(rt, op, f, g) {
-            Err(Stop::NodeLimit) => {
+            Err(Stop::NodeLimit) if self.anew => {
                 self.give_up();
                 self.combine(rt, op, f, g)
             }

@@ -129,6 +129,7 @@ impl Applier {
             tasks: _,
             forks: _,
             offers: _,
+            anew: _,
         } = other;
         self.cells.clear();
         self.names.absorb(names);

@@ -33,5 +33,5 @@ mod serving;
 mod shared;
 
 pub use applier::Applier;
-pub use members::team;
+pub use members::{brief_team, team};
 pub use reference::Ref;

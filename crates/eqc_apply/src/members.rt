@@ -19,6 +19,7 @@ fn found(
     cells: u32,
     workers: u32,
     forks: u32,
+    anew: bool,
 ) -> Result<Applier, Stop>
     requires nodes { (1 ≤ nodes) × (nodes ≤ 1048574) }
     requires cells { (1 ≤ cells) × (cells ≤ 1048576) }
@@ -39,6 +40,7 @@ fn found(
         // One that is alone has nobody to offer to.
         forks: if workers > 1 { forks } else { 0 },
         offers: Vec::new(alloc),
+        anew,
     })
 }
 
@@ -51,6 +53,7 @@ fn join(alloc: Global, lead: &mut Applier) -> Result<Applier, Stop>
 {
     let variables = lead.names.variables;
     let forks = lead.forks;
+    let anew = lead.anew;
     match lead.names.worker.split() {
         Ok(worker) => Ok(Applier {
             names: Names {
@@ -63,9 +66,41 @@ fn join(alloc: Global, lead: &mut Applier) -> Result<Applier, Stop>
             tasks: Vec::new(alloc),
             forks,
             offers: Vec::new(alloc),
+            anew,
         }),
         Err(_) => Err(Stop::Memory),
     }
+}
+
+// The members of a team, whose operations begin anew where the forest is full, if they are to.
+fn gather(
+    alloc: Global,
+    vars: u16,
+    nodes: u32,
+    cells: u32,
+    workers: u32,
+    forks: u32,
+    anew: bool,
+) -> Result<Vec<Applier>, Stop>
+    requires nodes { (1 ≤ nodes) × (nodes ≤ 1048574) }
+    requires cells { (1 ≤ cells) × (cells ≤ 1048576) }
+    requires workers { (1 ≤ workers) × (workers ≤ 64) }
+    requires forks { forks ≤ 16 }
+    ensures team { IfOk result (λ members. IsTeam vars workers members.items) }
+    ensures count { IfOk result (λ members. vec_len members ≡ workers) }
+    ensures only { IfErr result (λ s. s ≡ Stop.Memory) }
+{
+    let mut lead = found(alloc, vars, nodes, cells, workers, forks, anew)?;
+    let mut members = Vec::new(alloc);
+    for _ in 1..workers {
+        let Ok(()) = members.push(join(alloc, &mut lead)?) else {
+            return Err(Stop::Memory);
+        };
+    }
+    let Ok(()) = members.insert(0, lead) else {
+        return Err(Stop::Memory);
+    };
+    Ok(members)
 }
 
 /// The members of a team over one new forest: a worker each, which holds nothing, member i being
@@ -91,15 +126,29 @@ pub fn team(
     ensures count { IfOk result (λ members. vec_len members ≡ workers) }
     ensures only { IfErr result (λ s. s ≡ Stop.Memory) }
 {
-    let mut lead = found(alloc, vars, nodes, cells, workers, forks)?;
-    let mut members = Vec::new(alloc);
-    for _ in 1..workers {
-        let Ok(()) = members.push(join(alloc, &mut lead)?) else {
-            return Err(Stop::Memory);
-        };
-    }
-    let Ok(()) = members.insert(0, lead) else {
-        return Err(Stop::Memory);
-    };
-    Ok(members)
+    gather(alloc, vars, nodes, cells, workers, forks, true)
+}
+
+/// The members of a team that stops soon where its forest is too small: as those of `team`, but where the forest is full none
+/// of them gives up what it holds without references, so the error 71 comes once about as many nodes were made as there is
+/// room for.
+///
+/// What is asked of the numbers is as there, and so is the error.
+pub fn brief_team(
+    alloc: Global,
+    vars: u16,
+    nodes: u32,
+    cells: u32,
+    workers: u32,
+    forks: u32,
+) -> Result<Vec<Applier>, Stop>
+    requires nodes { (1 ≤ nodes) × (nodes ≤ 1048574) }
+    requires cells { (1 ≤ cells) × (cells ≤ 1048576) }
+    requires workers { (1 ≤ workers) × (workers ≤ 64) }
+    requires forks { forks ≤ 16 }
+    ensures team { IfOk result (λ members. IsTeam vars workers members.items) }
+    ensures count { IfOk result (λ members. vec_len members ≡ workers) }
+    ensures only { IfErr result (λ s. s ≡ Stop.Memory) }
+{
+    gather(alloc, vars, nodes, cells, workers, forks, false)
 }

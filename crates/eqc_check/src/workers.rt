@@ -11,7 +11,7 @@ ghost use Rattle.eqc_check.specs.Options.{options_code};
 use crate::checking::found_report;
 use crate::options::Options;
 use crate::report::Report;
-use eqc_apply::{Applier, team};
+use eqc_apply::{Applier, brief_team, team};
 use eqc_compare::{
     Alike, Gate, NoGate, Patience, alike_or_nothing, are_all_marked, first_difference,
 };
@@ -70,9 +70,29 @@ pub fn check_with<R: Threads + Wait + Sync, D: Diagrams<R> + Send + Drop, G: Gat
     )
 }
 
+/// The nodes of the forest in which a comparison begins that may have more, and the cells of its cache: so many are laid out in
+/// a few milliseconds, which most comparisons take less than.
+const FIRST_NODES: u32 = 65_536;
+
+const FIRST_CELLS: u32 = 65_536;
+
+/// In which forest a comparison is made.
+#[derive(Clone, Copy)]
+enum Room {
+    /// A small one, which is left as soon as it is full.
+    First,
+    /// The one that the options ask for.
+    Whole,
+}
+
 /// The team of workers that the options ask for, with a variable for each input of a pair: they share one forest, and as
 /// many levels of an operation as there are forks.
-fn team_for(alloc: Global, pair: &Pair<'_>, options: &Options) -> Result<Vec<Applier>, Stop>
+fn team_for(
+    alloc: Global,
+    pair: &Pair<'_>,
+    options: &Options,
+    room: Room,
+) -> Result<Vec<Applier>, Stop>
     requires { options_code options.now ≡ None }
     ensures some { IfOk result (λ all. 1 ≤ vec_len all) }
     ensures variables { IfOk result (λ all. All (λ a. length pair.now.first.inputs ≤ (⟦<Applier as References>⟧.holding a).variables) all.items) }
@@ -86,7 +106,35 @@ fn team_for(alloc: Global, pair: &Pair<'_>, options: &Options) -> Result<Vec<App
         forks,
     } = *options;
     let inputs = pair.first().inputs().len() as u16;
-    team(alloc, inputs, nodes, cells, workers, forks)
+    match room {
+        Room::First => {
+            let (nodes, cells) = (nodes.min(FIRST_NODES), cells.min(FIRST_CELLS));
+            brief_team(alloc, inputs, nodes, cells, workers, forks)
+        }
+        Room::Whole => team(alloc, inputs, nodes, cells, workers, forks),
+    }
+}
+
+/// The report by the team that the options ask for, where this is known of the pair, or why it stopped.
+fn check_in<R: Threads + Wait + Sync, G: Gate<R> + Sync>(
+    rt: &R,
+    alloc: Global,
+    pair: &Pair<'_>,
+    options: &Options,
+    room: Room,
+    alike: Alike,
+    gate: &G,
+) -> Result<Report, Stop>
+    requires options { options_code options.now ≡ None }
+    requires known { IsKnown pair.now alike }
+    ensures report { IfOk result (λ report. report_of report ≡ comparison (netlist_of pair.now.first) (netlist_of pair.now.second)) }
+{
+    let members = team_for(alloc, pair, options, room)?;
+    let patience = match room {
+        Room::First => Patience::brief(options.forks),
+        Room::Whole => Patience::of_forks(options.forks),
+    };
+    check_known(rt, alloc, pair, members, alike, patience, gate)
 }
 
 /// Compares a pair by as many workers as the options say, each in a thread of its own: they share one forest of `nodes` nodes
@@ -106,15 +154,13 @@ pub fn check<R: Threads + Wait + Sync, G: Gate<R> + Sync>(
     requires { options_code options.now ≡ None }
     ensures report { IfOk result (λ report. report_of report ≡ comparison (netlist_of pair.now.first) (netlist_of pair.now.second)) }
 {
-    let members = team_for(alloc, pair, options)?;
-    let patience = Patience::of_forks(options.forks);
-    check_known(
+    check_in(
         rt,
         alloc,
         pair,
-        members,
+        options,
+        Room::Whole,
         Alike::nothing(alloc),
-        patience,
         gate,
     )
 }
@@ -122,6 +168,9 @@ pub fn check<R: Threads + Wait + Sync, G: Gate<R> + Sync>(
 /// Compares a pair as `check` does, but compares no output whose two signals have one structure: it is equal, and where all
 /// outputs are so, no forest and no thread is made. For the others a diagram is built once for all signals of one structure, of
 /// both netlists. Where memory for structures is refused, every output is compared, and every signal built.
+///
+/// A comparison that may have many nodes is tried with few first, since to lay out the whole forest takes longer than most
+/// comparisons do.
 pub(crate) fn check_alike<R: Threads + Wait + Sync>(
     rt: &R,
     alloc: Global,
@@ -135,7 +184,14 @@ pub(crate) fn check_alike<R: Threads + Wait + Sync>(
     if are_all_marked(pair, &alike.equal) {
         return found_report(alloc, pair, None);
     }
-    let members = team_for(alloc, pair, options)?;
-    let patience = Patience::of_forks(options.forks);
-    check_known(rt, alloc, pair, members, alike, patience, &NoGate)
+    if options.nodes <= FIRST_NODES {
+        return check_in(rt, alloc, pair, options, Room::Whole, alike, &NoGate);
+    }
+    match check_in(rt, alloc, pair, options, Room::First, alike, &NoGate) {
+        Err(Stop::NodeLimit) => {
+            let alike = alike_or_nothing(alloc, pair);
+            check_in(rt, alloc, pair, options, Room::Whole, alike, &NoGate)
+        }
+        report => report,
+    }
 }

@@ -87,7 +87,7 @@ fn difference<R, D: Diagrams<R>>(
 
 /// Compares an output in its turn, counted from 1; outputs come in rising order. The references that later turns need
 /// stay in the table.
-fn compare_turn<R, D: Diagrams<R>>(
+pub(crate) fn compare_turn<R, D: Diagrams<R>>(
     alloc: Global,
     rt: &R,
     d: &mut D,

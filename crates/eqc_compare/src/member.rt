@@ -4,7 +4,7 @@ ghost use Rattle.eqc_build.specs.Turns.{AreKept, is_marked};
 ghost use Rattle.eqc_compare.specs.Alike.{IsTask};
 ghost use Rattle.eqc_compare.specs.Comparing.{IsDifferenceAt};
 
-use crate::compare::compare_kept;
+use crate::compare::{compare_kept, compare_turn};
 use crate::task::Task;
 use eqc_build::{Kept, give_back_kept, nothing_built};
 use eqc_pair::Pair;
@@ -51,15 +51,12 @@ pub(crate) fn compare<R, D: Diagrams<R>>(
     ensures only { IfErr result (λ s. s ≢ Stop.Threads) }
 {
     let Member { diagrams, kept } = member;
-    compare_kept(
-        alloc,
-        rt,
-        diagrams,
-        &task.plan,
-        kept,
-        output as usize,
-        output + 1,
-    )
+    let (output, turn) = (output as usize, output + 1);
+    if task.patience.tries_again() {
+        compare_kept(alloc, rt, diagrams, &task.plan, kept, output, turn)
+    } else {
+        compare_turn(alloc, rt, diagrams, &task.plan, kept, output, turn)
+    }
 }
 
 /// The member's diagrams, with what they held at first.

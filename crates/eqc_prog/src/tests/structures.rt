@@ -262,17 +262,52 @@ fn a_unit_is_compared_with_itself(rt: HostRuntime) -> Result<(), AllocError> {
     Ok(())
 }
 
-/// The report on two units of four bits that differ in their last bit: the exclusive or of 0 and 0.
-const LAST_BIT: &str =
-    "differs at r3;s1=1;s0=1;a0=0;a1=0;a2=0;a3=0;b0=0;b1=0;b2=0;b3=0;first=0;second=1;";
+/// Two units of so many bits that differ in their last bit: the exclusive or of 0 and 0.
+fn changed_units(alloc: Global, bits: u32) -> Result<String, AllocError> {
+    let mut text = String::new(alloc);
+    unit(alloc, &mut text, "f", bits, "11--1 1;")?;
+    unit(alloc, &mut text, "g", bits, "11--0 1;")?;
+    Ok(text)
+}
+
+/// The report on them.
+fn last_bit(alloc: Global, bits: u32) -> Result<String, AllocError> {
+    let last = bits.saturating_sub(1);
+    let mut report = format!(in alloc; "differs at r{last};s1=1;s0=1;")?;
+    for name in ["a", "b"] {
+        for k in 0..bits {
+            report.push_str(&format!(in alloc; "{name}{k}=0;")?)?;
+        }
+    }
+    report.push_str("first=0;second=1;")?;
+    Ok(report)
+}
 
 #[test]
 fn outputs_before_a_changed_one_need_no_node(rt: HostRuntime) -> Result<(), AllocError> {
     let alloc = rt.alloc();
-    let mut text = String::new(alloc);
-    unit(alloc, &mut text, "f", 4, "11--1 1;")?;
-    unit(alloc, &mut text, "g", 4, "11--0 1;")?;
-    assert!(rt; reports(&rt, "eqc", Feed::whole(&text), LAST_BIT, 1)?);
+    let text = changed_units(alloc, 4)?;
+    let report = last_bit(alloc, 4)?;
+    assert!(rt; reports(&rt, "eqc", Feed::whole(&text), &report, 1)?);
+    Ok(())
+}
+
+/// By how many workers a pair is compared that needs more nodes than the forest in which a comparison begins has.
+const LARGE: [&str; 2] = [
+    "eqc --nodes 1048574 --workers 1",
+    "eqc --nodes 1048574 --workers 4 --forks 16",
+];
+
+#[test]
+fn a_comparison_goes_on_in_the_whole_forest(rt: HostRuntime) -> Result<(), AllocError> {
+    let alloc = rt.alloc();
+    let text = changed_units(alloc, 16)?;
+    let report = last_bit(alloc, 16)?;
+    assert!(rt; reports(&rt, "eqc", Feed::whole(&text), "stopped 71;", 3)?);
+    for line in LARGE {
+        let found = reports(&rt, line, Feed::whole(&text), &report, 1)?;
+        assert!(rt; found, "{line}");
+    }
     Ok(())
 }
 

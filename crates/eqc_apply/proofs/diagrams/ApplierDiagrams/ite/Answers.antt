@@ -1,7 +1,5 @@
-use Rattle.std.proofs.Common.{◌≤◌, ◌-◌, ◌^◌, ◌⊎◌, arith, inl, inr}
-use Rattle.eqc_tree.specs.Holding.{Entry, copies}
+use Rattle.std.proofs.Common.{arith, inl, inr}
 use Rattle.eqc_plain.proofs.Laws.{weight_le}
-use Rattle.eqc_apply.specs.Extending.{holding_in}
 use Rattle.eqc_apply.specs.Referring.{entry_of}
 use Rattle.eqc_apply.proofs.diagrams.ApplierDiagrams.ite.Goals as goal
 

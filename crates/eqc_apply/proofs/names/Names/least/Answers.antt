@@ -1,4 +1,4 @@
-use Rattle.std.proofs.Common.{◌<◌, ◌≡◌, ◌∙◌, ℕ, subst, sym}
+use Rattle.std.proofs.Common.{◌<◌, ◌∙◌, ℕ, subst, sym}
 use Rattle.std.specs.List.{All}
 use Rattle.eqc_apply.proofs.Copying.{copy_was, copy_satisfiable, copy_depends, copy_least}
 use Rattle.eqc_apply.proofs.names.Names.least.Goals as goal

@@ -1,4 +1,4 @@
-use Rattle.std.proofs.Common.{◌≡◌, ℕ, Option, None, Some, Err, length, refl, sym, ap, ◌∙◌, arith, inl, inr}
+use Rattle.std.proofs.Common.{◌≡◌, None, Some, Err, length, refl, sym, ap, ◌∙◌, arith, inl, inr}
 use Rattle.eqc_apply.proofs.Copying.{within_places, last_over, order_last, has_room, closed}
 use Rattle.eqc_apply.proofs.plain_copy.PlainCopy.close.Goals as goal
 

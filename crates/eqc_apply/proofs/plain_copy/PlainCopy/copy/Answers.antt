@@ -1,7 +1,7 @@
-use Rattle.std.proofs.Common.{◌≡◌, ◌++◌, ◌∷◌, [], refl, sym, ap, ◌∙◌, arith, rules}
+use Rattle.std.proofs.Common.{◌≡◌, ◌++◌, ◌∷◌, [], refl, sym, ◌∙◌, rules}
 use Rattle.eqc_apply.specs.declared.plain_copy.Visit.TheVariants.{Reached}
 use Rattle.eqc_apply.proofs.Meanings.{extends_refl, extends_trans}
-use Rattle.eqc_apply.proofs.Copying.{way_as, sets_out, arrives, within_places}
+use Rattle.eqc_apply.proofs.Copying.{way_as, sets_out, within_places}
 use Rattle.eqc_apply.proofs.plain_copy.PlainCopy.copy.Goals as goal
 
 pub visits-init : goal.visits-init

@@ -1,4 +1,4 @@
-use Rattle.std.proofs.Common.{◌≡◌, ℕ, ◌+◌, None, replicate, set, Some, refl, ap, rules}
+use Rattle.std.proofs.Common.{◌≡◌, ℕ, ◌+◌, None, replicate, refl, ap, rules}
 use Rattle.eqc_apply.proofs.Copying.{new_variables, begins}
 use Rattle.eqc_apply.proofs.plain_copy.PlainCopy.new.Goals as goal
 

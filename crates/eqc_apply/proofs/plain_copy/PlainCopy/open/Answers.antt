@@ -1,6 +1,5 @@
-use Rattle.std.proofs.Common.{◌≡◌, refl, sym, ◌∙◌, arith}
 use Rattle.eqc_apply.specs.declared.plain_copy.Visit.TheVariants.{Reached}
-use Rattle.eqc_apply.proofs.Meanings.{extends_trans, names_stay}
+use Rattle.eqc_apply.proofs.Meanings.{extends_trans}
 use Rattle.eqc_apply.proofs.Copying.{last_held, last_inner, over_of, opened, on_ok}
 use Rattle.eqc_apply.proofs.plain_copy.PlainCopy.open.Goals as goal
 

@@ -1,7 +1,7 @@
 use Rattle.std.proofs.Common.{◌≡◌, ◌+◌, ◌-◌, ℕ, arith, sym, subst, ◌∙◌}
 use Rattle.eqc_apply.specs.Teaming.{IsTeam, IsLead, forest_of}
 use Rattle.eqc_apply.proofs.Teams.{more_others, other_forest, is_team}
-use Rattle.eqc_apply.proofs.members.team.Goals as goal
+use Rattle.eqc_apply.proofs.members.gather.Goals as goal
 
 pub loop-preserved : goal.loop-preserved
 loop-preserved c =

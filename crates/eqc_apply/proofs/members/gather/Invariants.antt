@@ -1,6 +1,6 @@
 use Rattle.std.proofs.Common.{◌≡◌, ◌+◌, ◌-◌, ◌≤◌, vec_len}
 use Rattle.eqc_apply.specs.Teaming.{IsLead, AreOthers, forest_of}
-use Rattle.eqc_apply.proofs.members.team.Given as goal
+use Rattle.eqc_apply.proofs.members.gather.Given as goal
 
 abbrev pub invariant-loop : goal.invariant-loop
 invariant-loop l = record {
