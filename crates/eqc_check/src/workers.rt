@@ -76,6 +76,9 @@ const FIRST_NODES: u32 = 65_536;
 
 const FIRST_CELLS: u32 = 65_536;
 
+/// The most workers that begin in it. More of them fill it with nodes of their own, and take longer to leave it.
+const FIRST_WORKERS: u32 = 2;
+
 /// In which forest a comparison is made.
 #[derive(Clone, Copy)]
 enum Room {
@@ -170,7 +173,7 @@ pub fn check<R: Threads + Wait + Sync, G: Gate<R> + Sync>(
 /// both netlists. Where memory for structures is refused, every output is compared, and every signal built.
 ///
 /// A comparison that may have many nodes is tried with few first, since to lay out the whole forest takes longer than most
-/// comparisons do.
+/// comparisons do. Not so where there are many workers or forks: who asks for them has much to compare.
 pub(crate) fn check_alike<R: Threads + Wait + Sync>(
     rt: &R,
     alloc: Global,
@@ -184,7 +187,8 @@ pub(crate) fn check_alike<R: Threads + Wait + Sync>(
     if are_all_marked(pair, &alike.equal) {
         return found_report(alloc, pair, None);
     }
-    if options.nodes <= FIRST_NODES {
+    let few = options.workers <= FIRST_WORKERS && options.forks == 0;
+    if options.nodes <= FIRST_NODES || !few {
         return check_in(rt, alloc, pair, options, Room::Whole, alike, &NoGate);
     }
     match check_in(rt, alloc, pair, options, Room::First, alike, &NoGate) {

@@ -295,7 +295,7 @@ fn outputs_before_a_changed_one_need_no_node(rt: HostRuntime) -> Result<(), Allo
 /// By how many workers a pair is compared that needs more nodes than the forest in which a comparison begins has.
 const LARGE: [&str; 2] = [
     "eqc --nodes 1048574 --workers 1",
-    "eqc --nodes 1048574 --workers 4 --forks 16",
+    "eqc --nodes 1048574 --workers 2",
 ];
 
 #[test]
