@@ -10,9 +10,13 @@ use Rattle.eqc_blif.specs.Reading.{After, OpenModel, first_code, last_cover, has
 use Rattle.eqc_blif.specs.declared.kind.Kind.{Kind}
 use Rattle.eqc_blif.specs.declared.kind.Kind.TheVariants.{Inputs, Outputs, Names, Subckt, Row}
 
+-- one of two bytes
+abbrev pub is_either : ℕ → ℕ → ℕ → Bool
+is_either first second byte = (byte == first) || (byte == second)
+
 -- an LF or `#`: where the part of a line ends that counts
 abbrev pub is_mark : ℕ → Bool
-is_mark byte = (byte == 10) || (byte == 35)
+is_mark = is_either 10 35
 
 -- the clean lines of what is left of a text, which may have ended
 abbrev pub numbered_rest : ℕ → Option (List ℕ) → List (ℕ × List ℕ)

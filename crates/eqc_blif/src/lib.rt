@@ -5,7 +5,8 @@
 //! that is refused in `specs/Finding.antt`. Read the modules in this order:
 //!
 //! - `reading`, the call; `library`, what it gives; `rule` and `refusal`, why it gives none
-//! - `lines`, how bytes become logical lines; `words`, their words; `kind`, the statement that a line is
+//! - `lines`, how bytes become logical lines; `words`, their words; `near`, where both end; `kind`, the statement that a
+//!   line is
 //! - `reader`, what was read so far, and one more line; `open_model`, a statement in a model; `declarations`, what it declares
 //! - `cover` and `rows`, a cover and what its rows mean; `instance`; `name`, `names`, `name_list`, `many_names`, `sparing`, how
 //!   they are stored
@@ -29,6 +30,7 @@ mod many_names;
 mod name;
 mod name_list;
 mod names;
+mod near;
 mod open_model;
 mod reader;
 mod reading;

@@ -2,10 +2,11 @@ ghost use Rattle.std.specs.Prelude.{◌≡◌, ◌+◌, ◌<◌, ◌≤◌, IsTr
 ghost use Rattle.std.specs.List.{list_all, position_or_len};
 ghost use Rattle.std.specs.Option.{option_map, option_copied};
 ghost use Rattle.eqc_blif.specs.Lines.{is_trailing, is_blank, trimmed, continues, joined, logical, numbered};
-ghost use Rattle.eqc_blif.specs.Steps.{is_mark, TakesFirst, whole_or_joined};
+ghost use Rattle.eqc_blif.specs.Steps.{TakesFirst, whole_or_joined};
 
-use crate::words::{NEAR, is_blank};
-use memchr::{memchr, memchr2};
+use crate::near::find_either;
+use crate::words::is_blank;
+use memchr::memchr;
 use std::alloc::AllocError;
 use std::marker::Model;
 
@@ -36,38 +37,6 @@ fn find_line_end(bytes: &[u8]) -> usize
         return 0;
     }
     find_far_line_end(bytes)
-}
-
-fn is_mark(byte: u8) -> bool
-    ensures { result ≡ is_mark byte }
-{
-    byte == b'\n' || byte == b'#'
-}
-
-/// Where the first LF or `#` stands, or the length, by a search of many bytes at a time.
-#[inline(never)]
-fn find_far_mark(bytes: &[u8]) -> usize
-    ensures first { result ≡ position_or_len is_mark bytes.now }
-    ensures within { result ≤ length bytes.now }
-{
-    match memchr2(b'\n', b'#', bytes) {
-        Some(i) => i,
-        None => bytes.len(),
-    }
-}
-
-/// Where the first LF or `#` stands, or the length. It is often near, so that the first bytes are looked at one by one.
-fn find_mark(bytes: &[u8]) -> usize
-    ensures first { result ≡ position_or_len is_mark bytes.now }
-    ensures within { result ≤ length bytes.now }
-{
-    let near = bytes.len().min(NEAR);
-    for i in 0..near {
-        if is_mark(bytes[i]) {
-            return i;
-        }
-    }
-    near + find_far_mark(&bytes[near..])
 }
 
 fn trimmed(line: &[u8]) -> &[u8]
@@ -131,7 +100,7 @@ impl<'a> Lines<'a> {
     {
         let text = self.rest?;
         let number = self.number;
-        let mark = find_mark(text);
+        let mark = find_either::<b'\n', b'#'>(text);
         let end = mark + find_line_end(&text[mark..]);
         if end < text.len() {
             self.rest = Some(&text[end + 1..]);

@@ -7,42 +7,14 @@ ghost use Rattle.eqc_blif.specs.Names.{is_named};
 ghost use Rattle.eqc_blif.specs.Steps.{ArePairs, IsPair};
 
 use crate::name::Name;
+use crate::near::{NEAR, find_either};
 use crate::sparing::reserve_sparing;
-use memchr::memchr2;
 use std::alloc::{AllocError, Global};
-
-/// How many bytes are looked at one by one before a search of many at a time.
-pub(crate) const NEAR: usize = 8;
 
 pub(crate) fn is_blank(byte: u8) -> bool
     ensures { result ≡ is_blank byte }
 {
     byte == b' ' || byte == b'\t'
-}
-
-/// Where the first blank stands, or the length, by a search of many bytes at a time.
-#[inline(never)]
-fn find_far_blank(bytes: &[u8]) -> usize
-    ensures first { result ≡ position_or_len is_blank bytes.now }
-    ensures within { result ≤ length bytes.now }
-{
-    match memchr2(b' ', b'\t', bytes) {
-        Some(i) => i,
-        None => bytes.len(),
-    }
-}
-
-/// Where the first blank stands, or the length. It is often near, so that the first bytes are looked at one by one.
-fn find_blank(bytes: &[u8]) -> usize
-    ensures { result ≡ position_or_len is_blank bytes.now }
-{
-    let near = bytes.len().min(NEAR);
-    for i in 0..near {
-        if is_blank(bytes[i]) {
-            return i;
-        }
-    }
-    near + find_far_blank(&bytes[near..])
 }
 
 /// The first word of a line, and what stands behind it.
@@ -53,7 +25,7 @@ pub(crate) fn split_word(line: &[u8]) -> Option<(&[u8], &[u8])>
 {
     let mut rest = line;
     'blanks: loop {
-        let end = find_blank(rest);
+        let end = find_either::<b' ', b'\t'>(rest);
         if end >= rest.len() {
             break;
         }
