@@ -16,7 +16,8 @@ use Rattle.eqc_hierarchy.specs.Hierarchy.{model, model_at, paths_within, paths}
 use Rattle.eqc_hierarchy.specs.Signals.{SignalOf, needs, names_of, signals, sources, drivings}
 use Rattle.eqc_hierarchy.specs.Codes.{has_no_such_model, is_recursive, has_unknown_formal, has_formal_twice, has_missing_formal, is_too_large, has_many_inputs, is_driven_twice, is_undriven, is_cyclic, code_if, flat_code}
 use Rattle.eqc_flat.specs.Flattened.{path_at, model_of, first_signal, signal_at, source_of}
-use Rattle.eqc_flat.specs.DriverTable.{in_slot, IsFilled, IsDriven}
+use Rattle.eqc_flat.specs.DriverTable.{in_slot, IsFilled, IsTable, IsDriven, driven_code, first_driven, HasSources}
+use Rattle.eqc_hierarchy.specs.Columns.{all_columns}
 use Rattle.eqc_flat.specs.RowTable.{all_rows}
 use Rattle.eqc_flat.specs.StoredDrivers.{driver_from}
 use Rattle.eqc_flat.specs.Finding.{steps_of, hierarchical_name, IsCircle}
@@ -24,6 +25,8 @@ use Rattle.eqc_hierarchy.specs.Rule.{rule_code}
 use Rattle.eqc_flat.specs.declared.hierarchical_name.Step.{Step}
 use Rattle.eqc_hierarchy.specs.declared.rule.Rule.{Rule}
 use Rattle.eqc_flat.specs.declared.stored_driver.StoredDriver.{StoredDriver}
+use Rattle.eqc_flat.specs.declared.driver_table.Driven.{Driven}
+use Rattle.eqc_flat.specs.declared.driver_table.Driven.TheVariants.{Twice, Never}
 use Rattle.eqc_flat.proofs.InstanceLaws.{first_more, first_all}
 use Rattle.eqc_flat.proofs.DrivingLaws.{slot_empty}
 use Rattle.eqc_flat.proofs.DepthLaws.{no_code}
@@ -180,6 +183,21 @@ empty_undriven library top columns slots twice s h filled e =
     none_there : (o : Option StoredDriver) → is_none o ≡ true → o ≡ None
     none_there None k = refl
     none_there (Some d) k = absurd (true≢false (sym k))
+
+-- what holds of a hierarchy that is refused for a signal that is driven so
+pub driven_numbered : (driven : Driven) (library : List ModelOf) (top : ℕ) → flat_code library top ≡ Some (driven_code driven) → IsNumbered library top (driven_code driven)
+driven_numbered Twice library top e = numbered library top 26 (omega arith) (omega arith) e
+driven_numbered Never library top e = numbered library top 27 (omega arith) (omega arith) e
+
+-- its table knows one
+pub driven_known : (driven : Driven) (library : List ModelOf) (top : ℕ) (slots : List (Option StoredDriver)) (twice : Option ℕ) → IsNumbered library top (driven_code driven) → IsTable library top slots twice (drivings library top) → is_some (first_driven driven slots twice) ≡ true
+driven_known Twice library top slots twice h table = twice_known library top (map (option_map (driver_from (all_columns library))) slots) twice h table
+driven_known Never library top slots twice h table = empty_known library top (all_columns library) slots twice h table
+
+-- the one that it knows is driven so
+pub driven_is : (driven : Driven) (library : List ModelOf) (top : ℕ) (slots : List (Option StoredDriver)) (twice : Option ℕ) (s : ℕ) → IsNumbered library top (driven_code driven) → IsTable library top slots twice (drivings library top) → first_driven driven slots twice ≡ Some s → (s < length (signals library top)) × HasSources driven (sources library top (signal_at library top s))
+driven_is Twice library top slots twice s h table e = table.again s e
+driven_is Never library top slots twice s h table e = empty_undriven library top (all_columns library) slots twice s h table e
 
 -- a code that is told is that of a rule
 pub code_rule : (library : List ModelOf) (top code : ℕ) → flat_code library top ≡ Some code → (rule : Rule) × (rule_code rule ≡ code)

@@ -1,16 +1,20 @@
 -- For the proofs alone: the table of the drivers of the numbered signals while they are found. Each signal has a slot.
-use Rattle.std.specs.Prelude.{◌≡◌, ◌⊎◌, ℕ, ◌<◌, true, false, List, [], ◌∷◌, length, map, Option, Some, None, is_some, slice_index_or}
+use Rattle.std.specs.Prelude.{◌≡◌, ◌⊎◌, ℕ, ◌<◌, true, false, List, [], ◌∷◌, length, map, Option, Some, None, is_some, is_none, position, slice_index_or}
 use Rattle.std.specs.Option.{option_map}
 use Rattle.eqc_blif.specs.Netlist.{ModelOf}
 use Rattle.eqc_flat.specs.Graph.{DriverOf, IsWithinSizes}
 use Rattle.eqc_hierarchy.specs.Hierarchy.{model}
-use Rattle.eqc_hierarchy.specs.Signals.{Driving, sources_in, signals, drivings}
+use Rattle.eqc_hierarchy.specs.Signals.{Driving, sources_in, signals, sources, drivings}
 use Rattle.eqc_hierarchy.specs.Codes.{is_driven_twice, is_undriven}
 use Rattle.eqc_flat.specs.Flattened.{signal_at, source_of}
 use Rattle.eqc_flat.specs.RowTable.{all_rows}
 use Rattle.eqc_hierarchy.specs.Columns.{all_columns}
 use Rattle.eqc_flat.specs.StoredDrivers.{driver_from}
+use Rattle.eqc_flat.specs.Finding.{hierarchical_name}
+use Rattle.eqc_flat.specs.declared.hierarchical_name.Step.{Step}
 use Rattle.eqc_flat.specs.declared.stored_driver.StoredDriver.{StoredDriver}
+use Rattle.eqc_flat.specs.declared.driver_table.Driven.{Driven}
+use Rattle.eqc_flat.specs.declared.driver_table.Driven.TheVariants.{Twice, Never}
 
 -- the driver of a slot as a list
 abbrev pub in_slot : Option DriverOf → List DriverOf
@@ -37,3 +41,23 @@ IsDriven library top drivers = IsFilled library top (map (λ driver. Some driver
 abbrev pub IsDriverFault : List ModelOf → ℕ → ℕ → Type 0
 IsDriverFault library top code =
     (code ≡ 72) ⊎ (((code ≡ 26) × (is_driven_twice library top ≡ true)) ⊎ ((code ≡ 27) × (is_driven_twice library top ≡ false) × (is_undriven library top ≡ true)))
+
+-- the code of a hierarchy that is refused for a signal that is driven so
+abbrev pub driven_code : Driven → ℕ
+driven_code Twice = 26
+driven_code Never = 27
+
+-- the first signal that is found to be driven so, in a table of these slots
+abbrev pub first_driven : Driven → List (Option StoredDriver) → Option ℕ → Option ℕ
+first_driven Twice slots twice = twice
+first_driven Never slots twice = position is_none slots
+
+-- the sources of a signal that is driven so
+abbrev pub HasSources : {A : Type 0} → Driven → List A → Type 0
+HasSources Twice all = 1 < length all
+HasSources Never all = all ≡ []
+
+-- a flat signal of this name is driven so
+abbrev pub NamesDriven : Driven → List ModelOf → ℕ → List Step × List ℕ → Type 0
+NamesDriven driven library top name =
+    (s : ℕ) × (s < length (signals library top)) × (name ≡ hierarchical_name library top (signal_at library top s)) × HasSources driven (sources library top (signal_at library top s))

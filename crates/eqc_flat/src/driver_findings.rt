@@ -1,13 +1,12 @@
-ghost use Rattle.std.specs.Prelude.{◌≡◌, ◌<◌, ◌≤◌, [], length, map, false, Some, IfOk};
+ghost use Rattle.std.specs.Prelude.{◌≡◌, ◌<◌, ◌≤◌, length, map, false, Some, IfOk};
 ghost use Rattle.eqc_hierarchy.specs.Hierarchy.{model};
 ghost use Rattle.eqc_hierarchy.specs.Signals.{signals, sources, drivings};
 ghost use Rattle.eqc_hierarchy.specs.Codes.{flat_code, has_unknown_formal, is_recursive, is_too_large};
 ghost use Rattle.eqc_flat.specs.Flattened.{signal_at};
-ghost use Rattle.eqc_flat.specs.DriverTable.{IsTable};
+ghost use Rattle.eqc_flat.specs.DriverTable.{IsTable, driven_code, HasSources, NamesDriven};
 ghost use Rattle.eqc_flat.specs.Instances.{IsExpansion};
-ghost use Rattle.eqc_flat.specs.Finding.{NamesDrivenTwice, NamesUndriven};
 
-use crate::driver_table::DriverTable;
+use crate::driver_table::{Driven, DriverTable};
 use crate::hierarchical_name::HierarchicalName;
 use crate::hierarchy::Hierarchy;
 use crate::row_table::RowTable;
@@ -32,21 +31,6 @@ pub(crate) fn expanded_below(
     Ok(found.unwrap())
 }
 
-/// The hierarchy alone. Fails where memory is refused.
-fn hierarchy_below(
-    alloc: Global,
-    library: &Library,
-    top: usize,
-) -> Result<Hierarchy<'_>, AllocError>
-    requires there { top < length library.now }
-    requires ends { is_recursive library.now top ≡ false }
-    requires small { is_too_large library.now top ≡ false }
-    ensures { IfOk result (λ hierarchy. hierarchy ≡ (library.now, top)) }
-{
-    let (hierarchy, _) = expanded_below(alloc, library, top)?;
-    Ok(hierarchy)
-}
-
 /// What drives the signals of a hierarchy. Fails where memory is refused.
 fn table_in(
     alloc: Global,
@@ -62,88 +46,48 @@ fn table_in(
     DriverTable::of(alloc, hierarchy, &rows)
 }
 
-/// A signal that is driven twice, in a hierarchy that is refused for one. Fails where memory is refused.
-fn twice_in(
+/// A signal that is driven so, in a hierarchy that is refused for one. Fails where memory is refused.
+fn driven_in(
     alloc: Global,
     library: &Library,
     hierarchy: &Hierarchy<'_>,
+    driven: Driven,
 ) -> Result<usize, AllocError>
     requires same { library.now ≡ hierarchy.now.0 }
-    requires refused { flat_code hierarchy.now.0 hierarchy.now.1 ≡ Some 26 }
+    requires refused { flat_code hierarchy.now.0 hierarchy.now.1 ≡ Some (driven_code driven) }
     ensures within { IfOk result (λ s. s < length (signals hierarchy.now.0 hierarchy.now.1)) }
-    ensures twice { IfOk result (λ s. 1 < length (sources hierarchy.now.0 hierarchy.now.1 (signal_at hierarchy.now.0 hierarchy.now.1 s))) }
+    ensures driven { IfOk result (λ s. HasSources driven (sources hierarchy.now.0 hierarchy.now.1 (signal_at hierarchy.now.0 hierarchy.now.1 s))) }
 {
     let table = table_in(alloc, library, hierarchy)?;
-    Ok(table.driven_twice().unwrap())
+    Ok(table.first_driven(driven).unwrap())
 }
 
-/// The name of a signal that is driven twice, in a hierarchy that is refused for one. Fails where memory is refused.
-fn twice_named<'a>(
+/// The name of a signal that is driven so, in a hierarchy that is refused for one. Fails where memory is refused.
+fn driven_named<'a>(
     alloc: Global,
     library: &Library,
     hierarchy: &Hierarchy<'a>,
+    driven: Driven,
 ) -> Result<HierarchicalName<'a>, AllocError>
     requires same { library.now ≡ hierarchy.now.0 }
-    requires refused { flat_code hierarchy.now.0 hierarchy.now.1 ≡ Some 26 }
-    ensures { IfOk result (λ name. NamesDrivenTwice hierarchy.now.0 hierarchy.now.1 name) }
+    requires refused { flat_code hierarchy.now.0 hierarchy.now.1 ≡ Some (driven_code driven) }
+    ensures { IfOk result (λ name. NamesDriven driven hierarchy.now.0 hierarchy.now.1 name) }
 {
-    let signal = twice_in(alloc, library, hierarchy)?;
+    let signal = driven_in(alloc, library, hierarchy, driven)?;
     hierarchy.name_of(alloc, signal)
 }
 
-/// The name of a signal that is driven twice, below a model that is refused for one. Fails where memory is refused.
-pub(crate) fn driven_twice(
+/// The name of a signal that is driven so, below a model that is refused for one. Fails where memory is refused.
+pub(crate) fn driven_below(
     alloc: Global,
     library: &Library,
     top: usize,
+    driven: Driven,
 ) -> Result<HierarchicalName<'_>, AllocError>
     requires there { top < length library.now }
-    requires refused { flat_code library.now top ≡ Some 26 }
-    ensures { IfOk result (λ name. NamesDrivenTwice library.now top name) }
+    requires refused { flat_code library.now top ≡ Some (driven_code driven) }
+    ensures { IfOk result (λ name. NamesDriven driven library.now top name) }
 {
-    let hierarchy = hierarchy_below(alloc, library, top)?;
-    twice_named(alloc, library, &hierarchy)
-}
-
-/// The first signal that nothing drives, in a hierarchy that is refused for one. Fails where memory is refused.
-fn undriven_in(
-    alloc: Global,
-    library: &Library,
-    hierarchy: &Hierarchy<'_>,
-) -> Result<usize, AllocError>
-    requires same { library.now ≡ hierarchy.now.0 }
-    requires refused { flat_code hierarchy.now.0 hierarchy.now.1 ≡ Some 27 }
-    ensures within { IfOk result (λ s. s < length (signals hierarchy.now.0 hierarchy.now.1)) }
-    ensures undriven { IfOk result (λ s. sources hierarchy.now.0 hierarchy.now.1 (signal_at hierarchy.now.0 hierarchy.now.1 s) ≡ []) }
-{
-    let table = table_in(alloc, library, hierarchy)?;
-    Ok(table.first_empty().unwrap())
-}
-
-/// The name of a signal that nothing drives, in a hierarchy that is refused for one. Fails where memory is refused.
-fn undriven_named<'a>(
-    alloc: Global,
-    library: &Library,
-    hierarchy: &Hierarchy<'a>,
-) -> Result<HierarchicalName<'a>, AllocError>
-    requires same { library.now ≡ hierarchy.now.0 }
-    requires refused { flat_code hierarchy.now.0 hierarchy.now.1 ≡ Some 27 }
-    ensures { IfOk result (λ name. NamesUndriven hierarchy.now.0 hierarchy.now.1 name) }
-{
-    let signal = undriven_in(alloc, library, hierarchy)?;
-    hierarchy.name_of(alloc, signal)
-}
-
-/// The name of a signal that nothing drives, below a model that is refused for one. Fails where memory is refused.
-pub(crate) fn undriven(
-    alloc: Global,
-    library: &Library,
-    top: usize,
-) -> Result<HierarchicalName<'_>, AllocError>
-    requires there { top < length library.now }
-    requires refused { flat_code library.now top ≡ Some 27 }
-    ensures { IfOk result (λ name. NamesUndriven library.now top name) }
-{
-    let hierarchy = hierarchy_below(alloc, library, top)?;
-    undriven_named(alloc, library, &hierarchy)
+    let (hierarchy, _) = expanded_below(alloc, library, top)?;
+    driven_named(alloc, library, &hierarchy, driven)
 }

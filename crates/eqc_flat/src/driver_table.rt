@@ -11,7 +11,7 @@ ghost use Rattle.eqc_hierarchy.specs.Codes.{has_unknown_formal};
 ghost use Rattle.eqc_flat.specs.Flattened.{path_at, model_of, signals_here, signal_at, source_of};
 ghost use Rattle.eqc_flat.specs.Instances.{first_below};
 ghost use Rattle.eqc_flat.specs.RowTable.{all_rows};
-ghost use Rattle.eqc_flat.specs.DriverTable.{IsTable, IsDriven, IsDriverFault};
+ghost use Rattle.eqc_flat.specs.DriverTable.{IsTable, IsDriven, IsDriverFault, first_driven};
 
 use crate::drivers::Drivers;
 use crate::fault::Fault;
@@ -22,6 +22,13 @@ use eqc_blif::{Cover, Library, Name};
 use eqc_hierarchy::{Rule, instances};
 use std::alloc::{AllocError, Global};
 use std::marker::Model;
+
+/// How often a signal at fault is driven.
+#[derive(Clone, Copy)]
+pub(crate) enum Driven {
+    Twice,
+    Never,
+}
 
 /// The drivers of the flat signals while they are found: a slot for each signal, and the first that was driven twice. Once
 /// one is, the answer is known, and nothing more is put in.
@@ -233,18 +240,21 @@ impl DriverTable {
         Ok(table)
     }
 
-    /// A signal that is driven twice, if one is.
-    pub(crate) fn driven_twice(&self) -> Option<usize>
-        ensures { result ≡ self.now.1 }
-    {
-        self.twice
-    }
-
     /// The first signal whose slot is empty, if one is.
-    pub(crate) fn first_empty(&self) -> Option<usize>
+    fn first_empty(&self) -> Option<usize>
         ensures { result ≡ position is_none self.now.0 }
     {
         self.slots.iter().position(|slot| slot.is_none())
+    }
+
+    /// The first signal that is found to be driven so, if one is.
+    pub(crate) fn first_driven(&self, driven: Driven) -> Option<usize>
+        ensures { result ≡ first_driven driven self.now.0 self.now.1 }
+    {
+        match driven {
+            Driven::Twice => self.twice,
+            Driven::Never => self.first_empty(),
+        }
     }
 }
 

@@ -5,7 +5,8 @@ ghost use Rattle.eqc_flat.specs.Finding.{IsAtFault, IsExplained};
 ghost use Rattle.eqc_hierarchy.specs.Rule.{rule_code};
 
 use crate::circle_finding::circle_below;
-use crate::driver_findings::{driven_twice, undriven};
+use crate::driver_findings::driven_below;
+use crate::driver_table::Driven;
 use crate::finding::Finding;
 use crate::flattening::{MAX_INPUTS, flatten};
 use crate::instances::LIMIT;
@@ -48,8 +49,14 @@ fn finding(
         Rule::UnknownFormal => Ok(Finding::UnknownFormal(unknown_formal(alloc, library, top)?)),
         Rule::FormalTwice => Ok(Finding::FormalTwice(formal_twice(alloc, library, top)?)),
         Rule::MissingInput => Ok(Finding::MissingInput(missing_input(alloc, library, top)?)),
-        Rule::DrivenTwice => Ok(Finding::DrivenTwice(driven_twice(alloc, library, top)?)),
-        Rule::Undriven => Ok(Finding::Undriven(undriven(alloc, library, top)?)),
+        Rule::DrivenTwice => {
+            let name = driven_below(alloc, library, top, Driven::Twice)?;
+            Ok(Finding::DrivenTwice(name))
+        }
+        Rule::Undriven => {
+            let name = driven_below(alloc, library, top, Driven::Never)?;
+            Ok(Finding::Undriven(name))
+        }
         Rule::Circle => Ok(Finding::Circular(circle_below(alloc, library, top)?)),
         Rule::TooLarge => {
             let size = hierarchy_size(alloc, library, top)?;
