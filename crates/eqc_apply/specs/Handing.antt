@@ -7,7 +7,18 @@ use Rattle.eqc_core.specs.Words.{slots_of}
 use Rattle.eqc_guard.specs.Known.{tree_of}
 use Rattle.eqc_guard.specs.Standing.{Standing}
 use Rattle.eqc_guard.specs.declared.filled.Filled.{Filled}
+use Rattle.eqc_guard.specs.declared.parcel.Parcel.{Parcel}
+use Rattle.eqc_guard.specs.Sharing.{IsGenuine, IsWhole, parcel_names}
 use Rattle.eqc_arena.specs.Changing.{Exchanges}
+use Rattle.eqc_arena.specs.Unboxing.{KeepsMarks, NotesStop}
+
+-- a parcel came out of a box: its names are held, and what it tells is so
+pub record ComesOut (parcel : Parcel) (old new : Standing) : Type 0 where
+  pub came : Exchanges [] (parcel_names parcel) old new
+  pub right : IsGenuine new.known parcel
+  pub marks : KeepsMarks old.known.core new.known.core
+  pub noted : NotesStop parcel new.known.core
+  pub whole : IsWhole parcel
 
 -- these are the operation and its operands, which were given back, and r is the result
 pub record IsOwn (op : Op) (f g : ℕ) (filled : Filled) (r : ℕ) (old new : Standing) : Type 0 where

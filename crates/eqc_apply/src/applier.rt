@@ -1,3 +1,4 @@
+ghost use Rattle.std.specs.Prelude.{◌≡◌};
 ghost use Rattle.eqc_plain.specs.Cache.{IsCache};
 ghost use Rattle.std.proofs.Props.{props};
 ghost use Rattle.eqc_apply.specs.Meaning.{kept_of};
@@ -22,4 +23,21 @@ pub struct Applier {
     // Whether an operation begins anew, without names that no references stand on, where the forest is full.
     pub(crate) anew: bool,
     ghost cached: { IsCache (kept_of names.variables names.worker.known) cells.cells.items } by { Prim.hlevel (props) },
+}
+
+impl Applier {
+    /// The names alone.
+    pub(crate) fn into_names(self) -> Names
+        ensures { result ≡ self.names }
+    {
+        let Applier {
+            names,
+            cells: _,
+            tasks: _,
+            forks: _,
+            offers: _,
+            anew: _,
+        } = self;
+        names
+    }
 }

@@ -6,12 +6,12 @@ ghost use Rattle.eqc_tree.specs.Operation.{operate};
 ghost use Rattle.eqc_core.specs.Words.{slots_of};
 ghost use Rattle.eqc_core.specs.Moves.{IsReady};
 ghost use Rattle.eqc_guard.specs.Known.{IsHeld, tree_of};
-ghost use Rattle.eqc_guard.specs.Sharing.{MayPut, IsGenuine, IsWhole, parcel_names};
+ghost use Rattle.eqc_guard.specs.Sharing.{MayPut, parcel_names};
 ghost use Rattle.eqc_guard.specs.declared.parcel.Parcel.TheVariants.{Empty, Done, Stopped};
 ghost use Rattle.eqc_arena.specs.Changing.{Exchanges};
 ghost use Rattle.eqc_arena.specs.Unboxing.{HoldsParcel, KeepsMarks, NotesStop};
 ghost use Rattle.eqc_apply.specs.Stopping.{HasStopped};
-ghost use Rattle.eqc_apply.specs.Handing.{IsOwn, HasCome};
+ghost use Rattle.eqc_apply.specs.Handing.{ComesOut, IsOwn, HasCome};
 
 use crossbeam_utils::Backoff;
 use eqc_arena::boxes::{exchange, give_parcel};
@@ -109,11 +109,7 @@ fn take_now(worker: &mut Worker, b: u32) -> Parcel
     requires ready { IsReady worker.old.known.core }
     requires there { b < 16 * worker.old.known.core.sizes.workers }
     requires few { length worker.old.known.core.held ≤ 2 ^ 30 }
-    ensures came { Exchanges [] (parcel_names result) worker.old worker.new }
-    ensures right { IsGenuine worker.new.known result }
-    ensures marks { KeepsMarks worker.old.known.core worker.new.known.core }
-    ensures noted { NotesStop result worker.new.known.core }
-    ensures whole { IsWhole result }
+    ensures { ComesOut result worker.old worker.new }
 {
     // What the worker knows is in order.
     let _cells = worker.cells();
@@ -129,11 +125,7 @@ fn wait_for<R: Wait>(worker: &mut Worker, rt: &R, b: u32) -> Parcel
     requires ready { IsReady worker.old.known.core }
     requires there { b < 16 * worker.old.known.core.sizes.workers }
     requires few { length worker.old.known.core.held ≤ 2 ^ 30 }
-    ensures came { Exchanges [] (parcel_names result) worker.old worker.new }
-    ensures right { IsGenuine worker.new.known result }
-    ensures marks { KeepsMarks worker.old.known.core worker.new.known.core }
-    ensures noted { NotesStop result worker.new.known.core }
-    ensures whole { IsWhole result }
+    ensures { ComesOut result worker.old worker.new }
 {
     // What the worker knows is in order.
     let _cells = worker.cells();

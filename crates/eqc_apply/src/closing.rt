@@ -75,14 +75,6 @@ impl Applier {
         if !self.names.is_alone() {
             return Err(self);
         }
-        let Applier {
-            names,
-            cells: _,
-            tasks: _,
-            forks: _,
-            offers: _,
-            anew: _,
-        } = self;
-        Ok(names.close(rt))
+        Ok(self.into_names().close(rt))
     }
 }

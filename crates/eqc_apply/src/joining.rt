@@ -123,15 +123,7 @@ impl Applier {
         ensures joins { Joins (holding_in self.old.names) (holding_in other.names) (holding_in self.new.names) }
         ensures takes { TakesIn self.old.names.worker other.names.worker self.new.names.worker }
     {
-        let Applier {
-            names,
-            cells: _,
-            tasks: _,
-            forks: _,
-            offers: _,
-            anew: _,
-        } = other;
         self.cells.clear();
-        self.names.absorb(names);
+        self.names.absorb(other.into_names());
     }
 }

@@ -8,14 +8,25 @@ use Rattle.eqc_apply.proofs.boxes.take_now.Goals as goal
 pub exchange-requires : goal.exchange-requires
 exchange-requires c = record { may = let few = c.requires.few in come_may [] (looked c.args.worker.now c.look_box.new.self c.look_box.ensures.step) c.args.b Empty c.requires.ready c.requires.there few (omega arith) tt }
 
-pub returns-clause-came : goal.returns-clause-came
-returns-clause-came c = after_still (looked c.args.worker.now c.look_box.new.self c.look_box.ensures.step) c.exchange.ensures.changes
+pub returns : goal.returns
+returns c =
+    let e = c.exchange.ensures in
+    let look = c.look_box.ensures.step in
+    record {
+      came = after_still (looked c.args.worker.now c.look_box.new.self look) e.changes;
+      right = e.right;
+      marks = marks_trans (look_marks c.args.worker.now c.look_box.new.self look) e.marks;
+      noted = e.noted;
+      whole = e.whole;
+    }
 
-pub returns-clause-marks : goal.returns-clause-marks
-returns-clause-marks c = marks_trans (look_marks c.args.worker.now c.look_box.new.self c.look_box.ensures.step) c.exchange.ensures.marks
-
-pub returns-then-look_box-eq0-clause-came : goal.returns-then-look_box-eq0-clause-came
-returns-then-look_box-eq0-clause-came c = looked c.args.worker.now c.look_box.new.self c.look_box.ensures.step
-
-pub returns-then-look_box-eq0-clause-noted : goal.returns-then-look_box-eq0-clause-noted
-returns-then-look_box-eq0-clause-noted c x = omega (arith, times-nil x)
+pub returns-then-look_box-eq0 : goal.returns-then-look_box-eq0
+returns-then-look_box-eq0 c =
+    let look = c.look_box.ensures.step in
+    record {
+      came = looked c.args.worker.now c.look_box.new.self look;
+      right = tt;
+      marks = look_marks c.args.worker.now c.look_box.new.self look;
+      noted = λ x. omega (arith, times-nil x);
+      whole = tt;
+    }
