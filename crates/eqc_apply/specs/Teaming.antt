@@ -1,5 +1,5 @@
 -- The members of a team: a worker each, of one forest.
-use Rattle.std.specs.Prelude.{◌≡◌, ℕ, List, map}
+use Rattle.std.specs.Prelude.{◌≡◌, ℕ, ◌≤◌, List, map}
 use Rattle.std.specs.List.{All}
 use Rattle.atomic_table.specs.Seated.{TableId}
 use Rattle.eqc_tree.specs.Holding.{IsNew}
@@ -13,6 +13,11 @@ number_of a = a.names.worker.known.core.number
 
 abbrev pub forest_of : Applier → TableId
 forest_of a = a.names.worker.forest
+
+-- the numbers that a team may be made with: the room for nodes, the cells of the cache, the members, and the levels in
+-- which an operation is shared
+abbrev pub AreTeamSizes : ℕ → ℕ → ℕ → ℕ → Type 0
+AreTeamSizes nodes cells workers forks = ((1 ≤ nodes) × (nodes ≤ 1048574)) × ((1 ≤ cells) × (cells ≤ 1048576)) × ((1 ≤ workers) × (workers ≤ 64)) × (forks ≤ 16)
 
 -- so many members of one forest, by their numbers, which hold nothing
 pub record IsTeam (variables workers : ℕ) (members : List Applier) : Type 0 where

@@ -1,8 +1,8 @@
 //! A team: appliers of one forest, one for each worker.
-ghost use Rattle.std.specs.Prelude.{◌≡◌, ℕ, ◌+◌, ◌*◌, ◌-◌, ◌<◌, ◌≤◌, IfOk, IfErr, OnErr, vec_len};
+ghost use Rattle.std.specs.Prelude.{◌≡◌, ℕ, ◌+◌, ◌<◌, IfOk, IfErr, vec_len};
 ghost use Rattle.eqc_tree.specs.Holding.{IsNew};
 ghost use Rattle.eqc_apply.specs.Extending.{holding_in};
-ghost use Rattle.eqc_apply.specs.Teaming.{IsTeam, IsLead, number_of, forest_of};
+ghost use Rattle.eqc_apply.specs.Teaming.{AreTeamSizes, IsTeam, IsLead, number_of, forest_of};
 
 use crate::applier::Applier;
 use crate::names::Names;
@@ -21,9 +21,7 @@ fn found(
     forks: u32,
     anew: bool,
 ) -> Result<Applier, Stop>
-    requires nodes { (1 ≤ nodes) × (nodes ≤ 1048574) }
-    requires cells { (1 ≤ cells) × (cells ≤ 1048576) }
-    requires workers { (1 ≤ workers) × (workers ≤ 64) }
+    requires { AreTeamSizes nodes cells workers forks }
     ensures lead { IfOk result (IsLead vars workers 1) }
     ensures only { IfErr result (λ s. s ≡ Stop.Memory) }
 {
@@ -82,10 +80,7 @@ fn gather(
     forks: u32,
     anew: bool,
 ) -> Result<Vec<Applier>, Stop>
-    requires nodes { (1 ≤ nodes) × (nodes ≤ 1048574) }
-    requires cells { (1 ≤ cells) × (cells ≤ 1048576) }
-    requires workers { (1 ≤ workers) × (workers ≤ 64) }
-    requires forks { forks ≤ 16 }
+    requires { AreTeamSizes nodes cells workers forks }
     ensures team { IfOk result (λ members. IsTeam vars workers members.items) }
     ensures count { IfOk result (λ members. vec_len members ≡ workers) }
     ensures only { IfErr result (λ s. s ≡ Stop.Memory) }
@@ -118,10 +113,7 @@ pub fn team(
     workers: u32,
     forks: u32,
 ) -> Result<Vec<Applier>, Stop>
-    requires nodes { (1 ≤ nodes) × (nodes ≤ 1048574) }
-    requires cells { (1 ≤ cells) × (cells ≤ 1048576) }
-    requires workers { (1 ≤ workers) × (workers ≤ 64) }
-    requires forks { forks ≤ 16 }
+    requires { AreTeamSizes nodes cells workers forks }
     ensures team { IfOk result (λ members. IsTeam vars workers members.items) }
     ensures count { IfOk result (λ members. vec_len members ≡ workers) }
     ensures only { IfErr result (λ s. s ≡ Stop.Memory) }
@@ -142,10 +134,7 @@ pub fn brief_team(
     workers: u32,
     forks: u32,
 ) -> Result<Vec<Applier>, Stop>
-    requires nodes { (1 ≤ nodes) × (nodes ≤ 1048574) }
-    requires cells { (1 ≤ cells) × (cells ≤ 1048576) }
-    requires workers { (1 ≤ workers) × (workers ≤ 64) }
-    requires forks { forks ≤ 16 }
+    requires { AreTeamSizes nodes cells workers forks }
     ensures team { IfOk result (λ members. IsTeam vars workers members.items) }
     ensures count { IfOk result (λ members. vec_len members ≡ workers) }
     ensures only { IfErr result (λ s. s ≡ Stop.Memory) }

@@ -8,6 +8,7 @@ use Rattle.std.proofs.lemmas.List.Folds.{list_any_at, Any-from_list_any}
 use Rattle.std.proofs.lemmas.List.FromFn.{length-range_with_len, get_or-range_with_len}
 use Rattle.std.specs.Int.Count.{ones_step}
 use Rattle.std.specs.List.{range_with_len}
+use Rattle.eqc_apply.specs.Teaming.{AreTeamSizes}
 use Rattle.eqc_check.specs.declared.options.Options.{Options}
 use Rattle.eqc_check.specs.Options.{is_cell_count, is_between, options_code}
 
@@ -63,23 +64,22 @@ is_fault (Some code) = Unit {0}
 abbrev in_turn : Bool → Bool → Bool → Bool → Option ℕ
 in_turn a b c d = if not a then Some 81 else if not b then Some 82 else if not c then Some 83 else if not d then Some 84 else None
 
--- where no code comes the last two tests hold
-last_two : (a b c d : Bool) → in_turn a b c d ≡ None → (c ≡ true) × (d ≡ true)
-last_two false b c d e = absurd (subst is_fault e tt)
-last_two true false c d e = absurd (subst is_fault e tt)
-last_two true true false d e = absurd (subst is_fault e tt)
-last_two true true true false e = absurd (subst is_fault e tt)
-last_two true true true true e = (refl, refl)
+-- where no code comes all tests hold
+all_tests : (a b c d : Bool) → in_turn a b c d ≡ None → (a ≡ true) × (b ≡ true) × (c ≡ true) × (d ≡ true)
+all_tests false b c d e = absurd (subst is_fault e tt)
+all_tests true false c d e = absurd (subst is_fault e tt)
+all_tests true true false d e = absurd (subst is_fault e tt)
+all_tests true true true false e = absurd (subst is_fault e tt)
+all_tests true true true true e = (refl, refl, refl, refl)
 
-last_options : (o : Options) → options_code o ≡ None → (is_cell_count o.cells ≡ true) × (is_between 0 16 o.forks ≡ true)
-last_options o e = last_two (is_between 1 64 o.workers) (is_between 1 1048574 o.nodes) (is_cell_count o.cells) (is_between 0 16 o.forks) e
+between : (low high n : ℕ) → is_between low high n ≡ true → (low ≤ n) × (n ≤ high)
+between low high n e = let both = and_parts _ _ e in (leb-true low n both.0, leb-true n high both.1)
 
--- options in their ranges have some cells, and not too many
-pub cells_in_range : (o : Options) → options_code o ≡ None → (1 ≤ o.cells) × (o.cells ≤ 1048576)
-cells_in_range o e =
-    let b = cell_count_bits o.cells (last_options o e).0 in
-    (let one = b.0 in omega (arith, ones_le_self o.cells), b.1)
+some_cells : (n : ℕ) → is_cell_count n ≡ true → (1 ≤ n) × (n ≤ 1048576)
+some_cells n e = let b = cell_count_bits n e in (let one = b.0 in omega (arith, ones_le_self n), b.1)
 
--- options in their ranges have at most 16 forks
-pub forks_in_range : (o : Options) → options_code o ≡ None → o.forks ≤ 16
-forks_in_range o e = leb-true o.forks 16 (and_parts _ _ (last_options o e).1).1
+-- a team may be made with options in their ranges
+pub options_in_range : (o : Options) → options_code o ≡ None → AreTeamSizes o.nodes o.cells o.workers o.forks
+options_in_range o e =
+    let t = all_tests (is_between 1 64 o.workers) (is_between 1 1048574 o.nodes) (is_cell_count o.cells) (is_between 0 16 o.forks) e in
+    (between 1 1048574 o.nodes t.1, some_cells o.cells t.2, between 1 64 o.workers t.0, (between 0 16 o.forks t.3).1)

@@ -21,7 +21,7 @@ loop-preserved c =
 pub returns-clause-team : goal.returns-clause-team
 returns-clause-team c =
     let i = c.loop.invariant in
-    let all : c.loop.counter ≡ c.args.workers = let t = c.loop-test.false in let r = c.requires.workers in omega (arith, c.loop.auto.counter-end r.0) in
+    let all : c.loop.counter ≡ c.args.workers = let t = c.loop-test.false in let r = c.requires.2 in omega (arith, c.loop.auto.counter-end r.0) in
     let lead : IsLead c.args.vars c.args.workers c.args.workers c.loop.lead = subst (λ (g : ℕ). IsLead c.args.vars c.args.workers g c.loop.lead) all i.lead in
     let back : c.args.workers ≡ c.loop.counter - 1 + 1 = let s = i.some in omega (arith, all) in
     subst (IsTeam c.args.vars c.args.workers) (sym c.in-Ok-insert.ensures.items) (is_team c.args.vars c.args.workers (c.loop.counter - 1) c.loop.lead c.loop.members.items back lead i.others)

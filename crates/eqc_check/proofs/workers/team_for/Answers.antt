@@ -1,12 +1,11 @@
 use Rattle.std.proofs.Common.{arith}
-use Rattle.eqc_check.proofs.OptionsLemmas.{cells_in_range, forks_in_range}
+use Rattle.eqc_check.proofs.OptionsLemmas.{options_in_range}
 use Rattle.eqc_check.proofs.workers.team_for.Goals as goal
 
-pub team-requires-clause-cells : goal.team-requires-clause-cells
-team-requires-clause-cells c = cells_in_range c.args.options.now c.requires
+pub team-requires : goal.team-requires
+team-requires c = options_in_range c.args.options.now c.requires
 
-pub team-requires-clause-forks : goal.team-requires-clause-forks
-team-requires-clause-forks c = forks_in_range c.args.options.now c.requires
-
-pub brief_team-requires-clause-cells : goal.brief_team-requires-clause-cells
-brief_team-requires-clause-cells c = let r = cells_in_range c.args.options.now c.requires in (omega (arith, r.0, c.min-cells.ensures), omega (arith, r.1, c.min-cells.ensures))
+pub brief_team-requires : goal.brief_team-requires
+brief_team-requires c =
+    let h = options_in_range c.args.options.now c.requires in
+    ((omega (arith, h.0.0, c.min-nodes.ensures), omega (arith, h.0.1, c.min-nodes.ensures)), (omega (arith, h.1.0, c.min-cells.ensures), omega (arith, h.1.1, c.min-cells.ensures)), h.2, h.3)
