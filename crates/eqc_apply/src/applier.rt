@@ -20,6 +20,8 @@ pub struct Applier {
     pub(crate) forks: u32,
     // The levels in which it is offered now.
     pub(crate) offers: Vec<u32>,
+    // The levels, a bit each, of which another worker took the half and has not put its answer back.
+    pub(crate) owed: u32,
     // Whether an operation begins anew, without names that no references stand on, where the forest is full.
     pub(crate) anew: bool,
     ghost cached: { IsCache (kept_of names.variables names.worker.known) cells.cells.items } by { Prim.hlevel (props) },
@@ -36,6 +38,7 @@ impl Applier {
             tasks: _,
             forks: _,
             offers: _,
+            owed: _,
             anew: _,
         } = self;
         names

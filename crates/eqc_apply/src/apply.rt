@@ -21,7 +21,6 @@ impl Applier {
     ghost use Rattle.eqc_plain.specs.Tasks.{Leads, LeadsTo, StepsTo, TurnsTo};
     ghost use Rattle.eqc_guard.specs.Known.{IsHeld};
     ghost use Rattle.eqc_guard.specs.Searching.{HasSeenAll};
-    ghost use Rattle.eqc_arena.specs.Unboxing.{KeepsMarks};
     ghost use Rattle.eqc_apply.specs.Combining.{IsResult};
     ghost use Rattle.eqc_apply.specs.Stopping.{HasStopped};
     ghost use Rattle.eqc_apply.specs.Extending.{Extends};
@@ -40,20 +39,10 @@ impl Applier {
         ensures stop { IfErr result (λ s. HasStopped s self.new.names.worker.known.core) }
         ensures withdrawn { self.new.offers.items ≡ [] }
     {
+        self.take_late();
         let made = self.go_in_parts(rt, op, f, g);
-        self.withdraw(rt);
+        self.withdraw();
         made
-    }
-
-    /// Takes back what is still offered: an operation that stopped leaves nothing in the boxes.
-    fn withdraw<R: Wait>(&mut self, rt: &R)
-        ensures names { Extends self.old.names self.new.names }
-        ensures marks { KeepsMarks self.old.names.worker.known.core self.new.names.worker.known.core }
-        ensures withdrawn { self.new.offers.items ≡ [] }
-    {
-        while let Some(level) = self.offers.pop() {
-            self.names.withdraw(rt, level);
-        }
     }
 
     /// The loop of an operation, with a stack of tasks in place of the recursion.
@@ -187,73 +176,6 @@ impl Applier {
         }
     }
 
-    /// Offers an operation to other workers, in the first levels and where it is worth a box: both
-    /// operands are inner nodes, and the result isn't known.
-    fn offer(&mut self, op: Op, f: u32, g: u32)
-        requires f { IsHeld self.old.names.worker.known.core f }
-        requires g { IsHeld self.old.names.worker.known.core g }
-        ensures names { Extends self.old.names self.new.names }
-        ensures tasks { self.new.tasks ≡ self.old.tasks }
-    {
-        let level = self.tasks.len();
-        if level >= self.forks as usize || f < 2 || g < 2 {
-            return;
-        }
-        if self.known(op, f, g).is_some() {
-            return;
-        }
-        let level = level as u32;
-        if self.offers.push(level).is_err() {
-            return;
-        }
-        if !self.names.offer(level, op, f, g) {
-            self.offers.pop();
-        }
-    }
-
-    /// The result of the operation on the high cofactors of the task that was on top, where it was
-    /// offered and another worker did it. Where one is still at it, there is none, and it stays offered: rather than wait,
-    /// this worker does it too, and both find in the shared cells what the other did. The call may wait. The errors are
-    /// why it stopped there, and 72.
-    fn take_back<R: Wait>(&mut self, rt: &R, op: Op, f: u32, g: u32) -> Result<Option<u32>, Stop>
-        requires f { IsHeld self.old.names.worker.known.core f }
-        requires g { IsHeld self.old.names.worker.known.core g }
-        ensures names { Extends self.old.names self.new.names }
-        ensures ok { IfOk result (λ found. IfSome found (IsResult self.new.names.variables op self.new.names.worker.known f g)) }
-        ensures stop { IfErr result (λ s. HasStopped s self.new.names.worker.known.core) }
-        ensures tasks { self.new.tasks ≡ self.old.tasks }
-    {
-        let level = match self.offers.last() {
-            Some(level) => *level,
-            None => return Ok(None),
-        };
-        if level as usize != self.tasks.len() || self.names.is_taken(level) {
-            return Ok(None);
-        }
-        self.offers.pop();
-        let Some(x) = self.names.take_back(rt, level, op, f, g)? else {
-            return Ok(None);
-        };
-        self.keep(op, f, g, x);
-        Ok(Some(x))
-    }
-
-    /// Takes back what is offered at the level of the task that was on top. The call may wait.
-    fn end_offer<R: Wait>(&mut self, rt: &R)
-        ensures names { Extends self.old.names self.new.names }
-        ensures tasks { self.new.tasks ≡ self.old.tasks }
-    {
-        let level = match self.offers.last() {
-            Some(level) => *level,
-            None => return,
-        };
-        if level as usize != self.tasks.len() {
-            return;
-        }
-        self.offers.pop();
-        self.names.withdraw(rt, level);
-    }
-
     /// The node over both results, which is kept for the operation.
     fn finish<R: Wait>(
         &mut self,
@@ -283,7 +205,7 @@ impl Applier {
     }
 
     /// Keeps a result.
-    fn keep(&mut self, op: Op, f: u32, g: u32, x: u32)
+    pub(crate) fn keep(&mut self, op: Op, f: u32, g: u32, x: u32)
         requires { IsResult self.old.names.variables op self.old.names.worker.known f g x }
         ensures names { Extends self.old.names self.new.names }
         ensures still { IsResult self.new.names.variables op self.new.names.worker.known f g x }
@@ -350,7 +272,7 @@ impl Applier {
                     variable,
                     low,
                 } => {
-                    self.end_offer(rt);
+                    self.end_offer();
                     x = self.finish(rt, op, f, g, variable, low, x)?;
                 }
             }

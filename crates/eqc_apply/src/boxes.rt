@@ -206,16 +206,18 @@ fn own_stop(
     if own { Err(stop) } else { Ok(()) }
 }
 
-/// Empties a box that has something in it or will have: what comes out is given back.
-pub(crate) fn empty<R: Wait>(worker: &mut Worker, rt: &R, b: u32)
+/// Empties a box, whatever it has, which is given back. Says whether there was something in it.
+pub(crate) fn empty(worker: &mut Worker, b: u32) -> bool
     requires ready { IsReady worker.old.known.core }
     requires there { b < 16 * worker.old.known.core.sizes.workers }
     requires few { length worker.old.known.core.held ≤ 2 ^ 30 }
     ensures changes { Exchanges [] [] worker.old worker.new }
     ensures marks { KeepsMarks worker.old.known.core worker.new.known.core }
 {
-    let parcel = wait_for(worker, rt, b);
+    let parcel = take_now(worker, b);
+    let is_full = !matches!(&parcel, Parcel::Empty);
     give_parcel(worker, parcel);
+    is_full
 }
 
 /// Takes an operation out of a box, once there is something in it: with its result, where another

@@ -8,7 +8,7 @@
 //! - `applier`, with the results that a worker keeps for itself; `expansion` and `apply`, the loop; `parts`, with which
 //!   part of an operation a worker begins
 //! - `shared`, the operation cache that all workers share
-//! - `boxes` and `offering`, in which one half of an operation is offered to other workers; `serving`, which
+//! - `boxes`, `offering` and `forking`, in which one half of an operation is offered to other workers; `serving`, which
 //!   do it
 //! - `least`, the least assignment, found on a `plain_copy` of a diagram
 //! - `diagrams`, the calls of the traits; `members`, the appliers of a new forest
@@ -21,6 +21,7 @@ mod boxes;
 mod closing;
 mod diagrams;
 mod expansion;
+mod forking;
 mod joining;
 mod least;
 mod members;

@@ -38,6 +38,7 @@ fn found(
         // One that is alone has nobody to offer to.
         forks: if workers > 1 { forks } else { 0 },
         offers: Vec::new(alloc),
+        owed: 0,
         anew,
     })
 }
@@ -64,6 +65,7 @@ fn join(alloc: Global, lead: &mut Applier) -> Result<Applier, Stop>
             tasks: Vec::new(alloc),
             forks,
             offers: Vec::new(alloc),
+            owed: 0,
             anew,
         }),
         Err(_) => Err(Stop::Memory),

@@ -125,15 +125,17 @@ impl Names {
         self.worker.look_box(b) == 0
     }
 
-    /// Takes an operation back that was offered at this level, and leaves it. The call may wait.
-    pub(crate) fn withdraw<R: Wait>(&mut self, rt: &R, level: u32)
+    /// Takes back what is in the box of this level, and leaves it. Says whether there was something: where an operation
+    /// was offered and nothing is there, another worker is at it.
+    pub(crate) fn withdraw(&mut self, level: u32) -> bool
         ensures names { Extends self.old self.new }
         ensures marks { KeepsMarks self.old.worker.known.core self.new.worker.known.core }
     {
         // What the worker knows is in order.
         let _cells = self.worker.cells();
-        if let Some(b) = self.own_box(level) {
-            boxes::empty(&mut self.worker, rt, b);
+        match self.own_box(level) {
+            Some(b) => boxes::empty(&mut self.worker, b),
+            None => true,
         }
     }
 

@@ -131,6 +131,8 @@ impl Applier {
         ensures kept { Keeps (holding_in self.old.names) (holding_in self.new.names) }
         ensures worker { IsWorker self.old.names.worker self.new.names.worker }
     {
+        // What a late answer names, others may need room for.
+        self.take_late();
         // What is taken is not forked again.
         let forks = mem::replace(&mut self.forks, 0);
         let served = self.look_through(rt, forks);
