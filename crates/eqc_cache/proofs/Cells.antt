@@ -12,7 +12,7 @@ use Rattle.eqc_guard.specs.Standing.{Standing, Steps}
 use Rattle.eqc_guard.specs.Telling.{Copies}
 use Rattle.eqc_guard.specs.Copying.{cell_in, KeepsCells, SetsCell}
 use Rattle.eqc_guard.proofs.Copying.{cells_stay, count_keeps}
-use Rattle.eqc_cache.specs.Placing.{in_order, place_of, entry_of, AreEmpty, IsEntry, HasResult, kept_word}
+use Rattle.eqc_cache.specs.Placing.{in_order, place_of, entry_of, AreEmpty, IsEntry, HasResultAt, kept_word}
 use Rattle.eqc_guard.specs.declared.reference.Ref.{Ref}
 use Rattle.eqc_cache.proofs.Trading.{below}
 
@@ -67,13 +67,10 @@ seen_word op f g a b cells place word p k after x y n order at copies ws has =
     (ap {B = ℕ} (λ (c : ℕ). cell_in k ws c) (sym here) ∙ copies.seen ws has, q)
 
 -- an entry stays one of the same operands, in the same word
-pub entry_there : (op : Op) (p q : ℕ × ℕ) (word text : ℕ) → p ≡ q → text ≡ word → IsEntry op (p.0, p.1) word → IsEntry op q text
-entry_there op p q word text e same is = subst (λ (w : ℕ). IsEntry op q w) (sym same) (subst (λ (r : ℕ × ℕ). IsEntry op r word) e is)
-
 pub entry_here : (op : Op) (p q : ℕ × ℕ) (word text : ℕ) → p ≡ q → text ≡ word → IsEntry op q text → IsEntry op (p.0, p.1) word
 entry_here op p q word text e same is = subst (λ (w : ℕ). IsEntry op (p.0, p.1) w) same (subst (λ (r : ℕ × ℕ). IsEntry op r text) (sym e) is)
 
 -- what was counted up is the result that the copy has
-pub found_taken : (op : Op) (f g x : ℕ) (k : Known) (result : Option Ref) → IfSome result (λ r. r.number ≡ x) → HasResult op f g x k → IfSome result (λ r. HasResult op f g r.number k)
-found_taken op f g x k None name has = tt
-found_taken op f g x k (Some r) name has = subst (λ (n : ℕ). HasResult op f g n k) (sym name) has
+pub found_taken : (op : Op) (p : ℕ × ℕ) (c x : ℕ) (k : Known) (result : Option Ref) → IfSome result (λ r. r.number ≡ x) → HasResultAt op p c x k → IfSome result (λ r. HasResultAt op p c r.number k)
+found_taken op p c x k None name has = tt
+found_taken op p c x k (Some r) name has = subst (λ (n : ℕ). HasResultAt op p c n k) (sym name) has

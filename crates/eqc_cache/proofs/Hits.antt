@@ -140,23 +140,12 @@ either_way Xor false false n = refl
 either_way AndNot a b n = absurd (n refl)
 
 -- what a look leaves, and a count after it
-module _ (op : Op) (f g x cell word : ℕ) (old s1 : Standing) (looks : IsAt (Seen cell word) old s1) (tag : operation_of word ≡ tag_of op) (ordered : IsOrdered op f g (first_of word, second_of word)) (f_held : IsHeld old.known.core f) (g_held : IsHeld old.known.core g) where
-  -- the word's result, told of the operands as they were given
+module _ (op : Op) (f g x cell word : ℕ) (old s1 : Standing) (looks : IsAt (Seen cell word) old s1) (tag : operation_of word ≡ tag_of op) (first : first_of word ≡ f) (second : second_of word ≡ g) (f_held : IsHeld old.known.core f) (g_held : IsHeld old.known.core g) where
+  -- the word's result, told of the operands
   as_given : (t : Tree) → IsResult old.known word t → (a : ℕ → Bool) → operate op (value (tree_of old.known f) a) (value (tree_of old.known g) a) ≡ value t a
-  as_given t is a = ⊎_elim
-      (λ (e : (first_of word, second_of word) ≡ (f, g)).
-      let p : first_of word ≡ f = λ i. (e i).0 in
-      let q : second_of word ≡ g = λ i. (e i).1 in
-      ap (λ (k : ℕ × ℕ). operate op (value (tree_of old.known k.0) a) (value (tree_of old.known k.1) a)) (sym e)
-      ∙ is (subst (λ (k : ℕ). IsHeld old.known.core k) (sym p) f_held) (subst (λ (k : ℕ). IsHeld old.known.core k) (sym q) g_held) op tag a)
-      (λ (r : (op ≢ AndNot) × ((first_of word, second_of word) ≡ (g, f))).
-      let e = r.1 in
-      let p : first_of word ≡ g = λ i. (e i).0 in
-      let q : second_of word ≡ f = λ i. (e i).1 in
-      either_way op (value (tree_of old.known f) a) (value (tree_of old.known g) a) r.0
-      ∙ (ap (λ (k : ℕ × ℕ). operate op (value (tree_of old.known k.0) a) (value (tree_of old.known k.1) a)) (sym e)
-      ∙ is (subst (λ (k : ℕ). IsHeld old.known.core k) (sym p) g_held) (subst (λ (k : ℕ). IsHeld old.known.core k) (sym q) f_held) op tag a))
-      ordered
+  as_given t is a =
+      (λ i. operate op (value (tree_of old.known (sym first i)) a) (value (tree_of old.known (sym second i)) a))
+      ∙ is (subst (λ (k : ℕ). IsHeld old.known.core k) (sym first) f_held) (subst (λ (k : ℕ). IsHeld old.known.core k) (sym second) g_held) op tag a
 
   -- a constant needs no count
   pub finds_constant : (r : ℕ) → r ≡ result_of word → result_of word < 2 → Shown old.known word → IsHit op f g r old s1
@@ -200,9 +189,30 @@ module _ (op : Op) (f g x cell word : ℕ) (old s1 : Standing) (looks : IsAt (Se
   hits new two None n t = tt
   hits new two (Some r) n t = subst (λ (k : ℕ). IsHit op f g k old new) (sym n) (finds_node new two t)
 
--- the operands in the word are those in order
-pub ordered_there : (op : Op) (f g m n word : ℕ) (p : ℕ × ℕ) → m ≡ f → n ≡ g → first_of word ≡ p.0 → second_of word ≡ p.1 → IsOrdered op m n p → IsOrdered op f g (first_of word, second_of word)
-ordered_there op f g m n word p a b c d is = subst (λ (t : ℕ × (ℕ × (ℕ × ℕ))). IsOrdered op t.0 t.1.0 t.1.1) (λ i. (a i, (b i, (sym c i, sym d i)))) is
+-- operands in order are held, and a hit of them is one of the operands as they were given
+pub ordered_held : (op : Op) (f g m n : ℕ) (p : ℕ × ℕ) (v : View) → m ≡ f → n ≡ g → IsHeld v f → IsHeld v g → IsOrdered op m n p → IsHeld v p.0 × IsHeld v p.1
+ordered_held op f g m n p v a b first second is = ⊎_elim
+    (λ e. subst (λ (q : ℕ × ℕ). IsHeld v q.0 × IsHeld v q.1) (sym (e ∙ (λ i. (a i, b i)))) (first, second))
+    (λ e. subst (λ (q : ℕ × ℕ). IsHeld v q.0 × IsHeld v q.1) (sym (e.1 ∙ (λ i. (b i, a i)))) (second, first))
+    is
+
+other_way : (op : Op) (f g r : ℕ) (old new : Standing) → op ≢ AndNot → IsHit op g f r old new → IsHit op f g r old new
+other_way op f g r old new free hit = record {
+  forest = hit.forest;
+  phase = hit.phase;
+  quiet = hit.quiet;
+  core = hit.core;
+  result = λ a. either_way op (value (tree_of old.known f) a) (value (tree_of old.known g) a) free ∙ hit.result a;
+  trees = hit.trees;
+  copy = hit.copy;
+  known = hit.known;
+}
+
+pub ordered_hit : (op : Op) (f g m n r : ℕ) (p : ℕ × ℕ) (old new : Standing) → m ≡ f → n ≡ g → IsOrdered op m n p → IsHit op p.0 p.1 r old new → IsHit op f g r old new
+ordered_hit op f g m n r p old new a b is hit = ⊎_elim
+    (λ e. subst (λ (q : ℕ × ℕ). IsHit op q.0 q.1 r old new) (e ∙ (λ i. (a i, b i))) hit)
+    (λ e. other_way op f g r old new e.0 (subst (λ (q : ℕ × ℕ). IsHit op q.0 q.1 r old new) (e.1 ∙ (λ i. (b i, a i))) hit))
+    is
 
 -- names that are held fit their fields of a word, in whatever order
 pub small_name : (x : ℕ) (k : Known) → IsKnown k → IsHeld k.core x → x < 2 ^ 20

@@ -1,3 +1,4 @@
 pub mod Hits
 pub mod Trading
 pub mod Cells
+pub mod Peeking

@@ -46,7 +46,15 @@ IsEntry op p word = (operation_of word ≡ tag_of op) × (first_of word ≡ p.0)
 abbrev pub kept_word : Op → ℕ → ℕ → Known → List ℕ → ℕ
 kept_word op f g k ws = cell_in k ws (place_of k.core.sizes.cells op (in_order op f g))
 
--- a worker that has a copy of the words has the entry there, with this result
+-- a worker that has a copy of the words has the entry with these operands in the cell, with this result
+abbrev pub HasResultAt : Op → ℕ × ℕ → ℕ → ℕ → Known → Type 0
+HasResultAt op p c r k = (ws : List ℕ) → k.copy ≡ Some ws → IsEntry op p (cell_in k ws c) × (result_of (cell_in k ws c) ≡ r)
+
+-- or has another word there
+abbrev pub HasNoneAt : Op → ℕ × ℕ → ℕ → Known → Type 0
+HasNoneAt op p c k = (ws : List ℕ) → k.copy ≡ Some ws → IsEntry op p (cell_in k ws c) → ⊥
+
+-- a worker that has a copy of the words has the entry in the operands' cell, with this result
 abbrev pub HasResult : Op → ℕ → ℕ → ℕ → Known → Type 0
 HasResult op f g r k = (ws : List ℕ) → k.copy ≡ Some ws → IsEntry op (in_order op f g) (kept_word op f g k ws) × (result_of (kept_word op f g k ws) ≡ r)
 

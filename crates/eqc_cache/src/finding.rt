@@ -8,7 +8,7 @@ ghost use Rattle.eqc_guard.specs.Known.{IsHeld};
 ghost use Rattle.eqc_guard.specs.Acquiring.{IsAt, IsPassed};
 ghost use Rattle.eqc_guard.specs.Copying.{cell_in, KeepsCells};
 ghost use Rattle.eqc_cache.specs.Finding.{IsTaken, IsHit};
-ghost use Rattle.eqc_cache.specs.Placing.{IsEntry, HasResult, HasNone};
+ghost use Rattle.eqc_cache.specs.Placing.{IsEntry, HasResult, HasNone, HasResultAt, HasNoneAt};
 
 use crate::key;
 use eqc_guard::reference::Ref;
@@ -58,11 +58,35 @@ fn take(worker: &mut Worker, found: u32) -> Option<Ref>
     }
 }
 
+// The lookup of operands in order, where a load has just told that their cell has their entry. The
+// look that begins here may find another word. It stands by itself so that a miss is short.
+#[inline(never)]
+fn seek(worker: &mut Worker, op: Op, first: u32, second: u32, cell: u32) -> Option<Ref>
+    requires may { MayLook worker.old.known.core 0 cell }
+    requires first { first < 2 ^ 20 }
+    requires second { second < 2 ^ 20 }
+    requires first_held { IsHeld worker.old.known.core first }
+    requires second_held { IsHeld worker.old.known.core second }
+    ensures hit { IfSome result (λ r. IsHit op first second r.number worker.old worker.new) }
+    ensures miss { result ≡ None → IsPassed worker.old worker.new }
+    ensures cells { KeepsCells worker.old.known worker.new.known }
+    ensures found { IfSome result (λ r. HasResultAt op (first, second) cell r.number worker.old.known) }
+    ensures missed { result ≡ None → (2 ^ 32 - 1 ≤ length worker.old.known.core.held) ⊎ HasNoneAt op (first, second) cell worker.old.known }
+{
+    let word = worker.look(cell);
+    let found = result_in(word, op, first, second)?;
+    if found < 2 {
+        return Some(worker.constant(found == 1));
+    }
+    take(worker, found)
+}
+
 /// The result of an operation, where the cache has it: it is then held once more.
 ///
 /// Both operands are held or constants, the worker is at rest, and there is a cell. Without a hit
 /// the same names are held as before. So it is at 2^32 - 1 names held. Below that, a worker that is
 /// alone has a hit exactly where the cell of the operands has their entry.
+#[inline]
 pub fn lookup(worker: &mut Worker, op: Op, f: &Ref, g: &Ref) -> Option<Ref>
     requires may { MayLook worker.old.known.core 0 0 }
     requires first { IsHeld worker.old.known.core f.now.number }
@@ -75,10 +99,8 @@ pub fn lookup(worker: &mut Worker, op: Op, f: &Ref, g: &Ref) -> Option<Ref>
 {
     let (first, second) = key::ordered(op, f.number(), g.number());
     let cell = key::place(worker.cells(), op, first, second);
-    let word = worker.look(cell);
-    let found = result_in(word, op, first, second)?;
-    if found < 2 {
-        return Some(worker.constant(found == 1));
-    }
-    take(worker, found)
+    // Most cells have another entry or none. A load tells that, and leaves the worker as it is.
+    let peeked = worker.peek(cell);
+    result_in(peeked, op, first, second)?;
+    seek(worker, op, first, second, cell)
 }

@@ -16,16 +16,15 @@ use Rattle.eqc_core.specs.Moves.{AreHeld, without_each}
 use Rattle.eqc_core.specs.Sharing.{boxed_words, boxed}
 use Rattle.eqc_core.proofs.Lists.{get_at}
 use Rattle.eqc_core.proofs.Names.{times-append, times-slots_of, names_first, names_second, names_result, length-without_each, length-slots_of}
-use Rattle.eqc_core.proofs.Locking.{lock_lost_keeps}
 use Rattle.eqc_core.proofs.Sharing.{tag_range, swap_box_keeps}
 use Rattle.eqc_guard.specs.Known.{flat, Known, Knows, IsHeld, tree_of}
-use Rattle.eqc_guard.specs.Telling.{Told, Nothing, IsRightHere}
+use Rattle.eqc_guard.specs.Telling.{Told, IsRightHere}
 use Rattle.eqc_guard.specs.Sharing.{IsParcelWord, Receives, MayPutWord}
 use Rattle.eqc_guard.specs.Rule.{Held, boxes_from}
 use Rattle.eqc_guard.proofs.Laid.{set_box, get_box}
 use Rattle.eqc_guard.proofs.Learning.{held_tree, known_right, filled_result}
 use Rattle.eqc_guard.proofs.Making.{given_held}
-use Rattle.eqc_guard.proofs.Moves.{plain, load, size}
+use Rattle.eqc_guard.proofs.Moves.{plain, size}
 use Rattle.eqc_guard.proofs.Counts.{slots_held, length-without_all}
 
 no_operation : (word : ℕ) → word ≡ 0 → operation_of word ≡ 0
@@ -79,9 +78,6 @@ boxed_length v n n' old word held is same =
     omega (arith, length-append (without_each (slots_of (cell_names word)) v.held) (slots_of (cell_names old)))
 
 module _ {S : Type 0} (z : Sizes) (slots id i : ℕ) (me : Me (HashMap ℕ ℕ S) Known) (on : me.0.core.active ≡ true) where
-  pub look_box_allows : Allows (Held {S = S} z) slots id me i (λ n. n) (λ n after. Told me i n n me.0.core after (Nothing n))
-  look_box_allows = load z slots id i me on (λ n. me.0.core) Nothing (λ n. on) (λ w hs vs law at knows. (lock_lost_keeps z w hs vs id me.0.core law at, λ k e known. tt))
-
   pub swap_box_allows : (b word : ℕ) → i ≡ boxes_from me.0.core.sizes + b → MayPutWord me.0 b word
       → Allows (Held {S = S} z) slots id me i (λ _. word) (λ n after. Told me i n word (boxed me.0.core n word) after (Receives n))
   swap_box_allows b word is may = plain z slots id i me on (λ _. word) (λ n. boxed me.0.core n word) Receives (λ n. on) (λ w hs vs law at knows small.

@@ -89,10 +89,10 @@ impl Play<Stripe, View> for Settle {
     ghost then = { λ s me n after. Told me s.word n n me.0.core after (Settles me.0 n) };
 }
 
-/// A count word was read.
-pub struct Count;
+/// A word was read, and nothing else is told of it.
+pub struct Load;
 
-impl Play<Stripe, View> for Count {
+impl Play<Stripe, View> for Load {
     ghost then = { λ s me n after. Told me s.word n n me.0.core after (Nothing n) };
 }
 
@@ -175,11 +175,4 @@ pub struct SwapBox;
 
 impl Play<Stripe, View> for SwapBox {
     ghost then = { λ s me n after. Told me s.word n s.first (boxed me.0.core n s.first) after (Receives n) };
-}
-
-/// A box was read.
-pub struct LookBox;
-
-impl Play<Stripe, View> for LookBox {
-    ghost then = { λ s me n after. Told me s.word n n me.0.core after (Nothing n) };
 }

@@ -14,7 +14,7 @@ use crate::names;
 use crate::origin::Origin;
 use crate::reference::Ref;
 use crate::rule::{
-    Alone, Announce, Count, Down, JoinUp, Look, Recheck, Rule, ScanOne, Settle, SplitOff, Stripe,
+    Alone, Announce, Down, JoinUp, Load, Look, Recheck, Rule, ScanOne, Settle, SplitOff, Stripe,
     SwapCell, Up,
 };
 use crate::tally::Tally;
@@ -162,6 +162,16 @@ impl Worker {
         let found = self.table.shared.load::<Look>(&mut self.seat, word);
         self.phase = Phase::Seen(cell, found);
         found
+    }
+
+    /// Loads a cell's word, and leaves all else as it is: nothing of the word may be announced.
+    pub fn peek(&mut self, cell: u32) -> u64
+        requires { cell < self.old.known.core.sizes.cells }
+        ensures step { Steps self.old self.old.known.core self.new }
+        ensures copies { Copies self.old.known (cells_from self.old.known.core.sizes + cell) result result self.new.known }
+    {
+        let at = self.cell_word(cell);
+        self.table.shared.load::<Load>(&mut self.seat, at)
     }
 
     /// Announces the result of the word that was seen, or, with 0, withdraws it.
@@ -476,7 +486,7 @@ impl Worker {
         ensures copies { Copies self.old.known (announced_words self.old.known.core.sizes + name) result result self.new.known }
     {
         let word = self.count_word(name);
-        self.table.shared.load::<Count>(&mut self.seat, word)
+        self.table.shared.load::<Load>(&mut self.seat, word)
     }
 
     // How many slots have a count above 0, as a copy of the words has them.

@@ -1,7 +1,7 @@
 //! The steps on boxes: a parcel is put in while another comes out, and a box is looked at.
 use crate::names;
 use crate::parcel::{self, Parcel};
-use crate::rule::{LookBox, SwapBox};
+use crate::rule::{Load, SwapBox};
 use crate::worker::Worker;
 
 impl Worker {
@@ -36,7 +36,7 @@ impl Worker {
         ensures copies { Copies self.old.known (boxes_from self.old.known.core.sizes + b) result result self.new.known }
     {
         let word = self.box_word(b);
-        self.table.shared.load::<LookBox>(&mut self.seat, word)
+        self.table.shared.load::<Load>(&mut self.seat, word)
     }
 
     // Swaps a box for a word, and gives the word that it had.

@@ -1,16 +1,10 @@
-use Rattle.std.proofs.Common.{◌≡◌, ◌<◌, ◌+◌, sym, ap, subst, ◌∙◌, arith, ℕ, get_or, length, refl, inl, inr, ⊎_elim}
-use Rattle.eqc_core.specs.declared.sizes.Sizes.{Sizes}
-use Rattle.eqc_guard.specs.Rule.{cells_from}
-use Rattle.eqc_guard.proofs.Closing.{read_stays}
-use Rattle.eqc_cache.specs.Placing.{in_order, kept_word}
-use Rattle.eqc_cache.proofs.Cells.{seen_word, entry_here, entry_there, found_taken}
-use Rattle.eqc_tree.specs.Operation.{tag_of}
-use Rattle.eqc_core.specs.declared.phase.Phase.TheVariants.{Idle, Seen}
-use Rattle.eqc_core.specs.Words.{operation_of, first_of, second_of, result_of}
+use Rattle.std.proofs.Common.{sym, subst, arith, refl, inr}
 use Rattle.eqc_core.specs.View.{View}
-use Rattle.eqc_guard.proofs.Acquiring.{starts, joins}
-use Rattle.eqc_guard.proofs.Copying.{load_keeps, cells_on}
-use Rattle.eqc_cache.proofs.Hits.{phase_now, finds_constant, hits, ordered_there, some_word, constant_number, may_announce, small_operands}
+use Rattle.eqc_guard.specs.Known.{IsHeld}
+use Rattle.eqc_cache.specs.Placing.{in_order, kept_word}
+use Rattle.eqc_cache.proofs.Cells.{seen_word, entry_here}
+use Rattle.eqc_cache.proofs.Hits.{ordered_held, small_operands}
+use Rattle.eqc_cache.proofs.Peeking.{may_on, passes, passed_on, hits_on, peek_keeps, cells_after, results_after, missed_after}
 use Rattle.eqc_cache.proofs.finding.lookup.Goals as goal
 
 -- the operands fit their fields of a word
@@ -20,102 +14,49 @@ result_in-requires-clause-first c = (small_operands c.args.op c.args.f.now.numbe
 pub result_in-requires-clause-second : goal.result_in-requires-clause-second
 result_in-requires-clause-second c = (small_operands c.args.op c.args.f.now.number c.args.g.now.number c.number.result c.number-2.result c.ordered-first.result c.args.worker.now.known c.cells.ensures.known c.requires.first c.requires.second c.number.ensures c.number-2.ensures c.ordered-first.ensures.either).1
 
-pub returns-in_err-found-clause-miss : goal.returns-in_err-found-clause-miss
-returns-in_err-found-clause-miss c = λ e.
-    record { phase = Seen c.place-cell.result c.look-word.result; quiet = tt; stands = starts c.args.worker.now c.look-word.new.self (Seen c.place-cell.result c.look-word.result) c.look-word.ensures.step }
+-- a word that is no entry is a miss, and nothing else has changed
+pub returns-in_err-result_in-clause-miss : goal.returns-in_err-result_in-clause-miss
+returns-in_err-result_in-clause-miss c = λ e. passes c.args.worker.now c.peek-peeked.new.self c.peek-peeked.ensures.step c.requires.may.3
 
-pub returns-then-found-lt2-clause-hit : goal.returns-then-found-lt2-clause-hit
-unfolding result_of
-returns-then-found-lt2-clause-hit c =
-    let old = c.args.worker.now in
-    let s1 = c.look-word.new.self in
-    let word = c.look-word.result in
-    let cell = c.place-cell.result in
-    let at = starts c.args.worker.now c.look-word.new.self (Seen c.place-cell.result c.look-word.result) c.look-word.ensures.step in
-    let is = c.in_ok-found.ensures.entry.0 in
-    let tag : operation_of c.look-word.result ≡ tag_of c.args.op = is.0 in
-    let first : first_of c.look-word.result ≡ c.ordered-first.result.0 = is.1 in
-    let second : second_of c.look-word.result ≡ c.ordered-first.result.1 = is.2 in
-    let found : c.in_ok-found.found ≡ result_of c.look-word.result = c.in_ok-found.ensures.entry.1 in
-    let ordered = ordered_there c.args.op c.args.f.now.number c.args.g.now.number c.number.result c.number-2.result c.look-word.result c.ordered-first.result c.number.ensures c.number-2.ensures first second c.ordered-first.ensures.either in
-    let small : result_of c.look-word.result < 2 = subst (λ (n : ℕ). n < 2) found c.if-found-lt2.true in
-    let r : c.constant.result.number ≡ result_of c.look-word.result = c.constant.ensures ∙ (constant_number c.in_ok-found.found c.if-found-lt2.true ∙ found) in
-    finds_constant c.args.op c.args.f.now.number c.args.g.now.number 0 cell word old s1 at tag ordered c.requires.first c.requires.second c.constant.result.number r small (c.look-word.ensures.tells (some_word c.args.op c.look-word.result tag))
+pub returns-in_err-result_in-clause-cells : goal.returns-in_err-result_in-clause-cells
+returns-in_err-result_in-clause-cells c = peek_keeps c.args.worker.now c.peek-peeked.new.self c.peek-peeked.ensures.step _ c.peek-peeked.result c.peek-peeked.ensures.copies
 
-pub take-requires-clause-may : goal.take-requires-clause-may
-unfolding result_of
-take-requires-clause-may c =
-    let at = starts c.args.worker.now c.look-word.new.self (Seen c.place-cell.result c.look-word.result) c.look-word.ensures.step in
-    may_announce c.args.worker.now c.look-word.new.self c.place-cell.result c.look-word.result c.in_ok-found.found at c.requires.may.0 c.requires.may.1 (let n = c.if-found-lt2.false in omega arith) c.in_ok-found.ensures.entry.1
+pub returns-in_err-result_in-clause-missed : goal.returns-in_err-result_in-clause-missed
+returns-in_err-result_in-clause-missed c = λ e. inr (λ ws has entry.
+    let s = seen_word c.args.op c.args.f.now.number c.args.g.now.number c.number.result c.number-2.result c.cells.result c.place-cell.result c.peek-peeked.result c.ordered-first.result c.args.worker.now.known c.peek-peeked.new.self.known
+    c.number.ensures c.number-2.ensures c.cells.ensures.cells c.ordered-first.ensures.order c.place-cell.ensures.place c.peek-peeked.ensures.copies ws has in
+    c.in_err-result_in.ensures.other refl (entry_here c.args.op c.ordered-first.result (in_order c.args.op c.args.f.now.number c.args.g.now.number) c.peek-peeked.result (kept_word c.args.op c.args.f.now.number c.args.g.now.number c.args.worker.now.known ws) s.1 s.0 entry))
 
+-- a word that is one lets the look begin
+pub seek-requires-clause-may : goal.seek-requires-clause-may
+seek-requires-clause-may c = let there = c.place-cell.ensures.within in let all = c.cells.ensures.cells in may_on c.args.worker.now c.peek-peeked.new.self c.peek-peeked.ensures.step c.place-cell.result c.requires.may (omega arith)
+
+pub seek-requires-clause-first : goal.seek-requires-clause-first
+seek-requires-clause-first c = (small_operands c.args.op c.args.f.now.number c.args.g.now.number c.number.result c.number-2.result c.ordered-first.result c.args.worker.now.known c.cells.ensures.known c.requires.first c.requires.second c.number.ensures c.number-2.ensures c.ordered-first.ensures.either).0
+
+pub seek-requires-clause-second : goal.seek-requires-clause-second
+seek-requires-clause-second c = (small_operands c.args.op c.args.f.now.number c.args.g.now.number c.number.result c.number-2.result c.ordered-first.result c.args.worker.now.known c.cells.ensures.known c.requires.first c.requires.second c.number.ensures c.number-2.ensures c.ordered-first.ensures.either).1
+
+pub seek-requires-clause-first_held : goal.seek-requires-clause-first_held
+seek-requires-clause-first_held c = subst (λ (v : View). IsHeld v c.ordered-first.result.0) (sym c.peek-peeked.ensures.step.known.core) (ordered_held c.args.op c.args.f.now.number c.args.g.now.number c.number.result c.number-2.result c.ordered-first.result c.args.worker.now.known.core c.number.ensures c.number-2.ensures c.requires.first c.requires.second c.ordered-first.ensures.either).0
+
+pub seek-requires-clause-second_held : goal.seek-requires-clause-second_held
+seek-requires-clause-second_held c = subst (λ (v : View). IsHeld v c.ordered-first.result.1) (sym c.peek-peeked.ensures.step.known.core) (ordered_held c.args.op c.args.f.now.number c.args.g.now.number c.number.result c.number-2.result c.ordered-first.result c.args.worker.now.known.core c.number.ensures c.number-2.ensures c.requires.first c.requires.second c.ordered-first.ensures.either).1
+
+-- what it tells is so of the worker before the load
 pub returns-clause-hit : goal.returns-clause-hit
-unfolding result_of
 returns-clause-hit c =
-    let old = c.args.worker.now in
-    let s1 = c.look-word.new.self in
-    let word = c.look-word.result in
-    let cell = c.place-cell.result in
-    let at = starts c.args.worker.now c.look-word.new.self (Seen c.place-cell.result c.look-word.result) c.look-word.ensures.step in
-    let is = c.in_ok-found.ensures.entry.0 in
-    let tag : operation_of c.look-word.result ≡ tag_of c.args.op = is.0 in
-    let first : first_of c.look-word.result ≡ c.ordered-first.result.0 = is.1 in
-    let second : second_of c.look-word.result ≡ c.ordered-first.result.1 = is.2 in
-    let found : c.in_ok-found.found ≡ result_of c.look-word.result = c.in_ok-found.ensures.entry.1 in
-    let ordered = ordered_there c.args.op c.args.f.now.number c.args.g.now.number c.number.result c.number-2.result c.look-word.result c.ordered-first.result c.number.ensures c.number-2.ensures first second c.ordered-first.ensures.either in
-    hits c.args.op c.args.f.now.number c.args.g.now.number c.in_ok-found.found cell word old s1 at tag ordered c.requires.first c.requires.second c.take.new.worker (let n = c.if-found-lt2.false in omega arith) c.take.result c.take.ensures.name c.take.ensures.hit
+    let held = ordered_held c.args.op c.args.f.now.number c.args.g.now.number c.number.result c.number-2.result c.ordered-first.result c.args.worker.now.known.core c.number.ensures c.number-2.ensures c.requires.first c.requires.second c.ordered-first.ensures.either in
+    hits_on c.args.worker.now c.peek-peeked.new.self c.peek-peeked.ensures.step c.args.op c.args.f.now.number c.args.g.now.number c.number.result c.number-2.result c.ordered-first.result c.seek.new.worker c.seek.result c.number.ensures c.number-2.ensures c.ordered-first.ensures.either held.0 held.1 c.seek.ensures.hit
 
 pub returns-clause-miss : goal.returns-clause-miss
-returns-clause-miss c = λ e.
-    let at = starts c.args.worker.now c.look-word.new.self (Seen c.place-cell.result c.look-word.result) c.look-word.ensures.step in
-    record { phase = Idle; quiet = tt; stands = joins c.args.worker.now c.look-word.new.self c.take.new.worker (Seen c.place-cell.result c.look-word.result) Idle at (c.take.ensures.miss e) }
-
--- what the look leaves of the cells
-pub returns-in_err-found-clause-cells : goal.returns-in_err-found-clause-cells
-returns-in_err-found-clause-cells c = load_keeps c.args.worker.now.known c.look-word.new.self.known _ c.look-word.result c.look-word.ensures.copies
-
-pub returns-then-found-lt2-clause-cells : goal.returns-then-found-lt2-clause-cells
-returns-then-found-lt2-clause-cells c = load_keeps c.args.worker.now.known c.look-word.new.self.known _ c.look-word.result c.look-word.ensures.copies
+returns-clause-miss c = λ e. passed_on c.args.worker.now c.peek-peeked.new.self c.peek-peeked.ensures.step c.seek.new.worker (c.seek.ensures.miss e)
 
 pub returns-clause-cells : goal.returns-clause-cells
-returns-clause-cells c =
-    cells_on c.args.worker.now.known c.look-word.new.self.known c.take.new.worker.known (ap (λ (v : View). v.sizes) c.look-word.ensures.step.known.core)
-    (load_keeps c.args.worker.now.known c.look-word.new.self.known _ c.look-word.result c.look-word.ensures.copies) c.take.ensures.cells
-
--- a word that is no entry is what the copy has
-pub returns-in_err-found-clause-missed : goal.returns-in_err-found-clause-missed
-returns-in_err-found-clause-missed c = λ e. inr (λ ws has entry.
-    let s = seen_word c.args.op c.args.f.now.number c.args.g.now.number c.number.result c.number-2.result c.cells.result c.place-cell.result c.look-word.result c.ordered-first.result c.args.worker.now.known c.look-word.new.self.known
-    c.number.ensures c.number-2.ensures c.cells.ensures.cells c.ordered-first.ensures.order c.place-cell.ensures.place c.look-word.ensures.copies ws has in
-    c.in_err-found.ensures.other refl (entry_here c.args.op c.ordered-first.result (in_order c.args.op c.args.f.now.number c.args.g.now.number) c.look-word.result (kept_word c.args.op c.args.f.now.number c.args.g.now.number c.args.worker.now.known ws) s.1 s.0 entry))
-
-pub returns-then-found-lt2-clause-found : goal.returns-then-found-lt2-clause-found
-unfolding result_of
-returns-then-found-lt2-clause-found c = λ ws has.
-    let s = seen_word c.args.op c.args.f.now.number c.args.g.now.number c.number.result c.number-2.result c.cells.result c.place-cell.result c.look-word.result c.ordered-first.result c.args.worker.now.known c.look-word.new.self.known
-    c.number.ensures c.number-2.ensures c.cells.ensures.cells c.ordered-first.ensures.order c.place-cell.ensures.place c.look-word.ensures.copies ws has in
-    let found : c.in_ok-found.found ≡ result_of c.look-word.result = c.in_ok-found.ensures.entry.1 in (
-      entry_there c.args.op c.ordered-first.result (in_order c.args.op c.args.f.now.number c.args.g.now.number) c.look-word.result (kept_word c.args.op c.args.f.now.number c.args.g.now.number c.args.worker.now.known ws) s.1 s.0 c.in_ok-found.ensures.entry.0,
-      ap {B = ℕ} (λ (w : ℕ). result_of w) s.0 ∙ (sym found ∙ sym (c.constant.ensures ∙ constant_number c.in_ok-found.found c.if-found-lt2.true)),
-    )
+returns-clause-cells c = cells_after c.args.worker.now c.peek-peeked.new.self c.peek-peeked.ensures.step _ c.peek-peeked.result c.peek-peeked.ensures.copies c.seek.new.worker c.seek.ensures.cells
 
 pub returns-clause-found : goal.returns-clause-found
-unfolding result_of
-returns-clause-found c = found_taken c.args.op c.args.f.now.number c.args.g.now.number c.in_ok-found.found c.args.worker.now.known c.take.result c.take.ensures.name (λ ws has.
-    let s = seen_word c.args.op c.args.f.now.number c.args.g.now.number c.number.result c.number-2.result c.cells.result c.place-cell.result c.look-word.result c.ordered-first.result c.args.worker.now.known c.look-word.new.self.known
-    c.number.ensures c.number-2.ensures c.cells.ensures.cells c.ordered-first.ensures.order c.place-cell.ensures.place c.look-word.ensures.copies ws has in
-    let found : c.in_ok-found.found ≡ result_of c.look-word.result = c.in_ok-found.ensures.entry.1 in (
-      entry_there c.args.op c.ordered-first.result (in_order c.args.op c.args.f.now.number c.args.g.now.number) c.look-word.result (kept_word c.args.op c.args.f.now.number c.args.g.now.number c.args.worker.now.known ws) s.1 s.0 c.in_ok-found.ensures.entry.0,
-      ap {B = ℕ} (λ (w : ℕ). result_of w) s.0 ∙ sym found,
-    ))
+returns-clause-found c = results_after c.args.worker.now c.peek-peeked.new.self c.peek-peeked.ensures.step _ c.peek-peeked.result c.peek-peeked.ensures.copies c.args.op c.args.f.now.number c.args.g.now.number c.number.result c.number-2.result c.cells.result c.place-cell.result c.ordered-first.result c.number.ensures c.number-2.ensures c.ordered-first.ensures.order c.cells.ensures.cells c.place-cell.ensures.place c.seek.result c.seek.ensures.found
 
--- a count that was refused was at the limit, and a second look by a worker that is alone finds what the first one found
 pub returns-clause-missed : goal.returns-clause-missed
-returns-clause-missed c = λ none. ⊎_elim
-    (λ limit. let held : length c.look-word.new.self.known.core.held ≡ length c.args.worker.now.known.core.held = ap {B = ℕ} (λ (v : View). length v.held) c.look-word.ensures.step.known.core in inl (omega arith))
-    (λ other. inr (λ ws has entry.
-    let at = starts c.args.worker.now c.look-word.new.self (Seen c.place-cell.result c.look-word.result) c.look-word.ensures.step in
-    let read = read_stays c.args.worker.now.known c.look-word.new.self.known _ c.look-word.result ws c.look-word.ensures.copies has in
-    let sizes : c.look-word.new.self.known.core.sizes ≡ c.args.worker.now.known.core.sizes = ap (λ (v : View). v.sizes) c.look-word.ensures.step.known.core in
-    other ws read.0 c.place-cell.result c.look-word.result (phase_now c.args.worker.now c.look-word.new.self (Seen c.place-cell.result c.look-word.result) at)
-    (ap {B = ℕ} (λ (z : Sizes). get_or ws (cells_from z + c.place-cell.result) 0) sizes ∙ read.1)))
-    (c.take.ensures.alone none)
+returns-clause-missed c = λ none. missed_after c.args.worker.now c.peek-peeked.new.self c.peek-peeked.ensures.step _ c.peek-peeked.result c.peek-peeked.ensures.copies c.args.op c.args.f.now.number c.args.g.now.number c.number.result c.number-2.result c.cells.result c.place-cell.result c.ordered-first.result c.number.ensures c.number-2.ensures c.ordered-first.ensures.order c.cells.ensures.cells c.place-cell.ensures.place (c.seek.ensures.missed none)

@@ -3,7 +3,7 @@ use Rattle.eqc_core.specs.declared.sizes.Sizes.{Sizes}
 use Rattle.eqc_core.specs.Sharing.{MayLookBox}
 use Rattle.eqc_guard.specs.Rule.{boxes_from}
 use Rattle.eqc_guard.specs.Standing.{Standing}
-use Rattle.eqc_guard.proofs.Sharing.{look_box_allows}
+use Rattle.eqc_guard.proofs.Stepping.{read_allows}
 use Rattle.eqc_guard.proofs.worker.Worker.look_box.Goals as goal
 
 pub load-requires : goal.load-requires
@@ -15,5 +15,5 @@ load-requires c =
     let may : MayLookBox me.0.core c.args.b = subst (λ (s : Standing). MayLookBox s.known.core c.args.b) v c.requires in (
       rw c.deref.ensures is.one_table,
       rw (c.deref.ensures, is.worker.words) (let there = may.1 in let e = ap boxes_from is.worker.sizes in let f = ap (λ (z : Sizes). z.workers) is.worker.sizes in omega arith),
-      look_box_allows c.deref.result.now.shared.key.sizes c.deref.result.now.shared.table_id.slots c.self.inside.seat.id c.box_word-word.result me is.worker.active,
+      read_allows c.deref.result.now.shared.key.sizes c.deref.result.now.shared.table_id.slots c.self.inside.seat.id c.box_word-word.result me is.worker.active,
     )
