@@ -25,7 +25,7 @@ use Rattle.eqc_core.proofs.Claiming.{tabled_owners}
 use Rattle.eqc_core.proofs.Known.{held_counted}
 use Rattle.eqc_core.proofs.Collecting.{least_is_dead, no_dead_is_empty, empty_is_free, counted_tabled}
 use Rattle.eqc_guard.specs.Closing.{above_zero, IsTallied}
-use Rattle.eqc_guard.specs.Known.{Known, IsCopy, IsKnown, flat}
+use Rattle.eqc_guard.specs.Known.{Known, IsCopy, IsKnown, apart, flat}
 use Rattle.eqc_guard.specs.Rule.{nodes_from, cells_from, boxes_from, locks_from}
 use Rattle.eqc_guard.specs.Standing.{Standing, Steps}
 use Rattle.eqc_guard.specs.Telling.{Copies, copied}
@@ -44,11 +44,11 @@ use Rattle.eqc_arena.specs.Emptying.{count_in, node_in, IsCounted, HasNoCounts, 
 get_box : (z : Sizes) (w : Words) (b : ℕ) → length w.announced ≡ announced_words z → length w.counts ≡ z.names → length w.nodes ≡ z.names → length w.cells ≡ z.cells → b < length w.boxes → get_or (flat w) (cells_from z + (z.cells + b)) 0 ≡ get_or w.boxes b 0
 get_box z w b announced counts nodes cells lt =
     ap (λ (i : ℕ). get_or (flat w) i 0) (let e : announced_words z + (z.names + z.names) + (z.cells + b) ≡ announced_words z + (z.names + (z.names + (z.cells + b))) = omega arith in e)
-    ∙ (get_behind w.announced (w.counts ++ (w.nodes ++ (w.cells ++ (w.boxes ++ w.locks)))) (announced_words z) (z.names + (z.names + (z.cells + b))) 0 announced
-    ∙ (get_behind w.counts (w.nodes ++ (w.cells ++ (w.boxes ++ w.locks))) z.names (z.names + (z.cells + b)) 0 counts
-    ∙ (get_behind w.nodes (w.cells ++ (w.boxes ++ w.locks)) z.names (z.cells + b) 0 nodes
-    ∙ (get_behind w.cells (w.boxes ++ w.locks) z.cells b 0 cells
-    ∙ get_or_append_left w.boxes w.locks 0 b lt))))
+    ∙ (get_behind w.announced (w.counts ++ (w.nodes ++ (w.cells ++ (w.boxes ++ apart w.locks)))) (announced_words z) (z.names + (z.names + (z.cells + b))) 0 announced
+    ∙ (get_behind w.counts (w.nodes ++ (w.cells ++ (w.boxes ++ apart w.locks))) z.names (z.names + (z.cells + b)) 0 counts
+    ∙ (get_behind w.nodes (w.cells ++ (w.boxes ++ apart w.locks)) z.names (z.cells + b) 0 nodes
+    ∙ (get_behind w.cells (w.boxes ++ apart w.locks) z.cells b 0 cells
+    ∙ get_or_append_left w.boxes (apart w.locks) 0 b lt))))
 
 -- a copy of the words is a state of the machine
 module _ (k : Known) (ws : List ℕ) (c : IsCopy k ws) where
@@ -281,22 +281,22 @@ rests held k after v is sizes holds retired position draft known = record {
 }
 
 -- a stripe is taken: none of its entries was tried
-pub stripe_begins : (n s h taken i : ℕ) (t : Entries) (old new : Standing) → IsBetween [] n s taken old.known → Steps old (locked old.known.core h t) new → new.known.copy ≡ copied old.known.copy (locks_from old.known.core.sizes + h) 1 → length t ≤ i
+pub stripe_begins : (n s h taken i : ℕ) (t : Entries) (old new : Standing) → IsBetween [] n s taken old.known → Steps old (locked old.known.core h t) new → new.known.copy ≡ copied old.known.copy (locks_from old.known.core.sizes + 8 * h) 1 → length t ≤ i
     → IsTrying [] n s taken i t new.known
 stripe_begins n s h taken i t old new b step copy past =
-    carries_tried [] n s taken old.known b taken (λ e. e) [] new.known (set b.words (locks_from old.known.core.sizes + h) 1)
-    (copy ∙ ap (λ (o : Option (List ℕ)). copied o (locks_from old.known.core.sizes + h) 1) b.copy)
-    (lock_wanes old.known.core.sizes taken b.words h 1)
+    carries_tried [] n s taken old.known b taken (λ e. e) [] new.known (set b.words (locks_from old.known.core.sizes + 8 * h) 1)
+    (copy ∙ ap (λ (o : Option (List ℕ)). copied o (locks_from old.known.core.sizes + 8 * h) 1) b.copy)
+    (lock_wanes old.known.core.sizes taken b.words (8 * h) 1)
     (rests [] old.known new.known (locked old.known.core h t) step.known.core refl b.holds refl refl refl step.known.known)
     i t
     (λ j e le at counted. absurd (let lt = at_below t j e at in omega arith))
 
 -- a stripe goes home, whether or not it is done
-pub stripe_leaves : (n s h taken : ℕ) (old new : Standing) → IsBetween [] n s taken old.known → Steps old (unlocked old.known.core) new → new.known.copy ≡ copied old.known.copy (locks_from old.known.core.sizes + h) 0 → IsBetween [] n s taken new.known
+pub stripe_leaves : (n s h taken : ℕ) (old new : Standing) → IsBetween [] n s taken old.known → Steps old (unlocked old.known.core) new → new.known.copy ≡ copied old.known.copy (locks_from old.known.core.sizes + 8 * h) 0 → IsBetween [] n s taken new.known
 stripe_leaves n s h taken old new b step copy =
-    carries [] n s taken old.known b taken (λ e. e) [] new.known (set b.words (locks_from old.known.core.sizes + h) 0)
-    (copy ∙ ap (λ (o : Option (List ℕ)). copied o (locks_from old.known.core.sizes + h) 0) b.copy)
-    (lock_wanes old.known.core.sizes taken b.words h 0)
+    carries [] n s taken old.known b taken (λ e. e) [] new.known (set b.words (locks_from old.known.core.sizes + 8 * h) 0)
+    (copy ∙ ap (λ (o : Option (List ℕ)). copied o (locks_from old.known.core.sizes + 8 * h) 0) b.copy)
+    (lock_wanes old.known.core.sizes taken b.words (8 * h) 0)
     (rests [] old.known new.known (unlocked old.known.core) step.known.core refl b.holds refl refl refl step.known.known)
 
 -- beside a list without entries nothing has to be tried
@@ -453,11 +453,11 @@ in_map n s taken t k b home x counted is =
 
 -- all entries were tried, and the stripe goes home: it is done
 pub stripe_ends : (n s taken : ℕ) (t : Entries) (old new : Standing) → IsTrying [] n s taken 0 t old.known → MayHome old.known.core s t → Steps old (unlocked old.known.core) new
-    → new.known.copy ≡ copied old.known.copy (locks_from old.known.core.sizes + s) 0 → IsBetween [] n (s + 1) taken new.known
+    → new.known.copy ≡ copied old.known.copy (locks_from old.known.core.sizes + 8 * s) 0 → IsBetween [] n (s + 1) taken new.known
 stripe_ends n s taken t old new tr home step copy =
-    carries [] n (s + 1) taken old.known after taken (λ e. e) [] new.known (set tr.between.words (locks_from old.known.core.sizes + s) 0)
-    (copy ∙ ap (λ (o : Option (List ℕ)). copied o (locks_from old.known.core.sizes + s) 0) tr.between.copy)
-    (lock_wanes old.known.core.sizes taken tr.between.words s 0)
+    carries [] n (s + 1) taken old.known after taken (λ e. e) [] new.known (set tr.between.words (locks_from old.known.core.sizes + 8 * s) 0)
+    (copy ∙ ap (λ (o : Option (List ℕ)). copied o (locks_from old.known.core.sizes + 8 * s) 0) tr.between.copy)
+    (lock_wanes old.known.core.sizes taken tr.between.words (8 * s) 0)
     (rests [] old.known new.known (unlocked old.known.core) step.known.core refl tr.between.holds refl refl refl step.known.known)
   where
     done : (x : ℕ) → IsCounted old.known.core.sizes tr.between.words x → stripe_of (node_in old.known.core.sizes tr.between.words x) < s + 1 → Dec (stripe_of (node_in old.known.core.sizes tr.between.words x) ≡ s)

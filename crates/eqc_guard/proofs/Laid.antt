@@ -1,5 +1,5 @@
 -- A word in the row of all words, by its kind.
-use Rattle.std.proofs.Common.{◌≡◌, ℕ, zero, suc, ◌+◌, ◌*◌, ◌<◌, List, [], ◌∷◌, ◌++◌, length, set, get_or, ap, ◌∙◌, arith}
+use Rattle.std.proofs.Common.{◌≡◌, ℕ, zero, suc, ◌+◌, ◌*◌, ◌<◌, List, [], ◌∷◌, ◌++◌, length, set, get_or, refl, ap, ◌∙◌, arith}
 use Rattle.std.proofs.lemmas.List.{set-append_left, get_or_append_left}
 use Rattle.eqc_core.specs.declared.sizes.Sizes.{Sizes}
 use Rattle.eqc_core.specs.View.{View}
@@ -7,7 +7,7 @@ use Rattle.eqc_core.specs.Words.{Words, announced_words}
 use Rattle.eqc_core.specs.Tables.{Homes}
 use Rattle.eqc_core.specs.Lawful.{IsSized}
 use Rattle.eqc_core.specs.Moves.{with_announced, with_count, with_node, with_cell, with_box, with_lock}
-use Rattle.eqc_guard.specs.Known.{flat}
+use Rattle.eqc_guard.specs.Known.{apart, flat}
 use Rattle.eqc_guard.specs.Rule.{nodes_from, cells_from, boxes_from, locks_from}
 
 -- a write and a read behind n others
@@ -28,17 +28,35 @@ module _ {A : Type 0} where
       suc_add : (n i : ℕ) → suc n + i ≡ suc (n + i)
       suc_add n i = omega arith
 
+eight_more : (s : ℕ) → 8 * suc s ≡ suc (suc (suc (suc (suc (suc (suc (suc (8 * s))))))))
+eight_more s = omega arith
+
+-- a write and a read of a word that lies apart from the others
+set_apart : (xs : List ℕ) (s y : ℕ) → set (apart xs) (8 * s) y ≡ apart (set xs s y)
+set_apart [] s y = refl
+set_apart (x ∷ xs) zero y = refl
+set_apart (x ∷ xs) (suc s) y = rw (eight_more s) (ap (λ l. x ∷ 0 ∷ 0 ∷ 0 ∷ 0 ∷ 0 ∷ 0 ∷ 0 ∷ l) (set_apart xs s y))
+
+get_apart : (xs : List ℕ) (s d : ℕ) → get_or (apart xs) (8 * s) d ≡ get_or xs s d
+get_apart [] s d = refl
+get_apart (x ∷ xs) zero d = refl
+get_apart (x ∷ xs) (suc s) d = rw (eight_more s) (get_apart xs s d)
+
+pub apart_length : (xs : List ℕ) → length (apart xs) ≡ 8 * length xs
+apart_length [] = refl
+apart_length (x ∷ xs) = let e = apart_length xs in omega arith
+
 abbrev behind_cells : Words → List ℕ
-behind_cells w = w.boxes ++ w.locks
+behind_cells w = w.boxes ++ apart w.locks
 
 abbrev behind_nodes : Words → List ℕ
-behind_nodes w = w.cells ++ (w.boxes ++ w.locks)
+behind_nodes w = w.cells ++ (w.boxes ++ apart w.locks)
 
 abbrev behind_counts : Words → List ℕ
-behind_counts w = w.nodes ++ (w.cells ++ (w.boxes ++ w.locks))
+behind_counts w = w.nodes ++ (w.cells ++ (w.boxes ++ apart w.locks))
 
 abbrev behind_announced : Words → List ℕ
-behind_announced w = w.counts ++ (w.nodes ++ (w.cells ++ (w.boxes ++ w.locks)))
+behind_announced w = w.counts ++ (w.nodes ++ (w.cells ++ (w.boxes ++ apart w.locks)))
 
 place : (n k c : ℕ) → n + (k + k) + c ≡ n + (k + (k + c))
 place n k c = omega arith
@@ -85,7 +103,7 @@ module _ (z : Sizes) (w : Words) (hs : Homes) (vs : List View) (sized : IsSized 
       ∙ (set_behind w.announced (behind_announced w) (announced_words z) (z.names + (z.names + (z.cells + b))) y sized.announced
       ∙ ap (λ l. w.announced ++ l) (set_behind w.counts (behind_counts w) z.names (z.names + (z.cells + b)) y sized.counts
       ∙ ap (λ l. w.counts ++ l) (set_behind w.nodes (behind_nodes w) z.names (z.cells + b) y sized.nodes
-      ∙ ap (λ l. w.nodes ++ l) (set_behind w.cells (behind_cells w) z.cells b y sized.cells ∙ ap (λ l. w.cells ++ l) (set-append_left w.boxes w.locks b y (let n = sized.boxes in omega arith))))))
+      ∙ ap (λ l. w.nodes ++ l) (set_behind w.cells (behind_cells w) z.cells b y sized.cells ∙ ap (λ l. w.cells ++ l) (set-append_left w.boxes (apart w.locks) b y (let n = sized.boxes in omega arith))))))
 
   pub get_box : (b : ℕ) → b < 16 * z.workers → get_or (flat w) (boxes_from z + b) 0 ≡ get_or w.boxes b 0
   get_box b lt =
@@ -93,7 +111,7 @@ module _ (z : Sizes) (w : Words) (hs : Homes) (vs : List View) (sized : IsSized 
       ∙ (get_behind w.announced (behind_announced w) (announced_words z) (z.names + (z.names + (z.cells + b))) 0 sized.announced
       ∙ (get_behind w.counts (behind_counts w) z.names (z.names + (z.cells + b)) 0 sized.counts
       ∙ (get_behind w.nodes (behind_nodes w) z.names (z.cells + b) 0 sized.nodes
-      ∙ (get_behind w.cells (behind_cells w) z.cells b 0 sized.cells ∙ get_or_append_left w.boxes w.locks 0 b (let n = sized.boxes in omega arith)))))
+      ∙ (get_behind w.cells (behind_cells w) z.cells b 0 sized.cells ∙ get_or_append_left w.boxes (apart w.locks) 0 b (let n = sized.boxes in omega arith)))))
 
   pub set_node : (x y : ℕ) → x < z.names → set (flat w) (nodes_from z + x) y ≡ flat (with_node w x y)
   set_node x y lt =
@@ -109,18 +127,18 @@ module _ (z : Sizes) (w : Words) (hs : Homes) (vs : List View) (sized : IsSized 
       ∙ (get_behind w.counts (behind_counts w) z.names x 0 sized.counts
       ∙ get_or_append_left w.nodes (behind_nodes w) 0 x (let n = sized.nodes in omega arith)))
 
-  pub set_lock : (s y : ℕ) → set (flat w) (locks_from z + s) y ≡ flat (with_lock w s y)
+  pub set_lock : (s y : ℕ) → set (flat w) (locks_from z + 8 * s) y ≡ flat (with_lock w s y)
   set_lock s y =
-      ap (λ (i : ℕ). set (flat w) i y) (lock_place (announced_words z) z.names z.cells (16 * z.workers) s)
-      ∙ (set_behind w.announced (behind_announced w) (announced_words z) (z.names + (z.names + (z.cells + (16 * z.workers + s)))) y sized.announced
-      ∙ ap (λ l. w.announced ++ l) (set_behind w.counts (behind_counts w) z.names (z.names + (z.cells + (16 * z.workers + s))) y sized.counts
-      ∙ ap (λ l. w.counts ++ l) (set_behind w.nodes (behind_nodes w) z.names (z.cells + (16 * z.workers + s)) y sized.nodes
-      ∙ ap (λ l. w.nodes ++ l) (set_behind w.cells (behind_cells w) z.cells (16 * z.workers + s) y sized.cells ∙ ap (λ l. w.cells ++ l) (set_behind w.boxes w.locks (16 * z.workers) s y sized.boxes)))))
+      ap (λ (i : ℕ). set (flat w) i y) (lock_place (announced_words z) z.names z.cells (16 * z.workers) (8 * s))
+      ∙ (set_behind w.announced (behind_announced w) (announced_words z) (z.names + (z.names + (z.cells + (16 * z.workers + 8 * s)))) y sized.announced
+      ∙ ap (λ l. w.announced ++ l) (set_behind w.counts (behind_counts w) z.names (z.names + (z.cells + (16 * z.workers + 8 * s))) y sized.counts
+      ∙ ap (λ l. w.counts ++ l) (set_behind w.nodes (behind_nodes w) z.names (z.cells + (16 * z.workers + 8 * s)) y sized.nodes
+      ∙ ap (λ l. w.nodes ++ l) (set_behind w.cells (behind_cells w) z.cells (16 * z.workers + 8 * s) y sized.cells ∙ ap (λ l. w.cells ++ l) (set_behind w.boxes (apart w.locks) (16 * z.workers) (8 * s) y sized.boxes ∙ ap (λ l. w.boxes ++ l) (set_apart w.locks s y))))))
 
-  pub get_lock : (s : ℕ) → get_or (flat w) (locks_from z + s) 0 ≡ get_or w.locks s 0
+  pub get_lock : (s : ℕ) → get_or (flat w) (locks_from z + 8 * s) 0 ≡ get_or w.locks s 0
   get_lock s =
-      ap (λ (i : ℕ). get_or (flat w) i 0) (lock_place (announced_words z) z.names z.cells (16 * z.workers) s)
-      ∙ (get_behind w.announced (behind_announced w) (announced_words z) (z.names + (z.names + (z.cells + (16 * z.workers + s)))) 0 sized.announced
-      ∙ (get_behind w.counts (behind_counts w) z.names (z.names + (z.cells + (16 * z.workers + s))) 0 sized.counts
-      ∙ (get_behind w.nodes (behind_nodes w) z.names (z.cells + (16 * z.workers + s)) 0 sized.nodes
-      ∙ (get_behind w.cells (behind_cells w) z.cells (16 * z.workers + s) 0 sized.cells ∙ get_behind w.boxes w.locks (16 * z.workers) s 0 sized.boxes))))
+      ap (λ (i : ℕ). get_or (flat w) i 0) (lock_place (announced_words z) z.names z.cells (16 * z.workers) (8 * s))
+      ∙ (get_behind w.announced (behind_announced w) (announced_words z) (z.names + (z.names + (z.cells + (16 * z.workers + 8 * s)))) 0 sized.announced
+      ∙ (get_behind w.counts (behind_counts w) z.names (z.names + (z.cells + (16 * z.workers + 8 * s))) 0 sized.counts
+      ∙ (get_behind w.nodes (behind_nodes w) z.names (z.cells + (16 * z.workers + 8 * s)) 0 sized.nodes
+      ∙ (get_behind w.cells (behind_cells w) z.cells (16 * z.workers + 8 * s) 0 sized.cells ∙ get_behind w.boxes (apart w.locks) (16 * z.workers) (8 * s) 0 sized.boxes ∙ get_apart w.locks s 0))))

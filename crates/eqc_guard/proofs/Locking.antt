@@ -1,5 +1,5 @@
 -- Each step on a stripe is allowed by the rule: the lock's word and the place of the stripe's map change as one.
-use Rattle.std.proofs.Common.{◌≡◌, ◌≢◌, ℕ, ◌+◌, ◌-◌, ◌<◌, List, [], ◌∷◌, set, get_or, eqb, Bool, true, false, MatchBool, Option, Some, None, eq-eqb, ne_eqb, refl, sym, ap, subst, ◌∙◌, arith}
+use Rattle.std.proofs.Common.{◌≡◌, ◌≢◌, ℕ, ◌+◌, ◌*◌, ◌-◌, ◌/◌, ◌<◌, List, [], ◌∷◌, set, get_or, eqb, Bool, true, false, MatchBool, Option, Some, None, eq-eqb, ne_eqb, refl, sym, ap, subst, ◌∙◌, arith}
 use Rattle.std.specs.HashMap.{HashMap}
 use Rattle.std.proofs.lemmas.List.{map-set, set-get_or}
 use mathlib.Core.Option as May
@@ -38,10 +38,10 @@ module _ {S : Type 0} where
       let m = map_of b.0 t b.2 in
       (m.0, b.1 ∙ ap some m.1)
 
-  module _ (z : Sizes) (slots id i s : ℕ) (me : Me (HashMap ℕ ℕ S) Known) (on : me.0.core.active ≡ true) (is : i ≡ locks_from me.0.core.sizes + s) where
+  module _ (z : Sizes) (slots id i s : ℕ) (me : Me (HashMap ℕ ℕ S) Known) (on : me.0.core.active ≡ true) (is : i ≡ locks_from me.0.core.sizes + 8 * s) where
     -- the lock's word among all words
-    lock_here : (w : Words) (hs : Homes) (vs : List View) → Lawful z w hs vs → get_elem? vs id ≡ some me.0.core → i ≡ locks_from z + s
-    lock_here w hs vs law at = is ∙ ap (λ (y : Sizes). locks_from y + s) (size z slots id i me on w hs vs law at)
+    lock_here : (w : Words) (hs : Homes) (vs : List View) → Lawful z w hs vs → get_elem? vs id ≡ some me.0.core → i ≡ locks_from z + 8 * s
+    lock_here w hs vs law at = is ∙ ap (λ (y : Sizes). locks_from y + 8 * s) (size z slots id i me on w hs vs law at)
 
     found : (w : Words) (hs : Homes) (vs : List View) → Lawful z w hs vs → get_elem? vs id ≡ some me.0.core → get_or (flat w) i 0 ≡ get_or w.locks s 0
     found w hs vs law at = ap (λ (k : ℕ). get_or (flat w) k 0) (lock_here w hs vs law at) ∙ get_lock z w hs vs law.sized s
@@ -87,9 +87,9 @@ module _ {S : Type 0} where
           λ k stepped copies known. (stepped, refl, copies, tt),
         )
 
-    pub lock_allows : MayLock me.0.core s → Allows (Held {S = S} z) slots id me i (λ n. either (eqb n 0) 1 n) (λ n after. Locks me i (i - locks_from me.0.core.sizes) n after)
+    pub lock_allows : MayLock me.0.core s → Allows (Held {S = S} z) slots id me i (λ n. either (eqb n 0) 1 n) (λ n after. Locks me i ((i - locks_from me.0.core.sizes) / 8) n after)
     lock_allows may =
-        let back : s ≡ i - locks_from me.0.core.sizes = omega arith in
+        let back : s ≡ (i - locks_from me.0.core.sizes) / 8 = omega arith in
         subst (λ (y : ℕ). Allows (Held {S = S} z) slots id me i (λ n. either (eqb n 0) 1 n) (λ n after. Locks me i y n after)) back (lock_at may)
 
     pub unlock_allows : (h : Hand) (m : HashMap ℕ ℕ S) → h.stripe ≡ s → me.1 ≡ (s, m) ∷ [] → MayUnlock me.0.core h m.entries → Allows (Held {S = S} z) slots id me i (λ _. 0) (λ _ after. Unlocks me i 0 after)
@@ -137,10 +137,10 @@ steps_on old mid new v first then = record {
 }
 
 -- what a try for a lock tells, by what it found
-pub lock_won : {S : Type 0} (me : Known × List (ℕ × HashMap ℕ ℕ S)) (i s n : ℕ) (after : Known × List (ℕ × HashMap ℕ ℕ S)) → i ≡ locks_from me.0.core.sizes + s → n ≡ 0 → Locks me i (i - locks_from me.0.core.sizes) n after
+pub lock_won : {S : Type 0} (me : Known × List (ℕ × HashMap ℕ ℕ S)) (i s n : ℕ) (after : Known × List (ℕ × HashMap ℕ ℕ S)) → i ≡ locks_from me.0.core.sizes + 8 * s → n ≡ 0 → Locks me i ((i - locks_from me.0.core.sizes) / 8) n after
     → (m : HashMap ℕ ℕ S) × Stepped me.0 (locked me.0.core s m.entries) after.0 × (after.1 ≡ (s, m) ∷ me.1) × Copies me.0 i n 1 after.0
 lock_won {S} me i s n after is free c =
-    let back : i - locks_from me.0.core.sizes ≡ s = omega arith in
+    let back : (i - locks_from me.0.core.sizes) / 8 ≡ s = omega arith in
     let l : Locks me i s n after = subst (λ (y : ℕ). Locks me i y n after) back c in
     subst (λ (b : Bool). MatchBool b ((m : HashMap ℕ ℕ S) × Stepped me.0 (locked me.0.core s m.entries) after.0 × (after.1 ≡ (s, m) ∷ me.1) × Copies me.0 i n 1 after.0) (Told me i n n me.0.core after (Nothing n))) (eq-eqb n 0 free) l
 

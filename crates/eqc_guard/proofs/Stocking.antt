@@ -13,8 +13,9 @@ use Rattle.eqc_core.specs.State.{repeated, literal, literals, slots_from, stripe
 use Rattle.eqc_core.proofs.Literals.{literal_variable, literal_low, literal_high}
 use Rattle.eqc_core.proofs.Stocks.{literals-push, slots-push, homes-push}
 use Rattle.eqc_guard.specs.declared.reference.Ref.{Ref}
-use Rattle.eqc_guard.specs.Known.{flat}
+use Rattle.eqc_guard.specs.Known.{apart, flat}
 use Rattle.eqc_guard.specs.Rule.{all_words, homes_of}
+use Rattle.eqc_guard.proofs.Laid.{apart_length}
 
 repeated_more : (x m n : ℕ) → repeated x m ++ repeated x n ≡ repeated x (m + n)
 repeated_more x zero n = let e : n ≡ 0 + n = omega arith in ap (λ (k : ℕ). repeated x k) e
@@ -51,23 +52,24 @@ nine a z t r l c b =
 
 -- the words of the opening state, kind by kind
 pub words_laid : (z : Sizes) (n rest cells : ℕ) → rest ≡ z.names - (n + 2) → cells ≡ z.cells
-    → (((((((([] ++ repeated 0 (announced_words z)) ++ repeated 0 2) ++ repeated 2 n) ++ repeated 0 rest) ++ repeated 0 2) ++ literals 0 n) ++ repeated 0 rest) ++ repeated 0 cells) ++ repeated 0 (16 * z.workers + 16)
+    → (((((((([] ++ repeated 0 (announced_words z)) ++ repeated 0 2) ++ repeated 2 n) ++ repeated 0 rest) ++ repeated 0 2) ++ literals 0 n) ++ repeated 0 rest) ++ repeated 0 cells) ++ repeated 0 (16 * z.workers + 128)
     ≡ flat (opening z n).words
 words_laid z n rest cells er ec =
-    nine (repeated 0 (announced_words z)) (repeated 0 2) (repeated 2 n) (repeated 0 rest) (literals 0 n) (repeated 0 cells) (repeated 0 (16 * z.workers + 16))
+    nine (repeated 0 (announced_words z)) (repeated 0 2) (repeated 2 n) (repeated 0 rest) (literals 0 n) (repeated 0 cells) (repeated 0 (16 * z.workers + 128))
     ∙ (λ i. repeated 0 (announced_words z)
-    ++ ((0 ∷ 0 ∷ repeated 2 n ++ repeated 0 (er i)) ++ ((0 ∷ 0 ∷ literals 0 n ++ repeated 0 (er i)) ++ (repeated 0 (ec i) ++ sym (repeated_more 0 (16 * z.workers) 16) i))))
+    ++ ((0 ∷ 0 ∷ repeated 2 n ++ repeated 0 (er i)) ++ ((0 ∷ 0 ∷ literals 0 n ++ repeated 0 (er i)) ++ (repeated 0 (ec i) ++ sym (repeated_more 0 (16 * z.workers) 128) i))))
 
 -- as many words as a lawful state has
 pub flat_length : (z : Sizes) (w : Words) (hs : Homes) (vs : List View) → IsSized z w hs vs → length (flat w) ≡ all_words z
 flat_length z w hs vs sized =
     omega (
       arith,
-      length-append w.announced (w.counts ++ (w.nodes ++ (w.cells ++ (w.boxes ++ w.locks)))),
-      length-append w.counts (w.nodes ++ (w.cells ++ (w.boxes ++ w.locks))),
-      length-append w.nodes (w.cells ++ (w.boxes ++ w.locks)),
-      length-append w.cells (w.boxes ++ w.locks),
-      length-append w.boxes w.locks,
+      length-append w.announced (w.counts ++ (w.nodes ++ (w.cells ++ (w.boxes ++ apart w.locks)))),
+      length-append w.counts (w.nodes ++ (w.cells ++ (w.boxes ++ apart w.locks))),
+      length-append w.nodes (w.cells ++ (w.boxes ++ apart w.locks)),
+      length-append w.cells (w.boxes ++ apart w.locks),
+      length-append w.boxes (apart w.locks),
+      apart_length w.locks,
       sized.announced,
       sized.counts,
       sized.nodes,
@@ -104,8 +106,8 @@ one_stripe_literal s i b (suc k) is lt few from upto = go (ℕ_discrete b i) (λ
         let here : stripe_of (literal b) ≡ s = literal_stripe b ∙ (ap (λ (j : ℕ). (j + 1) % 16) e ∙ is) in
         rw (eq-eqb (stripe_of (literal b)) s here) (λ j. (literal (e j), 2 + e j) ∷ none j)
     go (no n) rest =
-        let apart : stripe_of (literal b) ≢ s = λ e. absurd (let f : (b + 1) % 16 ≡ s = sym (literal_stripe b) ∙ e in let ne : b ≢ i = n in omega arith) in
-        rw (ne_eqb (stripe_of (literal b)) s apart) (rest (let ne : b ≢ i = n in omega arith))
+        let other_stripe : stripe_of (literal b) ≢ s = λ e. absurd (let f : (b + 1) % 16 ≡ s = sym (literal_stripe b) ∙ e in let ne : b ≢ i = n in omega arith) in
+        rw (ne_eqb (stripe_of (literal b)) s other_stripe) (rest (let ne : b ≢ i = n in omega arith))
 
 -- one table more
 pub one_home : {S : Type 0} (maps : List (HashMap ℕ ℕ S)) (m : HashMap ℕ ℕ S) (k n : ℕ) → homes_of (map some maps) ≡ homes_from 0 k n → m.entries ≡ stripe_entries k 0 n → homes_of (map some (maps ++ m ∷ [])) ≡ homes_from 0 (k + 1) n

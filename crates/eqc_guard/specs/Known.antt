@@ -73,9 +73,14 @@ IsHeld v x = (x < 2) ⊎ (0 < times x v.held)
 abbrev pub IsNamed : View → ℕ → Type 0
 IsNamed v x = (x < 2) ⊎ (0 < times x (names_of v))
 
+-- each lock word is followed by seven words that nothing uses, so that two of them never share a cache line
+abbrev pub apart : List ℕ → List ℕ
+apart [] = []
+apart (x ∷ xs) = x ∷ 0 ∷ 0 ∷ 0 ∷ 0 ∷ 0 ∷ 0 ∷ 0 ∷ apart xs
+
 -- the words in a row, kind by kind
 abbrev pub flat : Words → List ℕ
-flat w = w.announced ++ (w.counts ++ (w.nodes ++ (w.cells ++ (w.boxes ++ w.locks))))
+flat w = w.announced ++ (w.counts ++ (w.nodes ++ (w.cells ++ (w.boxes ++ apart w.locks))))
 
 -- a copy of the words is a lawful state, in which nobody else is active
 pub record IsCopy (k : Known) (ws : List ℕ) : Type 0 where

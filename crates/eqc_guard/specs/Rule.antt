@@ -35,11 +35,12 @@ cells_from z = announced_words z + (z.names + z.names)
 abbrev pub boxes_from : Sizes → ℕ
 boxes_from z = cells_from z + z.cells
 
+-- the lock of stripe s is the word locks_from z + 8 * s
 abbrev pub locks_from : Sizes → ℕ
 locks_from z = boxes_from z + 16 * z.workers
 
 abbrev pub all_words : Sizes → ℕ
-all_words z = boxes_from z + (16 * z.workers + 16)
+all_words z = boxes_from z + (16 * z.workers + 128)
 
 -- the sizes of a forest, with one announcement word for each worker
 abbrev pub sizes_of : ℕ → ℕ → ℕ → ℕ → Sizes

@@ -1,5 +1,5 @@
 //! The rule of the table, and what each step tells.
-ghost use Rattle.std.specs.Prelude.{◌≡◌, ◌+◌, ◌-◌, ◌%◌, ◌^◌, [], ◌∷◌, None};
+ghost use Rattle.std.specs.Prelude.{◌≡◌, ◌+◌, ◌-◌, ◌/◌, ◌%◌, ◌^◌, [], ◌∷◌, None};
 ghost use Rattle.eqc_core.specs.View.{fresh};
 ghost use Rattle.eqc_core.specs.Words.{announced_words};
 ghost use Rattle.eqc_core.specs.Announcing.{looked, announced, rechecked};
@@ -160,7 +160,7 @@ impl Play<Stripe, View> for Reclaim {
 pub struct Lock;
 
 impl Play<Stripe, View> for Lock {
-    ghost then = { λ s me n after. Locks me s.word (s.word - locks_from me.0.core.sizes) n after };
+    ghost then = { λ s me n after. Locks me s.word ((s.word - locks_from me.0.core.sizes) / 8) n after };
 }
 
 /// A stripe was unlocked.

@@ -15,6 +15,10 @@ use std::alloc::{AllocError, Global};
 // How many stripes the unique table has.
 const STRIPES: u32 = 16;
 
+// How many words it is from one lock word to the next: a cache line, so that workers that lock
+// different stripes take no line from each other.
+pub(crate) const APART: u32 = 8;
+
 // Puts a word n times behind the others.
 fn extend_with(words: &mut Vec<u64>, word: u64, n: u32) -> Result<(), AllocError>
     ensures { OnOk result (words.new.items ≡ words.old.items ++ repeated word n) }
@@ -43,7 +47,7 @@ fn count_words(sizes: &Sizes) -> usize
     let names = sizes.names as usize;
     let announced = workers * sizes.announcements as usize;
     let cells = announced + (names + names) + sizes.cells as usize;
-    cells + (16 * workers + 16)
+    cells + (16 * workers + (APART * STRIPES) as usize)
 }
 
 // The words, kind by kind, in which the first n variables have their literals.
@@ -64,7 +68,7 @@ pub(crate) fn first_words(alloc: Global, sizes: &Sizes, n: u32) -> Result<Vec<u6
     extend_with_literals(&mut words, n)?;
     extend_with(&mut words, 0, free)?;
     extend_with(&mut words, 0, sizes.cells)?;
-    extend_with(&mut words, 0, 16 * sizes.workers + STRIPES)?;
+    extend_with(&mut words, 0, 16 * sizes.workers + APART * STRIPES)?;
     Ok(words)
 }
 

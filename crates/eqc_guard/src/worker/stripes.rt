@@ -2,13 +2,14 @@
 //! back. Nothing else takes a map out of its slot, and no map is copied.
 
 use crate::rule::{Lock, Stripe, Unlock};
+use crate::stock::APART;
 use crate::worker::Worker;
 use crossbeam_utils::Backoff;
 use indexmap::IndexMap;
 use std::sync::Wait;
 
 impl Worker {
-    ghost use Rattle.std.specs.Prelude.{◌≡◌, ◌+◌, ◌<◌, ℕ, IfSome, None};
+    ghost use Rattle.std.specs.Prelude.{◌≡◌, ◌+◌, ◌*◌, ◌<◌, ℕ, IfSome, None};
     ghost use Rattle.eqc_core.specs.Locking.{MayLock, locked, unlocked};
     ghost use Rattle.eqc_guard.specs.Rule.{locks_from};
     ghost use Rattle.eqc_guard.specs.Standing.{Steps};
@@ -18,19 +19,19 @@ impl Worker {
     // The word of a stripe's lock.
     fn lock_word(&self, stripe: u32) -> usize
         requires { stripe < 16 }
-        ensures { result ≡ locks_from self.now.known.core.sizes + stripe }
+        ensures { result ≡ locks_from self.now.known.core.sizes + 8 * stripe }
     {
         let names = self.sizes.names as usize;
         let cells = self.announcement_words() as usize
             + (names + names)
             + self.sizes.cells as usize;
-        cells + 16 * self.sizes.workers as usize + stripe as usize
+        cells + 16 * self.sizes.workers as usize + (APART * stripe) as usize
     }
 
     // Tries to take a stripe's lock, and with it the stripe's map out of its slot.
     fn try_stripe(&mut self, stripe: u32) -> Option<Stripe>
         requires { MayLock self.old.known.core stripe }
-        ensures won { IfSome result (λ map. Steps self.old (locked self.old.known.core stripe map.entries) self.new × (self.new.known.copy ≡ copied self.old.known.copy (locks_from self.old.known.core.sizes + stripe) 1)) }
+        ensures won { IfSome result (λ map. Steps self.old (locked self.old.known.core stripe map.entries) self.new × (self.new.known.copy ≡ copied self.old.known.copy (locks_from self.old.known.core.sizes + 8 * stripe) 1)) }
         ensures lost { result ≡ None → Steps self.old self.old.known.core self.new × (self.new.known.copy ≡ self.old.known.copy) }
     {
         let word = self.lock_word(stripe);
@@ -57,7 +58,7 @@ impl Worker {
     pub fn lock_stripe<R: Wait>(&mut self, rt: &R, stripe: u32) -> IndexMap<u64, u32>
         requires { MayLock self.old.known.core stripe }
         ensures step { Steps self.old (locked self.old.known.core stripe result.entries) self.new }
-        ensures copies { self.new.known.copy ≡ copied self.old.known.copy (locks_from self.old.known.core.sizes + stripe) 1 }
+        ensures copies { self.new.known.copy ≡ copied self.old.known.copy (locks_from self.old.known.core.sizes + 8 * stripe) 1 }
     {
         // What the worker knows is in order.
         let _number = self.number;
@@ -79,7 +80,7 @@ impl Worker {
     pub fn unlock_stripe(&mut self, stripe: u32, map: IndexMap<u64, u32>)
         requires { MayHome self.old.known.core stripe map.entries }
         ensures step { Steps self.old (unlocked self.old.known.core) self.new }
-        ensures copies { self.new.known.copy ≡ copied self.old.known.copy (locks_from self.old.known.core.sizes + stripe) 0 }
+        ensures copies { self.new.known.copy ≡ copied self.old.known.copy (locks_from self.old.known.core.sizes + 8 * stripe) 0 }
     {
         let word = self.lock_word(stripe);
         let _blank = self

@@ -6,7 +6,7 @@ use Rattle.eqc_guard.proofs.stock.first_words.Goals as goal
 
 pub returns : goal.returns
 returns c =
-    (c.in_ok-extend_with-8.ensures ∙ ap (λ (l : List ℕ). l ++ repeated 0 (16 * c.args.sizes.now.workers + 16))
+    (c.in_ok-extend_with-8.ensures ∙ ap (λ (l : List ℕ). l ++ repeated 0 (16 * c.args.sizes.now.workers + 128))
     (c.in_ok-extend_with-7.ensures ∙ ap (λ (l : List ℕ). l ++ repeated 0 c.args.sizes.now.cells)
     (c.in_ok-extend_with-6.ensures ∙ ap (λ (l : List ℕ). l ++ repeated 0 (c.args.sizes.now.names - (c.args.n + 2)))
     (c.in_ok-extend_with_literals.ensures ∙ ap (λ (l : List ℕ). l ++ literals 0 c.args.n)
