@@ -22,3 +22,4 @@ pub mod Absorbing
 pub mod Closing
 pub mod Copying
 pub mod Searching
+pub mod Members

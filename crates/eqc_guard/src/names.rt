@@ -1,10 +1,9 @@
 //! Names in words, and the retired names of a worker.
-ghost use Rattle.std.specs.Prelude.{◌≡◌, ◌+◌, ◌<◌, ◌≤◌, ◌^◌, [], ◌∷◌, ◌++◌, ℕ, length, ◌==◌, ◌≢◌, ◌↔◌, IsTrue, IfSome, eqb, if◌then◌else◌};
+ghost use Rattle.std.specs.Prelude.{◌≡◌, ◌+◌, ◌<◌, ◌≤◌, ◌^◌, [], ◌∷◌, ◌++◌, ℕ, length, ◌==◌, ◌≢◌, ◌↔◌, IsTrue, false, eqb, if◌then◌else◌};
 ghost use Rattle.arrayvec.specs.ArrayVec.{array_vec_len};
 ghost use Rattle.eqc_core.specs.Words.{times, slots_of, cell_names, operands, result_of};
 ghost use Rattle.eqc_core.specs.Moves.{without, without_each, note};
 ghost use Rattle.eqc_core.specs.Scanning.{kept, ejected};
-ghost use Rattle.std.specs.List.{position_from};
 
 use arrayvec::ArrayVec;
 use eqc_tree::unpack_cell;
@@ -77,34 +76,18 @@ pub(crate) fn retire(retired: &mut ArrayVec<u32, 128>, old: u64)
     }
 }
 
-// How often the name stands in the list.
-fn count(names: &[u64], x: u64) -> usize
-    ensures { result ≡ times x names.now }
+// Takes the first such name out of the list, and says whether there was one.
+fn remove_first(names: &mut ArrayVec<u64, 64>, x: u64) -> bool
+    ensures found { IsTrue result ↔ (0 < times x names.old.items) }
+    ensures others { names.new.items ≡ without x names.old.items }
+    ensures none { result ≡ false → names.new.items ≡ names.old.items }
 {
-    names.iter().filter(|y| **y == x).count()
-}
-
-// Whether it stands there.
-fn is_among(names: &[u64], x: u64) -> bool
-    ensures { IsTrue result ↔ (0 < times x names.now) }
-{
-    count(names, x) > 0
-}
-
-// The first place of the name.
-fn place(names: &[u64], x: u64) -> Option<usize>
-    ensures value { result ≡ position_from (λ y. y == x) 0 names.now }
-    ensures within { IfSome result (λ i. i < length names.now) }
-{
-    names.iter().position(|y| *y == x)
-}
-
-// Takes the first such name out of the list, if there is one.
-fn remove_first(names: &mut ArrayVec<u64, 64>, x: u64)
-    ensures { names.new.items ≡ without x names.old.items }
-{
-    if let Some(i) = place(names.as_slice(), x) {
-        names.remove(i);
+    match names.as_slice().iter().position(|y| *y == x) {
+        Some(i) => {
+            names.remove(i);
+            true
+        }
+        None => false,
     }
 }
 
@@ -116,15 +99,6 @@ pub(crate) fn append(names: &mut ArrayVec<u32, 128>, more: &[u32])
     let _fits = names.try_extend_from_slice(more);
 }
 
-// Takes one of each of these out.
-fn remove_each(names: &mut ArrayVec<u64, 64>, gone: &[u64])
-    ensures { names.new.items ≡ without_each gone.now names.old.items }
-{
-    for x in gone {
-        remove_first(names, *x);
-    }
-}
-
 // The numbers that are out of a worker's view once it has another worker's back: out no more at
 // worker 0, and taken in at any other.
 pub(crate) fn take_numbers(out: &mut ArrayVec<u64, 64>, number: u32, from: u64, more: &[u64])
@@ -133,7 +107,9 @@ pub(crate) fn take_numbers(out: &mut ArrayVec<u64, 64>, number: u32, from: u64, 
 {
     if number == 0 {
         remove_first(out, from);
-        remove_each(out, more);
+        for x in more {
+            remove_first(out, *x);
+        }
         return;
     }
     out.push(from);
@@ -145,7 +121,7 @@ pub(crate) fn add_note(noted: &mut ArrayVec<u64, 64>, x: u64)
     requires { length noted.old.items < 64 }
     ensures { noted.new.items ≡ note x noted.old.items }
 {
-    if x == 0 || is_among(noted.as_slice(), x) {
+    if x == 0 || noted.as_slice().contains(&x) {
         return;
     }
     noted.push(x);
@@ -162,8 +138,7 @@ pub(crate) fn sort_out(
     let mut stay = ArrayVec::new();
     let mut go = ArrayVec::new();
     for x in retired.as_slice() {
-        if is_among(noted.as_slice(), u64::from(*x)) {
-            remove_first(noted, u64::from(*x));
+        if remove_first(noted, u64::from(*x)) {
             stay.push(*x);
         } else {
             go.push(*x);
