@@ -2,8 +2,8 @@
 //! goes, and that it keeps results.
 #![tactic(auto, using(eqc_tree::proofs::HoldingLemmas::counts_itself))]
 
-ghost use Rattle.std.specs.Prelude.{◌≡◌, ◌<◌, ◌+◌, ℕ, Bool, true, OnErr, IfOk};
-ghost use Rattle.eqc_tree.specs.Holding.{Entry, IsHeld, Gains, Keeps, copies, weight, says};
+ghost use Rattle.std.specs.Prelude.{◌≡◌, ◌<◌, ◌+◌, ◌↔◌, ℕ, Bool, IsTrue, true, OnErr, IfOk};
+ghost use Rattle.eqc_tree.specs.Holding.{Entry, IsHeld, Gains, Loses, Keeps, copies, weight, says};
 ghost use Rattle.eqc_tree.specs.Operation.{operate};
 
 use eqc_plain::Plain;
@@ -35,6 +35,18 @@ fn exclusive_or<R, D: Diagrams<R>>(
     one
 }
 
+/// Whether a function that was made is x; what was made is given back.
+fn is_same<D: References>(d: &mut D, x: &D::Ref, made: D::Ref) -> bool
+    requires x { IsHeld (D.holding d.old) (D.entry x.now) }
+    requires made { IsHeld (D.holding d.old) (D.entry made) }
+    ensures answer { IsTrue result ↔ ((a : ℕ → Bool) → says (D.entry x.now) a ≡ says (D.entry made) a) }
+    ensures given { Loses (D.holding d.old) (D.holding d.new) (D.entry made) }
+{
+    let same = d.same(x, &made);
+    d.give_back(made);
+    same
+}
+
 /// Whether the exclusive or of x and y, made in two ways, is one function.
 fn two_ways<R, D: Diagrams<R>>(rt: &R, d: &mut D, x: &D::Ref, y: &D::Ref) -> Result<bool, Stop>
     requires x { IsHeld (D.holding d.old) (D.entry x.now) }
@@ -43,17 +55,12 @@ fn two_ways<R, D: Diagrams<R>>(rt: &R, d: &mut D, x: &D::Ref, y: &D::Ref) -> Res
     ensures kept { Keeps (D.holding d.old) (D.holding d.new) }
 {
     let one = d.apply(rt, Op::Xor, x, y)?;
-    let other = match exclusive_or(rt, d, x, y) {
-        Ok(other) => other,
-        Err(stop) => {
-            d.give_back(one);
-            return Err(stop);
-        }
+    let agree = match exclusive_or(rt, d, x, y) {
+        Ok(other) => Ok(is_same(d, &one, other)),
+        Err(stop) => Err(stop),
     };
-    let agree = d.same(&one, &other);
     d.give_back(one);
-    d.give_back(other);
-    Ok(agree)
+    agree
 }
 
 /// The same for the first two variables.
@@ -133,9 +140,7 @@ fn is_literal<R, D: Diagrams<R>>(rt: &R, d: &mut D, variable: u16, x: &D::Ref) -
     ensures { Keeps (D.holding d.old) (D.holding d.new) }
 {
     let y = d.literal(rt, variable)?;
-    let alike = d.same(x, &y);
-    d.give_back(y);
-    Ok(alike)
+    Ok(is_same(d, x, y))
 }
 
 /// Whether a copy is the same function.
@@ -144,9 +149,7 @@ fn is_copied<D: References>(d: &mut D, x: &D::Ref) -> Result<bool, Stop>
     ensures { Keeps (D.holding d.old) (D.holding d.new) }
 {
     let y = d.copy(x)?;
-    let alike = d.same(x, &y);
-    d.give_back(y);
-    Ok(alike)
+    Ok(is_same(d, x, y))
 }
 
 /// The value that is read of a constant.
@@ -293,17 +296,12 @@ fn commutes<R, D: Diagrams<R>>(
     ensures { Keeps (D.holding d.old) (D.holding d.new) }
 {
     let one = d.apply(rt, op, x, y)?;
-    let other = match d.apply(rt, op, y, x) {
-        Ok(other) => other,
-        Err(stop) => {
-            d.give_back(one);
-            return Err(stop);
-        }
+    let agree = match d.apply(rt, op, y, x) {
+        Ok(other) => Ok(is_same(d, &one, other)),
+        Err(stop) => Err(stop),
     };
-    let agree = d.same(&one, &other);
     d.give_back(one);
-    d.give_back(other);
-    Ok(agree)
+    agree
 }
 
 /// Whether the operations that commute give one function in both orders of these operands, and the other one doesn't; and
