@@ -49,6 +49,8 @@ pub struct Worker {
     draft: Option<u32>,
     // The slot at which the next search for a free one begins.
     rover: u32,
+    // How many nodes the stripe had that was put back last.
+    nodes_seen: usize,
     // What an empty map is made with. It takes no memory.
     alloc: Global,
 }
@@ -121,6 +123,7 @@ impl Worker {
             out: ArrayVec::new(),
             draft: None,
             rover: first_slot(&sizes, number),
+            nodes_seen: 0,
             alloc,
         }
     }
@@ -408,6 +411,7 @@ impl Worker {
             out,
             draft: _,
             rover: _,
+            nodes_seen: _,
             alloc: _,
         } = other;
         self.table.shared.join_seat::<JoinUp>(&mut self.seat, seat);

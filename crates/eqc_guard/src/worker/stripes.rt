@@ -72,6 +72,12 @@ impl Worker {
         unreachable!()
     }
 
+    /// About how many slots are taken: as many as there are where each stripe has so many nodes as the one that this worker
+    /// put back last. Nothing that is promised depends on it.
+    pub fn slots_about_taken(&self) -> usize {
+        self.nodes_seen.saturating_mul(16)
+    }
+
     /// Puts the map of the stripe in hand back into its slot, and gives the stripe's lock up.
     ///
     /// No scan is under way, the stripe is in hand, and the map has the entries of its table, in
@@ -83,6 +89,7 @@ impl Worker {
         ensures copies { self.new.known.copy ≡ copied self.old.known.copy (locks_from self.old.known.core.sizes + 8 * stripe) 0 }
     {
         let word = self.lock_word(stripe);
+        self.nodes_seen = map.len();
         let _blank = self
             .table
             .shared
