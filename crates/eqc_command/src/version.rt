@@ -4,5 +4,5 @@
 /// the headline of what is proved.
 pub const VERSION: &str = "\
 0.1
-proved and built with rattle-kit-13b logic dac8208d650f15bf
+proved and built with rattle-kit-13f logic dac8208d650f15bf
 proved: a verdict is right for every assignment of the inputs, and a counterexample is the least one";
