@@ -6,6 +6,7 @@ pub mod Moves
 pub mod Counts
 pub mod Making
 pub mod Locking
+pub mod Trying
 pub mod Seats
 pub mod Stocking
 pub mod Beginning

@@ -1,5 +1,5 @@
 -- Each step on a slot or a node is allowed by the rule, whatever the table is when its word changes.
-use Rattle.std.proofs.Common.{◌≡◌, ◌≢◌, ℕ, ◌+◌, ◌-◌, ◌^◌, ◌<◌, ◌≤◌, List, [], ◌∷◌, ◌++◌, length, set, get_or, eqb, Bool, true, false, MatchBool, Some, eq-eqb, ne_eqb, refl, sym, ap, subst, ◌∙◌, arith, inl, inr, length-append}
+use Rattle.std.proofs.Common.{◌≡◌, ◌≢◌, ℕ, ◌+◌, ◌-◌, ◌^◌, ◌<◌, ◌≤◌, List, [], ◌∷◌, ◌++◌, length, set, get_or, if◌then◌else◌, eqb, Bool, true, false, MatchBool, Some, eq-eqb, ne_eqb, refl, sym, ap, subst, ◌∙◌, arith, inl, inr, length-append}
 use Rattle.std.specs.HashMap.{HashMap}
 use Rattle.std.proofs.lemmas.Bool.{eqb-true, lt-ltb, le-ltb}
 use Rattle.std.proofs.lemmas.List.{set-get_or, get_or-set_same}
@@ -17,7 +17,7 @@ use Rattle.eqc_core.specs.Words.{Words, announced_words, times, children, variab
 use Rattle.eqc_core.specs.Tables.{Homes, IsName, tabled}
 use Rattle.eqc_core.specs.Trees.{IsTree, variable_at}
 use Rattle.eqc_core.specs.Lawful.{Lawful}
-use Rattle.eqc_core.specs.Moves.{IsReady, AreHeld, with_count, with_node, without_each}
+use Rattle.eqc_core.specs.Moves.{IsReady, AreHeld, with_count, with_node, without_each, note}
 use Rattle.eqc_core.specs.Making.{MayClaim, claimed, found_taken, MayUnclaim, unclaimed, MayWrite, wrote, MayRead, read_node, MayReclaim, reclaimed}
 use Rattle.eqc_core.proofs.Lists.{set_again}
 use Rattle.eqc_core.proofs.Names.{times-append, times-same, times_more, names_low, names_high, length-without_each, length-slots_of}
@@ -29,7 +29,7 @@ use Rattle.eqc_core.proofs.Writing.{write_keeps}
 use Rattle.eqc_core.proofs.Reclaiming.{reclaim_keeps}
 use Rattle.eqc_guard.specs.Known.{flat, Known, Knows, IsKnown, IsHeld, IsNamed, Stepped, names_of, tree_of}
 use Rattle.eqc_guard.specs.Telling.{Told, Stored, Nothing, Copies}
-use Rattle.eqc_guard.specs.Making.{Claims, node_tree, drafted, Writes, MayMake, Reads, IsEntry, taken_back, Reclaims}
+use Rattle.eqc_guard.specs.Making.{Claims, spotted, node_tree, drafted, Writes, MayMake, Reads, IsEntry, taken_back, Reclaims}
 use Rattle.eqc_guard.specs.Rule.{Held, homes_of, nodes_from}
 use Rattle.eqc_guard.proofs.Laid.{set_count, get_count, set_node, get_node}
 use Rattle.eqc_guard.proofs.Learning.{names_is, held_named, named_tree, held_tree}
@@ -139,6 +139,17 @@ module _ {S : Type 0} (z : Sizes) (slots id i : ℕ) (me : Me (HashMap ℕ ℕ S
     claim_allows may =
         let back : x ≡ i - announced_words me.0.core.sizes = omega arith in
         subst (λ (y : ℕ). Allows (Held {S = S} z) slots id me i (λ n. either (eqb n 0) 2 n) (λ n after. Claims me i y n after)) back (claim_at may)
+
+    -- a load that notes the slot, or leaves the view
+    spot_keeps : (w : Words) (hs : Homes) (vs : List View) → Lawful z w hs vs → get_elem? vs id ≡ some me.0.core → (free : Bool) → Lawful z w hs (set vs id (record me.0.core { turn = if free then me.0.core.turn else note x me.0.core.turn }))
+    spot_keeps w hs vs law at true = subst (λ (us : List View). Lawful z w hs us) (sym (set_again vs id me.0.core at)) law
+    spot_keeps w hs vs law at false = claim_lost_keeps z w hs vs id me.0.core law at on x
+
+    pub spot_allows : Allows (Held {S = S} z) slots id me i (λ n. n) (λ n after. Told me i n n (spotted me.0.core (i - announced_words me.0.core.sizes) n) after (Nothing n))
+    spot_allows =
+        let back : x ≡ i - announced_words me.0.core.sizes = omega arith in
+        subst (λ (y : ℕ). Allows (Held {S = S} z) slots id me i (λ n. n) (λ n after. Told me i n n (spotted me.0.core y n) after (Nothing n))) back
+        (load z slots id i me on (λ n. spotted me.0.core x n) Nothing (λ n. on) (λ w hs vs law at knows. (spot_keeps w hs vs law at (eqb (get_or (flat w) i 0) 0), λ k core known. tt)))
 
     pub unclaim_allows : x < me.0.core.sizes.names → MayUnclaim me.0.core x → Allows (Held {S = S} z) slots id me i (λ _. 0) (λ _ after. Stored me i 0 (unclaimed me.0.core) after)
     unclaim_allows there may = store z slots id i me on 0 (unclaimed me.0.core) on (λ w hs vs law at. (with_count w x 0, laid w hs vs law at there 0, refl, unclaim_keeps z w hs vs id me.0.core law at on x may))

@@ -1,5 +1,5 @@
 -- A search for a free slot, try by try.
-use Rattle.std.proofs.Common.{◌≡◌, ◌≢◌, ℕ, ◌+◌, ◌<◌, ◌≤◌, List, [], ◌∷◌, ◌++◌, Bool, true, false, if◌then◌else◌, eqb, ltb, ne_eqb, refl, sym, ap, subst, ◌∙◌, arith}
+use Rattle.std.proofs.Common.{◌≡◌, ◌≢◌, ℕ, ◌+◌, ◌<◌, ◌≤◌, List, [], ◌∷◌, ne_eqb, refl, sym, ap, subst, ◌∙◌, arith}
 use Rattle.std.proofs.lemmas.Bool.{lt-ltb, le-ltb}
 use native.Mathlib.Decide.{ℕ_discrete, dec_le}
 use Rattle.eqc_core.specs.View.{View}
@@ -7,7 +7,7 @@ use Rattle.eqc_core.specs.Words.{times}
 use Rattle.eqc_core.specs.Moves.{note}
 use Rattle.eqc_core.specs.Making.{claimed, found_taken}
 use Rattle.eqc_core.proofs.Names.{times-append, times-same}
-use Rattle.eqc_guard.specs.Known.{Known, IsKnown, names_of, tree_of}
+use Rattle.eqc_guard.specs.Known.{IsKnown, names_of}
 use Rattle.eqc_guard.specs.Standing.{Standing, Steps}
 use Rattle.eqc_guard.specs.Searching.{IsDrafted, HasSeen, HasSeenAll}
 use Rattle.eqc_guard.proofs.Learning.{names_is, keeps_on}

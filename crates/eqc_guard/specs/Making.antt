@@ -1,5 +1,5 @@
 -- A node's life as a worker knows it: a slot is claimed, its node is written and read, and a node that only its table owns is taken back.
-use Rattle.std.specs.Prelude.{◌≡◌, ◌≢◌, ℕ, ◌^◌, ◌<◌, ◌≤◌, List, [], ◌∷◌, length, Some, eqb, MatchBool}
+use Rattle.std.specs.Prelude.{◌≡◌, ◌≢◌, ℕ, ◌^◌, ◌<◌, ◌≤◌, List, [], ◌∷◌, length, Some, if◌then◌else◌, eqb, MatchBool}
 use mathlib.Core.Option.{some}
 use lib.ListN.{get_elem?}
 use Rattle.eqc_tree.specs.Tree.{Tree, Node, StartsAbove}
@@ -7,7 +7,7 @@ use Rattle.eqc_tree.specs.Word.{node_word}
 use Rattle.eqc_core.specs.View.{View, Hand, draft_of, hand_of}
 use Rattle.eqc_core.specs.Words.{variable_of, low_of, high_of}
 use Rattle.eqc_core.specs.Stripes.{HasRoom}
-use Rattle.eqc_core.specs.Moves.{IsReady, AreHeld}
+use Rattle.eqc_core.specs.Moves.{IsReady, AreHeld, note}
 use Rattle.eqc_core.specs.Making.{claimed, found_taken, wrote, reclaimed}
 use Rattle.eqc_guard.specs.Known.{Known, Stepped, IsHeld, tree_of}
 use Rattle.eqc_guard.specs.Telling.{Told, Nothing, copied}
@@ -15,6 +15,10 @@ use Rattle.eqc_guard.specs.Telling.{Told, Nothing, copied}
 -- a try to claim the slot x, that found its count n: it is won where that is 0
 abbrev pub Claims : {T : Type 0} → Known × List T → ℕ → ℕ → ℕ → Known × List T → Type 0
 Claims me i x n after = MatchBool (eqb n 0) (Told me i n 2 (claimed me.0.core x) after (Nothing n)) (Told me i n n (found_taken me.0.core x) after (Nothing n))
+
+-- the slot x was found with the count n: one that is not free is noted as taken
+abbrev pub spotted : View → ℕ → ℕ → View
+spotted v x n = record v { turn = if eqb n 0 then v.turn else note x v.turn }
 
 -- a node over the trees of the children in its word
 abbrev pub node_tree : Known → ℕ → Tree

@@ -23,8 +23,9 @@
 //!
 //! In `proofs`: `Stepping` has the one combinator, by which a step owes its new words, its lawful
 //! state and what it tells (`allows`); trees and copies follow there. `Moves`, `Making` and `Locking`
-//! have what each step owes. `Learning` gives `IsKnown` from a lawful state, and `Seats` that splits and joins keep the
-//! rule. After a join a load that leaves the view (`settle_allows`) says again what is known.
+//! have what each step owes, and `Trying` what a try tells after a load of its word. `Learning` gives
+//! `IsKnown` from a lawful state, and `Seats` that splits and joins keep the rule. After a join a load
+//! that leaves the view (`settle_allows`) says again what is known.
 #![tactic(auto)]
 
 pub mod fault;

@@ -11,7 +11,7 @@ ghost use Rattle.eqc_core.specs.Making.{unclaimed, read_node};
 ghost use Rattle.eqc_guard.specs.Known.{Known, nobody};
 ghost use Rattle.eqc_guard.specs.Seats.{split_left, split_off, both};
 ghost use Rattle.eqc_guard.specs.Telling.{Copied, Told, Stored, Nothing, Looks, Rechecks, Settles};
-ghost use Rattle.eqc_guard.specs.Making.{Claims, Writes, Reads, Reclaims, Ups};
+ghost use Rattle.eqc_guard.specs.Making.{Claims, spotted, Writes, Reads, Reclaims, Ups};
 ghost use Rattle.eqc_guard.specs.Locking.{Locks, Unlocks};
 ghost use Rattle.eqc_guard.specs.Sharing.{Receives};
 ghost use Rattle.eqc_guard.specs.Rule.{Held, beginner, nodes_from, cells_from, locks_from};
@@ -126,6 +126,13 @@ pub struct Claim;
 
 impl Play<Stripe, View> for Claim {
     ghost then = { λ s me n after. Claims me s.word (s.word - announced_words me.0.core.sizes) n after };
+}
+
+/// A count was read: a slot that has one is noted as taken.
+pub struct Spot;
+
+impl Play<Stripe, View> for Spot {
+    ghost then = { λ s me n after. Told me s.word n n (spotted me.0.core (s.word - announced_words me.0.core.sizes) n) after (Nothing n) };
 }
 
 /// A draft was given up.

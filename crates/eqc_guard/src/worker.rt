@@ -484,7 +484,7 @@ impl Worker {
     }
 
     // Loads a count word.
-    fn load_count(&mut self, name: u32) -> u64
+    pub(crate) fn load_count(&mut self, name: u32) -> u64
         requires { name < self.old.known.core.sizes.names }
         ensures step { Steps self.old self.old.known.core self.new }
         ensures copies { Copies self.old.known (announced_words self.old.known.core.sizes + name) result result self.new.known }

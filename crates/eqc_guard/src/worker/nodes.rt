@@ -2,7 +2,7 @@
 //! node that only its table owns is taken back.
 use crate::names;
 use crate::reference::Ref;
-use crate::rule::{Claim, ReadNode, Reclaim, Unclaim, WriteNode};
+use crate::rule::{Claim, ReadNode, Reclaim, Spot, Unclaim, WriteNode};
 use crate::worker::Worker;
 use eqc_tree::{pack_node, unpack_node};
 
@@ -18,7 +18,7 @@ impl Worker {
     ghost use Rattle.eqc_guard.specs.Rule.{nodes_from};
     ghost use Rattle.eqc_guard.specs.Standing.{Steps};
     ghost use Rattle.eqc_guard.specs.Telling.{Copies, copied};
-    ghost use Rattle.eqc_guard.specs.Making.{drafted, MayMake, Reads, IsEntry, taken_back};
+    ghost use Rattle.eqc_guard.specs.Making.{spotted, drafted, MayMake, Reads, IsEntry, taken_back};
 
     /// How many slots the forest has for nodes: the first one has the number 2.
     pub fn slots(&self) -> u32
@@ -40,6 +40,31 @@ impl Worker {
     ///
     /// No scan is under way, and the worker has no draft.
     pub fn claim(&mut self, x: u32) -> bool
+        requires { MayClaim self.old.known.core x }
+        ensures won { IsTrue result → Steps self.old (claimed self.old.known.core x) self.new }
+        ensures lost { result ≡ false → Steps self.old (found_taken self.old.known.core x) self.new }
+        ensures copies { (count : ℕ) × (IsTrue result ↔ (count ≡ 0)) × Copies self.old.known (announced_words self.old.known.core.sizes + x) count (if result then 2 else count) self.new.known }
+    {
+        // Most slots that are tried are taken. A load comes first: it does not take the cache line
+        // from others, and loads overlap, where locked instructions do not.
+        if self.spot(x) != 0 {
+            return false;
+        }
+        self.try_claim(x)
+    }
+
+    // Loads the count word of a slot. A slot that is not free is noted as seen taken.
+    fn spot(&mut self, x: u32) -> u64
+        requires { x < self.old.known.core.sizes.names }
+        ensures step { Steps self.old (spotted self.old.known.core x result) self.new }
+        ensures copies { Copies self.old.known (announced_words self.old.known.core.sizes + x) result result self.new.known }
+    {
+        let at = self.count_word(x);
+        self.table.shared.load::<Spot>(&mut self.seat, at)
+    }
+
+    // Tries to claim a slot by a compare-exchange, whatever its count is.
+    fn try_claim(&mut self, x: u32) -> bool
         requires { MayClaim self.old.known.core x }
         ensures won { IsTrue result → Steps self.old (claimed self.old.known.core x) self.new }
         ensures lost { result ≡ false → Steps self.old (found_taken self.old.known.core x) self.new }
@@ -133,6 +158,25 @@ impl Worker {
     /// There is none where the node has other owners. Then nothing has changed. No scan is under
     /// way, the word with the slot is an entry of the table, and at most 2^39 names are held.
     pub fn reclaim(&mut self, x: u32, word: u64) -> Option<(Ref, Ref)>
+        requires ready { IsReady self.old.known.core }
+        requires entry { IsEntry self.old.known.core word x }
+        requires room { length self.old.known.core.held ≤ 2 ^ 39 }
+        ensures won { IfSome result (λ p. (p.0.number ≡ low_of word) × (p.1.number ≡ high_of word) × Steps self.old (taken_back self.old.known.core x word) self.new) }
+        ensures lost { result ≡ None → Steps self.old self.old.known.core self.new }
+        ensures copies { (count : ℕ) × ((result ≡ None) ↔ (count ≢ 1)) × Copies self.old.known (announced_words self.old.known.core.sizes + x) count (if eqb count 1 then 0 else count) self.new.known }
+    {
+        // What the worker knows is in order, so the slot of an entry is there.
+        let _number = self.number;
+        // Most nodes that are tried have other owners. A load comes first, as in `claim`: it does not
+        // take the cache line from others.
+        if self.load_count(x) != 1 {
+            return None;
+        }
+        self.try_reclaim(x, word)
+    }
+
+    // Tries to take a node back by a compare-exchange, whatever its count is.
+    fn try_reclaim(&mut self, x: u32, word: u64) -> Option<(Ref, Ref)>
         requires ready { IsReady self.old.known.core }
         requires entry { IsEntry self.old.known.core word x }
         requires room { length self.old.known.core.held ≤ 2 ^ 39 }

@@ -1,19 +1,13 @@
-use Rattle.std.proofs.Common.{◌≡◌, ◌+◌, ap, sym, subst, arith}
-use Rattle.eqc_core.specs.declared.sizes.Sizes.{Sizes}
-use Rattle.eqc_core.specs.Words.{announced_words}
-use Rattle.eqc_core.specs.Making.{MayClaim}
-use Rattle.eqc_guard.specs.Standing.{Standing}
-use Rattle.eqc_guard.proofs.Making.{claim_allows}
+use Rattle.std.proofs.Common.{if◌then◌else◌, subst}
+use Rattle.eqc_core.specs.View.{View}
+use Rattle.eqc_guard.specs.Standing.{Steps}
+use Rattle.eqc_guard.proofs.Trying.{spotted_free, count_on}
 use Rattle.eqc_guard.proofs.worker.Worker.claim.Goals as goal
 
-pub compare_exchange-count-requires : goal.compare_exchange-count-requires
-compare_exchange-count-requires c =
-    let is = c.self.invariant in
-    let me = c.self.inside.seat.me in
-    let v = sym c.self.view_is in
-    let at : c.count_word-word.result ≡ announced_words me.0.core.sizes + c.args.x = subst (λ (s : Standing). c.count_word-word.result ≡ announced_words s.known.core.sizes + c.args.x) v c.count_word-word.ensures in
-    let may : MayClaim me.0.core c.args.x = subst (λ (s : Standing). MayClaim s.known.core c.args.x) v c.requires in (
-      rw c.deref.ensures is.one_table,
-      rw (c.deref.ensures, is.worker.words) (let there = may.2 in let e = ap announced_words is.worker.sizes in let f = ap (λ (z : Sizes). z.names) is.worker.sizes in omega arith),
-      claim_allows c.deref.result.now.shared.key.sizes c.deref.result.now.shared.table_id.slots c.self.inside.seat.id c.count_word-word.result me is.worker.active c.args.x at may,
-    )
+pub returns-clause-copies : goal.returns-clause-copies
+returns-clause-copies c =
+    let old = c.args.self.now in
+    let mid = c.spot.new.self in
+    let t = c.try_claim.ensures.copies in
+    let loads : Steps old old.known.core mid = subst (λ (v : View). Steps old v mid) (spotted_free old.known.core c.args.x c.spot.result c.if-spot-ne0.false) c.spot.ensures.step in
+    (t.0, t.1, count_on old mid c.try_claim.new.self c.args.x c.spot.result t.0 (if c.try_claim.result then 2 else t.0) loads c.spot.ensures.copies t.2)

@@ -1,5 +1,4 @@
-use Rattle.std.proofs.Common.{◌≡◌, ◌<◌, ◌≤◌, IsTrue, true, ◌∙◌, ap, sym, subst, arith, refl}
-use Rattle.eqc_core.specs.View.{View}
+use Rattle.std.proofs.Common.{◌<◌, ◌≤◌, IsTrue, true, sym, subst, arith, refl}
 use Rattle.eqc_guard.specs.Known.{IsKnown}
 use Rattle.eqc_guard.specs.Standing.{Standing}
 use Rattle.eqc_guard.specs.Searching.{IsDrafted}
