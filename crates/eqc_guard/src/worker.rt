@@ -65,12 +65,6 @@ impl Model for Worker {
     ghost invariant = { λ w. IsSeated w.seat.table_id (arc_value w.table).shared.table_id (arc_value w.table).shared.key.sizes w.sizes w.seat.me w.number w.held w.phase w.retired.items w.noted.items w.position w.given w.out.items w.draft };
 }
 
-// The slot at which a worker's first search begins: the slots are shared out among the workers.
-fn first_slot(sizes: &Sizes, number: u32) -> u32 {
-    let share = sizes.names / sizes.workers.max(1);
-    2u32.saturating_add(share.saturating_mul(number))
-}
-
 impl Worker {
     ghost use Rattle.eqc_tree.specs.Tree.{SameFunction};
     ghost use Rattle.std.specs.Prelude.{[], false, if◌then◌else◌, List, Some, ◌-◌, ◌*◌, ◌%◌, ◌^◌, ◌≤◌, ◌↔◌, ◌++◌, length, ℕ, IsTrue, IfSome, None, IfOk, OnOk, OnErr, IfErr};
@@ -122,7 +116,7 @@ impl Worker {
             given,
             out: ArrayVec::new(),
             draft: None,
-            rover: first_slot(&sizes, number),
+            rover: search::own_slot(&sizes, number, 0),
             nodes_seen: 0,
             alloc,
         }
