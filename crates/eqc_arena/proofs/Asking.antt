@@ -17,7 +17,7 @@ use Rattle.eqc_guard.specs.Locking.{MayHome}
 use Rattle.eqc_guard.specs.declared.reference.Ref.{Ref}
 use Rattle.eqc_arena.specs.Changing.{Changes, Exchanges}
 use Rattle.eqc_arena.specs.Nodes.{MayAsk, MayEnter, IsMade, IsNodeOf}
-use Rattle.eqc_arena.proofs.Changing.{hand_now, draft_now, ready_now, quiet_now, names_now, lengths_now, held_still, same_tree, here, and, still, locks, unlocks}
+use Rattle.eqc_arena.proofs.Changing.{hand_now, draft_now, ready_now, quiet_now, names_now, lengths_now, held_still, same_tree, here, and, still, one_comes, locks, unlocks}
 use Rattle.eqc_guard.proofs.Learning.{held_named}
 use Rattle.eqc_arena.proofs.Entries.{home_locked}
 
@@ -93,6 +93,21 @@ asks_still variable low high old mid may t = record {
   above_high = subst (λ (u : Tree). StartsAbove variable u) (sym (same_tree t high may.high_held)) may.above_high;
 }
 
+-- what comes after a change in which nothing went or came, told from before it
+module _ (variable low high : ℕ) (old mid : Standing) (t : Exchanges [] [] old mid) where
+  pub later_node : (new : Standing) (o : Result Ref Stop) → IfOk o (λ r. Exchanges [] (slots_of (r.number ∷ [])) mid new) → IfOk o (λ r. Exchanges [] (slots_of (r.number ∷ [])) old new)
+  later_node new (Err e) m = tt
+  later_node new (Ok r) m = one_comes r.number t m
+
+  pub later_tree : IsHeld old.known.core low → IsHeld old.known.core high → (new : Standing) (o : Result Ref Stop) → IfOk o (λ r. IsNodeOf variable (tree_of mid.known low) (tree_of mid.known high) (tree_of new.known r.number))
+      → IfOk o (λ r. IsNodeOf variable (tree_of old.known low) (tree_of old.known high) (tree_of new.known r.number))
+  later_tree l h new (Err e) m = tt
+  later_tree l h new (Ok r) m = subst (λ (p : Tree × Tree). IsNodeOf variable p.0 p.1 (tree_of new.known r.number)) (λ i. (same_tree t low l i, same_tree t high h i)) m
+
+  pub later_still : (new : Standing) (o : Result Ref Stop) → OnErr o (Exchanges [] [] mid new) → OnErr o (Exchanges [] [] old new)
+  later_still new (Ok r) e = tt
+  later_still new (Err x) e = still t (here t e)
+
 -- children of two numbers have two trees
 apart : (k : Known) (low high : ℕ) → IsKnown k → IsHeld k.core low → IsHeld k.core high → low ≢ high → tree_of k low ≢ tree_of k high
 apart k low high known l h differ same = differ (known.one low high (named l) (named h) same)
@@ -116,10 +131,6 @@ module _ (variable low high : ℕ) (old mid : Standing) (may : MayAsk old.known 
   node_tree new (Ok r) m =
       let is : tree_of new.known r.number ≡ Node variable (tree_of old.known low) (tree_of old.known high) = m.tree ∙ (λ i. Node variable (same_tree t low may.low_held i) (same_tree t high may.high_held i)) in
       ((λ same. absurd (apart old.known low high known may.low_held may.high_held differ same)), λ other. is)
-
-  pub node_still : (new : Standing) (o : Result Ref Stop) → OnErr o (Exchanges [] [] mid new) → OnErr o (Exchanges [] [] old new)
-  node_still new (Ok r) e = tt
-  node_still new (Err x) e = still t (here t e)
 
 -- where both children are one, its copy is the node
 pub node_copied : (variable low high : ℕ) (old new : Standing) (o : Result Ref Stop) → low ≡ high → IsHeld old.known.core low → IfOk o (λ r. r.number ≡ low) → OnOk o (Exchanges [] (slots_of (low ∷ [])) old new)

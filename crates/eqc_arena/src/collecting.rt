@@ -28,13 +28,31 @@ const MOST_TRIES: u32 = 1 << 20;
 // Words of nodes that fell to one owner, which may be their table, in stripes that the turn has
 // passed: in the others it finds them itself.
 #[derive(Drop)]
-struct Fallen {
+pub(crate) struct Fallen {
     words: ArrayVec<u64, 4096>,
-    // The last stripe that the turn has passed, or is in.
-    passed: u32,
+    // The stripe with which the turn begins.
+    first: u32,
+    // How many stripes the turn has passed, beside the one in which it is.
+    pub(crate) passed: u32,
 }
 
 impl Fallen {
+    // None yet, in a turn that begins with this stripe.
+    pub(crate) fn new(first: u32) -> Fallen {
+        Fallen {
+            words: ArrayVec::new(),
+            first: first % 16,
+            passed: 0,
+        }
+    }
+
+    // The stripe in which the turn is.
+    pub(crate) fn stripe(&self) -> u32
+        ensures { result < 16 }
+    {
+        self.first.wrapping_add(self.passed) % 16
+    }
+
     // Keeps the word of a node whose count fell from this. Where there is no room, it waits for
     // another turn.
     fn note(&mut self, word: u64, owners: u64) {
@@ -42,7 +60,8 @@ impl Fallen {
             return;
         }
         let (var, low, high) = unpack_node(word);
-        if stripe_for(var, low, high) <= self.passed {
+        let stripe = stripe_for(var, low, high);
+        if stripe.wrapping_sub(self.first) % 16 <= self.passed {
             let _full = self.words.try_push(word);
         }
     }
@@ -100,7 +119,12 @@ fn try_entry(
 
 // Takes the dead nodes of a stripe back, and gives their number. The last entry is tried first: what
 // takes the place of an entry that went has been tried.
-fn take_stripe<R: Wait>(worker: &mut Worker, rt: &R, stripe: u32, fallen: &mut Fallen) -> u32
+pub(crate) fn take_stripe<R: Wait>(
+    worker: &mut Worker,
+    rt: &R,
+    stripe: u32,
+    fallen: &mut Fallen,
+) -> u32
     requires rest { IsAtRest worker.old.known.core }
     requires stripe { stripe < 16 }
     requires room { length worker.old.known.core.held ≤ 2 ^ 39 }
@@ -145,7 +169,7 @@ fn take_word<R: Wait>(worker: &mut Worker, rt: &R, word: u64, fallen: &mut Falle
 
 // Tries the fallen nodes, the last one first, and gives how many were taken back. Their children
 // come behind them, so that there are few at a time: as many as a path has nodes, and some.
-fn take_fallen<R: Wait>(worker: &mut Worker, rt: &R, fallen: &mut Fallen) -> u32
+pub(crate) fn take_fallen<R: Wait>(worker: &mut Worker, rt: &R, fallen: &mut Fallen) -> u32
     requires rest { IsAtRest worker.old.known.core }
     requires room { length worker.old.known.core.held ≤ 2 ^ 39 }
     ensures few { result ≤ 2 ^ 20 }
@@ -203,10 +227,7 @@ pub fn collect<R: Wait>(worker: &mut Worker, rt: &R) -> u32
     let _cells = worker.cells();
     eqc_cache::storing::clear(worker);
     worker.scan();
-    let mut fallen = Fallen {
-        words: ArrayVec::new(),
-        passed: 0,
-    };
+    let mut fallen = Fallen::new(0);
     let mut all = 0u32;
     for _turn in 0..TURNS {
         let taken = turn(worker, rt, &mut fallen);

@@ -11,6 +11,7 @@
 //! - `collecting`, with `specs/Emptying.antt`: dead nodes are taken back, turn by turn over all stripes,
 //!   and after each stripe those children that fell to one owner in a stripe that the turn has passed;
 //!   `specs/Taking.antt` has what its parts do where the worker is alone
+//! - `sweeping`: dead nodes are taken back where room is needed, each worker in a part of the stripes
 //! - `making`, with `specs/Nodes.antt`: the one node of a variable and two children
 #![tactic(auto)]
 
@@ -18,3 +19,4 @@ pub mod boxes;
 pub mod collecting;
 pub mod making;
 pub mod nodes;
+mod sweeping;

@@ -9,8 +9,8 @@ ghost use Rattle.eqc_arena.specs.Changing.{Exchanges};
 ghost use Rattle.eqc_arena.specs.Nodes.{MayAsk, MayPut, MayEnter, IsMade, IsNodeOf};
 ghost use Rattle.eqc_arena.specs.Taking.{HomesStill};
 
-use crate::collecting::collect;
 use crate::nodes::{copy, give_back};
+use crate::sweeping::{Effort, take_back};
 use eqc_guard::reference::Ref;
 use eqc_guard::worker::Worker;
 use eqc_tree::{Stop, pack_node};
@@ -143,6 +143,60 @@ fn attempt<R: Wait>(
     made
 }
 
+// The node, after dead nodes were taken back.
+fn attempt_after<R: Wait>(
+    worker: &mut Worker,
+    rt: &R,
+    effort: Effort,
+    var: u16,
+    low: &Ref,
+    high: &Ref,
+) -> Result<Ref, Stop>
+    requires may { MayAsk worker.old.known var low.now.number high.now.number }
+    requires differ { low.now.number ≢ high.now.number }
+    ensures node { IfOk result (λ r. Exchanges [] (slots_of (r.number ∷ [])) worker.old worker.new) }
+    ensures tree { IfOk result (λ r. IsNodeOf var (tree_of worker.old.known low.now.number) (tree_of worker.old.known high.now.number) (tree_of worker.new.known r.number)) }
+    ensures still { OnErr result (Exchanges [] [] worker.old worker.new) }
+    ensures full { IfErr result (λ s. s ≡ Stop.References → 2 ^ 32 - 2 ≤ length worker.old.known.core.held) }
+    ensures all { IfErr result (λ s. s ≡ Stop.NodeLimit → HasSeenAll worker.new.known.core) }
+    ensures only { IfErr result (λ s. s ≢ Stop.Threads) }
+{
+    // What the worker knows is in order.
+    let _cells = worker.cells();
+    take_back(worker, rt, effort);
+    attempt(worker, rt, var, low, high)
+}
+
+// The node, where every slot was seen taken: after each attempt in vain more dead nodes are taken back.
+fn insist<R: Wait>(
+    worker: &mut Worker,
+    rt: &R,
+    var: u16,
+    low: &Ref,
+    high: &Ref,
+) -> Result<Ref, Stop>
+    requires may { MayAsk worker.old.known var low.now.number high.now.number }
+    requires differ { low.now.number ≢ high.now.number }
+    ensures node { IfOk result (λ r. Exchanges [] (slots_of (r.number ∷ [])) worker.old worker.new) }
+    ensures tree { IfOk result (λ r. IsNodeOf var (tree_of worker.old.known low.now.number) (tree_of worker.old.known high.now.number) (tree_of worker.new.known r.number)) }
+    ensures still { OnErr result (Exchanges [] [] worker.old worker.new) }
+    ensures full { IfErr result (λ s. s ≡ Stop.References → 2 ^ 32 - 2 ≤ length worker.old.known.core.held) }
+    ensures all { IfErr result (λ s. s ≡ Stop.NodeLimit → HasSeenAll worker.new.known.core) }
+    ensures only { IfErr result (λ s. s ≢ Stop.Threads) }
+{
+    // What the worker knows is in order.
+    let _cells = worker.cells();
+    match attempt_after(worker, rt, Effort::Share, var, low, high) {
+        Err(Stop::NodeLimit) => {}
+        made => return made,
+    }
+    match attempt_after(worker, rt, Effort::Turn, var, low, high) {
+        Err(Stop::NodeLimit) => {}
+        made => return made,
+    }
+    attempt_after(worker, rt, Effort::All, var, low, high)
+}
+
 /// The one node of a variable over two children: a reference of the node where there is one, else of
 /// a new one in a free slot. Where both children are the same it is one of the child.
 ///
@@ -172,10 +226,7 @@ pub fn mk<R: Wait>(
         return copy(worker, low);
     }
     match attempt(worker, rt, var, low, high) {
-        Err(Stop::NodeLimit) => {
-            collect(worker, rt);
-            attempt(worker, rt, var, low, high)
-        }
+        Err(Stop::NodeLimit) => insist(worker, rt, var, low, high),
         made => made,
     }
 }

@@ -1,0 +1,10 @@
+use Rattle.std.proofs.Common.{arith}
+use Rattle.eqc_arena.proofs.Changing.{lengths_now}
+use Rattle.eqc_arena.proofs.Taking.{rest_now}
+use Rattle.eqc_arena.proofs.sweeping.take_back.Goals as goal
+
+pub sweep-requires-clause-rest : goal.sweep-requires-clause-rest
+sweep-requires-clause-rest g c = rest_now c.requires.rest c.empty_cells.ensures.changes
+
+pub sweep-requires-clause-room : goal.sweep-requires-clause-room
+sweep-requires-clause-room g c = let room = c.requires.room in omega (arith, lengths_now c.empty_cells.ensures.changes)
