@@ -1,13 +1,14 @@
 #!/usr/bin/env python3
 """Measures what workers and forks gain on netlists with a single output, where only forks can share the work.
 
-usage: forks.py [--repeat N] [--nodes N] [--cells N] [--least SECONDS] [--pairs DIR] [WORKERS:FORKS ..]
+usage: forks.py [--eqc PROGRAM] [--repeat N] [--nodes N] [--cells N] [--least SECONDS] [--pairs DIR] [WORKERS:FORKS ..]
 
 It makes pairs of netlists: the middle output of multipliers, the hidden weighted bit, queens on a board. With `--pairs`
 it takes each NAME.a.blif with NAME.b.blif of a folder (and NAME.order, where there is one) in their place. For each
 pair it prints the wall time of one worker without forks, and the ratio to it of each WORKERS:FORKS (1:16, 4:0, 4:2, 4:4,
 4:8 and 4:16 where none is given): medians of REPEAT runs, 3 without the option, which alternate. Pairs that take one
 worker less than `--least` seconds, 0.5 without the option, are left out. The last line has the median of each column.
+Without `--eqc` it takes the program that `./eqc` has built.
 """
 import argparse
 import subprocess

@@ -1,18 +1,23 @@
 """Reads netlists as eqc reads them, for the scripts beside it: texts in BLIF, the models of a text, and the flat
-signals below a main model.
+signals below a main model. `run` starts a script and ends it with its status.
 
 What a text means and which faults it can have is said in docs/blif.md and docs/hierarchy.md. A fault has the number that
 eqc's report gives it, and here also the name that it is about. Names are bytes, as in eqc. Nothing recurses, so chains
 and hierarchies may be as deep as eqc allows.
 """
+import errno
 import gc
+import os
 import signal
 import sys
+from contextlib import contextmanager
 from dataclasses import dataclass, field
 
 LONGEST_TEXT = 16_777_216
 MOST_SIGNALS = 1_048_576
 MOST_INPUTS = 2_048
+# So many steps are shown at each end of a long way to an instance.
+SHOWN_STEPS = 10
 SKIPPED = frozenset(
     b".area .delay .wire .wire_load_slope .input_arrival .default_input_arrival .output_required"
     b" .default_output_required .input_drive .default_input_drive .max_input_load .default_max_input_load"
@@ -198,13 +203,13 @@ def models_of(text):
     return reader.models
 
 
-def text_of(path):
-    """The bytes of a file."""
+def text_of(path, name=None):
+    """The bytes of the file at a path, or of the open file of a number, which needs a name for what a fault says."""
     try:
         with open(path, "rb") as source:
             return source.read()
     except OSError as error:
-        raise Fault(f"{path}: {error.strerror}") from None
+        raise Fault(f"{name or path}: {error.strerror}") from None
 
 
 class Plan:
@@ -278,6 +283,7 @@ class Flat:
 
     A signal is a number. `driver[s]` is INPUT, the number of the signal that it is joined to, or a pair of a list of
     columns and their cover; the columns are numbers in the instance, whose first signal is `base[instance[s]]`.
+    `depth[s]` is the longest way of covers from it to an input or a constant.
     """
 
     def __init__(self, models, main):
@@ -295,6 +301,7 @@ class Flat:
             if driver is None:
                 raise Fault(f"nothing drives {shown(self.name(s))}", 27)
         self.source = [s if type(it) is not int else self.end_of_ties(s) for s, it in enumerate(self.driver)]
+        self.depth = self.depths()
         self.inputs = list(range(len(main.inputs)))
         self.outputs = [self.main.numbers[name] for name in main.outputs]
 
@@ -352,8 +359,7 @@ class Flat:
         return [source[base + it] for it in driver[0]]
 
     def depths(self):
-        """The longest way of covers from each signal to an input or a constant; fault 28 where a signal depends on
-        itself."""
+        """The depth of each signal; fault 28 where a signal depends on itself."""
         depth, is_open = [None] * len(self.driver), [False] * len(self.driver)
         for start in self.source:
             todo = [start]
@@ -374,39 +380,98 @@ class Flat:
         return [depth[it] for it in self.source]
 
     def name(self, s):
-        """A signal's name; in an instance with the way to it, as `adder.0/sum` in the first instance, of `adder`."""
-        k, parts = self.instance[s], []
-        parts.append(self.plan[k].names[s - self.base[k]])
+        """A signal's name; in an instance behind the way to it, as `2:adder/sum` in the second instance, an `adder`.
+
+        The way is written as eqc's --explain writes it: of more than 20 steps the first and the last ten are shown.
+        """
+        k, steps = self.instance[s], []
+        name = self.plan[k].names[s - self.base[k]]
         while self.parent[k] is not None:
             above, position = self.parent[k]
-            parts.append(self.plan[k].model.name + b".%d" % position)
+            steps.append(b"%d:%s" % (position + 1, self.plan[k].model.name))
             k = above
-        return b"/".join(reversed(parts))
+        steps.reverse()
+        if len(steps) > 2 * SHOWN_STEPS:
+            steps[SHOWN_STEPS:-SHOWN_STEPS] = [b".."]
+        return b"/".join([*steps, name])
 
 
-def flat_of(path, which=0):
-    """The flat netlist of a file's first model, or of its second with `which` 1."""
+class Source:
+    """A file with its text and its models."""
+
+    def __init__(self, path):
+        self.path, self.text = path, text_of(path)
+        with self.named():
+            self.models = models_of(self.text)
+
+    @contextmanager
+    def named(self):
+        """Faults that are found meanwhile get the file's name."""
+        try:
+            yield
+        except Fault as fault:
+            fault.path = self.path
+            raise
+
+    def model(self, name=None, place=0):
+        """The model of this name or, without a name, the one at this place; fault 13 where there is none."""
+        found = self.models[place:] if name is None else [it for it in self.models if it.name == name]
+        with self.named():
+            if not found:
+                wanted = "second model" if name is None else f"model {shown(name)}"
+                raise Fault(f"the file has no {wanted}", 13)
+        return found[0]
+
+    def flat(self, name=None, place=0):
+        """The flat netlist below such a model."""
+        main = self.model(name, place)
+        with self.named():
+            return Flat(self.models, main)
+
+
+def add_model_options(parser, *sides):
+    """Lets a command line choose models by their names, as eqc's does."""
+    for side in sides:
+        told = f"the model of this name of the {side} netlist's file"
+        parser.add_argument(f"--{side}-model", metavar="NAME", type=os.fsencode, help=told)
+
+
+def complain(said):
+    """Writes a line to standard error. Where that can't be written, the status alone tells."""
     try:
-        models = models_of(text_of(path))
-        if which >= len(models):
-            raise Fault("the file has no second model", 13)
-        return Flat(models, models[which])
-    except Fault as fault:
-        if fault.path is None and fault.code:
-            fault.path = path
-        raise
+        os.write(2, f"{said}\n".encode(errors="backslashreplace"))
+    except OSError:
+        pass
 
 
-def run(name, work):
-    """Runs a script's work and ends with the status that it returns, or with a fault's message and status 2."""
+@contextmanager
+def written_output():
+    """Standard output, all of which is written at the end; an OSError where it isn't.
+
+    It has a buffer whatever the environment says, since argparse passes over a help that can't be written at once. A
+    letter that its encoding lacks is written as `\\xNN`, so that no name keeps the rest from being written.
+    """
+    if sys.stdout is None:
+        raise OSError(errno.EBADF, os.strerror(errno.EBADF))
+    with open(1, "w", encoding=sys.stdout.encoding, errors="backslashreplace") as sys.stdout:
+        yield
+
+
+def run(name, main):
+    """Runs a script's main function and ends with the status that it returns, or with a message and status 2 after a
+    fault or where standard output can't be written."""
     # A reader of the output that stops early, as `head`, ends the script without a word.
     signal.signal(signal.SIGPIPE, signal.SIG_DFL)
     # Looking for cycles among millions of objects would take half of the time.
     gc.disable()
     try:
-        status = work()
+        with written_output():
+            status = main()
     except Fault as fault:
-        sys.stderr.write(f"{name}: {fault}\n")
+        complain(f"{name}: {fault}")
         status = 2
-    sys.stdout.flush()
+    except OSError as error:
+        # A file that can't be read or written is a fault, so only standard output is left.
+        complain(f"{name}: standard output: {error.strerror}")
+        status = 2
     sys.exit(status)

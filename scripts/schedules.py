@@ -1,12 +1,13 @@
 #!/usr/bin/env python3
 """Runs small pairs over and over with workers and forks drawn at random, each run under a time limit of its own.
 
-usage: schedules.py [--runs N] [--limit SECONDS] [--seed N] [--pairs DIR]
+usage: schedules.py [--eqc PROGRAM] [--runs N] [--limit SECONDS] [--seed N] [--pairs DIR]
 
 The pairs are adders, parities, a multiplier and a difference that it makes, or each NAME.a.blif with NAME.b.blif of a
 folder. Workers are drawn from 2 to 64, forks from 0 to 16, cells from 1 to 65536. A run must write what one worker without
 forks writes, or `stopped 71` where its nodes are drawn so that they may not do. It ends with the numbers of runs, of those
 that stopped so, and of those that wrote something else or did not end; its status is 1 if there is any of the last two.
+Without `--eqc` it takes the program that `./eqc` has built.
 """
 import argparse
 import random

@@ -98,9 +98,6 @@ stopped_stays Memory u v k h = tt
 stopped_stays References u v k h = let e = k.stops 13 in omega arith
 stopped_stays Threads u v k h = h
 
-pub memory_other : Memory ≢ Threads
-memory_other e = cc
-
 pub noted_stopped : (s : Stop) (f g : Ref) (v : View) → s ≢ Threads → NotesStop (Stopped s f g) v → HasStopped s v
 noted_stopped NodeLimit f g v other noted = inr (let e = noted 14 in omega (arith, times-same 14 14 [] refl))
 noted_stopped Memory f g v other noted = tt

@@ -5,8 +5,10 @@ use Rattle.std.proofs.lemmas.List.{map-append}
 use Rattle.atomic_table.specs.Seated.{TableId}
 use Rattle.eqc_tree.specs.Holding.{IsNew}
 use Rattle.eqc_core.specs.State.{slots_from}
+use Rattle.eqc_core.specs.declared.sizes.Sizes.{Sizes}
 use Rattle.eqc_guard.specs.declared.fault.SplitFault.{SplitFault}
 use Rattle.eqc_guard.specs.Known.{Known}
+use Rattle.eqc_guard.specs.Rule.{sizes_of}
 use Rattle.eqc_guard.specs.Seats.{split_left, split_off}
 use Rattle.eqc_guard.specs.Splitting.{IsSplit}
 use Rattle.eqc_guard.specs.Standing.{Standing}
@@ -15,7 +17,7 @@ use Rattle.eqc_apply.specs.declared.applier.Applier.{Applier}
 use Rattle.eqc_apply.specs.Names.{Has}
 use Rattle.eqc_apply.specs.Meaning.{kept_of}
 use Rattle.eqc_apply.specs.Extending.{holding_of, holding_in}
-use Rattle.eqc_apply.specs.Teaming.{IsTeam, IsLead, AreOthers, number_of, forest_of}
+use Rattle.eqc_apply.specs.Teaming.{IsTeam, IsLead, AreOthers, number_of, forest_of, sizes_in}
 
 -- who splits a number off holds what it held
 left_has : (n : ℕ) (counts : List ℕ) (old new : Standing) → new.known ≡ split_left old.known → Has [] n old counts → Has [] n new counts
@@ -40,8 +42,11 @@ new_member n v k l counts h = record { variables = h.variables; held = refl }
 pub number_left : (old new : Known) → new ≡ split_left old → new.core.number ≡ old.core.number
 number_left old new is = ap (λ (k : Known). k.core.number) is
 
-pub workers_left : (old new : Known) → new ≡ split_left old → new.core.sizes.workers ≡ old.core.sizes.workers
-workers_left old new is = ap (λ (k : Known). k.core.sizes.workers) is
+pub sizes_left : (old new : Known) → new ≡ split_left old → new.core.sizes ≡ old.core.sizes
+sizes_left old new is = ap (λ (k : Known). k.core.sizes) is
+
+pub sizes_split : (old new : Known) → new ≡ split_off old → new.core.sizes ≡ old.core.sizes
+sizes_split old new is = ap (λ (k : Known). k.core.sizes) is
 
 pub given_left : (g : ℕ) (old new : Known) → new ≡ split_left old → old.core.given ≡ g → new.core.given ≡ g + 1
 given_left g old new is at = let e : new.core.given ≡ max old.core.given (suc old.core.given) = ap (λ (k : Known). k.core.given) is in omega arith
@@ -62,11 +67,12 @@ slots-push x (suc n) =
     ap (λ (l : List ℕ). x ∷ l) (subst (λ (m : ℕ). slots_from (suc x) n ++ m ∷ [] ≡ slots_from (suc x) (suc n)) e (slots-push (suc x) n))
 
 -- one member more
-pub more_others : (n g : ℕ) (f : TableId) (others : List Applier) (a : Applier) → AreOthers n g f others → IsNew n (holding_in a.names) → number_of a ≡ g + 1 → forest_of a ≡ f → AreOthers n (g + 1) f (others ++ a ∷ [])
-more_others n g f others a o new number forest = record {
+pub more_others : (n : ℕ) (s : Sizes) (g : ℕ) (f : TableId) (others : List Applier) (a : Applier) → AreOthers n s g f others → IsNew n (holding_in a.names) → number_of a ≡ g + 1 → forest_of a ≡ f → sizes_in a ≡ s → AreOthers n s (g + 1) f (others ++ a ∷ [])
+more_others n s g f others a o new number forest sizes = record {
   numbers = map-append number_of others (a ∷ []) ∙ numbers;
   new = All-push (λ (b : Applier). IsNew n (holding_in b.names)) others a o.new new;
   one = All-push (λ (b : Applier). forest_of b ≡ f) others a o.one forest;
+  room = All-push (λ (b : Applier). sizes_in b ≡ s) others a o.room sizes;
 }
   where
     numbers : map number_of others ++ number_of a ∷ [] ≡ slots_from 1 (g + 1)
@@ -76,14 +82,15 @@ more_others n g f others a o new number forest = record {
         let p : slots_from 1 g ++ suc g ∷ [] ≡ slots_from 1 (suc g) = rw y at (slots-push 1 g) in
         rw (o.numbers, number, z) p
 
-pub other_forest : (n g : ℕ) (f h : TableId) (others : List Applier) → h ≡ f → AreOthers n g f others → AreOthers n g h others
-other_forest n g f h others e o = subst (λ (t : TableId). AreOthers n g t others) (sym e) o
+pub other_forest : (n : ℕ) (s : Sizes) (g : ℕ) (f h : TableId) (others : List Applier) → h ≡ f → AreOthers n s g f others → AreOthers n s g h others
+other_forest n s g f h others e o = subst (λ (t : TableId). AreOthers n s g t others) (sym e) o
 
 -- the first one comes before them
-pub is_team : (n w g : ℕ) (lead : Applier) (others : List Applier) → w ≡ g + 1 → IsLead n w w lead → AreOthers n g (forest_of lead) others → IsTeam n w (lead ∷ others)
-is_team n w g lead others is l o = record {
+pub is_team : (n nodes cells w g : ℕ) (lead : Applier) (others : List Applier) → w ≡ g + 1 → IsLead n (sizes_of n nodes cells w) w lead → AreOthers n (sizes_of n nodes cells w) g (forest_of lead) others → IsTeam n nodes cells w (lead ∷ others)
+is_team n nodes cells w g lead others is l o = record {
   numbers = let z : w ≡ suc g = omega arith in rw z (λ i. l.number i ∷ o.numbers i);
   new = All-cons (λ (b : Applier). IsNew n (holding_in b.names)) lead others l.new o.new;
   forest = forest_of lead;
   one = All-cons (λ (b : Applier). forest_of b ≡ forest_of lead) lead others refl o.one;
+  sizes = All-cons (λ (b : Applier). sizes_in b ≡ sizes_of n nodes cells w) lead others l.sizes_are o.room;
 }

@@ -1,3 +1,4 @@
+//! The state of an applier: what its worker holds, what it knows of results, and what it has under way.
 ghost use Rattle.std.specs.Prelude.{◌≡◌};
 ghost use Rattle.eqc_plain.specs.Cache.{IsCache};
 ghost use Rattle.std.proofs.Props.{props};
@@ -24,6 +25,8 @@ pub struct Applier {
     pub(crate) owed: u32,
     // Whether an operation begins anew, without names that no references stand on, where the forest is full.
     pub(crate) anew: bool,
+    // How often in succession there was no operation to be done for another worker.
+    pub(crate) vain: u32,
     ghost cached: { IsCache (kept_of names.variables names.worker.known) cells.cells.items } by { Prim.hlevel (props) },
 }
 
@@ -40,6 +43,7 @@ impl Applier {
             offers: _,
             owed: _,
             anew: _,
+            vain: _,
         } = self;
         names
     }

@@ -20,7 +20,7 @@ impl Applier {
     ghost use Rattle.eqc_apply.specs.Stopping.{HasStopped};
 
     /// Gives up all names that no references stand on, and the results that name them.
-    fn give_up(&mut self)
+    pub(crate) fn give_up(&mut self)
         ensures names { Stays self.old.names self.new.names }
     {
         self.cells.clear();
@@ -56,7 +56,7 @@ impl Applier {
         }
     }
 
-    /// The node of a variable over the constants.
+    /// The node of a variable over the constants, as `answer` has that of an operation.
     fn variable_node<R: Wait>(&mut self, rt: &R, var: u16) -> Result<u32, Stop>
         requires { var < self.old.names.variables }
         ensures names { Stays self.old.names self.new.names }
@@ -66,7 +66,7 @@ impl Applier {
     {
         self.make_way();
         match self.names.node(rt, var, 0, 1) {
-            Err(Stop::NodeLimit) => {
+            Err(Stop::NodeLimit) if self.anew => {
                 self.give_up();
                 self.names.node(rt, var, 0, 1)
             }
@@ -83,7 +83,7 @@ impl Applier {
     /// `serve` may do it.
     ///
     /// The call may wait. The errors are 71, where every slot was seen taken, by this worker after
-    /// names without references were given up and dead nodes taken back, or by one that did a half;
+    /// dead nodes were taken back and, but in a brief team, names without references given up, or by one that did a half;
     /// 72; and 73 at 2^32 - 1 references to one node, here or at a worker that did a half. After an
     /// error what is held is as before, and nothing is offered.
     pub fn apply_forked<R: Wait>(&mut self, rt: &R, op: Op, f: &Ref, g: &Ref) -> Result<Ref, Stop>
@@ -161,8 +161,8 @@ impl<R: Wait> Diagrams<R> for Applier {
     ghost use Rattle.std.specs.List.{All, find};
     ghost use Rattle.eqc_tree.specs.Assigned.{assigned, assignments, AreDistinct, DependsOnlyOn, IsSatisfiable};
 
-    /// Stops for nodes only where every slot was seen taken, after names without references were
-    /// given up and dead nodes taken back, and for references only at 2^32 - 1 to one node.
+    /// Stops for nodes only where every slot was seen taken, after dead nodes were taken back and, but in a brief team, names
+    /// without references given up, and for references only at 2^32 - 1 to one node.
     fn literal(&mut self, rt: &R, var: u16) -> Result<Ref, Stop>
         requires { var < (holding_in self.old.names).variables }
         ensures ok { IfOk result (λ r. Gains (holding_in self.old.names) (holding_in self.new.names) (entry_of r) (λ a. a var)) }
@@ -190,7 +190,7 @@ impl<R: Wait> Diagrams<R> for Applier {
         self.apply_forked(rt, op, f, g)
     }
 
-    /// Does one operation that another worker offered, as `serve` does, which it is.
+    /// Does one operation that another worker offered, as `serve` does, which it is: so it makes room where nothing comes.
     fn help(&mut self, rt: &R) -> bool
         ensures kept { Keeps (holding_in self.old.names) (holding_in self.new.names) }
         ensures worker { IsWorker self.old.names.worker self.new.names.worker }

@@ -98,11 +98,11 @@ impl Names {
             worker,
             variables: _,
             counts,
-            referred,
+            referred: _,
         } = other;
-        // A name that both refer to is counted twice here: then names are given up a little later.
-        self.referred = self.referred.saturating_add(referred);
         take_in(&mut self.worker, &mut self.counts, worker, counts);
+        // Both gave up what had no references, so each name that is held has some.
+        self.referred = self.worker.held();
     }
 }
 

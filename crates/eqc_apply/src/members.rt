@@ -2,7 +2,9 @@
 ghost use Rattle.std.specs.Prelude.{◌≡◌, ℕ, ◌+◌, ◌<◌, IfOk, IfErr, vec_len};
 ghost use Rattle.eqc_tree.specs.Holding.{IsNew};
 ghost use Rattle.eqc_apply.specs.Extending.{holding_in};
-ghost use Rattle.eqc_apply.specs.Teaming.{AreTeamSizes, IsTeam, IsLead, number_of, forest_of};
+ghost use Rattle.eqc_core.specs.declared.sizes.Sizes.{Sizes};
+ghost use Rattle.eqc_guard.specs.Rule.{sizes_of};
+ghost use Rattle.eqc_apply.specs.Teaming.{AreTeamSizes, IsTeam, IsLead, number_of, forest_of, sizes_in};
 
 use crate::applier::Applier;
 use crate::names::Names;
@@ -22,7 +24,7 @@ fn found(
     anew: bool,
 ) -> Result<Applier, Stop>
     requires { AreTeamSizes nodes cells workers forks }
-    ensures lead { IfOk result (IsLead vars workers 1) }
+    ensures lead { IfOk result (IsLead vars (sizes_of vars nodes cells workers) 1) }
     ensures only { IfErr result (λ s. s ≡ Stop.Memory) }
 {
     let worker = Forest::new(alloc, vars, nodes, cells, workers)?;
@@ -40,13 +42,14 @@ fn found(
         offers: Vec::new(alloc),
         owed: 0,
         anew,
+        vain: 0,
     })
 }
 
 // The next member, which the first one splits off.
 fn join(alloc: Global, lead: &mut Applier) -> Result<Applier, Stop>
-    requires lead { (n : ℕ) × (w : ℕ) × (g : ℕ) × IsLead n w g lead.old × (g < w) }
-    ensures lead { (n w g : ℕ) → IsLead n w g lead.old → IfOk result (λ a. IsLead n w (g + 1) lead.new × IsNew n (holding_in a.names) × (number_of a ≡ g)) }
+    requires lead { (n : ℕ) × (s : Sizes) × (g : ℕ) × IsLead n s g lead.old × (g < s.workers) }
+    ensures lead { (n : ℕ) (s : Sizes) (g : ℕ) → IsLead n s g lead.old → IfOk result (λ a. IsLead n s (g + 1) lead.new × IsNew n (holding_in a.names) × (number_of a ≡ g) × (sizes_in a ≡ s)) }
     ensures forest { IfOk result (λ a. (forest_of lead.new ≡ forest_of lead.old) × (forest_of a ≡ forest_of lead.old)) }
     ensures only { IfErr result (λ s. s ≡ Stop.Memory) }
 {
@@ -67,6 +70,7 @@ fn join(alloc: Global, lead: &mut Applier) -> Result<Applier, Stop>
             offers: Vec::new(alloc),
             owed: 0,
             anew,
+            vain: 0,
         }),
         Err(_) => Err(Stop::Memory),
     }
@@ -83,7 +87,7 @@ fn gather(
     anew: bool,
 ) -> Result<Vec<Applier>, Stop>
     requires { AreTeamSizes nodes cells workers forks }
-    ensures team { IfOk result (λ members. IsTeam vars workers members.items) }
+    ensures team { IfOk result (λ members. IsTeam vars nodes cells workers members.items) }
     ensures count { IfOk result (λ members. vec_len members ≡ workers) }
     ensures only { IfErr result (λ s. s ≡ Stop.Memory) }
 {
@@ -116,7 +120,7 @@ pub fn team(
     forks: u32,
 ) -> Result<Vec<Applier>, Stop>
     requires { AreTeamSizes nodes cells workers forks }
-    ensures team { IfOk result (λ members. IsTeam vars workers members.items) }
+    ensures team { IfOk result (λ members. IsTeam vars nodes cells workers members.items) }
     ensures count { IfOk result (λ members. vec_len members ≡ workers) }
     ensures only { IfErr result (λ s. s ≡ Stop.Memory) }
 {
@@ -137,7 +141,7 @@ pub fn brief_team(
     forks: u32,
 ) -> Result<Vec<Applier>, Stop>
     requires { AreTeamSizes nodes cells workers forks }
-    ensures team { IfOk result (λ members. IsTeam vars workers members.items) }
+    ensures team { IfOk result (λ members. IsTeam vars nodes cells workers members.items) }
     ensures count { IfOk result (λ members. vec_len members ≡ workers) }
     ensures only { IfErr result (λ s. s ≡ Stop.Memory) }
 {

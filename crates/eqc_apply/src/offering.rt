@@ -140,7 +140,7 @@ impl Names {
     }
 
     /// Takes an operation out of a box of another worker, where it is still to be done. Its operands
-    /// are held then. What else was in the box is put back.
+    /// are held then. What else was in the box is put back, and so is the operation where memory is refused for its operands.
     pub(crate) fn take_task(&mut self, b: u32) -> Option<(Op, u32, u32)>
         requires { b < 16 * self.old.worker.known.core.sizes.workers }
         ensures names { Extends self.old self.new }
@@ -152,8 +152,8 @@ impl Names {
             return None;
         };
         let Ok(()) = make_room(&mut self.counts, f.number().max(g.number())) else {
-            // Its owner is told that memory was refused.
-            put(&mut self.worker, b, Parcel::Stopped(Stop::Memory, f, g));
+            // Its owner has room for both, and does it by itself.
+            put(&mut self.worker, b, Parcel::Task(op, f, g));
             return None;
         };
         let first = count_in(&mut self.worker, &mut self.counts, f);

@@ -3,7 +3,7 @@ ghost use Rattle.std.specs.Prelude.{◌*◌, ◌<◌};
 ghost use Rattle.eqc_tree.specs.Holding.{Keeps, IsHeld};
 ghost use Rattle.eqc_guard.specs.Known.{IsHeld as IsName};
 ghost use Rattle.eqc_apply.specs.Before.{IsWorker};
-ghost use Rattle.eqc_apply.specs.Extending.{holding_in};
+ghost use Rattle.eqc_apply.specs.Extending.{Stays, holding_in};
 ghost use Rattle.eqc_apply.specs.Referring.{entry_of};
 
 use crate::applier::Applier;
@@ -16,6 +16,10 @@ use std::sync::Wait;
 /// So many pauses a worker without work makes, and looks through the boxes of others before each, before it says that there
 /// is nothing to do. In the last pause it leaves the processor to others.
 const PAUSES: u32 = 8;
+
+/// So often in succession there is nothing to do before a worker makes room for others, which is some milliseconds. Members that ask
+/// for a short while alone ask more often than that.
+const VAIN_LOOKS: u32 = 500;
 
 /// Where there are many boxes it looks through them before fewer pauses: at most into about so many boxes, or into each once.
 const LOOKS: u32 = 512;
@@ -123,8 +127,21 @@ impl Applier {
         false
     }
 
+    /// Makes room for others, where for some time there was nothing to do or where there can be nothing: what is kept
+    /// without references is given up.
+    fn make_room(&mut self)
+        ensures names { Stays self.old.names self.new.names }
+    {
+        if self.forks > 0 && self.vain < VAIN_LOOKS {
+            self.vain += 1;
+        } else if self.names.idle() > 0 {
+            self.give_up();
+        }
+    }
+
     /// Does one operation that another member of the team offered, if there is one, and says whether
-    /// it did. Why it stopped, if it did, its owner is told.
+    /// it did. Why it stopped, if it did, its owner is told. Where nothing is offered for some time, or where nothing can
+    /// be, it gives up what it keeps without references, so that others have the room.
     ///
     /// What is held is as before. The call may wait.
     pub fn serve<R: Wait>(&mut self, rt: &R) -> bool
@@ -137,6 +154,11 @@ impl Applier {
         let forks = mem::replace(&mut self.forks, 0);
         let served = self.look_through(rt, forks);
         self.forks = forks;
+        if served {
+            self.vain = 0;
+        } else {
+            self.make_room();
+        }
         served
     }
 }

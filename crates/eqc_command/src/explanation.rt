@@ -13,11 +13,18 @@ use std::alloc::{AllocError, Global};
 use std::fmt::{Display, Formatter};
 use std::{fmt, io};
 
+/// What to do about a text that begins with no command.
+const NO_BLIF_HINT: &str =
+    "BLIF begins with a command; other formats are converted first, and a byte order mark is left out";
+
 /// How many bytes of a name or a row are shown.
 const SHOWN: usize = 60;
 
 /// How many names of a list are shown, and how many steps at each end of a path.
 const LISTED: usize = 10;
+
+/// The most nodes that may be asked for.
+const MOST_NODES: u32 = 1_048_574;
 
 /// What to do about a signal without a driver.
 const UNDRIVEN_HINT: &str =
@@ -341,7 +348,7 @@ fn pair_said(alloc: Global, finding: &PairFinding<'_>) -> Result<String, AllocEr
 fn models_said(alloc: Global, library: &Library) -> Result<String, AllocError> {
     let count = library.models();
     let mut said = format!(in alloc;
-        "of the {count} models none has the name or the place that is wanted (13):"
+        "no model has the name or the place that is wanted; the text has {count} (13):"
     )?;
     for m in 0..count.min(LISTED) {
         let name = format!(in alloc; " '{}'", model_name(library, m))?;
@@ -366,12 +373,24 @@ fn option_said(alloc: Global, options: Options, code: u8) -> Result<String, Allo
     }
 }
 
+/// What to try where the diagrams have no room.
+fn way_on(options: Options) -> &'static str {
+    if options.nodes < MOST_NODES {
+        "a larger number, up to 1048574, or another --order, as scripts/order makes"
+    } else if options.workers > 1 {
+        "fewer --workers, or another --order, as scripts/order makes"
+    } else {
+        "another --order, as scripts/order makes"
+    }
+}
+
 /// What is said of a comparison that was given up.
 fn stop_said(alloc: Global, options: Options, stop: Stop) -> Result<String, AllocError> {
     if stop == Stop::NodeLimit {
         return format!(in alloc;
-            "the diagrams want more than --nodes {} (71); try a larger number, up to 1048574, or another --order, as scripts/order makes",
-            options.nodes
+            "the diagrams want more than --nodes {} (71); try {}",
+            options.nodes,
+            way_on(options)
         );
     }
     format!(in alloc; "{stop} ({})", stop.code())
@@ -445,6 +464,7 @@ impl<'a> Explanation<'a> {
         }
         match finding {
             Some(TextFinding::UnknownCommand(word)) => self.hint(command_hint(word.as_bytes())),
+            Some(TextFinding::RowOutsideCover(_)) if number == 1 => self.hint(NO_BLIF_HINT),
             _ => Ok(()),
         }
     }

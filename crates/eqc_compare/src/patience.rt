@@ -29,11 +29,11 @@ impl Patience {
         }
     }
 
-    /// That of workers with so many forks: without any nothing can come, and they ask nobody. With some they ask as long as
-    /// anybody compares, since the last outputs are often the largest.
+    /// That of workers with so many forks: without any nothing can come, and they ask once, by which they make room for
+    /// others. With some they ask as long as anybody compares, since the last outputs are often the largest.
     pub fn of_forks(forks: u32) -> Patience {
         Patience {
-            asks: if forks == 0 { 0 } else { u64::MAX },
+            asks: if forks == 0 { 1 } else { u64::MAX },
             again: true,
             stopped: AtomicCell::new(false),
         }

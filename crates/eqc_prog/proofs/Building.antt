@@ -101,8 +101,8 @@ behind a others zero e = cc
 behind a others (suc m) e = let tail : map number_of others ≡ slots_from 1 m = cc in positive others 1 m (omega arith) tail
 
 -- the first member of a team, beside which the others wait
-lead_builds : (v w : ℕ) (a : Applier) (others : List Applier) → IsTeam v w (a ∷ others) → IsBuilding v true [] a × All (IsBeside v a) others
-lead_builds v w a others t =
+lead_builds : (v nodes cells w : ℕ) (a : Applier) (others : List Applier) → IsTeam v nodes cells w (a ∷ others) → IsBuilding v true [] a × All (IsBeside v a) others
+lead_builds v nodes cells w a others t =
     let P : Applier → Type 0 = λ b. IsNew v (holding_in b.names) in
     let Q : Applier → Type 0 = λ b. forest_of b ≡ t.forest in
     let new : P a = All-head P a others t.new in (
@@ -112,12 +112,12 @@ lead_builds v w a others t =
           (other.variables, none_held v (get_or others k d) other, All-tail Q a others t.one k d lt ∙ sym (All-head Q a others t.one), behind a others w t.numbers k d lt),
     )
 
-pub first_builds : (v w : ℕ) (all left : List Applier) (a : Applier) → IsTeam v w all → 0 < length all → a ≡ get_or all 0 a → left ≡ remove all 0 → IsBuilding v true [] a × All (IsBeside v a) left
-first_builds v w [] left a t lt at is = absurd (omega arith)
-first_builds v w (b ∷ bs) left a t lt at is =
+pub first_builds : (v nodes cells w : ℕ) (all left : List Applier) (a : Applier) → IsTeam v nodes cells w all → 0 < length all → a ≡ get_or all 0 a → left ≡ remove all 0 → IsBuilding v true [] a × All (IsBeside v a) left
+first_builds v nodes cells w [] left a t lt at is = absurd (omega arith)
+first_builds v nodes cells w (b ∷ bs) left a t lt at is =
     let P : Applier → Type 0 = λ c. IsBuilding v true [] c × All (IsBeside v c) left in
     let Q : List Applier → Type 0 = λ l. IsBuilding v true [] b × All (IsBeside v b) l in
-    subst P (sym at) (subst Q (sym is) (lead_builds v w b bs t))
+    subst P (sym at) (subst Q (sym is) (lead_builds v nodes cells w b bs t))
 
 -- a member that waited
 pub next_builds : (v : ℕ) (a b : Applier) → IsBeside v a b → IsBuilding v false [] b

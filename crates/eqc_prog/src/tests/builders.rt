@@ -48,7 +48,7 @@ pub(super) fn members(
     requires cells { (1 ≤ cells) × (cells ≤ 1048576) }
     requires workers { (1 ≤ workers) × (workers ≤ 64) }
     requires forks { forks ≤ 16 }
-    ensures team { IsTeam vars workers result.items }
+    ensures team { IsTeam vars nodes cells workers result.items }
     ensures count { length result.items ≡ workers }
 {
     match team(rt.alloc(), vars, nodes, cells, workers, forks) {

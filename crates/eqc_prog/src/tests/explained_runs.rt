@@ -16,7 +16,7 @@ use std::thread::Threads;
 type Row = (&'static str, &'static str, &'static str, &'static str);
 
 /// Texts that are no netlists.
-static READING: [Row; 15] = [
+static READING: [Row; 16] = [
     (
         "",
         ".model f;\u{1};",
@@ -52,6 +52,12 @@ static READING: [Row; 15] = [
         ".model f;11 1;",
         "refused first 2 6;",
         "eqc: standard input: line 2: the row '111' follows no .names (6)\n",
+    ),
+    (
+        "",
+        "aig 2 0;",
+        "refused first 1 6;",
+        "eqc: standard input: line 1: the row 'aig20' follows no .names (6)\neqc: BLIF begins with a command; other formats are converted first, and a byte order mark is left out\n",
     ),
     (
         "",
@@ -105,7 +111,7 @@ static READING: [Row; 15] = [
         "",
         ".model f;.end;",
         "refused second 0 13;",
-        "eqc: standard input: of the 1 models none has the name or the place that is wanted (13): 'f'\n",
+        "eqc: standard input: no model has the name or the place that is wanted; the text has 1 (13): 'f'\n",
     ),
 ];
 

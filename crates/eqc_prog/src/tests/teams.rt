@@ -81,6 +81,22 @@ const TURNS: u32 = 20;
 /// The variables of the parity, from the last one on: each step adds two nodes at most.
 static VARIABLES: [u16; 8] = [7, 6, 5, 4, 3, 2, 1, 0];
 
+/// The variables of another parity.
+static OTHERS: [u16; 8] = [15, 14, 13, 12, 11, 10, 9, 8];
+
+#[test]
+fn a_member_without_work_makes_room(rt: HostRuntime) {
+    // A parity of eight variables has 15 nodes.
+    let (mut lead, mut waiting) = first(&rt, 16, 28, 64, 2, 0);
+    let mut second = next(&rt, &lead, &mut waiting);
+    same(&rt, parity(&rt, &mut second, &OTHERS), Ok(0), "one of it");
+    second.give_all_back(&rt);
+    same(&rt, second.serve(&rt), false, "nothing is offered");
+    same(&rt, parity(&rt, &mut lead, &VARIABLES), Ok(0), "another one");
+    lead.absorb(&rt, second);
+    same(&rt, lead.close(&rt), 0, "close");
+}
+
 /// How often a member built the parity, or another stop than the node limit.
 type Built = Result<u32, Stop>;
 

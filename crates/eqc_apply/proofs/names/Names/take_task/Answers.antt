@@ -1,9 +1,8 @@
 use Rattle.std.proofs.Common.{[], ◌∷◌, refl, ◌∙◌, arith}
-use Rattle.eqc_tree.specs.declared.stopping.Stop.TheVariants.{Memory}
 use Rattle.eqc_core.specs.Words.{slots_of}
-use Rattle.eqc_guard.specs.declared.parcel.Parcel.TheVariants.{Stopped}
+use Rattle.eqc_guard.specs.declared.parcel.Parcel.TheVariants.{Task}
 use Rattle.eqc_apply.proofs.Once.{few_held, same_as, changes_before, seat_of}
-use Rattle.eqc_apply.proofs.Handing.{come_may, come_held, came_went, memory_other}
+use Rattle.eqc_apply.proofs.Handing.{come_may, come_held, came_went}
 use Rattle.eqc_apply.proofs.Receiving.{first_has, second_has, both_before, both_seat}
 use Rattle.eqc_apply.proofs.names.Names.take_task.Goals as goal
 
@@ -19,7 +18,7 @@ put-requires c =
     let g = c.in-Some.g in
     let t = c.in-Some.ensures.some in
     let few = few_held c.args.self.now.once c.cells-cells.ensures.known in
-    come_may (f.number ∷ g.number ∷ []) t c.args.b (Stopped Memory f g) c.args.self.now.once.rest.ready c.requires (omega arith) (omega arith) (come_held (f.number ∷ g.number ∷ []) t, memory_other)
+    come_may (f.number ∷ g.number ∷ []) t c.args.b (Task c.in-Some.op f g) c.args.self.now.once.rest.ready c.requires (omega arith) (omega arith) (come_held (f.number ∷ g.number ∷ []) t)
 
 pub returns-in_default-make_room-clause-names : goal.returns-in_default-make_room-clause-names
 returns-in_default-make_room-clause-names c =

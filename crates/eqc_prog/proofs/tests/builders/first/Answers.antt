@@ -11,9 +11,9 @@ invariant_of-builder g c =
     record {
       building =
           subst (λ (l : List Ref). IsBuilding c.args.vars true l member) (sym c.new.ensures.items)
-          (first_builds c.args.vars c.args.workers c.members-waiting.result.items waiting member c.members-waiting.ensures.team (omega arith) c.remove-member.ensures.value c.remove-member.ensures.items).0;
+          (first_builds c.args.vars c.args.nodes c.args.cells c.args.workers c.members-waiting.result.items waiting member c.members-waiting.ensures.team (omega arith) c.remove-member.ensures.value c.remove-member.ensures.items).0;
     }
 
 pub returns : goal.returns
 returns g c =
-    (first_builds c.args.vars c.args.workers c.members-waiting.result.items c.remove-member.new.self.items c.remove-member.result c.members-waiting.ensures.team (omega arith) c.remove-member.ensures.value c.remove-member.ensures.items).1
+    (first_builds c.args.vars c.args.nodes c.args.cells c.args.workers c.members-waiting.result.items c.remove-member.new.self.items c.remove-member.result c.members-waiting.ensures.team (omega arith) c.remove-member.ensures.value c.remove-member.ensures.items).1
