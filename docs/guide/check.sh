@@ -3,7 +3,7 @@
 failed=0
 for design in "$@"; do
   order "$design.gold.blif" > "$design.order"
-  eqc --nodes 1048574 --order "$design.order" "$design.gold.blif" "$design.new.blif" > "$design.report"
+  eqc --explain --nodes 1048574 --order "$design.order" "$design.gold.blif" "$design.new.blif" > "$design.report"
   case $? in
     0) echo "$design: equivalent" ;;
     1) echo "$design: $(head -1 "$design.report"), see $design.report"; failed=1 ;;
