@@ -92,7 +92,12 @@ fn a_member_without_work_makes_room(rt: HostRuntime) {
     same(&rt, parity(&rt, &mut second, &OTHERS), Ok(0), "one of it");
     second.give_all_back(&rt);
     same(&rt, second.serve(&rt), false, "nothing is offered");
-    same(&rt, parity(&rt, &mut lead, &VARIABLES), Ok(0), "another one");
+    same(
+        &rt,
+        parity(&rt, &mut lead, &VARIABLES),
+        Ok(0),
+        "another one",
+    );
     lead.absorb(&rt, second);
     same(&rt, lead.close(&rt), 0, "close");
 }
