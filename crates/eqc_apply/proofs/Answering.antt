@@ -22,7 +22,7 @@ use Rattle.eqc_apply.specs.Referring.{entry_of}
 use Rattle.eqc_apply.specs.Before.{IsWorker}
 use Rattle.eqc_apply.specs.Answering.{IsReferenced, IsAnswer}
 use Rattle.eqc_apply.proofs.Once.{counted_held, seat_trans, seat_refl}
-use Rattle.eqc_apply.proofs.Asked.{held_is_named}
+use Rattle.eqc_arena.proofs.Asking.{held_is_named}
 use Rattle.eqc_apply.proofs.Holdings.{IsReferred, referred, keeps, counted_of}
 
 -- a reference's name is held, with its tree

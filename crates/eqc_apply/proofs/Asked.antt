@@ -4,25 +4,16 @@ use Rattle.eqc_tree.specs.Tree.{Tree, Node, value, StartsAbove}
 use Rattle.eqc_tree.specs.declared.stopping.Stop.{Stop}
 use Rattle.eqc_tree.specs.declared.stopping.Stop.TheVariants.{NodeLimit, Memory, Threads, References}
 use Rattle.eqc_core.specs.Words.{slots_of}
-use Rattle.eqc_guard.specs.Known.{Known, IsHeld, IsNamed, IsKnown, tree_of}
+use Rattle.eqc_guard.specs.Known.{IsHeld, IsKnown, tree_of}
 use Rattle.eqc_guard.specs.Standing.{Standing}
-use Rattle.eqc_guard.proofs.Learning.{held_named}
 use Rattle.eqc_arena.specs.Changing.{Exchanges}
 use Rattle.eqc_arena.specs.Nodes.{MayAsk, IsNodeOf}
 use Rattle.eqc_core.proofs.Names.{times-nil}
+use Rattle.eqc_arena.proofs.Asking.{apart}
 use Rattle.eqc_apply.specs.Names.{Has, Settles, IsThere}
 use Rattle.eqc_apply.specs.Before.{IsBefore, IsSeat}
 use Rattle.eqc_apply.specs.Combining.{IsNode}
 use Rattle.eqc_apply.proofs.Once.{few_held, has_after, changes_before, seat_of, seat_trans, held_counted}
-
--- a name that is held is named
-pub held_is_named : (k : Known) (x : ℕ) → IsHeld k.core x → IsNamed k.core x
-held_is_named k x (inl small) = inl small
-held_is_named k x (inr some) = inr (held_named k.core x some)
-
--- two names have two trees
-pub apart : (k : Known) (low high : ℕ) → IsKnown k → IsHeld k.core low → IsHeld k.core high → low ≢ high → tree_of k low ≢ tree_of k high
-apart k low high known l h differ same = differ (known.one low high (held_is_named k low l) (held_is_named k high h) same)
 
 -- the errors that are left
 pub two_stops : (s : Stop) → s ≢ Threads → s ≢ References → (s ≡ NodeLimit) ⊎ (s ≡ Memory)

@@ -17,7 +17,7 @@ use Rattle.eqc_arena.specs.Changing.{AreQuiet, Changes}
 use Rattle.eqc_apply.specs.Names.{IsThere}
 use Rattle.eqc_apply.specs.Before.{IsBefore}
 use Rattle.eqc_apply.specs.Combining.{IsResult}
-use Rattle.eqc_apply.proofs.Asked.{held_is_named}
+use Rattle.eqc_arena.proofs.Asking.{held_is_named}
 use Rattle.eqc_apply.proofs.Reading.{starts_below, starts_root}
 use Rattle.eqc_apply.proofs.Above.{starts_both}
 

@@ -1,9 +1,9 @@
 -- A node is asked for: its stripe is taken, and put home with it.
-use Rattle.std.proofs.Common.{◌≡◌, ◌≢◌, ℕ, ◌+◌, ◌%◌, ◌^◌, ◌<◌, [], ◌∷◌, Option, Some, None, Result, Ok, Err, IfOk, IfErr, OnOk, OnErr, refl, sym, ap, subst, ◌∙◌, arith, inl, inr}
+use Rattle.std.proofs.Common.{◌≡◌, ◌≢◌, ℕ, ◌+◌, ◌-◌, ◌%◌, ◌^◌, ◌<◌, ◌≤◌, [], ◌∷◌, length, Option, Some, None, Result, Ok, Err, IfOk, IfErr, OnOk, OnErr, refl, sym, ap, subst, ◌∙◌, arith, inl, inr}
 use Rattle.eqc_tree.specs.Tree.{Tree, Node, StartsAbove}
 use Rattle.eqc_tree.specs.Word.{node_word}
 use Rattle.eqc_tree.specs.declared.stopping.Stop.{Stop}
-use Rattle.eqc_tree.specs.declared.stopping.Stop.TheVariants.{NodeLimit}
+use Rattle.eqc_tree.specs.declared.stopping.Stop.TheVariants.{NodeLimit, References, Threads}
 use Rattle.eqc_core.specs.View.{View, Hand}
 use Rattle.eqc_core.specs.Words.{slots_of, variable_of, low_of, high_of, stripe_of}
 use Rattle.eqc_core.specs.Tables.{Entries}
@@ -16,9 +16,10 @@ use Rattle.eqc_guard.specs.Searching.{HasSeenAll}
 use Rattle.eqc_guard.specs.Locking.{MayHome}
 use Rattle.eqc_guard.specs.declared.reference.Ref.{Ref}
 use Rattle.eqc_arena.specs.Changing.{Changes, Exchanges}
-use Rattle.eqc_arena.specs.Nodes.{MayAsk, MayEnter, IsMade, IsNodeOf}
+use Rattle.eqc_arena.specs.Nodes.{MayAsk, MayEnter, IsMade, IsNodeOf, IsGiven}
 use Rattle.eqc_arena.proofs.Changing.{hand_now, draft_now, ready_now, quiet_now, names_now, lengths_now, held_still, same_tree, here, and, still, one_comes, locks, unlocks}
 use Rattle.eqc_guard.proofs.Learning.{held_named}
+use Rattle.eqc_arena.proofs.Entering.{found_still}
 use Rattle.eqc_arena.proofs.Entries.{home_locked}
 
 -- the stripe of a node's word
@@ -93,32 +94,46 @@ asks_still variable low high old mid may t = record {
   above_high = subst (λ (u : Tree). StartsAbove variable u) (sym (same_tree t high may.high_held)) may.above_high;
 }
 
--- what comes after a change in which nothing went or came, told from before it
+-- what comes of asking after a change in which nothing went or came, told from before it
 module _ (variable low high : ℕ) (old mid : Standing) (t : Exchanges [] [] old mid) where
-  pub later_node : (new : Standing) (o : Result Ref Stop) → IfOk o (λ r. Exchanges [] (slots_of (r.number ∷ [])) mid new) → IfOk o (λ r. Exchanges [] (slots_of (r.number ∷ [])) old new)
+  later_node : (new : Standing) (o : Result Ref Stop) → IfOk o (λ r. Exchanges [] (slots_of (r.number ∷ [])) mid new) → IfOk o (λ r. Exchanges [] (slots_of (r.number ∷ [])) old new)
   later_node new (Err e) m = tt
   later_node new (Ok r) m = one_comes r.number t m
 
-  pub later_tree : IsHeld old.known.core low → IsHeld old.known.core high → (new : Standing) (o : Result Ref Stop) → IfOk o (λ r. IsNodeOf variable (tree_of mid.known low) (tree_of mid.known high) (tree_of new.known r.number))
+  later_tree : MayAsk old.known variable low high → (new : Standing) (o : Result Ref Stop) → IfOk o (λ r. IsNodeOf variable (tree_of mid.known low) (tree_of mid.known high) (tree_of new.known r.number))
       → IfOk o (λ r. IsNodeOf variable (tree_of old.known low) (tree_of old.known high) (tree_of new.known r.number))
-  later_tree l h new (Err e) m = tt
-  later_tree l h new (Ok r) m = subst (λ (p : Tree × Tree). IsNodeOf variable p.0 p.1 (tree_of new.known r.number)) (λ i. (same_tree t low l i, same_tree t high h i)) m
+  later_tree may new (Err e) m = tt
+  later_tree may new (Ok r) m = subst (λ (p : Tree × Tree). IsNodeOf variable p.0 p.1 (tree_of new.known r.number)) (λ i. (same_tree t low may.low_held i, same_tree t high may.high_held i)) m
 
-  pub later_still : (new : Standing) (o : Result Ref Stop) → OnErr o (Exchanges [] [] mid new) → OnErr o (Exchanges [] [] old new)
+  later_still : (new : Standing) (o : Result Ref Stop) → OnErr o (Exchanges [] [] mid new) → OnErr o (Exchanges [] [] old new)
   later_still new (Ok r) e = tt
   later_still new (Err x) e = still t (here t e)
 
--- children of two numbers have two trees
-apart : (k : Known) (low high : ℕ) → IsKnown k → IsHeld k.core low → IsHeld k.core high → low ≢ high → tree_of k low ≢ tree_of k high
-apart k low high known l h differ same = differ (known.one low high (named l) (named h) same)
-  where
-    named : {x : ℕ} → IsHeld k.core x → IsNamed k.core x
-    named (inl lt) = inl lt
-    named {x} (inr p) = inr (held_named k.core x p)
+  later_full : (o : Result Ref Stop) → IfErr o (λ s. s ≡ References → 2 ^ 32 - 2 ≤ length mid.known.core.held) → IfErr o (λ s. s ≡ References → 2 ^ 32 - 2 ≤ length old.known.core.held)
+  later_full (Ok r) h = tt
+  later_full (Err e) h = λ is. omega (arith, h is, lengths_now t)
+
+  pub later_given : MayAsk old.known variable low high → (new : Standing) (o : Result Ref Stop) → IsGiven variable low high o mid new → IsGiven variable low high o old new
+  later_given may new o m = record {
+    node = later_node new o m.node;
+    tree = later_tree may new o m.tree;
+    still = later_still new o m.still;
+    full = later_full o m.full;
+    all = m.all;
+    only = m.only;
+  }
+
+-- a name that is held is named
+pub held_is_named : (k : Known) (x : ℕ) → IsHeld k.core x → IsNamed k.core x
+held_is_named k x (inl small) = inl small
+held_is_named k x (inr some) = inr (held_named k.core x some)
+
+-- two names have two trees
+pub apart : (k : Known) (low high : ℕ) → IsKnown k → IsHeld k.core low → IsHeld k.core high → low ≢ high → tree_of k low ≢ tree_of k high
+apart k low high known l h differ same = differ (known.one low high (held_is_named k low l) (held_is_named k high h) same)
 
 module _ (variable low high : ℕ) (old mid : Standing) (may : MayAsk old.known variable low high) (known : IsKnown old.known) (differ : low ≢ high) (t : Exchanges [] [] old mid) where
-  -- a node was made, at once or after a collection
-  pub node_made : (new : Standing) (o : Result Ref Stop) → new.known.core.hand ≡ None → IfOk o (λ r. IsMade variable low high r.number mid new) → IfOk o (λ r. Exchanges [] (slots_of (r.number ∷ [])) old new)
+  node_made : (new : Standing) (o : Result Ref Stop) → new.known.core.hand ≡ None → IfOk o (λ r. IsMade variable low high r.number mid new) → IfOk o (λ r. Exchanges [] (slots_of (r.number ∷ [])) old new)
   node_made new (Err e) hand m = tt
   node_made new (Ok r) hand m =
       let a = and t (r.number ∷ []) m.changes (λ x. omega (arith, times-nil x)) (omega arith) in
@@ -126,15 +141,40 @@ module _ (variable low high : ℕ) (old mid : Standing) (may : MayAsk old.known 
       let c : Changes [] (r.number ∷ []) old.known.core.hand old.known.core.draft old new = subst (λ (d : Option ℕ). Changes [] (r.number ∷ []) old.known.core.hand d old new) (sym may.rest.no_draft) b in
       elim (two_cases r.number) [ inl s ↦ absurd (let two = m.first in let small = s.1 in omega arith) | inr s ↦ rw s.0 c ]
 
-  pub node_tree : (new : Standing) (o : Result Ref Stop) → IfOk o (λ r. IsMade variable low high r.number mid new) → IfOk o (λ r. IsNodeOf variable (tree_of old.known low) (tree_of old.known high) (tree_of new.known r.number))
+  node_tree : (new : Standing) (o : Result Ref Stop) → IfOk o (λ r. IsMade variable low high r.number mid new) → IfOk o (λ r. IsNodeOf variable (tree_of old.known low) (tree_of old.known high) (tree_of new.known r.number))
   node_tree new (Err e) m = tt
   node_tree new (Ok r) m =
       let is : tree_of new.known r.number ≡ Node variable (tree_of old.known low) (tree_of old.known high) = m.tree ∙ (λ i. Node variable (same_tree t low may.low_held i) (same_tree t high may.high_held i)) in
       ((λ same. absurd (apart old.known low high known may.low_held may.high_held differ same)), λ other. is)
 
+  -- an attempt, at once or after a collection
+  pub attempt_given : (new : Standing) (o : Result Ref Stop) → new.known.core.hand ≡ None → IfOk o (λ r. IsMade variable low high r.number mid new) → OnErr o (Exchanges [] [] mid new)
+      → IfErr o (λ s. s ≡ References → 2 ^ 32 - 2 ≤ length mid.known.core.held) → IfErr o (λ s. s ≡ NodeLimit → HasSeenAll new.known.core) → IfErr o (λ s. s ≢ Threads) → IsGiven variable low high o old new
+  attempt_given new o hand made kept full all only = record {
+    node = node_made new o hand made;
+    tree = node_tree new o made;
+    still = later_still variable low high old mid t new o kept;
+    full = later_full variable low high old mid t o full;
+    all = all;
+    only = only;
+  }
+
 -- where both children are one, its copy is the node
-pub node_copied : (variable low high : ℕ) (old new : Standing) (o : Result Ref Stop) → low ≡ high → IsHeld old.known.core low → IfOk o (λ r. r.number ≡ low) → OnOk o (Exchanges [] (slots_of (low ∷ [])) old new)
-    → IfOk o (λ r. IsNodeOf variable (tree_of old.known low) (tree_of old.known high) (tree_of new.known r.number))
-node_copied variable low high old new (Err e) same held name t = tt
-node_copied variable low high old new (Ok r) same held name t =
-    ((λ trees. ap (tree_of new.known) name ∙ same_tree t low held), λ other. absurd (other (ap (tree_of old.known) same)))
+pub copy_given : (variable low high : ℕ) (old new : Standing) (o : Result Ref Stop) → IsKnown old.known → low ≡ high → IsHeld old.known.core low → IfOk o (λ r. r.number ≡ low) → OnOk o (Exchanges [] (slots_of (low ∷ [])) old new)
+    → OnErr o (new ≡ old) → OnErr o (2 ^ 32 - 1 ≤ length old.known.core.held) → IfErr o (λ s. s ≡ References) → IsGiven variable low high o old new
+copy_given variable low high old new (Err e) known same held name t kept full only = record {
+  node = tt;
+  tree = tt;
+  still = found_still old new (Err e) known kept;
+  full = λ is. omega (arith, full);
+  all = λ is. absurd (cc);
+  only = λ is. cc;
+}
+copy_given variable low high old new (Ok r) known same held name t kept full only = record {
+  node = subst (λ (x : ℕ). Exchanges [] (slots_of (x ∷ [])) old new) (sym name) t;
+  tree = ((λ trees. ap (tree_of new.known) name ∙ same_tree t low held), λ other. absurd (other (ap (tree_of old.known) same)));
+  still = tt;
+  full = tt;
+  all = tt;
+  only = tt;
+}

@@ -26,7 +26,10 @@ fn give(worker: &mut Worker, f: Ref)
     worker.down(f);
 }
 
-/// Gives the references of a parcel back, that came out of a box or was never put into one.
+/// Gives the references of a parcel back, that came out of a box or was never put into one. The
+/// worker holds all of them.
+///
+/// No scan is under way.
 pub fn give_parcel(worker: &mut Worker, parcel: Parcel)
     requires ready { IsReady worker.old.known.core }
     requires held { HoldsParcel worker.old.known.core parcel }
@@ -54,10 +57,11 @@ pub fn give_parcel(worker: &mut Worker, parcel: Parcel)
     }
 }
 
-/// Puts a parcel into a box, whose references the box then has, and gives the one that it had: its
+/// Puts a parcel into box `b`, whose references the box then has, and gives the one that it had: its
 /// references are held, a result is right, and a stop is noted.
 ///
-/// No scan is under way, and at most 2^39 names are held.
+/// `b` is less than 16 for each worker, and worker w's boxes are those from 16 w on. The references
+/// of the parcel are held, and a result is right. No scan is under way, and at most 2^39 names are held.
 pub fn exchange(worker: &mut Worker, b: u32, parcel: Parcel) -> Parcel
     requires may { MayPut worker.old.known b parcel }
     ensures changes { Exchanges (parcel_names parcel) (parcel_names result) worker.old worker.new }

@@ -3,10 +3,10 @@ ghost use Rattle.std.specs.Prelude.{◌≡◌, ◌≢◌, ℕ, ◌-◌, ◌^◌,
 ghost use Rattle.eqc_core.specs.Words.{slots_of, stripe_of};
 ghost use Rattle.eqc_tree.specs.Word.{node_word};
 ghost use Rattle.eqc_core.specs.Moves.{IsReady};
-ghost use Rattle.eqc_guard.specs.Known.{IsHeld, tree_of};
+ghost use Rattle.eqc_guard.specs.Known.{IsHeld};
 ghost use Rattle.eqc_guard.specs.Searching.{HasSeenAll};
 ghost use Rattle.eqc_arena.specs.Changing.{Exchanges};
-ghost use Rattle.eqc_arena.specs.Nodes.{MayAsk, MayPut, MayEnter, IsMade, IsNodeOf};
+ghost use Rattle.eqc_arena.specs.Nodes.{MayAsk, MayPut, MayEnter, IsMade, IsGiven};
 ghost use Rattle.eqc_arena.specs.Taking.{HomesStill};
 
 use crate::nodes::{copy, give_back};
@@ -154,12 +154,7 @@ fn attempt_after<R: Wait>(
 ) -> Result<Ref, Stop>
     requires may { MayAsk worker.old.known var low.now.number high.now.number }
     requires differ { low.now.number ≢ high.now.number }
-    ensures node { IfOk result (λ r. Exchanges [] (slots_of (r.number ∷ [])) worker.old worker.new) }
-    ensures tree { IfOk result (λ r. IsNodeOf var (tree_of worker.old.known low.now.number) (tree_of worker.old.known high.now.number) (tree_of worker.new.known r.number)) }
-    ensures still { OnErr result (Exchanges [] [] worker.old worker.new) }
-    ensures full { IfErr result (λ s. s ≡ Stop.References → 2 ^ 32 - 2 ≤ length worker.old.known.core.held) }
-    ensures all { IfErr result (λ s. s ≡ Stop.NodeLimit → HasSeenAll worker.new.known.core) }
-    ensures only { IfErr result (λ s. s ≢ Stop.Threads) }
+    ensures { IsGiven var low.now.number high.now.number result worker.old worker.new }
 {
     // What the worker knows is in order.
     let _cells = worker.cells();
@@ -177,12 +172,7 @@ fn insist<R: Wait>(
 ) -> Result<Ref, Stop>
     requires may { MayAsk worker.old.known var low.now.number high.now.number }
     requires differ { low.now.number ≢ high.now.number }
-    ensures node { IfOk result (λ r. Exchanges [] (slots_of (r.number ∷ [])) worker.old worker.new) }
-    ensures tree { IfOk result (λ r. IsNodeOf var (tree_of worker.old.known low.now.number) (tree_of worker.old.known high.now.number) (tree_of worker.new.known r.number)) }
-    ensures still { OnErr result (Exchanges [] [] worker.old worker.new) }
-    ensures full { IfErr result (λ s. s ≡ Stop.References → 2 ^ 32 - 2 ≤ length worker.old.known.core.held) }
-    ensures all { IfErr result (λ s. s ≡ Stop.NodeLimit → HasSeenAll worker.new.known.core) }
-    ensures only { IfErr result (λ s. s ≢ Stop.Threads) }
+    ensures { IsGiven var low.now.number high.now.number result worker.old worker.new }
 {
     // What the worker knows is in order.
     let _cells = worker.cells();
@@ -213,12 +203,7 @@ pub fn mk<R: Wait>(
     high: &Ref,
 ) -> Result<Ref, Stop>
     requires { MayAsk worker.old.known var low.now.number high.now.number }
-    ensures node { IfOk result (λ r. Exchanges [] (slots_of (r.number ∷ [])) worker.old worker.new) }
-    ensures tree { IfOk result (λ r. IsNodeOf var (tree_of worker.old.known low.now.number) (tree_of worker.old.known high.now.number) (tree_of worker.new.known r.number)) }
-    ensures still { OnErr result (Exchanges [] [] worker.old worker.new) }
-    ensures full { IfErr result (λ s. s ≡ Stop.References → 2 ^ 32 - 2 ≤ length worker.old.known.core.held) }
-    ensures all { IfErr result (λ s. s ≡ Stop.NodeLimit → HasSeenAll worker.new.known.core) }
-    ensures only { IfErr result (λ s. s ≢ Stop.Threads) }
+    ensures { IsGiven var low.now.number high.now.number result worker.old worker.new }
 {
     // What the worker knows is in order.
     let _cells = worker.cells();

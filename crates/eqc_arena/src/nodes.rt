@@ -33,9 +33,9 @@ fn count(worker: &mut Worker, x: u32) -> Result<Ref, Stop>
     worker.up(x)
 }
 
-/// One more reference of a node that is held, or of a constant.
+/// One more reference of `f`, which is a constant or a node that is held.
 ///
-/// The error is 73 alone, at 2^32 - 1 names held.
+/// No scan is under way. The error is 73 alone, at 2^32 - 1 names held: then nothing has changed.
 pub fn copy(worker: &mut Worker, f: &Ref) -> Result<Ref, Stop>
     requires ready { IsReady worker.old.known.core }
     requires held { IsHeld worker.old.known.core f.now.number }
@@ -49,8 +49,10 @@ pub fn copy(worker: &mut Worker, f: &Ref) -> Result<Ref, Stop>
     count(worker, f.number())
 }
 
-/// Gives a reference back. Its node stays at least as long as another one is held, and a node of
-/// which none is left stays until a collection.
+/// Gives `f` back, which is a constant or a node that is held. The node stays at least as long as
+/// another reference of it is held, and one of which none is left stays until a collection.
+///
+/// No scan is under way.
 pub fn give_back(worker: &mut Worker, f: Ref)
     requires ready { IsReady worker.old.known.core }
     requires held { IsHeld worker.old.known.core f.number }
@@ -63,8 +65,8 @@ pub fn give_back(worker: &mut Worker, f: Ref)
 
 /// The variable of a node that is held, and references of its children, the one at 0 first.
 ///
-/// The node is no constant. The error is 73 alone, at 2^32 - 2 names held: then the same names are
-/// held as before.
+/// `f` is no constant, and no scan is under way. The error is 73 alone, at 2^32 - 2 names held: then
+/// the same names are held as before.
 pub fn children(worker: &mut Worker, f: &Ref) -> Result<(u16, Ref, Ref), Stop>
     requires ready { IsReady worker.old.known.core }
     requires held { 0 < times f.now.number worker.old.known.core.held }

@@ -22,6 +22,12 @@ pub(crate) enum Effort {
 // At most so many turns a worker makes that is alone.
 const TURNS: u32 = 16;
 
+// It goes on as long as a turn takes more than one slot in so many.
+const SLOTS_OF_A_TURN: u32 = 256;
+
+// A stripe has few dead nodes where they are fewer than one slot in so many.
+const SLOTS_OF_A_DEAD_NODE: u32 = 4096;
+
 // The stripe with which a worker begins: workers begin apart, so that each takes nodes back that the others haven't come to.
 fn first_stripe(worker: &Worker) -> u32 {
     let workers = u64::from(worker.announcement_words().max(1));
@@ -76,7 +82,7 @@ fn sweep<R: Wait>(worker: &mut Worker, rt: &R, few: u32)
     for _turn in 0..TURNS {
         let taken = turn(worker, rt, &mut fallen, few);
         // Where there are others, they take what is left.
-        if worker.announcement_words() > 1 || taken <= worker.slots() / 256 {
+        if worker.announcement_words() > 1 || taken <= worker.slots() / SLOTS_OF_A_TURN {
             break;
         }
     }
@@ -94,7 +100,7 @@ pub(crate) fn take_back<R: Wait>(worker: &mut Worker, rt: &R, effort: Effort)
     match effort {
         Effort::Share => {
             empty_cells(worker);
-            let few = worker.slots() / 4096;
+            let few = worker.slots() / SLOTS_OF_A_DEAD_NODE;
             sweep(worker, rt, few);
         }
         Effort::Turn => sweep(worker, rt, 0),
