@@ -3,11 +3,9 @@
 ghost use Rattle.std.specs.Prelude.{◌≡◌, [], IfSome, IfOk, IfErr};
 
 use crate::applier::Applier;
+use crate::offering::LEVELS;
 use eqc_tree::{Op, Stop};
 use std::sync::Wait;
-
-/// In so many first levels of an operation one half can be offered.
-const LEVELS: u32 = 16;
 
 // The bit of a level among those of all that can be forked.
 fn bit_of(level: u32) -> u32 {

@@ -15,8 +15,8 @@ use eqc_guard::parcel::Parcel;
 use eqc_tree::{Op, Stop, unpack_cell};
 use std::sync::Wait;
 
-/// How many boxes a worker has: one for each level that can be forked.
-const LEVELS: u32 = 16;
+/// How many boxes a worker has: one for each of the first levels of an operation, in which one half can be offered.
+pub(crate) const LEVELS: u32 = 16;
 
 // Whether the word of a box has an operation to be done. A result has the number of its operation,
 // 1 to 4, and a stop one from 13 on.

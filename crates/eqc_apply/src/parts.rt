@@ -11,7 +11,7 @@ use eqc_tree::{Op, Stop};
 use std::sync::Wait;
 
 /// The bits of a worker's number, of which there are at most 64.
-const LEVELS: u32 = 6;
+const BITS: u32 = 6;
 
 impl Applier {
     /// The name of an operation's result, as `go` has it. Outputs have much in common, so that workers often do one
@@ -42,7 +42,7 @@ impl Applier {
         ensures stop { IfErr result (λ s. HasStopped s self.new.names.worker.known.core) }
     {
         let number = self.names.worker.number();
-        for level in (0..LEVELS).rev() {
+        for level in (0..BITS).rev() {
             if number >> level & 1 == 1 {
                 self.do_part(rt, op, f, g, level + 1)?;
             }
