@@ -1,3 +1,5 @@
+//! Two facts about decision trees, as functions without a body.
+
 ghost use Rattle.eqc_tree.specs.Tree.{Bryant};
 ghost use Rattle.eqc_tree.specs.CodedTree.{ReadsBack};
 

@@ -1,3 +1,5 @@
+//! The operations on two functions, and the numbers by which cached results name them.
+
 /// An operation on two functions. Its number is the tag of a cached result.
 #[derive(Clone, Copy, Debug, PartialEq, Eq)]
 pub enum Op {

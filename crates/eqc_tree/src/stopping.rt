@@ -1,3 +1,5 @@
+//! Why an operation gave up, and the number that a report shows for it.
+
 use thiserror::Error;
 
 /// Why an operation gave up. What its object holds is then as before.

@@ -1,3 +1,5 @@
+//! The layout of a node and of a cached result in one `u64`.
+
 ghost use Rattle.std.specs.Prelude.{◌≡◌, ℕ, ◌^◌, ◌<◌};
 ghost use Rattle.eqc_tree.specs.Word.{node_word, node_variable, node_low, node_high, cell_word, cell_tag, cell_first, cell_second, cell_result};
 
