@@ -1,10 +1,12 @@
 //! What `--explain` tells behind the report of a run without a verdict, for each code, worked out by hand from the texts.
 
 use super::program::{LEAF_FIRST, words_of, writes, written_by};
-use super::streams::{Drain, Endless, Feed, NEVER};
-use super::{PERMUTED, UNEQUAL, doubling, holds, holds_at, input_names, is_text, same};
 use eqc_check::{Diagnostics, Options};
 use eqc_command::{Request, explanation_for, program};
+use eqc_testing::{
+    Drain, Endless, Feed, NEVER, PERMUTED, UNEQUAL, doubling, holds, holds_at, input_names,
+    is_text, same,
+};
 use eqc_tree::Stop;
 use std::alloc::{AllocError, Global};
 use std::process::Abort;

@@ -1,9 +1,8 @@
 //! Which models are compared, by their names or their places, and the warnings on models that others contain.
 
 use super::program::{LEAF_FIRST, words_of, writes, written_by};
-use super::streams::{Drain, Feed};
-use super::{holds, is_text};
 use eqc_command::program;
+use eqc_testing::{Drain, Feed, holds, is_text};
 use std::alloc::AllocError;
 use std::rt::Files;
 use std::sync::Wait;

@@ -1,9 +1,10 @@
 //! The program's command lines, texts and files with their reports and statuses. They are small enough to be worked out by
 //! hand from the rules of the format and of the command line.
 
-use super::streams::{Disk, Feed, NEVER};
-use super::{DIFFERENCE, EQUAL, PERMUTED, UNEQUAL, XOR, holds, holds_at, is_text};
 use eqc_command::program;
+use eqc_testing::{
+    DIFFERENCE, Disk, EQUAL, Feed, NEVER, PERMUTED, UNEQUAL, XOR, holds, holds_at, is_text,
+};
 use std::alloc::{AllocError, Global};
 use std::process::Abort;
 use std::sync::Wait;

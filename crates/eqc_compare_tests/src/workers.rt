@@ -1,0 +1,301 @@
+//! Comparisons by several workers. The reports are those of one worker, whatever the schedule.
+
+ghost use Rattle.std.specs.Prelude.{◌≤◌, vec_len, IfOk};
+ghost use Rattle.std.specs.List.{All};
+
+use crate::pairs::report_word;
+use eqc_blif::{Library, read};
+use eqc_check::{
+    Gate, NoGate, Options, Pair, Report, Status, Texts, check, check_with, options_fault, pair, run,
+};
+use eqc_flat::Flat;
+use eqc_netlist_testing::two_flats;
+use eqc_plain::Plain;
+use eqc_testing::{DIFFERENCE, EQUAL, UNEQUAL, holds, is_text, lines};
+use eqc_tree::{References, Stop};
+use std::alloc::{AllocError, Global};
+use std::sync::Wait;
+use std::sync::atomic::{AtomicU64, Ordering};
+use std::thread::{self, Threads};
+
+/// Two outputs that differ, which the second netlist declares in another order.
+const TWO: &str =
+    ".model f;.inputs a;.outputs p q;.names a p;1 1;.names a q;1 1;.end;.model g;.inputs a;.outputs q p;.names a p;0 1;.names q;.end;";
+
+/// How long a gate holds an output.
+const TURNS: u32 = 10_000_000;
+
+/// Holds output 0 until another output was entered, and counts what it was told.
+#[derive(Drop)]
+pub struct Held {
+    first: AtomicU64,
+    second: AtomicU64,
+    ran_out: AtomicU64,
+}
+
+impl Held {
+    pub fn new() -> Held {
+        Held {
+            first: AtomicU64::new(0),
+            second: AtomicU64::new(0),
+            ran_out: AtomicU64::new(0),
+        }
+    }
+
+    fn hold(&self) {
+        for _ in 0..TURNS {
+            if self.second.load(Ordering::SeqCst) > 0 {
+                return;
+            }
+            thread::yield_now();
+        }
+        self.ran_out.fetch_add(1, Ordering::SeqCst);
+    }
+
+    /// Whether each output was entered once, and output 0 not before output 1.
+    fn is_passed(&self) -> bool {
+        self.first.load(Ordering::SeqCst) == 1
+            && self.second.load(Ordering::SeqCst) == 1
+            && self.ran_out.load(Ordering::SeqCst) == 0
+    }
+}
+
+impl<R> Gate<R> for Held {
+    fn enter(&self, _rt: &R, _worker: u32, output: u32) {
+        if output == 0 {
+            self.first.fetch_add(1, Ordering::SeqCst);
+            self.hold();
+        } else {
+            self.second.fetch_add(1, Ordering::SeqCst);
+        }
+    }
+}
+
+/// Two stores of 16 nodes.
+fn two_stores(alloc: Global, inputs: u16) -> Result<Vec<Plain>, Stop>
+    ensures some { IfOk result (λ all. 1 ≤ vec_len all) }
+    ensures variables { IfOk result (λ all. All (λ p. inputs ≤ (⟦<Plain as References>⟧.holding p).variables) all.items) }
+{
+    let mut all = Vec::new(alloc);
+    for _ in 0..2u32 {
+        let Ok(()) = all.push(Plain::new(alloc, inputs, 16)?) else {
+            return Err(Stop::Memory);
+        };
+    }
+    Ok(all)
+}
+
+/// How a pair is compared.
+#[derive(Clone, Copy)]
+pub enum Way {
+    /// By so many workers, with a store of 16 nodes.
+    Workers(u32),
+    /// By so many workers, with a store of so many nodes.
+    Within(u32, u32),
+    /// By two members over stores of 16 nodes.
+    Members,
+}
+
+/// Compares a pair.
+fn compared<R: Threads + Wait + Sync, G: Gate<R> + Sync>(
+    rt: &R,
+    alloc: Global,
+    pair: &Pair<'_>,
+    way: Way,
+    gate: &G,
+) -> Result<Report, Stop> {
+    let (workers, nodes) = match way {
+        Way::Workers(workers) => (workers, 16),
+        Way::Within(workers, nodes) => (workers, nodes),
+        Way::Members => {
+            let members = two_stores(alloc, pair.first().inputs().len() as u16)?;
+            return check_with(rt, alloc, pair, members, gate);
+        }
+    };
+    let options = Options {
+        workers,
+        nodes,
+        cells: 1,
+        forks: 0,
+    };
+    match options_fault(&options) {
+        None => check(rt, alloc, pair, &options, gate),
+        Some(_) => Err(Stop::NodeLimit),
+    }
+}
+
+/// What is reported of a pair.
+fn pair_word<R: Threads + Wait + Sync, G: Gate<R> + Sync>(
+    rt: &R,
+    alloc: Global,
+    pair: &Pair<'_>,
+    way: Way,
+    gate: &G,
+) -> Result<String, AllocError> {
+    match compared(rt, alloc, pair, way, gate) {
+        Ok(report) => report_word(alloc, &report),
+        Err(stop) => report_word(alloc, &Report::Stopped(stop)),
+    }
+}
+
+/// What is reported of two flat netlists.
+fn flat_word<R: Threads + Wait + Sync, G: Gate<R> + Sync>(
+    rt: &R,
+    alloc: Global,
+    first: &Flat<'_>,
+    second: &Flat<'_>,
+    way: Way,
+    gate: &G,
+) -> Result<String, AllocError> {
+    match pair(alloc, first, second, None) {
+        Ok(pair) => pair_word(rt, alloc, &pair, way, gate),
+        Err(refused) => report_word(alloc, &Report::Refused(refused)),
+    }
+}
+
+/// What is reported of the first two models of a library.
+fn library_word<R: Threads + Wait + Sync, G: Gate<R> + Sync>(
+    rt: &R,
+    alloc: Global,
+    library: &Library,
+    way: Way,
+    gate: &G,
+) -> Result<String, AllocError> {
+    match &two_flats(alloc, library) {
+        Some((first, second)) => flat_word(rt, alloc, first, second, way, gate),
+        None => String::from_str(alloc, "no two simple models"),
+    }
+}
+
+/// Whether this is reported of the first two models of a text.
+fn is_word_of<R: Threads + Wait + Sync, G: Gate<R> + Sync>(
+    rt: &R,
+    alloc: Global,
+    text: &[u8],
+    way: Way,
+    gate: &G,
+    wanted: &str,
+) -> Result<bool, AllocError> {
+    match read(alloc, text) {
+        Ok(library) => {
+            let word = library_word(rt, alloc, &library, way, gate)?;
+            Ok(word.as_str() == wanted)
+        }
+        Err(_) => Ok(false),
+    }
+}
+
+/// The same, where `;` stands for LF.
+pub fn gives<R: Threads + Wait + Sync, G: Gate<R> + Sync>(
+    rt: &R,
+    alloc: Global,
+    text: &str,
+    way: Way,
+    gate: &G,
+    wanted: &str,
+) -> Result<bool, AllocError> {
+    let text = lines(alloc, text)?;
+    is_word_of(rt, alloc, &text, way, gate, wanted)
+}
+
+#[test]
+fn pairs_are_compared_by_workers(rt: HostRuntime) -> Result<(), AllocError> {
+    for way in [
+        Way::Workers(1),
+        Way::Workers(2),
+        Way::Workers(64),
+        Way::Members,
+    ] {
+        for (text, report) in [(EQUAL, "equivalent;"), (UNEQUAL, DIFFERENCE)] {
+            let given = gives(&rt, rt.alloc(), text, way, &NoGate, report)?;
+            assert!(rt; given, "{report}");
+        }
+    }
+    Ok(())
+}
+
+/// Whether two outputs are reported on, and were compared at once.
+fn are_compared_at_once<R: Threads + Wait + Sync>(
+    rt: &R,
+    alloc: Global,
+    way: Way,
+) -> Result<bool, AllocError> {
+    let gate = Held::new();
+    let given = gives(
+        rt,
+        alloc,
+        TWO,
+        way,
+        &gate,
+        "differs at p;a=0;first=0;second=1;",
+    )?;
+    Ok(given && gate.is_passed())
+}
+
+#[test]
+fn two_outputs_are_compared_at_once(rt: HostRuntime) {
+    for way in [Way::Workers(2), Way::Members] {
+        holds(
+            &rt,
+            are_compared_at_once(&rt, rt.alloc(), way),
+            "two outputs are compared at once",
+        );
+    }
+}
+
+/// Five outputs. The second, the fourth and the last differ.
+const MANY: &str =
+    ".model f;.inputs a b;.outputs p q r s t;.names a p;1 1;.names a b q;11 1;.names b r;1 1;.names a s;1 1;.names b t;1 1;.end;.model g;.inputs a b;.outputs t s r q p;.names a p;1 1;.names a b q;1- 1;-1 1;.names b r;1 1;.names b s;1 1;.names t;.end;";
+
+/// The report on the text `MANY`.
+const SECOND: &str = "differs at q;a=0;b=1;first=0;second=1;";
+
+/// Counts what it was told.
+#[derive(Drop)]
+struct Count {
+    entered: AtomicU64,
+}
+
+impl<R> Gate<R> for Count {
+    fn enter(&self, _rt: &R, _worker: u32, _output: u32) {
+        self.entered.fetch_add(1, Ordering::SeqCst);
+    }
+}
+
+/// How many outputs of `MANY` one worker enters, where it reports the second one.
+fn entered<R: Threads + Wait + Sync>(rt: &R, alloc: Global) -> Result<Option<u64>, AllocError> {
+    let gate = Count {
+        entered: AtomicU64::new(0),
+    };
+    let given = gives(rt, alloc, MANY, Way::Workers(1), &gate, SECOND)?;
+    Ok(given.then_some(gate.entered.load(Ordering::SeqCst)))
+}
+
+#[test]
+fn nothing_is_compared_behind_a_difference(rt: HostRuntime) -> Result<(), AllocError> {
+    let entered = entered(&rt, rt.alloc())?;
+    assert_eq!(rt; entered, Some(2));
+    Ok(())
+}
+
+/// Whether a run of many workers over a text reports the second output.
+fn is_second<R: AllocGlobal + Threads + Wait + Sync>(rt: &R, text: &[u8]) -> bool {
+    let options = Options {
+        workers: 64,
+        nodes: 65_536,
+        cells: 8_192,
+        forks: 0,
+    };
+    let mut out = Vec::new(rt.alloc());
+    let done = run(rt, rt.alloc(), Texts::One(text), None, &options, &mut out);
+    done == Ok(Status::Differs) && is_text(&out, SECOND)
+}
+
+#[test]
+fn runs_of_many_workers_write_the_same(rt: HostRuntime) -> Result<(), AllocError> {
+    let text = lines(rt.alloc(), MANY)?;
+    for turn in 0..1_000 {
+        assert!(rt; is_second(&rt, &text), "{turn}");
+    }
+    Ok(())
+}

@@ -1,0 +1,21 @@
+//! The tests of runs: from texts to the bytes of a report.
+//!
+//! - `running`, what makes runs and looks at what they write
+//! - `runs`, options, readers and writers; `reports`, their bytes; `messages`, what stops and faults say
+//! - `compared_hierarchies` and `structures`, what is reported of netlists; `costs`, of texts that would like to be dear
+#![tactic(auto)]
+
+#[cfg(test)]
+mod compared_hierarchies;
+#[cfg(test)]
+mod costs;
+#[cfg(test)]
+mod messages;
+#[cfg(test)]
+mod reports;
+#[cfg(test)]
+mod running;
+#[cfg(test)]
+mod runs;
+#[cfg(test)]
+mod structures;

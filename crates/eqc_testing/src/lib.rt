@@ -1,0 +1,19 @@
+//! What the tests of several crates need, and no crate below the tests: rows that end a test where they don't hold, texts,
+//! readers and writers that fail, and numbers that are the same in every run.
+//!
+//! - `rows`: a test ends by `holds` or `same`, which alone have the branches and the words of a failed row: a test that has
+//!   them itself is proved at each of its branches, with all that it holds there
+//! - `texts`, texts with `;` for LF
+//! - `streams`, readers, writers and a disk
+//! - `chance`, numbers by chance
+#![tactic(auto)]
+
+mod chance;
+mod rows;
+mod streams;
+mod texts;
+
+pub use chance::Chance;
+pub use rows::{holds, holds_at, same};
+pub use streams::{Disk, Drain, Endless, Feed, NEVER};
+pub use texts::{DIFFERENCE, EQUAL, PERMUTED, UNEQUAL, XOR, doubling, input_names, is_text, lines};
