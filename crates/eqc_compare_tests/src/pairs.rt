@@ -10,9 +10,10 @@ use eqc_check::{Pair, Report, check_plain, compare_output, least_assignment, pai
 use eqc_flat::Flat;
 use eqc_netlist_testing::two_flats;
 use eqc_plain::Plain;
-use eqc_testing::{DIFFERENCE, EQUAL, UNEQUAL, holds, holds_at, input_names, lines, same};
+use eqc_testing::{DIFFERENCE, EQUAL, Row, UNEQUAL, check_rows, input_names, lines, same};
 use eqc_tree::{Diagrams, Op, References, Stop};
 use std::alloc::{AllocError, Global};
+use std::process::Abort;
 
 /// Two outputs, each of one input.
 const APART: &str =
@@ -274,76 +275,57 @@ fn is_ordered_answer<R>(
     is_answer(rt, alloc, text, Some(&order), ask, wanted)
 }
 
-/// The same, where `;` stands for LF in both texts.
-fn answers<R>(
-    rt: &R,
-    alloc: Global,
-    text: &str,
-    order: &str,
-    ask: Ask,
-    wanted: &str,
-) -> Result<bool, AllocError> {
-    let text = lines(alloc, text)?;
-    is_ordered_answer(rt, alloc, &text, order, ask, wanted)
+/// An order text, what is asked, and the answer.
+type Asked = (&'static str, Ask, &'static str);
+
+/// In each text the pair of its models gives the answer.
+fn check_asked(rt: &(impl Abort + AllocGlobal), rows: &[Row<Asked>]) {
+    check_rows(rt, rows, |alloc, text, asked| {
+        let (order, ask, wanted) = *asked;
+        is_ordered_answer(rt, alloc, text, order, ask, wanted)
+    });
 }
 
-/// Texts with order texts: which output is compared, on a store of how many nodes, and the least assignment under which it
-/// differs.
-static OUTPUTS: [(&str, &str, usize, u32, &str); 10] = [
-    (EQUAL, "", 0, 16, "none"),
-    (UNEQUAL, "", 0, 16, "01"),
-    (UNEQUAL, "y x", 0, 16, "01"),
-    (UNEQUAL, "", 0, 1, "stopped 71"),
-    (APART, "", 0, 1, "none"),
-    (APART, "", 1, 1, "none"),
-    (CROSSED, "", 0, 16, "none"),
-    (CROSSED, "", 1, 16, "11"),
-    (CROSSED, "b a", 1, 16, "11"),
-    (CROSSED, "", 0, 1, "none"),
+/// Which output is compared, on a store of how many nodes, and the least assignment under which it differs.
+#[rattlefmt::skip]
+static OUTPUTS: &[Row<Asked>] = &[
+    ("conjunctions", EQUAL, ("", Ask::Output(0, 16), "none")),
+    ("a conjunction and a disjunction", UNEQUAL, ("", Ask::Output(0, 16), "01")),
+    ("the same in another order", UNEQUAL, ("y x", Ask::Output(0, 16), "01")),
+    ("the same with one node", UNEQUAL, ("", Ask::Output(0, 1), "stopped 71")),
+    ("an input with one node", APART, ("", Ask::Output(0, 1), "none")),
+    ("another input with one node", APART, ("", Ask::Output(1, 1), "none")),
+    ("an output in another place", CROSSED, ("", Ask::Output(0, 16), "none")),
+    ("an output that differs", CROSSED, ("", Ask::Output(1, 16), "11")),
+    ("the same in another order of inputs", CROSSED, ("b a", Ask::Output(1, 16), "11")),
+    ("the other output with one node", CROSSED, ("", Ask::Output(0, 1), "none")),
 ];
 
 #[test]
 fn outputs_are_compared_one_by_one(rt: HostRuntime) {
-    for (text, order, output, nodes, answer) in &OUTPUTS {
-        let ask = Ask::Output(*output, *nodes);
-        holds_at(
-            &rt,
-            answers(&rt, rt.alloc(), text, order, ask, answer),
-            output,
-            order,
-        );
-    }
+    check_asked(&rt, OUTPUTS);
 }
 
-/// Order texts and variables of a pair with the inputs `x` and `y`, and the least assignment that makes the variable true.
-static LITERALS: [(&str, u16, &str); 4] = [
-    ("", 0, "10"),
-    ("", 1, "01"),
-    ("y x", 0, "01"),
-    ("y x", 1, "10"),
+/// Variables of a pair with the inputs `x` and `y`, and the least assignment that makes the variable true.
+#[rattlefmt::skip]
+static LITERALS: &[Row<Asked>] = &[
+    ("x, the first variable", EQUAL, ("", Ask::Literal(0), "10")),
+    ("y, the second variable", EQUAL, ("", Ask::Literal(1), "01")),
+    ("y, the first variable", EQUAL, ("y x", Ask::Literal(0), "01")),
+    ("x, the second variable", EQUAL, ("y x", Ask::Literal(1), "10")),
 ];
 
 #[test]
 fn least_assignments_go_by_inputs(rt: HostRuntime) {
-    for (order, variable, answer) in &LITERALS {
-        let ask = Ask::Literal(*variable);
-        holds_at(
-            &rt,
-            answers(&rt, rt.alloc(), EQUAL, order, ask, answer),
-            variable,
-            order,
-        );
-    }
+    check_asked(&rt, LITERALS);
 }
 
 /// The variables have the inputs in the opposite order, and the least assignment is that of the inputs all the same.
+static EITHER: &[Row<Asked>] = &[("one of the inputs", EQUAL, ("y x", Ask::Either, "01"))];
+
 #[test]
 fn positions_decide_and_not_variables(rt: HostRuntime) {
-    holds(
-        &rt,
-        answers(&rt, rt.alloc(), EQUAL, "y x", Ask::Either, "01"),
-        "positions decide and not variables",
-    );
+    check_asked(&rt, EITHER);
 }
 
 /// Two characters, 256 times.
@@ -382,8 +364,9 @@ fn is_least_of_many<R>(
     order: &str,
     nodes: u32,
 ) -> Result<bool, AllocError> {
+    let text = lines(alloc, text)?;
     let answer = repeated(alloc, "10")?;
-    answers(rt, alloc, text, order, Ask::Output(0, nodes), &answer)
+    is_ordered_answer(rt, alloc, &text, order, Ask::Output(0, nodes), &answer)
 }
 
 /// Whether it is in the order of the inputs, and in the opposite one.
@@ -405,37 +388,28 @@ fn least_assignments_of_many_ones_take_no_nodes(rt: HostRuntime) -> Result<(), A
 }
 
 /// An order text of three words, which are those of the inputs, behind blanks and between comments.
+#[rattlefmt::skip]
+static ORDERED: &[Row<Asked>] = &[("three words", THREE, ("  x1\ty # z\r;#;x2\r#w", Ask::Order, "2;1;0;"))];
+
 #[test]
 fn an_order_text_has_words(rt: HostRuntime) {
-    let order = "  x1\ty # z\r;#;x2\r#w";
-    holds(
-        &rt,
-        answers(&rt, rt.alloc(), THREE, order, Ask::Order, "2;1;0;"),
-        "an order text has words",
-    );
+    check_asked(&rt, ORDERED);
 }
 
-/// Texts with order texts, and their reports on a store of so many nodes.
-static REPORTS: [(&str, &str, u32, &str); 8] = [
-    (EQUAL, "", 16, "equivalent;"),
-    (EQUAL, "y x", 16, "equivalent;"),
-    (UNEQUAL, "", 16, DIFFERENCE),
-    (UNEQUAL, "y x", 16, DIFFERENCE),
-    (EQUAL, "", 1, "stopped 71;"),
-    (CROSSED, "", 16, "differs at y;a=1;b=1;first=1;second=0;"),
-    (EQUAL, "x", 16, "refused order 0 53;"),
-    (EQUAL, "x y z", 16, "refused order 0 51;"),
+/// Reports, on stores of so many nodes.
+#[rattlefmt::skip]
+static REPORTS: &[Row<Asked>] = &[
+    ("conjunctions", EQUAL, ("", Ask::Report(16), "equivalent;")),
+    ("the same in another order", EQUAL, ("y x", Ask::Report(16), "equivalent;")),
+    ("a conjunction and a disjunction", UNEQUAL, ("", Ask::Report(16), DIFFERENCE)),
+    ("these in another order", UNEQUAL, ("y x", Ask::Report(16), DIFFERENCE)),
+    ("conjunctions with one node", EQUAL, ("", Ask::Report(1), "stopped 71;")),
+    ("the second of two outputs", CROSSED, ("", Ask::Report(16), "differs at y;a=1;b=1;first=1;second=0;")),
+    ("an input left out", EQUAL, ("x", Ask::Report(16), "refused order 0 53;")),
+    ("a word that is no input", EQUAL, ("x y z", Ask::Report(16), "refused order 0 51;")),
 ];
 
 #[test]
 fn pairs_are_reported(rt: HostRuntime) {
-    for (text, order, nodes, answer) in &REPORTS {
-        let ask = Ask::Report(*nodes);
-        holds_at(
-            &rt,
-            answers(&rt, rt.alloc(), text, order, ask, answer),
-            order,
-            nodes,
-        );
-    }
+    check_asked(&rt, REPORTS);
 }

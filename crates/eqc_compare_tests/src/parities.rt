@@ -172,7 +172,7 @@ fn is_met_by_chains<R: Threads + Wait + Sync>(
 }
 
 /// How many runs there are, within how many nodes, and a report that one of them has.
-static RUNS: [(u32, u32, &str); 2] = [
+static RUNS: &[(u32, u32, &str)] = &[
     (1_000, LEAST, "stopped 71;"),
     (10, 2 * LEAST + 64, "equivalent;"),
 ];
@@ -180,14 +180,14 @@ static RUNS: [(u32, u32, &str); 2] = [
 /// Two workers take their nodes out of one store, and need more than one worker does.
 #[test]
 fn two_workers_share_their_nodes(rt: HostRuntime) {
-    for (turns, nodes, report) in &RUNS {
+    for (turns, nodes, report) in RUNS {
         let found = is_met_by_chains(&rt, rt.alloc(), *turns, *nodes, report);
         holds(&rt, found, report);
     }
 }
 
 /// By whom chains are compared that need more than the 16 nodes of a store.
-static WAYS: [Way; 3] = [Way::Workers(1), Way::Workers(2), Way::Members];
+static WAYS: &[Way] = &[Way::Workers(1), Way::Workers(2), Way::Members];
 
 /// Calls on pairs build the diagrams of outputs of equal structures too.
 #[test]

@@ -11,7 +11,7 @@ use eqc_check::{
 use eqc_flat::Flat;
 use eqc_netlist_testing::two_flats;
 use eqc_plain::Plain;
-use eqc_testing::{DIFFERENCE, EQUAL, UNEQUAL, holds, is_text, lines};
+use eqc_testing::{DIFFERENCE, EQUAL, Row, UNEQUAL, check_rows, holds, is_text, lines};
 use eqc_tree::{References, Stop};
 use std::alloc::{AllocError, Global};
 use std::sync::Wait;
@@ -198,20 +198,27 @@ pub fn gives<R: Threads + Wait + Sync, G: Gate<R> + Sync>(
     is_word_of(rt, alloc, &text, way, gate, wanted)
 }
 
+/// By whom a pair is compared.
+static WAYS: &[Way] = &[
+    Way::Workers(1),
+    Way::Workers(2),
+    Way::Workers(64),
+    Way::Members,
+];
+
+/// What is compared, and what is reported of it.
+static ROWS: &[Row<&str>] = &[
+    ("conjunctions", EQUAL, "equivalent;"),
+    ("a conjunction and a disjunction", UNEQUAL, DIFFERENCE),
+];
+
 #[test]
-fn pairs_are_compared_by_workers(rt: HostRuntime) -> Result<(), AllocError> {
-    for way in [
-        Way::Workers(1),
-        Way::Workers(2),
-        Way::Workers(64),
-        Way::Members,
-    ] {
-        for (text, report) in [(EQUAL, "equivalent;"), (UNEQUAL, DIFFERENCE)] {
-            let given = gives(&rt, rt.alloc(), text, way, &NoGate, report)?;
-            assert!(rt; given, "{report}");
-        }
+fn pairs_are_compared_by_workers(rt: HostRuntime) {
+    for way in WAYS {
+        check_rows(&rt, ROWS, |alloc, text, report| {
+            is_word_of(&rt, alloc, text, *way, &NoGate, report)
+        });
     }
-    Ok(())
 }
 
 /// Whether two outputs are reported on, and were compared at once.

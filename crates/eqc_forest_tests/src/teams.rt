@@ -79,25 +79,20 @@ fn a_member_takes_in_what_another_one_built(rt: HostRuntime) {
 const TURNS: u32 = 20;
 
 /// The variables of the parity, from the last one on: each step adds two nodes at most.
-static VARIABLES: [u16; 8] = [7, 6, 5, 4, 3, 2, 1, 0];
+static VARIABLES: &[u16] = &[7, 6, 5, 4, 3, 2, 1, 0];
 
 /// The variables of another parity.
-static OTHERS: [u16; 8] = [15, 14, 13, 12, 11, 10, 9, 8];
+static OTHERS: &[u16] = &[15, 14, 13, 12, 11, 10, 9, 8];
 
 #[test]
 fn a_member_without_work_makes_room(rt: HostRuntime) {
     // A parity of eight variables has 15 nodes.
     let (mut lead, mut waiting) = first(&rt, 16, 28, 64, 2, 0);
     let mut second = next(&rt, &lead, &mut waiting);
-    same(&rt, parity(&rt, &mut second, &OTHERS), Ok(0), "one of it");
+    same(&rt, parity(&rt, &mut second, OTHERS), Ok(0), "one of it");
     second.give_all_back(&rt);
     same(&rt, second.serve(&rt), false, "nothing is offered");
-    same(
-        &rt,
-        parity(&rt, &mut lead, &VARIABLES),
-        Ok(0),
-        "another one",
-    );
+    same(&rt, parity(&rt, &mut lead, VARIABLES), Ok(0), "another one");
     lead.absorb(&rt, second);
     same(&rt, lead.close(&rt), 0, "close");
 }
@@ -111,7 +106,7 @@ fn turns(rt: &(impl Abort + Wait), builder: &mut Builder) -> Built
 {
     let mut built = 0u32;
     for _ in 0..TURNS {
-        match parity(rt, builder, &VARIABLES) {
+        match parity(rt, builder, VARIABLES) {
             Ok(_) => built = built.saturating_add(1),
             Err(Stop::NodeLimit) => {}
             Err(stop) => return Err(stop),
@@ -196,7 +191,7 @@ fn four_share<R: Threads + Sync + Abort + Wait + AllocGlobal>(
 
 /// How much room for nodes there is, in how many turns at least and at most there is enough of it for a member beside
 /// others, and in how many for one alone. The parity has 15 nodes, and 22 with the literals.
-static ROOMS: [(u32, u32, u32, u32); 8] = [
+static ROOMS: &[(u32, u32, u32, u32)] = &[
     (2, 0, 0, 0),
     (3, 0, 0, 0),
     (5, 0, 0, 0),
@@ -209,7 +204,7 @@ static ROOMS: [(u32, u32, u32, u32); 8] = [
 
 #[test]
 fn four_members_share_small_arenas(rt: HostRuntime) {
-    for (nodes, least, most, alone) in &ROOMS {
+    for (nodes, least, most, alone) in ROOMS {
         four_share(&rt, *nodes, *least, *most, *alone);
     }
 }

@@ -100,7 +100,7 @@ fn a_stocked_core_is_read(rt: HostRuntime) {
 }
 
 /// A worker announces a name that was scanned before.
-static MISSED: [(u32, Step); 11] = [
+static MISSED: &[(u32, Step)] = &[
     (0, Step::Split(1)),
     (0, Step::Up(2)),
     (0, Step::Up(2)),
@@ -118,20 +118,20 @@ static MISSED: [(u32, Step); 11] = [
 fn a_name_that_was_scanned_is_missed(rt: HostRuntime) {
     same(
         &rt,
-        readings_after(rt.alloc(), &MISSED, &[]),
+        readings_after(rt.alloc(), MISSED, &[]),
         Ok([0, 2, 5, 4, 0]),
         "last",
     );
     same(
         &rt,
-        readings_after(rt.alloc(), &MISSED, &[(1, Step::Up(2))]),
+        readings_after(rt.alloc(), MISSED, &[(1, Step::Up(2))]),
         Err(ReplayFault::Event(11)),
         "more",
     );
 }
 
 /// A worker announces and confirms a name before it is scanned.
-static CONFIRMED: [(u32, Step); 14] = [
+static CONFIRMED: &[(u32, Step)] = &[
     (0, Step::Split(1)),
     (0, Step::Up(2)),
     (0, Step::Up(2)),
@@ -152,26 +152,26 @@ static CONFIRMED: [(u32, Step); 14] = [
 fn a_name_that_is_confirmed_stays(rt: HostRuntime) {
     same(
         &rt,
-        readings_after(rt.alloc(), &CONFIRMED, &[]),
+        readings_after(rt.alloc(), CONFIRMED, &[]),
         Ok([0, 2, 2, 0, 1]),
         "last",
     );
     same(
         &rt,
-        readings_after(rt.alloc(), &CONFIRMED, &[(0, Step::Down(2))]),
+        readings_after(rt.alloc(), CONFIRMED, &[(0, Step::Down(2))]),
         Err(ReplayFault::Event(14)),
         "down",
     );
     same(
         &rt,
-        readings_after(rt.alloc(), &CONFIRMED, &[(1, Step::Up(2))]),
+        readings_after(rt.alloc(), CONFIRMED, &[(1, Step::Up(2))]),
         Ok([0, 2, 3, 0, 1]),
         "up",
     );
 }
 
 /// The name that was missed is given back, its slot taken back, and claimed: the announcement of it isn't confirmed.
-static TAKEN_BACK: [(u32, Step); 8] = [
+static TAKEN_BACK: &[(u32, Step)] = &[
     (0, Step::Down(2)),
     (0, Step::Down(2)),
     (0, Step::Down(2)),
@@ -186,7 +186,7 @@ static TAKEN_BACK: [(u32, Step); 8] = [
 fn a_name_that_was_missed_is_taken_back(rt: HostRuntime) {
     same(
         &rt,
-        readings_after(rt.alloc(), &MISSED, &TAKEN_BACK),
+        readings_after(rt.alloc(), MISSED, TAKEN_BACK),
         Ok([0, 2, 2, 0, 0]),
         "last",
     );
@@ -197,13 +197,13 @@ fn a_name_that_is_confirmed_is_not_taken_back(rt: HostRuntime) {
     let lock = (0, Step::Lock(1, true));
     same(
         &rt,
-        readings_after(rt.alloc(), &CONFIRMED, &[lock, (0, Step::Reclaim(2))]),
+        readings_after(rt.alloc(), CONFIRMED, &[lock, (0, Step::Reclaim(2))]),
         Err(ReplayFault::Event(15)),
         "reclaimed",
     );
     same(
         &rt,
-        readings_after(rt.alloc(), &CONFIRMED, &[lock, (0, Step::Claim(2, true))]),
+        readings_after(rt.alloc(), CONFIRMED, &[lock, (0, Step::Claim(2, true))]),
         Err(ReplayFault::Event(15)),
         "claimed",
     );
@@ -216,7 +216,7 @@ const TASK: u64 = (5 << 60) + (2 << 40) + (2 << 20);
 const STOPPED: u64 = (14 << 60) + (2 << 40) + (2 << 20);
 
 /// A worker offers a task in its first box, another one takes it, does it and puts the result back.
-static OFFERED: [(u32, Step); 8] = [
+static OFFERED: &[(u32, Step)] = &[
     (0, Step::Split(1)),
     (0, Step::Up(2)),
     (0, Step::SwapBox(0, TASK)),
@@ -231,14 +231,14 @@ static OFFERED: [(u32, Step); 8] = [
 fn a_task_comes_back_as_its_result(rt: HostRuntime) {
     same(
         &rt,
-        readings_after(rt.alloc(), &OFFERED, &[]),
+        readings_after(rt.alloc(), OFFERED, &[]),
         Ok([0, 0, 4, 3, 0]),
         "last",
     );
     let stop = (0, Step::SwapBox(31, STOPPED));
     same(
         &rt,
-        readings_after(rt.alloc(), &OFFERED, &[stop, (1, Step::SwapBox(31, 0))]),
+        readings_after(rt.alloc(), OFFERED, &[stop, (1, Step::SwapBox(31, 0))]),
         Ok([0, 0, 4, 1, 0]),
         "stopped",
     );
@@ -246,7 +246,7 @@ fn a_task_comes_back_as_its_result(rt: HostRuntime) {
         &rt,
         readings_after(
             rt.alloc(),
-            &OFFERED,
+            OFFERED,
             &[(0, Step::ScanOne), (0, Step::LookBox(0))],
         ),
         Err(ReplayFault::Event(9)),
@@ -270,7 +270,7 @@ fn boxes_take_words_of_their_own_alone(rt: HostRuntime) {
     ] {
         same(
             &rt,
-            readings_after(rt.alloc(), &OFFERED, &[step]),
+            readings_after(rt.alloc(), OFFERED, &[step]),
             Err(ReplayFault::Event(8)),
             case,
         );
@@ -310,7 +310,7 @@ fn digest_after(
 }
 
 /// A list by chance.
-static FIRST: [(u32, Step); 40] = [
+static FIRST: &[(u32, Step)] = &[
     (0, Step::Down(2)),
     (0, Step::Down(5)),
     (0, Step::Up(3)),
@@ -357,21 +357,21 @@ static FIRST: [(u32, Step); 40] = [
 fn the_first_random_list_ends_as_elsewhere(rt: HostRuntime) {
     same(
         &rt,
-        digest_after(rt.alloc(), &FIRST, &[]),
+        digest_after(rt.alloc(), FIRST, &[]),
         Ok(8636760986609832085),
         "last",
     );
     let forbidden = (1, Step::SwapCell(0, 3458764513822638082));
     same(
         &rt,
-        digest_after(rt.alloc(), &FIRST, &[forbidden]),
+        digest_after(rt.alloc(), FIRST, &[forbidden]),
         Err(ReplayFault::Event(40)),
         "more",
     );
 }
 
 /// Another list by chance.
-static SECOND: [(u32, Step); 40] = [
+static SECOND: &[(u32, Step)] = &[
     (0, Step::Split(1)),
     (1, Step::Look(1)),
     (0, Step::Down(2)),
@@ -418,21 +418,21 @@ static SECOND: [(u32, Step); 40] = [
 fn the_second_random_list_ends_as_elsewhere(rt: HostRuntime) {
     same(
         &rt,
-        digest_after(rt.alloc(), &SECOND, &[]),
+        digest_after(rt.alloc(), SECOND, &[]),
         Ok(3781607041970279465),
         "last",
     );
     let forbidden = (2, Step::SwapCell(0, 1152923703631151106));
     same(
         &rt,
-        digest_after(rt.alloc(), &SECOND, &[forbidden]),
+        digest_after(rt.alloc(), SECOND, &[forbidden]),
         Err(ReplayFault::Event(40)),
         "more",
     );
 }
 
 /// A list by chance with steps on stripes, drafts and nodes.
-static THIRD: [(u32, Step); 60] = [
+static THIRD: &[(u32, Step)] = &[
     (0, Step::ReadNode(2)),
     (0, Step::ScanOne),
     (0, Step::ScanOne),
@@ -499,21 +499,21 @@ static THIRD: [(u32, Step); 60] = [
 fn the_third_random_list_ends_as_elsewhere(rt: HostRuntime) {
     same(
         &rt,
-        digest_after(rt.alloc(), &THIRD, &[]),
+        digest_after(rt.alloc(), THIRD, &[]),
         Ok(15425200296797180857),
         "last",
     );
     let forbidden = (0, Step::SwapCell(1, 2305848506771832837));
     same(
         &rt,
-        digest_after(rt.alloc(), &THIRD, &[forbidden]),
+        digest_after(rt.alloc(), THIRD, &[forbidden]),
         Err(ReplayFault::Event(60)),
         "more",
     );
 }
 
 /// Another such list.
-static FOURTH: [(u32, Step); 60] = [
+static FOURTH: &[(u32, Step)] = &[
     (0, Step::Lock(3, true)),
     (0, Step::Up(2)),
     (0, Step::Look(1)),
@@ -580,14 +580,14 @@ static FOURTH: [(u32, Step); 60] = [
 fn the_fourth_random_list_ends_as_elsewhere(rt: HostRuntime) {
     same(
         &rt,
-        digest_after(rt.alloc(), &FOURTH, &[]),
+        digest_after(rt.alloc(), FOURTH, &[]),
         Ok(4023163620145408469),
         "last",
     );
     let forbidden = (1, Step::SwapCell(0, 4611688217452740608));
     same(
         &rt,
-        digest_after(rt.alloc(), &FOURTH, &[forbidden]),
+        digest_after(rt.alloc(), FOURTH, &[forbidden]),
         Err(ReplayFault::Event(60)),
         "more",
     );

@@ -1,8 +1,7 @@
 //! Runs over hierarchies: covers of covers, instances, ties, and their refusals.
 
-use crate::running::{Row, TEAMS, TWO, check_rows, holds_by, reports_on, team, within};
-use eqc_check::Options;
-use eqc_testing::{doubling, holds, input_names, same};
+use crate::running::{Numbers, TEAMS, TWO, check_runs, reports_on};
+use eqc_testing::{Row, doubling, holds, input_names, same};
 use std::alloc::{AllocError, Global};
 use std::sync::Wait;
 use std::thread::Threads;
@@ -25,7 +24,7 @@ const WRONG_SUM: &str =
 
 /// What is compared, its text, and its report.
 #[rattlefmt::skip]
-static ROWS: &[Row] = &[
+static ROWS: &[Row<&str>] = &[
     ("outputs that are an instance's inputs", ".model f;.inputs a;.outputs z;.subckt two i=a o=t j=t p=z;.end;.model g;.inputs a;.outputs z;.names a z;1 1;.end;.model two;.inputs i j;.outputs o p;.names i o;1 1;.names j p;1 1;.end;", "equivalent;"),
     ("a circle in the first netlist", ".model f;.inputs a;.outputs;.names u v;1 1;.names v u;1 1;.end;.model g;.inputs a;.outputs;.end;", "refused first 0 28;"),
     ("a circle in the second netlist", ".model f;.inputs a;.outputs;.end;.model g;.inputs a;.outputs;.names u v;1 1;.names v u;1 1;.end;", "refused second 0 28;"),
@@ -47,24 +46,30 @@ static ROWS: &[Row] = &[
 
 #[test]
 fn hierarchies_are_compared(rt: HostRuntime) {
-    check_rows(&rt, TEAMS, ROWS);
+    check_runs(&rt, TEAMS, ROWS);
 }
 
 /// Workers and forks, which change no report.
-static MORE_TEAMS: &[Options] = &[team(1, 16), team(2, 16), team(64, 16)];
+static MORE_TEAMS: &[Numbers] = &[
+    (1, 65_536, 8_192, 16),
+    (2, 65_536, 8_192, 16),
+    (64, 65_536, 8_192, 16),
+];
+
+/// The adders, which halves and forks of an operation are for.
+static BOTH: &[Row<&str>] = &[
+    ("adders", ADDERS, "equivalent;"),
+    ("wrong adders", WRONG_ADDERS, WRONG_SUM),
+];
 
 #[test]
 fn workers_and_forks_change_no_report(rt: HostRuntime) {
-    for options in MORE_TEAMS {
-        for (text, report) in [(ADDERS, "equivalent;"), (WRONG_ADDERS, WRONG_SUM)] {
-            holds_by(&rt, reports_on(&rt, text, options, report), report, options);
-        }
-    }
+    check_runs(&rt, MORE_TEAMS, BOTH);
 }
 
 #[test]
 fn a_small_store_stops_covers_of_covers(rt: HostRuntime) {
-    let found = reports_on(&rt, PARITY, &within(2), "stopped 71;");
+    let found = reports_on(&rt, PARITY, (2, 2, 8_192, 0), "stopped 71;");
     same(&rt, found, true, "two nodes");
 }
 
@@ -93,7 +98,7 @@ fn is_reported(
     report: &str,
 ) -> Result<bool, AllocError> {
     match text {
-        Ok(text) => Ok(reports_on(rt, &text, &TWO, report)),
+        Ok(text) => Ok(reports_on(rt, &text, TWO, report)),
         Err(error) => Err(error),
     }
 }

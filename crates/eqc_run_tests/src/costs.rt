@@ -1,7 +1,7 @@
 //! Texts whose author would like a run to be long, or a store to fill. That they are answered, and how, is tested here;
 //! what they cost is measured by scripts.
 
-use crate::running::{TWO, reports_on, within};
+use crate::running::{TWO, reports_on};
 use eqc_testing::{doubling, input_names, same};
 use std::alloc::{AllocError, Global};
 
@@ -25,7 +25,7 @@ fn a_signal_driven_by_many_covers_is_refused(rt: HostRuntime) -> Result<(), Allo
     let alloc = rt.alloc();
     let mut text = doubled(alloc)?;
     repeat(&mut text, ".names z;", 3_000)?;
-    let found = reports_on(&rt, &text, &TWO, "refused first 0 26;");
+    let found = reports_on(&rt, &text, TWO, "refused first 0 26;");
     same(&rt, found, true, "the report");
     Ok(())
 }
@@ -37,7 +37,7 @@ fn a_cover_of_many_columns_may_have_many_instances(rt: HostRuntime) -> Result<()
     text.push_str(".names s;.names")?;
     repeat(&mut text, " s", 1_000)?;
     text.push_str(" z;")?;
-    let found = reports_on(&rt, &text, &TWO, "equivalent;");
+    let found = reports_on(&rt, &text, TWO, "equivalent;");
     same(&rt, found, true, "the report");
     Ok(())
 }
@@ -76,7 +76,7 @@ fn rows_of_one(alloc: Global) -> Result<String, AllocError> {
 fn a_cover_of_dashes_is_built(rt: HostRuntime) -> Result<(), AllocError> {
     let alloc = rt.alloc();
     let text = rows_of_one(alloc)?;
-    let found = reports_on(&rt, &text, &TWO, "equivalent;");
+    let found = reports_on(&rt, &text, TWO, "equivalent;");
     same(&rt, found, true, "the report");
     Ok(())
 }
@@ -104,7 +104,7 @@ fn the_least_assignment_of_many_inputs_needs_few_nodes(rt: HostRuntime) -> Resul
     let alloc = rt.alloc();
     let text = last_of_many(alloc)?;
     let report = difference_of_last(alloc)?;
-    let found = reports_on(&rt, &text, &within(5_000), &report);
+    let found = reports_on(&rt, &text, (2, 5_000, 8_192, 0), &report);
     same(&rt, found, true, "the report");
     Ok(())
 }

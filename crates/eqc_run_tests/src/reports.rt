@@ -7,7 +7,7 @@ use eqc_tree::Stop;
 
 /// Writers, by how many bytes one takes at most, which write fails and whether it flushes; then the outcome of writing
 /// the report `equivalent`, and what was written.
-pub static WRITERS: [(usize, usize, bool, Result<(), RunFault>, &str); 6] = [
+pub static WRITERS: &[(usize, usize, bool, Result<(), RunFault>, &str)] = &[
     (NEVER, NEVER, true, Ok(()), "equivalent;"),
     (1, NEVER, true, Ok(()), "equivalent;"),
     (4, 1, true, Err(RunFault::Write), "equi"),
@@ -18,7 +18,7 @@ pub static WRITERS: [(usize, usize, bool, Result<(), RunFault>, &str); 6] = [
 
 #[test]
 fn a_failed_write_leaves_a_prefix(rt: HostRuntime) {
-    for (step, fails_at, flushes, outcome, written) in &WRITERS {
+    for (step, fails_at, flushes, outcome, written) in WRITERS {
         let mut drain = Drain::new(Vec::new(rt.alloc()), *step, *fails_at, *flushes);
         assert_eq!(rt;
             write_report(rt.alloc(), &Report::Equivalent, &mut drain),

@@ -1,21 +1,31 @@
 //! Runs with several options, and what they write.
 
 use eqc_check::{Options, RunFault, Status, Texts, run};
-use eqc_testing::{Feed, is_text};
+use eqc_testing::{Feed, Row, is_text};
 use std::fmt::Display;
 use std::io::{Read, Write};
 use std::process::Abort;
 use std::sync::Wait;
 use std::thread::Threads;
 
-/// Two workers, who share no operation.
-pub const TWO: Options = team(2, 0);
+/// Numbers of workers, nodes, cells and forks.
+pub type Numbers = (u32, u32, u32, u32);
+
+/// Two workers, who share no operation, and as many nodes and cells as the program has where nothing is said.
+pub const TWO: Numbers = (2, 65_536, 8_192, 0);
 
 /// Teams of workers, which change no report.
-pub static TEAMS: &[Options] = &[team(1, 0), TWO, team(8, 0), team(8, 16), team(64, 0)];
+pub static TEAMS: &[Numbers] = &[
+    (1, 65_536, 8_192, 0),
+    TWO,
+    (8, 65_536, 8_192, 0),
+    (8, 65_536, 8_192, 16),
+    (64, 65_536, 8_192, 0),
+];
 
-/// So many workers, nodes, cells and forks.
-pub const fn options(workers: u32, nodes: u32, cells: u32, forks: u32) -> Options {
+/// Options of these numbers.
+pub fn options(numbers: Numbers) -> Options {
+    let (workers, nodes, cells, forks) = numbers;
     Options {
         workers,
         nodes,
@@ -24,22 +34,9 @@ pub const fn options(workers: u32, nodes: u32, cells: u32, forks: u32) -> Option
     }
 }
 
-/// So many workers and forks, with as many nodes and cells as the program has where nothing is said.
-pub const fn team(workers: u32, forks: u32) -> Options {
-    options(workers, 65_536, 8_192, forks)
-}
-
-/// Two workers within so many nodes.
-pub const fn within(nodes: u32) -> Options {
-    options(2, nodes, 8_192, 0)
-}
-
-/// What is compared, its text, and its report.
-pub type Row = (&'static str, &'static str, &'static str);
-
-/// Ends the test, and names the row and the options, where it doesn't hold.
-pub fn holds_by(rt: &impl Abort, found: bool, row: impl Display + Copy, options: &Options) {
-    assert!(rt; found, "{row} {options:?}");
+/// Ends the test, and names the row and the numbers, where it doesn't hold.
+pub fn holds_by(rt: &impl Abort, found: bool, row: impl Display + Copy, numbers: Numbers) {
+    assert!(rt; found, "{row} {numbers:?}");
 }
 
 /// A run.
@@ -47,10 +44,10 @@ pub fn ran<RT: AllocGlobal + Threads + Wait + Sync, R: Read + Drop, W: Write>(
     rt: &RT,
     texts: Texts<R>,
     order: Option<R>,
-    options: &Options,
+    numbers: Numbers,
     out: &mut W,
 ) -> Result<Status, RunFault> {
-    run(rt, rt.alloc(), texts, order, options, out)
+    run(rt, rt.alloc(), texts, order, &options(numbers), out)
 }
 
 /// The status that a report has by its first word.
@@ -69,11 +66,11 @@ pub fn reports<R: Read + Drop>(
     rt: &(impl AllocGlobal + Threads + Wait + Sync),
     texts: Texts<R>,
     order: Option<R>,
-    options: &Options,
+    numbers: Numbers,
     report: &str,
 ) -> bool {
     let mut out = Vec::new(rt.alloc());
-    let done = ran(rt, texts, order, options, &mut out);
+    let done = ran(rt, texts, order, numbers, &mut out);
     done.ok() == status_of(report) && is_text(&out, report)
 }
 
@@ -81,21 +78,21 @@ pub fn reports<R: Read + Drop>(
 pub fn reports_on(
     rt: &(impl AllocGlobal + Threads + Wait + Sync),
     text: &str,
-    options: &Options,
+    numbers: Numbers,
     report: &str,
 ) -> bool {
-    reports(rt, Texts::One(Feed::whole(text)), None, options, report)
+    reports(rt, Texts::One(Feed::whole(text)), None, numbers, report)
 }
 
-/// Each row's text gives its report under each of these options.
-pub fn check_rows(
+/// Each row's text gives its report with each of these numbers.
+pub fn check_runs(
     rt: &(impl Abort + AllocGlobal + Threads + Wait + Sync),
-    teams: &[Options],
-    rows: &[Row],
+    teams: &[Numbers],
+    rows: &[Row<&str>],
 ) {
     for (case, text, report) in rows {
-        for options in teams {
-            holds_by(rt, reports_on(rt, text, options, report), case, options);
+        for numbers in teams {
+            holds_by(rt, reports_on(rt, text, *numbers, report), case, *numbers);
         }
     }
 }

@@ -2,63 +2,60 @@
 //! are small enough to be worked out by hand.
 
 use crate::reports::WRITERS;
-use crate::running::{TEAMS, TWO, holds_by, options, ran, reports, reports_on, team};
-use eqc_check::{Options, RunFault, Status, Texts, options_fault};
+use crate::running::{Numbers, TEAMS, TWO, holds_by, options, ran, reports, reports_on};
+use eqc_check::{RunFault, Status, Texts, options_fault};
 use eqc_testing::{DIFFERENCE, Drain, EQUAL, Endless, Feed, NEVER, PERMUTED, XOR, is_text, same};
 use std::sync::Wait;
 use std::thread::Threads;
 
 const EMPTY: &str = ".model f;.end;.model g;.end;";
 
-/// Options, with the code of the first that is out of its range.
-static RANGES: &[(Options, Option<u8>)] = &[
-    (options(1, 1, 1, 0), None),
-    (options(64, 1_048_574, 1_048_576, 16), None),
-    (options(0, 0, 0, 17), Some(81)),
-    (options(65, 1, 1, 0), Some(81)),
-    (options(1, 0, 0, 17), Some(82)),
-    (options(1, 1_048_575, 1, 0), Some(82)),
-    (options(1, 1, 0, 17), Some(83)),
-    (options(1, 1, 3, 0), Some(83)),
-    (options(1, 1, 2_097_152, 0), Some(83)),
-    (options(1, 1, 1, 17), Some(84)),
+/// Numbers, with the code of the first that is out of its range.
+static RANGES: &[(Numbers, Option<u8>)] = &[
+    ((1, 1, 1, 0), None),
+    ((64, 1_048_574, 1_048_576, 16), None),
+    ((0, 0, 0, 17), Some(81)),
+    ((65, 1, 1, 0), Some(81)),
+    ((1, 0, 0, 17), Some(82)),
+    ((1, 1_048_575, 1, 0), Some(82)),
+    ((1, 1, 0, 17), Some(83)),
+    ((1, 1, 3, 0), Some(83)),
+    ((1, 1, 2_097_152, 0), Some(83)),
+    ((1, 1, 1, 17), Some(84)),
 ];
 
 #[test]
 fn options_are_tested_at_their_bounds(rt: HostRuntime) {
-    for (options, fault) in RANGES {
-        assert_eq!(rt; options_fault(options), *fault, "{options:?}");
+    for (numbers, fault) in RANGES {
+        assert_eq!(rt; options_fault(&options(*numbers)), *fault, "{numbers:?}");
     }
 }
 
-/// Options of runs on two equivalent netlists, with their reports.
-static LIMITED: &[(Options, &str)] = &[
-    (options(2, 65_536, 8_192, 0), "equivalent;"),
-    (options(65, 65_536, 8_192, 0), "refused options 0 81;"),
-    (options(2, 0, 8_192, 0), "refused options 0 82;"),
-    (options(2, 65_536, 3, 0), "refused options 0 83;"),
-    (options(2, 65_536, 8_192, 17), "refused options 0 84;"),
-    (options(0, 65_536, 3, 0), "refused options 0 81;"),
-    (options(1, 1, 1, 0), "stopped 71;"),
-    (options(64, 1_048_574, 1_048_576, 16), "equivalent;"),
+/// Numbers of runs on two equivalent netlists, with their reports.
+static LIMITED: &[(Numbers, &str)] = &[
+    ((2, 65_536, 8_192, 0), "equivalent;"),
+    ((65, 65_536, 8_192, 0), "refused options 0 81;"),
+    ((2, 0, 8_192, 0), "refused options 0 82;"),
+    ((2, 65_536, 3, 0), "refused options 0 83;"),
+    ((2, 65_536, 8_192, 17), "refused options 0 84;"),
+    ((0, 65_536, 3, 0), "refused options 0 81;"),
+    ((1, 1, 1, 0), "stopped 71;"),
+    ((64, 1_048_574, 1_048_576, 16), "equivalent;"),
 ];
 
 #[test]
 fn options_are_looked_at_first(rt: HostRuntime) {
-    for (options, report) in LIMITED {
-        holds_by(
-            &rt,
-            reports_on(&rt, EQUAL, options, report),
-            report,
-            options,
-        );
+    for (numbers, report) in LIMITED {
+        let found = reports_on(&rt, EQUAL, *numbers, report);
+        holds_by(&rt, found, report, *numbers);
     }
 }
 
 #[test]
 fn refused_options_keep_texts_unread(rt: HostRuntime) {
     let unread = Texts::One(Feed::new("", 1, 0));
-    let found = reports(&rt, unread, None, &team(0, 0), "refused options 0 81;");
+    let none = (0, 65_536, 8_192, 0);
+    let found = reports(&rt, unread, None, none, "refused options 0 81;");
     same(&rt, found, true, "no worker");
 }
 
@@ -71,14 +68,14 @@ fn is_read_whole(
     text: &str,
     step: usize,
     reads: usize,
-    options: &Options,
+    numbers: Numbers,
 ) -> bool {
     let mut feed = Feed::new(text, step, NEVER);
     let is_refused = reports(
         rt,
         Texts::One(&mut feed),
         None,
-        options,
+        numbers,
         "refused second 0 13;",
     );
     is_refused && feed.is_at_end() && feed.calls == reads
@@ -86,10 +83,10 @@ fn is_read_whole(
 
 #[test]
 fn a_text_is_read_whole(rt: HostRuntime) {
-    for options in TEAMS {
+    for numbers in TEAMS {
         for (step, reads) in READS {
-            let found = is_read_whole(&rt, ".model m;", *step, *reads, options);
-            holds_by(&rt, found, step, options);
+            let found = is_read_whole(&rt, ".model m;", *step, *reads, *numbers);
+            holds_by(&rt, found, step, *numbers);
         }
     }
 }
@@ -100,7 +97,7 @@ fn a_failed_read_is_not_tried_again(rt: HostRuntime) {
         let mut feed = Feed::new(".model m;", 1, call);
         let mut out = Vec::new(rt.alloc());
         let texts = Texts::One(&mut feed);
-        let done = ran(&rt, texts, None, &TWO, &mut out);
+        let done = ran(&rt, texts, None, TWO, &mut out);
         assert_eq!(rt; done, Err(RunFault::Read), "at {call}");
         assert_eq!(rt;
             feed.calls,
@@ -113,11 +110,11 @@ fn a_failed_read_is_not_tried_again(rt: HostRuntime) {
 
 #[test]
 fn a_text_may_come_byte_by_byte(rt: HostRuntime) {
-    for options in TEAMS {
+    for numbers in TEAMS {
         for step in [1, 2, 7, 1000] {
             let texts = Texts::One(Feed::new(EQUAL, step, NEVER));
-            let found = reports(&rt, texts, None, options, "equivalent;");
-            holds_by(&rt, found, step, options);
+            let found = reports(&rt, texts, None, *numbers, "equivalent;");
+            holds_by(&rt, found, step, *numbers);
         }
     }
 }
@@ -129,7 +126,7 @@ fn fails_unwritten(
     order: Option<Feed<'_>>,
 ) -> bool {
     let mut out = Drain::new(Vec::new(rt.alloc()), NEVER, NEVER, true);
-    let done = ran(rt, texts, order, &TWO, &mut out);
+    let done = ran(rt, texts, order, TWO, &mut out);
     done == Err(RunFault::Read) && out.calls == 0
 }
 
@@ -150,22 +147,22 @@ fn nothing_is_written_after_a_failed_read(rt: HostRuntime) {
 fn is_written(
     rt: &(impl AllocGlobal + Threads + Wait + Sync),
     out: Drain,
-    options: &Options,
+    numbers: Numbers,
     outcome: Result<(), RunFault>,
     written: &str,
 ) -> bool {
     let mut out = out;
-    let done = ran(rt, Texts::One(Feed::whole(EMPTY)), None, options, &mut out);
+    let done = ran(rt, Texts::One(Feed::whole(EMPTY)), None, numbers, &mut out);
     done == outcome.map(|()| Status::Equivalent) && is_text(&out.bytes, written)
 }
 
 #[test]
 fn a_part_is_written_before_a_failed_write(rt: HostRuntime) {
-    for options in TEAMS {
+    for numbers in TEAMS {
         for (row, (step, fails_at, flushes, outcome, written)) in WRITERS.iter().enumerate() {
             let out = Drain::new(Vec::new(rt.alloc()), *step, *fails_at, *flushes);
-            let found = is_written(&rt, out, options, *outcome, written);
-            holds_by(&rt, found, row, options);
+            let found = is_written(&rt, out, *numbers, *outcome, written);
+            holds_by(&rt, found, row, *numbers);
         }
     }
 }
@@ -176,7 +173,7 @@ fn a_text_without_end_is_too_long(rt: HostRuntime) {
     let mut endless = Endless::new();
     let mut out = Vec::new(rt.alloc());
     let texts = Texts::One(&mut endless);
-    let done = ran(&rt, texts, None, &TWO, &mut out);
+    let done = ran(&rt, texts, None, TWO, &mut out);
     assert_eq!(rt; done, Ok(Status::Refused));
     assert!(rt; is_text(&out, "refused first 0 2;"));
     assert_eq!(rt; endless.given, 16_777_217);
@@ -195,12 +192,12 @@ static ORDERED: &[(&str, &str, &str, &str)] = &[
 
 #[test]
 fn order_texts_change_no_answer(rt: HostRuntime) {
-    for options in TEAMS {
+    for numbers in TEAMS {
         for (case, text, order, report) in ORDERED {
             let texts = Texts::One(Feed::whole(text));
             let order = Some(Feed::whole(order));
-            let found = reports(&rt, texts, order, options, report);
-            holds_by(&rt, found, case, options);
+            let found = reports(&rt, texts, order, *numbers, report);
+            holds_by(&rt, found, case, *numbers);
         }
     }
 }
@@ -217,11 +214,11 @@ static SIDES: &[(&str, &str, &str, &str)] = &[
 
 #[test]
 fn two_texts_have_sides(rt: HostRuntime) {
-    for options in TEAMS {
+    for numbers in TEAMS {
         for (case, first, second, report) in SIDES {
             let texts = Texts::Two(Feed::whole(first), Feed::whole(second));
-            let found = reports(&rt, texts, None, options, report);
-            holds_by(&rt, found, case, options);
+            let found = reports(&rt, texts, None, *numbers, report);
+            holds_by(&rt, found, case, *numbers);
         }
     }
 }

@@ -2,16 +2,15 @@
 //! them. Covers that only mean the same are not looked into.
 ghost use Rattle.std.specs.Prelude.{◌+◌, ◌<◌, ◌^◌};
 
-use crate::running::{Row, TWO, check_rows, holds_by, options, reports_on, team, within};
-use eqc_check::Options;
-use eqc_testing::{holds, same};
+use crate::running::{Numbers, TWO, check_runs, holds_by, reports_on};
+use eqc_testing::{Row, holds, same};
 use std::alloc::{AllocError, Global};
 use std::sync::Wait;
 use std::thread::Threads;
 
 /// What is compared, its text, and its report with one node.
 #[rattlefmt::skip]
-static ROWS: &[Row] = &[
+static ROWS: &[Row<&str>] = &[
     ("a netlist with itself", ".model f;.inputs x y;.outputs z;.names x y z;11 1;.end;.model g;.inputs x y;.outputs z;.names x y z;11 1;.end;", "equivalent;"),
     ("inputs and outputs in another order", ".model f;.inputs x y;.outputs z w;.names x y z;10 1;.names y x w;10 1;.end;.model g;.inputs y x;.outputs w z;.names y x w;10 1;.names x y z;10 1;.end;", "equivalent;"),
     ("covers in another order, under other names", ".model f;.inputs x y;.outputs z;.names s t z;1- 1;-1 1;.names x y s;11 1;.names x y t;00 1;.end;.model g;.inputs x y;.outputs z;.names x y b;00 1;.names x y a;11 1;.names a b z;1- 1;-1 1;.end;", "equivalent;"),
@@ -30,21 +29,21 @@ static ROWS: &[Row] = &[
 ];
 
 /// Workers and forks with a store of one node.
-static WITH_ONE_NODE: &[Options] = &[
-    options(1, 1, 8_192, 0),
-    options(2, 1, 8_192, 0),
-    options(8, 1, 8_192, 16),
-    options(64, 1, 8_192, 0),
+static WITH_ONE_NODE: &[Numbers] = &[
+    (1, 1, 8_192, 0),
+    (2, 1, 8_192, 0),
+    (8, 1, 8_192, 16),
+    (64, 1, 8_192, 0),
 ];
 
 #[test]
 fn one_node_is_enough_where_structures_are_equal(rt: HostRuntime) {
-    check_rows(&rt, WITH_ONE_NODE, ROWS);
+    check_runs(&rt, WITH_ONE_NODE, ROWS);
 }
 
 /// What two netlists have in common under outputs that are compared, their text, and their report.
 #[rattlefmt::skip]
-static SHARED: &[Row] = &[
+static SHARED: &[Row<&str>] = &[
     ("a gate under columns in another order", ".model f;.inputs x y w;.outputs z;.names x y s;11 1;.names s w z;1- 1;-1 1;.end;.model g;.inputs x y w;.outputs z;.names x y s;11 1;.names w s z;1- 1;-1 1;.end;", "equivalent;"),
     ("a gate that two outputs need, behind a connection in the second netlist", ".model f;.inputs x y w;.outputs z v;.names x y s;11 1;.names s w z;1- 1;-1 1;.names s w v;11 1;.end;.model g;.inputs x y w;.outputs z v;.names x y t;11 1;.names t s;1 1;.names w s z;1- 1;-1 1;.names w s v;11 1;.end;", "equivalent;"),
     ("a gate that only the second netlist needs for the first output", ".model f;.inputs x y;.outputs z v;.names x z;1 1;.names x y v;11 1;.end;.model g;.inputs x y;.outputs z v;.names x y s;11 1;.names x s z;1- 1;-1 1;.names s x v;11 1;.end;", "equivalent;"),
@@ -53,11 +52,16 @@ static SHARED: &[Row] = &[
 ];
 
 /// Workers and forks.
-static BY_WORKERS: &[Options] = &[team(1, 0), team(3, 0), team(8, 16), team(64, 0)];
+static BY_WORKERS: &[Numbers] = &[
+    (1, 65_536, 8_192, 0),
+    (3, 65_536, 8_192, 0),
+    (8, 65_536, 8_192, 16),
+    (64, 65_536, 8_192, 0),
+];
 
 #[test]
 fn what_both_netlists_have_is_built_for_both(rt: HostRuntime) {
-    check_rows(&rt, BY_WORKERS, SHARED);
+    check_runs(&rt, BY_WORKERS, SHARED);
 }
 
 /// Declares the bits of two numbers as inputs and those of a result as outputs, and drives the first carry.
@@ -125,7 +129,7 @@ fn are_reported(
     report: &str,
 ) -> Result<bool, AllocError> {
     let text = units(rt.alloc(), "11--1 1;", second)?;
-    Ok(reports_on(rt, &text, &within(nodes), report))
+    Ok(reports_on(rt, &text, (2, nodes, 8_192, 0), report))
 }
 
 #[test]
@@ -163,26 +167,23 @@ fn last_bit(alloc: Global, bits: u32) -> Result<String, AllocError> {
 fn outputs_before_a_changed_one_need_no_node(rt: HostRuntime) -> Result<(), AllocError> {
     let text = changed_units(rt.alloc(), 4)?;
     let report = last_bit(rt.alloc(), 4)?;
-    let found = reports_on(&rt, &text, &TWO, &report);
+    let found = reports_on(&rt, &text, TWO, &report);
     same(&rt, found, true, "four bits");
     Ok(())
 }
 
 /// By how many workers a pair is compared that needs more nodes than the forest in which a comparison begins has.
-static LARGE: &[Options] = &[
-    options(1, 1_048_574, 8_192, 0),
-    options(2, 1_048_574, 8_192, 0),
-];
+static LARGE: &[Numbers] = &[(1, 1_048_574, 8_192, 0), (2, 1_048_574, 8_192, 0)];
 
 #[test]
 fn a_comparison_goes_on_in_the_whole_forest(rt: HostRuntime) -> Result<(), AllocError> {
     let text = changed_units(rt.alloc(), 16)?;
     let report = last_bit(rt.alloc(), 16)?;
-    let found = reports_on(&rt, &text, &TWO, "stopped 71;");
+    let found = reports_on(&rt, &text, TWO, "stopped 71;");
     same(&rt, found, true, "few nodes");
-    for options in LARGE {
-        let found = reports_on(&rt, &text, options, &report);
-        holds_by(&rt, found, "many nodes", options);
+    for numbers in LARGE {
+        let found = reports_on(&rt, &text, *numbers, &report);
+        holds_by(&rt, found, "many nodes", *numbers);
     }
     Ok(())
 }

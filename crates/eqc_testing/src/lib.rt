@@ -3,17 +3,20 @@
 //!
 //! - `rows`: a test ends by `holds` or `same`, which alone have the branches and the words of a failed row: a test that has
 //!   them itself is proved at each of its branches, with all that it holds there
-//! - `texts`, texts with `;` for LF
+//!   A case is a row: a name, a text, and what is wanted, which `check_rows` compares
+//! - `texts`, texts in which `;` stands for LF; `line`, answers on one line
 //! - `streams`, readers, writers and a disk
 //! - `chance`, numbers by chance
 #![tactic(auto)]
 
 mod chance;
+mod line;
 mod rows;
 mod streams;
 mod texts;
 
 pub use chance::Chance;
-pub use rows::{holds, holds_at, same};
+pub use line::Line;
+pub use rows::{Row, check_rows, holds, holds_at, same};
 pub use streams::{Disk, Drain, Endless, Feed, NEVER};
 pub use texts::{DIFFERENCE, EQUAL, PERMUTED, UNEQUAL, XOR, doubling, input_names, is_text, lines};

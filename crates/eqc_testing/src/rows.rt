@@ -1,6 +1,7 @@
-//! Ends of tests: each names the row that doesn't hold.
+//! Rows of cases, and the ends of tests, which name the row that doesn't hold.
 
-use std::alloc::AllocError;
+use crate::texts::lines;
+use std::alloc::{AllocError, Global};
 use std::fmt::{Debug, Display};
 use std::process::Abort;
 
@@ -31,4 +32,33 @@ pub fn same<T: PartialEq + Debug + Copy>(
     row: impl Display + Copy,
 ) {
     assert_eq!(rt; found, wanted, "{row}");
+}
+
+/// A case: its name, a text in which `;` stands for LF, and what is wanted of it.
+pub type Row<W> = (&'static str, &'static str, W);
+
+/// Each text is as it is wanted. The test ends at the first one that isn't, and names its row.
+pub fn check_rows<W, F: Fn(Global, &[u8], &W) -> Result<bool, AllocError>>(
+    rt: &(impl Abort + AllocGlobal),
+    rows: &[Row<W>],
+    is_wanted: F,
+)
+    requires { F.IsAlwaysCallable is_wanted }
+{
+    for (name, text, wanted) in rows {
+        holds(rt, is_as_wanted(rt.alloc(), text, wanted, &is_wanted), name);
+    }
+}
+
+/// Whether a text is as it is wanted.
+fn is_as_wanted<W, F: Fn(Global, &[u8], &W) -> Result<bool, AllocError>>(
+    alloc: Global,
+    text: &str,
+    wanted: &W,
+    is_wanted: &F,
+) -> Result<bool, AllocError>
+    requires { F.IsAlwaysCallable is_wanted.now }
+{
+    let text = lines(alloc, text)?;
+    is_wanted(alloc, &text, wanted)
 }

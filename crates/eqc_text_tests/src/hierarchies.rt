@@ -6,10 +6,8 @@ ghost use Rattle.std.specs.Prelude.{◌<◌, length};
 use eqc_blif::{Library, read};
 use eqc_flat::{Driver, Flat, Signals, eval, flatten};
 use eqc_netlist_testing::flat_of;
-use eqc_testing::{holds, same};
+use eqc_testing::{Row, check_rows};
 use std::alloc::{AllocError, Global};
-use std::process::Abort;
-use std::test::Fail;
 
 /// Whether this is the code of the first fault below the main model of a library.
 fn library_has_code(alloc: Global, library: &Library, code: Option<u8>) -> bool {
@@ -32,47 +30,24 @@ fn has_code(alloc: Global, text: &[u8], code: Option<u8>) -> bool {
 
 /// Texts and their codes. The codes of models are 21 to 25; the first text has none of them, and then 27, since nothing
 /// drives the output of its second model.
-static CODES: [(&[u8], Option<u8>); 7] = [
-    (
-        b".model m\n.inputs a\n.outputs y\n.subckt n x=a z=y\n.end\n.model n\n.inputs x\n.outputs z\n.end\n",
-        Some(27),
-    ),
-    (b".model m\n.subckt n x=a\n.end\n", Some(21)),
-    (
-        b".model m\n.subckt n x=a\n.end\n.model n\n.inputs x\n.subckt m x=x\n.end\n",
-        Some(22),
-    ),
-    (
-        b".model m\n.subckt n x=a w=a\n.end\n.model n\n.inputs x\n.end\n",
-        Some(23),
-    ),
-    (
-        b".model m\n.subckt n x=a x=b\n.end\n.model n\n.inputs x\n.end\n",
-        Some(24),
-    ),
-    (
-        b".model m\n.subckt n x=a\n.end\n.model n\n.inputs x v\n.end\n",
-        Some(25),
-    ),
-    (b".model m\n.end\n.model n\n.subckt o x=a\n.end\n", None),
+#[rattlefmt::skip]
+static CODES: &[Row<Option<u8>>] = &[
+    ("an output that nothing drives", ".model m;.inputs a;.outputs y;.subckt n x=a z=y;.end;.model n;.inputs x;.outputs z;.end;", Some(27)),
+    ("a missing model", ".model m;.subckt n x=a;.end;", Some(21)),
+    ("models that contain one another", ".model m;.subckt n x=a;.end;.model n;.inputs x;.subckt m x=x;.end;", Some(22)),
+    ("a formal that is no port", ".model m;.subckt n x=a w=a;.end;.model n;.inputs x;.end;", Some(23)),
+    ("a formal twice", ".model m;.subckt n x=a x=b;.end;.model n;.inputs x;.end;", Some(24)),
+    ("an input without a pair", ".model m;.subckt n x=a;.end;.model n;.inputs x v;.end;", Some(25)),
+    ("a fault that is not below the main model", ".model m;.end;.model n;.subckt o x=a;.end;", None),
 ];
 
 #[test]
 fn tells_the_first_code_of_the_models(rt: HostRuntime) {
-    for (k, (text, code)) in CODES.iter().enumerate() {
-        same(&rt, has_code(rt.alloc(), text, *code), true, k);
-    }
-}
-
-/// The values of a flat netlist's outputs under these values of its inputs.
-pub fn output_values(alloc: Global, flat: &Flat<'_>, values: &[bool]) -> Result<Vec<bool>, Fail> {
-    if flat.inputs().len() != values.len() {
-        return Err(Fail::from("more or fewer inputs"));
-    }
-    match eval(alloc, flat, values) {
-        Ok(outputs) => Ok(outputs),
-        Err(_) => Err(Fail::from("no memory")),
-    }
+    check_rows(
+        &rt,
+        CODES,
+        |alloc, text, code| Ok(has_code(alloc, text, *code)),
+    );
 }
 
 /// Whether a flat netlist has so many signals, and these values of its outputs under those of its inputs.
@@ -106,9 +81,12 @@ fn library_gives(
     }
 }
 
+/// A number of models and of signals, values of the inputs, and those of the outputs.
+type Values = (usize, usize, &'static [bool], &'static [bool]);
+
 /// Whether a text has so many models, and its main model does.
-fn gives(alloc: Global, row: &Row) -> bool {
-    let (text, models, signals, inputs, outputs) = *row;
+fn gives(alloc: Global, text: &[u8], wanted: &Values) -> bool {
+    let (models, signals, inputs, outputs) = *wanted;
     match read(alloc, text) {
         Ok(library) => {
             library.models() == models && library_gives(alloc, &library, signals, inputs, outputs)
@@ -117,48 +95,39 @@ fn gives(alloc: Global, row: &Row) -> bool {
     }
 }
 
-/// A text, its number of models and of signals, values of the inputs, and those of the outputs.
-type Row = (
-    &'static [u8],
-    usize,
-    usize,
-    &'static [bool],
-    &'static [bool],
-);
-
-fn check_values(rt: &(impl Abort + AllocGlobal), rows: &[Row]) {
-    for (k, row) in rows.iter().enumerate() {
-        same(rt, gives(rt.alloc(), row), true, k);
-    }
-}
-
-static COVERS: [Row; 1] = [(
-    b".model m\n.inputs a b\n.outputs y z\n.names b z\n1 0\n.names a b y\n1- 1\n01 1\n",
-    1,
-    4,
-    &[false, true],
-    &[true, false],
-)];
+#[rattlefmt::skip]
+static COVERS: &[Row<Values>] = &[
+    ("two covers", ".model m;.inputs a b;.outputs y z;.names b z;1 0;.names a b y;1- 1;01 1;", (1, 4, &[false, true], &[true, false])),
+];
 
 #[test]
 fn evaluates_covers(rt: HostRuntime) {
-    check_values(&rt, COVERS.as_slice());
+    check_rows(
+        &rt,
+        COVERS,
+        |alloc, text, wanted| Ok(gives(alloc, text, wanted)),
+    );
 }
 
 /// Two not-ands in series, the second over the first's output twice, are a conjunction.
-const NOT_ANDS: &[u8] =
-    b".model f\n.inputs a b\n.outputs z\n.subckt n i=a j=b o=t\n.subckt n i=t j=t o=z\n.end\n.model n\n.inputs i j\n.outputs o\n.names i j o\n11 0\n";
+const NOT_ANDS: &str =
+    ".model f;.inputs a b;.outputs z;.subckt n i=a j=b o=t;.subckt n i=t j=t o=z;.end;.model n;.inputs i j;.outputs o;.names i j o;11 0;";
 
-static INSTANCES: [Row; 4] = [
-    (NOT_ANDS, 2, 10, &[false, false], &[false]),
-    (NOT_ANDS, 2, 10, &[false, true], &[false]),
-    (NOT_ANDS, 2, 10, &[true, false], &[false]),
-    (NOT_ANDS, 2, 10, &[true, true], &[true]),
+#[rattlefmt::skip]
+static INSTANCES: &[Row<Values>] = &[
+    ("no input", NOT_ANDS, (2, 10, &[false, false], &[false])),
+    ("the second input", NOT_ANDS, (2, 10, &[false, true], &[false])),
+    ("the first input", NOT_ANDS, (2, 10, &[true, false], &[false])),
+    ("both inputs", NOT_ANDS, (2, 10, &[true, true], &[true])),
 ];
 
 #[test]
 fn evaluates_hierarchies(rt: HostRuntime) {
-    check_values(&rt, INSTANCES.as_slice());
+    check_rows(
+        &rt,
+        INSTANCES,
+        |alloc, text, wanted| Ok(gives(alloc, text, wanted)),
+    );
 }
 
 /// A name as text.
@@ -241,20 +210,17 @@ fn has_signals(alloc: Global, text: &[u8], signals: &str) -> Result<bool, AllocE
     }
 }
 
-static SIGNALS: [(&[u8], &str); 2] = [
-    (
-        b".model f\n.inputs x y\n.outputs z\n.names x y z\n11 1\n",
-        "x=input 0;y=input 1;z=cover 0 1;",
-    ),
-    (
-        b".model f\n.inputs a\n.outputs z\n.subckt n i=a o=t\n.subckt n i=t o=z\n.end\n.model n\n.inputs i\n.outputs o\n.names i o\n0 1\n",
-        "a=input 0;0.0.i=tie 0;0.0.o=cover 3;t=tie 4;0.1.i=tie 2;0.1.o=cover 5;z=tie 6;",
-    ),
+#[rattlefmt::skip]
+static SIGNALS: &[Row<&str>] = &[
+    ("a cover", ".model f;.inputs x y;.outputs z;.names x y z;11 1;", "x=input 0;y=input 1;z=cover 0 1;"),
+    ("two instances", ".model f;.inputs a;.outputs z;.subckt n i=a o=t;.subckt n i=t o=z;.end;.model n;.inputs i;.outputs o;.names i o;0 1;", "a=input 0;0.0.i=tie 0;0.0.o=cover 3;t=tie 4;0.1.i=tie 2;0.1.o=cover 5;z=tie 6;"),
 ];
 
 #[test]
 fn signals_have_names_places_and_drivers(rt: HostRuntime) {
-    for (text, want) in SIGNALS.iter() {
-        holds(&rt, has_signals(rt.alloc(), text, want), want);
-    }
+    check_rows(
+        &rt,
+        SIGNALS,
+        |alloc, text, signals| has_signals(alloc, text, signals),
+    );
 }

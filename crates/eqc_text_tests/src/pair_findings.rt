@@ -4,32 +4,23 @@ use eqc_blif::{Library, read};
 use eqc_flat::Flat;
 use eqc_netlist_testing::two_flats;
 use eqc_pair::{Finding, Unmatched, explain_pair};
-use eqc_testing::{EQUAL, holds, lines};
+use eqc_testing::{EQUAL, Line, Row, check_rows, holds, lines};
 use std::alloc::{AllocError, Global};
-use std::process::Abort;
 
-/// Adds a name.
-fn push_name(out: &mut String, name: &[u8]) -> Result<(), AllocError> {
-    out.push_str(" ")?;
-    for byte in name {
-        out.push(char::from(*byte))?;
+/// Adds how many names there are, and those that are told.
+fn push_names(alloc: Global, line: &mut Line, names: &Unmatched<'_>) -> Result<(), AllocError> {
+    line.push_number(alloc, names.count())?;
+    for name in names.names() {
+        line.push(name)?;
     }
     Ok(())
 }
 
-/// Names, each behind a blank.
-fn names_word(alloc: Global, names: &Unmatched<'_>) -> Result<String, AllocError> {
-    let mut out = String::new(alloc);
-    for name in names.names() {
-        push_name(&mut out, name)?;
-    }
-    Ok(out)
-}
-
-/// A code, how many names there are, and those that are told.
-fn counted(alloc: Global, code: &str, names: &Unmatched<'_>) -> Result<String, AllocError> {
-    let told = names_word(alloc, names)?;
-    format!(in alloc; "{code} {}{told}", names.count())
+/// A code, and the names of one netlist behind it.
+fn counted(alloc: Global, code: &str, names: &Unmatched<'_>) -> Result<Line, AllocError> {
+    let mut line = Line::new(alloc, code)?;
+    push_names(alloc, &mut line, names)?;
+    Ok(line)
 }
 
 /// A code, and the names of the two netlists behind it.
@@ -38,121 +29,84 @@ fn differing(
     code: &str,
     first: &Unmatched<'_>,
     second: &Unmatched<'_>,
-) -> Result<String, AllocError> {
-    let first = counted(alloc, code, first)?;
-    let second = counted(alloc, "", second)?;
-    format!(in alloc; "{first},{second}")
-}
-
-/// The code of a word twice, and the word.
-fn twice(alloc: Global, word: &[u8]) -> Result<String, AllocError> {
-    let mut out = String::from_str(alloc, "52")?;
-    push_name(&mut out, word)?;
-    Ok(out)
+) -> Result<Line, AllocError> {
+    let mut line = counted(alloc, code, first)?;
+    line.push(b"|")?;
+    push_names(alloc, &mut line, second)?;
+    Ok(line)
 }
 
 /// A finding on one line: its code, and what it names.
-fn shown(alloc: Global, finding: &Finding<'_>) -> Result<String, AllocError> {
+fn shown(alloc: Global, finding: &Finding<'_>) -> Result<Line, AllocError> {
     match finding {
         Finding::OtherInputs { first, second } => differing(alloc, "41", first, second),
         Finding::OtherOutputs { first, second } => differing(alloc, "42", first, second),
-        Finding::OrderTooLong { bytes, limit } => format!(in alloc; "2 {bytes} {limit}"),
+        Finding::OrderTooLong { bytes, limit } => Line::of_numbers(alloc, "2", &[*bytes, *limit]),
         Finding::UnknownWords(words) => counted(alloc, "51", words),
-        Finding::WordTwice(word) => twice(alloc, word),
+        Finding::WordTwice(word) => Line::of_name(alloc, "52", word),
         Finding::InputsLeftOut(inputs) => counted(alloc, "53", inputs),
     }
 }
 
-/// What is at fault in two flat netlists, on one line, or `-` where nothing is.
+/// What is at fault in two flat netlists, or `-` where nothing is.
 fn flat_finding(
     alloc: Global,
     first: &Flat<'_>,
     second: &Flat<'_>,
     order: Option<&[u8]>,
-) -> Result<String, AllocError> {
+) -> Result<Line, AllocError> {
     match explain_pair(alloc, first, second, order)? {
         Some(finding) => shown(alloc, &finding),
-        None => String::from_str(alloc, "-"),
+        None => Line::new(alloc, "-"),
     }
 }
 
 /// What is at fault in the first two models of a library.
-fn found_in(alloc: Global, library: &Library, order: Option<&[u8]>) -> Result<String, AllocError> {
+fn found_in(alloc: Global, library: &Library, order: Option<&[u8]>) -> Result<Line, AllocError> {
     match &two_flats(alloc, library) {
         Some((first, second)) => flat_finding(alloc, first, second, order),
-        None => String::from_str(alloc, "no two models"),
+        None => Line::new(alloc, "no two models"),
     }
 }
 
 /// Whether this is at fault in the first two models of a text.
 fn has(alloc: Global, text: &[u8], order: Option<&[u8]>, wanted: &str) -> Result<bool, AllocError> {
     match read(alloc, text) {
-        Ok(library) => Ok(found_in(alloc, &library, order)?.as_str() == wanted),
+        Ok(library) => Ok(found_in(alloc, &library, order)?.is(wanted)),
         Err(_) => Ok(false),
     }
 }
 
-/// The same, where `;` stands for LF.
-fn found(
-    alloc: Global,
-    text: &str,
-    order: Option<&[u8]>,
-    wanted: &str,
-) -> Result<bool, AllocError> {
-    let text = lines(alloc, text)?;
-    has(alloc, &text, order, wanted)
-}
-
-/// The same of an order text for `EQUAL`.
-fn found_in_order(alloc: Global, order: &str, wanted: &str) -> Result<bool, AllocError> {
-    let order = lines(alloc, order)?;
-    found(alloc, EQUAL, Some(&order), wanted)
+/// Whether this is at fault in an order text for `EQUAL`.
+fn has_order(alloc: Global, order: &[u8], wanted: &str) -> Result<bool, AllocError> {
+    let text = lines(alloc, EQUAL)?;
+    has(alloc, &text, Some(order), wanted)
 }
 
 /// Texts of two models, each with its name and with what is at fault.
-static PAIRS: [(&str, &str, &str); 7] = [
+#[rattlefmt::skip]
+static PAIRS: &[Row<&str>] = &[
     ("the same names", EQUAL, "-"),
-    (
-        "the same names in another order",
-        ".model f;.inputs a b;.end;.model g;.inputs b a;.end;",
-        "-",
-    ),
-    (
-        "an input renamed",
-        ".model f;.inputs a b c;.end;.model g;.inputs d c a;.end;",
-        "41 1 b, 1 d",
-    ),
-    (
-        "inputs dropped, and outputs other",
-        ".model f;.inputs a b c;.outputs a;.end;.model g;.inputs b;.outputs b;.end;",
-        "41 2 a c, 0",
-    ),
-    (
-        "more names than are told",
-        ".model f;.inputs i0;.end;.model g;.inputs i12 i11 i10 i9 i8 i7 i6 i5 i4 i3 i2 i1 i0;.end;",
-        "41 0, 12 i12 i11 i10 i9 i8 i7 i6 i5 i4 i3",
-    ),
-    (
-        "an output dropped",
-        ".model f;.inputs a;.outputs a;.end;.model g;.inputs a;.end;",
-        "42 1 a, 0",
-    ),
-    (
-        "an output renamed",
-        ".model f;.inputs a b;.outputs a;.end;.model g;.inputs b a;.outputs b;.end;",
-        "42 1 a, 1 b",
-    ),
+    ("the same names in another order", ".model f;.inputs a b;.end;.model g;.inputs b a;.end;", "-"),
+    ("an input renamed", ".model f;.inputs a b c;.end;.model g;.inputs d c a;.end;", "41 1 b | 1 d"),
+    ("inputs dropped, and outputs other", ".model f;.inputs a b c;.outputs a;.end;.model g;.inputs b;.outputs b;.end;", "41 2 a c | 0"),
+    ("more names than are told", ".model f;.inputs i0;.end;.model g;.inputs i12 i11 i10 i9 i8 i7 i6 i5 i4 i3 i2 i1 i0;.end;", "41 0 | 12 i12 i11 i10 i9 i8 i7 i6 i5 i4 i3"),
+    ("an output dropped", ".model f;.inputs a;.outputs a;.end;.model g;.inputs a;.end;", "42 1 a | 0"),
+    ("an output renamed", ".model f;.inputs a b;.outputs a;.end;.model g;.inputs b a;.outputs b;.end;", "42 1 a | 1 b"),
 ];
 
 #[test]
 fn names_what_one_netlist_lacks(rt: HostRuntime) {
-    for (name, text, wanted) in &PAIRS {
-        holds(&rt, found(rt.alloc(), text, None, wanted), name);
-    }
+    check_rows(
+        &rt,
+        PAIRS,
+        |alloc, text, wanted| has(alloc, text, None, wanted),
+    );
 }
 
 /// Order texts for the inputs `x` and `y`, each with its name and with what is at fault.
-static ORDERS: [(&str, &str, &str); 7] = [
+#[rattlefmt::skip]
+static ORDERS: &[Row<&str>] = &[
     ("all inputs", "y # the second;x", "-"),
     ("words that are no inputs", "x u;y\tv u", "51 3 u v u"),
     ("an unknown word before one twice", "x x z", "51 1 z"),
@@ -164,9 +118,11 @@ static ORDERS: [(&str, &str, &str); 7] = [
 
 #[test]
 fn names_what_an_order_text_has_wrong(rt: HostRuntime) {
-    for (name, order, wanted) in &ORDERS {
-        holds(&rt, found_in_order(rt.alloc(), order, wanted), name);
-    }
+    check_rows(
+        &rt,
+        ORDERS,
+        |alloc, order, wanted| has_order(alloc, order, wanted),
+    );
 }
 
 #[test]
@@ -174,8 +130,8 @@ fn names_the_size_of_a_long_order_text(rt: HostRuntime) -> Result<(), AllocError
     let order = vec![in rt.alloc(); b'\n'; 16_777_217]?;
     holds(
         &rt,
-        found(rt.alloc(), EQUAL, Some(&order), "2 16777217 16777216"),
-        "names the size of a long order text",
+        has_order(rt.alloc(), &order, "2 16777217 16777216"),
+        "too long",
     );
     Ok(())
 }

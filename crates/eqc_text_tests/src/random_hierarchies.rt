@@ -2,10 +2,10 @@
 //! models of the library and never looks at the flat netlist.
 ghost use Rattle.std.specs.Prelude.{◌<◌, IfOk, length};
 
-use super::hierarchies;
 use eqc_blif::{Cover, Instance, Library, Name, read};
-use eqc_flat::Flat;
+use eqc_flat::{Flat, eval};
 use eqc_netlist_testing::flat_of;
+use eqc_testing::Chance;
 use std::alloc::Global;
 use std::test::Fail;
 
@@ -13,7 +13,7 @@ use std::test::Fail;
 const HIERARCHIES: u32 = 150;
 
 /// All values of three inputs.
-static ALL_VALUES: [[bool; 3]; 8] = [
+static ALL_VALUES: &[[bool; 3]] = &[
     [false, false, false],
     [true, false, false],
     [false, true, false],
@@ -36,24 +36,15 @@ struct Ports {
 #[derive(Drop)]
 struct Draft {
     text: String,
-    seed: u32,
+    chance: Chance,
     inputs: u32,
     made: u32,
 }
 
 impl Draft {
-    /// A number below `n`, by chance.
-    fn chance(&mut self, n: u32) -> u32 {
-        self.seed = self
-            .seed
-            .wrapping_mul(1_664_525)
-            .wrapping_add(1_013_904_223);
-        (self.seed >> 8).checked_rem(n).unwrap_or(0)
-    }
-
     /// Writes the name of an input or of a signal that was made.
     fn write_some(&mut self, alloc: Global) -> Result<(), Fail> {
-        let k = self.chance(self.inputs.saturating_add(self.made));
+        let k = self.chance.below(self.inputs.saturating_add(self.made));
         let name = match k.checked_sub(self.inputs) {
             None => format!(in alloc; "i{k}")?,
             Some(t) => format!(in alloc; "t{t}")?,
@@ -73,7 +64,7 @@ impl Draft {
     /// Writes a row over so many columns that ends in `last`.
     fn write_row(&mut self, columns: u32, last: char) -> Result<(), Fail> {
         for _column in 0..columns {
-            let byte = match self.chance(3) {
+            let byte = match self.chance.below(3) {
                 0 => '0',
                 1 => '1',
                 _ => '-',
@@ -88,7 +79,7 @@ impl Draft {
 
     /// Writes a cover over up to three signals with up to three rows.
     fn write_cover(&mut self, alloc: Global) -> Result<(), Fail> {
-        let columns = self.chance(4);
+        let columns = self.chance.below(4);
         self.text.push_str(".names ")?;
         for _column in 0..columns {
             self.write_some(alloc)?;
@@ -96,8 +87,8 @@ impl Draft {
         }
         self.write_next(alloc)?;
         self.text.push('\n')?;
-        let last = if self.chance(2) == 0 { '0' } else { '1' };
-        for _row in 0..self.chance(4) {
+        let last = if self.chance.below(2) == 0 { '0' } else { '1' };
+        for _row in 0..self.chance.below(4) {
             self.write_row(columns, last)?;
         }
         Ok(())
@@ -119,7 +110,7 @@ impl Draft {
     fn write_making(&mut self, alloc: Global, m: u32, ports: Ports) -> Result<(), Fail> {
         self.write_instance(alloc, m, ports.inputs)?;
         for k in 0..ports.outputs {
-            if self.chance(5) > 0 {
+            if self.chance.below(5) > 0 {
                 let formal = format!(in alloc; " o{k}=")?;
                 self.text.push_str(&formal)?;
                 self.write_next(alloc)?;
@@ -137,7 +128,7 @@ impl Draft {
         next: Option<(u32, Ports)>,
     ) -> Result<(), Fail> {
         match next {
-            Some((m, ports)) if self.chance(3) == 0 => {
+            Some((m, ports)) if self.chance.below(3) == 0 => {
                 self.write_instance(alloc, m, ports.inputs)?;
                 let pair = format!(in alloc; " o0=o{k}\n")?;
                 self.text.push_str(&pair)?;
@@ -145,7 +136,7 @@ impl Draft {
             _ => {
                 self.text.push_str(".names ")?;
                 self.write_some(alloc)?;
-                let row = self.chance(2);
+                let row = self.chance.below(2);
                 let rest = format!(in alloc; " o{k}\n{row} 1\n")?;
                 self.text.push_str(&rest)?;
             }
@@ -180,7 +171,7 @@ impl Draft {
             self.write_making(alloc, callee, ports)?;
         }
         for _step in 0..3 {
-            let below = next.saturating_add(self.chance(3));
+            let below = next.saturating_add(self.chance.below(3));
             match ports.get(below as usize) {
                 Some(ports) => self.write_making(alloc, below, *ports)?,
                 None => self.write_cover(alloc)?,
@@ -198,15 +189,15 @@ impl Draft {
 fn hierarchy(alloc: Global, seed: u32) -> Result<String, Fail> {
     let mut draft = Draft {
         text: String::new(alloc),
-        seed,
+        chance: Chance { seed },
         inputs: 0,
         made: 0,
     };
-    let models = draft.chance(3).saturating_add(2);
+    let models = draft.chance.below(3).saturating_add(2);
     let mut ports = Vec::new(alloc);
     for _m in 0..models {
-        let inputs = draft.chance(3).saturating_add(1);
-        let outputs = draft.chance(2).saturating_add(1);
+        let inputs = draft.chance.below(3).saturating_add(1);
+        let outputs = draft.chance.below(2).saturating_add(1);
         ports.push(Ports { inputs, outputs })?;
     }
     for m in 0..models {
@@ -389,12 +380,23 @@ fn output_values(
     Ok(outputs.ok_or("an output without a value")?)
 }
 
+/// The values of a flat netlist's outputs under these values of its inputs.
+fn flat_values(alloc: Global, flat: &Flat<'_>, values: &[bool]) -> Result<Vec<bool>, Fail> {
+    if flat.inputs().len() != values.len() {
+        return Err(Fail::from("more or fewer inputs"));
+    }
+    match eval(alloc, flat, values) {
+        Ok(outputs) => Ok(outputs),
+        Err(_) => Err(Fail::from("no memory")),
+    }
+}
+
 /// Whether a flat netlist and the plain evaluation of its library agree under all values of the inputs, of which there are
 /// three at most.
 fn agree_everywhere(alloc: Global, library: &Library, flat: &Flat<'_>) -> Result<bool, Fail> {
-    for all in ALL_VALUES.iter() {
+    for all in ALL_VALUES {
         let values = all.get(..flat.inputs().len()).ok_or("many inputs")?;
-        let outputs = hierarchies::output_values(alloc, flat, values)?;
+        let outputs = flat_values(alloc, flat, values)?;
         let plain = output_values(alloc, library, 0, values, 4)?;
         if outputs.as_slice() != plain.as_slice() {
             return Ok(false);

@@ -1,171 +1,85 @@
 //! What is at fault in a text that is refused, worked out by hand.
 
-use eqc_blif::{Finding, Name, explain};
-use eqc_testing::holds;
+use eqc_blif::{Finding, explain};
+use eqc_testing::{Line, Row, check_rows, holds};
 use std::alloc::{AllocError, Global};
 
-/// A code with a name behind it.
-fn named(alloc: Global, code: &[u8], name: &Name) -> Result<Vec<u8>, AllocError> {
-    let mut out = Vec::from_slice(alloc, code)?;
-    out.push(b' ')?;
-    out.extend_from_slice(name.as_bytes())?;
-    Ok(out)
-}
-
-/// A code with numbers behind it.
-fn counted(alloc: Global, code: &[u8], numbers: &[usize]) -> Result<Vec<u8>, AllocError> {
-    let mut out = Vec::from_slice(alloc, code)?;
-    for number in numbers {
-        out.extend_from_slice(format!(in alloc; " {number}")?.as_bytes())?;
-    }
-    Ok(out)
-}
-
 /// A finding on one line: its code, and what it names.
-fn shown(alloc: Global, finding: &Finding) -> Result<Vec<u8>, AllocError> {
+fn shown(alloc: Global, finding: &Finding) -> Result<Line, AllocError> {
     match finding {
         Finding::ControlByte { byte, line, column } => {
-            counted(alloc, b"1", &[*byte as usize, *line as usize, *column])
+            Line::of_numbers(alloc, "1", &[*byte as usize, *line as usize, *column])
         }
-        Finding::TextTooLong { bytes, limit } => counted(alloc, b"2", &[*bytes, *limit]),
-        Finding::UnknownCommand(word) => named(alloc, b"3", word),
-        Finding::BehindEnd(word) => named(alloc, b"5", word),
-        Finding::RowOutsideCover(row) => named(alloc, b"6", row),
+        Finding::TextTooLong { bytes, limit } => Line::of_numbers(alloc, "2", &[*bytes, *limit]),
+        Finding::UnknownCommand(word) => Line::of_name(alloc, "3", word.as_bytes()),
+        Finding::BehindEnd(word) => Line::of_name(alloc, "5", word.as_bytes()),
+        Finding::RowOutsideCover(row) => Line::of_name(alloc, "6", row.as_bytes()),
         Finding::RowShape { row, columns } => {
-            let mut out = named(alloc, b"7", row)?;
-            out.extend_from_slice(format!(in alloc; " of {columns}")?.as_bytes())?;
-            Ok(out)
+            let mut line = Line::of_name(alloc, "7", row.as_bytes())?;
+            line.push_number(alloc, *columns)?;
+            Ok(line)
         }
         Finding::RowOutput { output, first } => {
-            counted(alloc, b"8", &[*output as usize, *first as usize])
+            Line::of_numbers(alloc, "8", &[*output as usize, *first as usize])
         }
-        Finding::NoPair(word) => named(alloc, b"9", word),
-        Finding::NoWord(command) => named(alloc, b"10", command),
-        Finding::ModelTwice(name) => named(alloc, b"11", name),
-        Finding::InputTwice(name) => named(alloc, b"12 input", name),
-        Finding::OutputTwice(name) => named(alloc, b"12 output", name),
-        Finding::NoStatement => Vec::from_slice(alloc, b"13"),
+        Finding::NoPair(word) => Line::of_name(alloc, "9", word.as_bytes()),
+        Finding::NoWord(command) => Line::of_name(alloc, "10", command.as_bytes()),
+        Finding::ModelTwice(name) => Line::of_name(alloc, "11", name.as_bytes()),
+        Finding::InputTwice(name) => Line::of_name(alloc, "12 input", name.as_bytes()),
+        Finding::OutputTwice(name) => Line::of_name(alloc, "12 output", name.as_bytes()),
+        Finding::NoStatement => Line::new(alloc, "13"),
     }
 }
 
-/// What is at fault in a text, on one line, or `-` where nothing is named.
-fn found(alloc: Global, text: &[u8]) -> Result<Vec<u8>, AllocError> {
+/// What is at fault in a text, or `-` where nothing is named.
+fn found(alloc: Global, text: &[u8]) -> Result<Line, AllocError> {
     match explain(alloc, text)? {
         Some(finding) => shown(alloc, &finding),
-        None => Vec::from_slice(alloc, b"-"),
+        None => Line::new(alloc, "-"),
     }
 }
 
 /// Texts, each with its name and with what is at fault.
-static TEXTS: [(&'static str, &'static [u8], &'static [u8]); 28] = [
-    (
-        "a byte in a joined line",
-        b".model f\n.inputs a \\\n b\x01c\n",
-        b"1 1 3 3",
-    ),
-    (
-        "a byte behind one in a comment",
-        b"# \x01\n.model f\x7f\n",
-        b"1 127 2 9",
-    ),
-    (
-        "a carriage return inside a line",
-        b".model f\r\n.inputs a\rb\r\n",
-        b"1 13 2 10",
-    ),
-    ("a gate", b".model f\n.gate and2 A=a O=z\n", b"3 .gate"),
-    (
-        "a command that goes on in the next line",
-        b".model f\n.gate\\\nand2\n",
-        b"3 .gate",
-    ),
-    (
-        "inputs after end",
-        b".model f\n.end\n.inputs a\n",
-        b"5 .inputs",
-    ),
-    ("a row after end", b".model f\n.end\n1 0\n", b"5 1"),
-    (
-        "a row after inputs",
-        b".model f\n.names a z\n.inputs a\n1 0\n",
-        b"6 10",
-    ),
-    ("a row first", b"1 1\n", b"6 11"),
-    (
-        "a short row",
-        b".model f\n.names a z\n1 1\n.names a b z\n1 1\n",
-        b"7 11 of 2",
-    ),
-    ("a row of a bad value", b".names a z\n2 1\n", b"7 21 of 1"),
-    ("a row for no columns", b".names z\n- 1\n", b"7 -1 of 0"),
-    (
-        "a row that ends in 0 behind one that ends in 1",
-        b".names a z\n.area 3\n1 1\n0 0\n",
-        b"8 48 49",
-    ),
-    (
-        "a row that ends in 1 behind one that ends in 0",
-        b".names a y\n1 1\n.names a z\n1 0\n0 0\n- 1\n",
-        b"8 49 48",
-    ),
-    (
-        "a pair without formal",
-        b".model f\n.subckt g a=b =c d\n",
-        b"9 =c",
-    ),
-    (
-        "a pair without equals",
-        b".model f\n.subckt g=h \\\nd\n",
-        b"9 d",
-    ),
-    (
-        "names without word",
-        b".model f\n.names # a\n",
-        b"10 .names",
-    ),
-    ("subckt without word", b".subckt\n", b"10 .subckt"),
-    (
-        "a model twice",
-        b".model g\n.model f\n.end\n.model f g\n",
-        b"11 f",
-    ),
-    ("no name twice", b".inputs a\n.model\n", b"11 "),
-    (
-        "an input twice over lines",
-        b".model f\n.inputs a b\n.outputs z\n.inputs c b a\n",
-        b"12 input b",
-    ),
-    (
-        "an output twice in a line",
-        b".model f\n.outputs a b a\n",
-        b"12 output a",
-    ),
-    (
-        "an input twice in a first statement",
-        b".inputs c d d c\n",
-        b"12 input d",
-    ),
-    ("no line", b"", b"13"),
-    ("skipped lines alone", b".area 1\n# x\n", b"13"),
-    ("a latch", b".model f\n.latch a z 0\n", b"-"),
-    ("a text that is read", b".model f\n.inputs a\n", b"-"),
-    (
-        "an input twice among many",
-        b".inputs i0 i1 i2 i3 i4 i5 i6 i7 i8 i9 i10 i11 i12 i13 i14 i15 i16 i17\n.inputs i18 i17 i0\n",
-        b"12 input i17",
-    ),
+#[rattlefmt::skip]
+static TEXTS: &[Row<&str>] = &[
+    ("a byte in a joined line", ".model f;.inputs a \\; b\x01c;", "1 1 3 3"),
+    ("a byte behind one in a comment", "# \x01;.model f\x7f;", "1 127 2 9"),
+    ("a carriage return inside a line", ".model f\r;.inputs a\rb\r;", "1 13 2 10"),
+    ("a gate", ".model f;.gate and2 A=a O=z;", "3 .gate"),
+    ("a command that goes on in the next line", ".model f;.gate\\;and2;", "3 .gate"),
+    ("inputs after end", ".model f;.end;.inputs a;", "5 .inputs"),
+    ("a row after end", ".model f;.end;1 0;", "5 1"),
+    ("a row after inputs", ".model f;.names a z;.inputs a;1 0;", "6 10"),
+    ("a row first", "1 1;", "6 11"),
+    ("a short row", ".model f;.names a z;1 1;.names a b z;1 1;", "7 11 2"),
+    ("a row of a bad value", ".names a z;2 1;", "7 21 1"),
+    ("a row for no columns", ".names z;- 1;", "7 -1 0"),
+    ("a row that ends in 0 behind one that ends in 1", ".names a z;.area 3;1 1;0 0;", "8 48 49"),
+    ("a row that ends in 1 behind one that ends in 0", ".names a y;1 1;.names a z;1 0;0 0;- 1;", "8 49 48"),
+    ("a pair without formal", ".model f;.subckt g a=b =c d;", "9 =c"),
+    ("a pair without equals", ".model f;.subckt g=h \\;d;", "9 d"),
+    ("names without word", ".model f;.names # a;", "10 .names"),
+    ("subckt without word", ".subckt;", "10 .subckt"),
+    ("a model twice", ".model g;.model f;.end;.model f g;", "11 f"),
+    ("no name twice", ".inputs a;.model;", "11 "),
+    ("an input twice over lines", ".model f;.inputs a b;.outputs z;.inputs c b a;", "12 input b"),
+    ("an output twice in a line", ".model f;.outputs a b a;", "12 output a"),
+    ("an input twice in a first statement", ".inputs c d d c;", "12 input d"),
+    ("no line", "", "13"),
+    ("skipped lines alone", ".area 1;# x;", "13"),
+    ("a latch", ".model f;.latch a z 0;", "-"),
+    ("a text that is read", ".model f;.inputs a;", "-"),
+    ("an input twice among many", ".inputs i0 i1 i2 i3 i4 i5 i6 i7 i8 i9 i10 i11 i12 i13 i14 i15 i16 i17;.inputs i18 i17 i0;", "12 input i17"),
 ];
 
 /// Whether this is at fault in a text.
-fn has(alloc: Global, text: &[u8], wanted: &[u8]) -> Result<bool, AllocError> {
-    Ok(found(alloc, text)?.as_slice() == wanted)
+fn has(alloc: Global, text: &[u8], wanted: &str) -> Result<bool, AllocError> {
+    Ok(found(alloc, text)?.is(wanted))
 }
 
 #[test]
 fn names_what_is_at_fault(rt: HostRuntime) {
-    for (name, text, wanted) in TEXTS.iter() {
-        holds(&rt, has(rt.alloc(), text, wanted), name);
-    }
+    check_rows(&rt, TEXTS, |alloc, text, wanted| has(alloc, text, wanted));
 }
 
 #[test]
@@ -173,7 +87,7 @@ fn names_the_size_of_a_long_text(rt: HostRuntime) {
     let text = vec![in rt.alloc(); b'\n'; 16_777_217].expect(&rt, "memory");
     holds(
         &rt,
-        has(rt.alloc(), &text, b"2 16777217 16777216"),
+        has(rt.alloc(), &text, "2 16777217 16777216"),
         "too long",
     );
 }

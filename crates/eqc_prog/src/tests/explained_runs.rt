@@ -4,8 +4,8 @@ use super::program::{LEAF_FIRST, words_of, writes, written_by};
 use eqc_check::{Diagnostics, Options};
 use eqc_command::{Request, explanation_for, program};
 use eqc_testing::{
-    Drain, Endless, Feed, NEVER, PERMUTED, UNEQUAL, doubling, holds, holds_at, input_names,
-    is_text, same,
+    Drain, Endless, Feed, NEVER, PERMUTED, Row, UNEQUAL, doubling, holds, input_names, is_text,
+    same,
 };
 use eqc_tree::Stop;
 use std::alloc::{AllocError, Global};
@@ -14,248 +14,61 @@ use std::rt::Files;
 use std::sync::Wait;
 use std::thread::Threads;
 
-/// Options, a text on standard input, its report, and the lines of the explanation.
-type Row = (&'static str, &'static str, &'static str, &'static str);
+/// Options, a report, and the lines of the explanation.
+type Told = (&'static str, &'static str, &'static [&'static str]);
 
 /// Texts that are no netlists.
-static READING: [Row; 16] = [
-    (
-        "",
-        ".model f;\u{1};",
-        "refused first 2 1;",
-        "eqc: standard input: line 2: the byte 1 in column 1 is no part of a text (1)\n",
-    ),
-    (
-        "",
-        ".model f;.gate and2 a=b;.end;",
-        "refused first 2 3;",
-        "eqc: standard input: line 2: '.gate' is no command that is known (3)\neqc: a mapped cell; leave out '-gates' of yosys, or let abc write covers after 'unmap'\n",
-    ),
-    (
-        "",
-        ".model f;.conn a b;",
-        "refused first 2 3;",
-        "eqc: standard input: line 2: '.conn' is no command that is known (3)\neqc: leave out '-conn' of yosys's 'write_blif'\n",
-    ),
-    (
-        "",
-        ".model f;.latch a z 0;",
-        "refused first 2 4;",
-        "eqc: standard input: line 2: a latch; cut registers into inputs and outputs (4)\n",
-    ),
-    (
-        "",
-        ".model f;.end;.names z;",
-        "refused first 3 5;",
-        "eqc: standard input: line 3: '.names' stands behind .end, where only .model may (5)\n",
-    ),
-    (
-        "",
-        ".model f;11 1;",
-        "refused first 2 6;",
-        "eqc: standard input: line 2: the row '111' follows no .names (6)\n",
-    ),
-    (
-        "",
-        "aig 2 0;",
-        "refused first 1 6;",
-        "eqc: standard input: line 1: the row 'aig20' follows no .names (6)\neqc: BLIF begins with a command; other formats are converted first, and a byte order mark is left out\n",
-    ),
-    (
-        "",
-        ".model f;.names a b z;1 1;",
-        "refused first 3 7;",
-        "eqc: standard input: line 3: the row '11' has 2 characters; its cover wants 0, 1 or - for each of 2 columns, and 0 or 1 for the output (7)\n",
-    ),
-    (
-        "",
-        ".model f;.names a z;1 1;0 0;",
-        "refused first 4 8;",
-        "eqc: standard input: line 4: the row ends in '0', and the first row of its cover in '1' (8)\n",
-    ),
-    (
-        "",
-        ".model f;.subckt g a;",
-        "refused first 2 9;",
-        "eqc: standard input: line 2: 'a' is no pair of a formal and an actual, as a=b (9)\n",
-    ),
-    (
-        "",
-        ".model f;.names;",
-        "refused first 2 10;",
-        "eqc: standard input: line 2: '.names' has no word behind it (10)\n",
-    ),
-    (
-        "",
-        ".model f;.end;.model f;",
-        "refused first 3 11;",
-        "eqc: standard input: line 3: a model 'f' stands before (11)\n",
-    ),
-    (
-        "",
-        ".model f;.inputs a a;",
-        "refused first 2 12;",
-        "eqc: standard input: line 2: 'a' stands twice in the inputs of its model (12)\n",
-    ),
-    (
-        "",
-        ".model f;.outputs a a;",
-        "refused first 2 12;",
-        "eqc: standard input: line 2: 'a' stands twice in the outputs of its model (12)\n",
-    ),
-    (
-        "",
-        "",
-        "refused first 0 13;",
-        "eqc: standard input: no line is a statement (13)\n",
-    ),
-    (
-        "",
-        ".model f;.end;",
-        "refused second 0 13;",
-        "eqc: standard input: no model has the name or the place that is wanted; the text has 1 (13): 'f'\n",
-    ),
+#[rattlefmt::skip]
+static READING: &[Row<Told>] = &[
+    ("a control byte", ".model f;\u{1};", ("", "refused first 2 1;", &["eqc: standard input: line 2: the byte 1 in column 1 is no part of a text (1)"])),
+    ("a gate", ".model f;.gate and2 a=b;.end;", ("", "refused first 2 3;", &["eqc: standard input: line 2: '.gate' is no command that is known (3)", "eqc: a mapped cell; leave out '-gates' of yosys, or let abc write covers after 'unmap'"])),
+    ("a connection", ".model f;.conn a b;", ("", "refused first 2 3;", &["eqc: standard input: line 2: '.conn' is no command that is known (3)", "eqc: leave out '-conn' of yosys's 'write_blif'"])),
+    ("a latch", ".model f;.latch a z 0;", ("", "refused first 2 4;", &["eqc: standard input: line 2: a latch; cut registers into inputs and outputs (4)"])),
+    ("a command after end", ".model f;.end;.names z;", ("", "refused first 3 5;", &["eqc: standard input: line 3: '.names' stands behind .end, where only .model may (5)"])),
+    ("a row without a cover", ".model f;11 1;", ("", "refused first 2 6;", &["eqc: standard input: line 2: the row '111' follows no .names (6)"])),
+    ("another format", "aig 2 0;", ("", "refused first 1 6;", &["eqc: standard input: line 1: the row 'aig20' follows no .names (6)", "eqc: BLIF begins with a command; other formats are converted first, and a byte order mark is left out"])),
+    ("a short row", ".model f;.names a b z;1 1;", ("", "refused first 3 7;", &["eqc: standard input: line 3: the row '11' has 2 characters; its cover wants 0, 1 or - for each of 2 columns, and 0 or 1 for the output (7)"])),
+    ("rows of two kinds", ".model f;.names a z;1 1;0 0;", ("", "refused first 4 8;", &["eqc: standard input: line 4: the row ends in '0', and the first row of its cover in '1' (8)"])),
+    ("no pair", ".model f;.subckt g a;", ("", "refused first 2 9;", &["eqc: standard input: line 2: 'a' is no pair of a formal and an actual, as a=b (9)"])),
+    ("no word", ".model f;.names;", ("", "refused first 2 10;", &["eqc: standard input: line 2: '.names' has no word behind it (10)"])),
+    ("a model twice", ".model f;.end;.model f;", ("", "refused first 3 11;", &["eqc: standard input: line 3: a model 'f' stands before (11)"])),
+    ("an input twice", ".model f;.inputs a a;", ("", "refused first 2 12;", &["eqc: standard input: line 2: 'a' stands twice in the inputs of its model (12)"])),
+    ("an output twice", ".model f;.outputs a a;", ("", "refused first 2 12;", &["eqc: standard input: line 2: 'a' stands twice in the outputs of its model (12)"])),
+    ("no byte", "", ("", "refused first 0 13;", &["eqc: standard input: no line is a statement (13)"])),
+    ("one model", ".model f;.end;", ("", "refused second 0 13;", &["eqc: standard input: no model has the name or the place that is wanted; the text has 1 (13): 'f'"])),
 ];
 
 /// Hierarchies that are no netlists.
-static FLATTENING: [Row; 9] = [
-    (
-        "",
-        ".model f;.subckt g a=b;.end;.model h;",
-        "refused first 0 21;",
-        "eqc: standard input: .subckt 1 of model 'f', a 'g': the text has no such model (21)\n",
-    ),
-    (
-        "",
-        ".model f;.subckt g;.end;.model g;.subckt f;.end;",
-        "refused first 0 22;",
-        "eqc: standard input: a model contains itself (22): 'f' > 'g' > 'f'\n",
-    ),
-    (
-        "",
-        ".model f;.inputs a;.subckt g b=a;.end;.model g;.end;",
-        "refused first 0 23;",
-        "eqc: standard input: .subckt 1 of model 'f', a 'g': 'b' is neither input nor output of that model (23)\n",
-    ),
-    (
-        "",
-        ".model f;.inputs a;.subckt g b=a b=a;.end;.model g;.inputs b;.end;",
-        "refused first 0 24;",
-        "eqc: standard input: .subckt 1 of model 'f', a 'g': 'b' stands in two pairs (24)\n",
-    ),
-    (
-        "",
-        ".model f;.subckt g;.end;.model g;.inputs b;.end;",
-        "refused first 0 25;",
-        "eqc: standard input: .subckt 1 of model 'f', a 'g': 'b' is an input of that model, and has no pair (25)\n",
-    ),
-    (
-        "",
-        ".model f;.inputs a;.names a;.end;.model g;.end;",
-        "refused first 0 26;",
-        "eqc: standard input: signal 'a' is driven twice (26)\n",
-    ),
-    (
-        "",
-        ".model f;.outputs z;.subckt g z=y;.subckt g z=z;.end;.model g;.outputs z;.subckt h n=z;.end;.model h;.outputs n;.names m n;1 1;",
-        "refused first 0 27;",
-        "eqc: standard input: signal 'm' of instance 1:g/1:h has no driver (27)\neqc: yosys leaves such nets open; 'setundef -undriven -zero' before 'techmap' ties them to 0\n",
-    ),
-    (
-        "",
-        ".model f;.outputs z;.names z z;1 1;.end;.model g;.end;",
-        "refused first 0 28;",
-        "eqc: standard input: each of 1 signals depends on the next one, and the last on the first (28): 'z'\n",
-    ),
-    (
-        "",
-        ".model f;.subckt a;.subckt a;.end;.model a;.subckt b;.subckt b;.end;.model b;.subckt c;.subckt c;.end;.model c;.subckt d;.subckt d;.end;.model d;.subckt e;.subckt e;.end;.model e;.subckt g;.subckt g;.end;.model g;.subckt h;.subckt h;.end;.model h;.subckt i;.subckt i;.end;.model i;.subckt j;.subckt j;.end;.model j;.subckt k;.subckt k;.end;.model k;.subckt l;.subckt l;.end;.model l;.subckt m;.subckt m;.end;.model m;.subckt n;.subckt n;.end;.model n;.subckt o;.subckt o;.end;.model o;.subckt p;.subckt p;.end;.model p;.subckt q;.subckt q;.end;.model q;.subckt r;.subckt r;.end;.model r;.subckt s;.subckt s;.end;.model s;.subckt t;.subckt t;.end;.model t;.subckt u;.subckt u;.end;.model u;.end;",
-        "refused first 0 29;",
-        "eqc: standard input: the main model has 2097150 signals and instances in all, and may have 1048576 (29)\n",
-    ),
+#[rattlefmt::skip]
+static FLATTENING: &[Row<Told>] = &[
+    ("a missing model", ".model f;.subckt g a=b;.end;.model h;", ("", "refused first 0 21;", &["eqc: standard input: .subckt 1 of model 'f', a 'g': the text has no such model (21)"])),
+    ("models that contain one another", ".model f;.subckt g;.end;.model g;.subckt f;.end;", ("", "refused first 0 22;", &["eqc: standard input: a model contains itself (22): 'f' > 'g' > 'f'"])),
+    ("no port", ".model f;.inputs a;.subckt g b=a;.end;.model g;.end;", ("", "refused first 0 23;", &["eqc: standard input: .subckt 1 of model 'f', a 'g': 'b' is neither input nor output of that model (23)"])),
+    ("a formal twice", ".model f;.inputs a;.subckt g b=a b=a;.end;.model g;.inputs b;.end;", ("", "refused first 0 24;", &["eqc: standard input: .subckt 1 of model 'f', a 'g': 'b' stands in two pairs (24)"])),
+    ("a missing input", ".model f;.subckt g;.end;.model g;.inputs b;.end;", ("", "refused first 0 25;", &["eqc: standard input: .subckt 1 of model 'f', a 'g': 'b' is an input of that model, and has no pair (25)"])),
+    ("a signal driven twice", ".model f;.inputs a;.names a;.end;.model g;.end;", ("", "refused first 0 26;", &["eqc: standard input: signal 'a' is driven twice (26)"])),
+    ("a signal without a driver", ".model f;.outputs z;.subckt g z=y;.subckt g z=z;.end;.model g;.outputs z;.subckt h n=z;.end;.model h;.outputs n;.names m n;1 1;", ("", "refused first 0 27;", &["eqc: standard input: signal 'm' of instance 1:g/1:h has no driver (27)", "eqc: yosys leaves such nets open; 'setundef -undriven -zero' before 'techmap' ties them to 0"])),
+    ("a circle", ".model f;.outputs z;.names z z;1 1;.end;.model g;.end;", ("", "refused first 0 28;", &["eqc: standard input: each of 1 signals depends on the next one, and the last on the first (28): 'z'"])),
+    ("too many signals", ".model f;.subckt a;.subckt a;.end;.model a;.subckt b;.subckt b;.end;.model b;.subckt c;.subckt c;.end;.model c;.subckt d;.subckt d;.end;.model d;.subckt e;.subckt e;.end;.model e;.subckt g;.subckt g;.end;.model g;.subckt h;.subckt h;.end;.model h;.subckt i;.subckt i;.end;.model i;.subckt j;.subckt j;.end;.model j;.subckt k;.subckt k;.end;.model k;.subckt l;.subckt l;.end;.model l;.subckt m;.subckt m;.end;.model m;.subckt n;.subckt n;.end;.model n;.subckt o;.subckt o;.end;.model o;.subckt p;.subckt p;.end;.model p;.subckt q;.subckt q;.end;.model q;.subckt r;.subckt r;.end;.model r;.subckt s;.subckt s;.end;.model s;.subckt t;.subckt t;.end;.model t;.subckt u;.subckt u;.end;.model u;.end;", ("", "refused first 0 29;", &["eqc: standard input: the main model has 2097150 signals and instances in all, and may have 1048576 (29)"])),
 ];
 
 /// Netlists that make no pair, order texts, options, and files that can't be read.
-static COMPARING: [Row; 14] = [
-    (
-        "",
-        LEAF_FIRST,
-        "refused pair 0 41;",
-        "eqc: inputs of the first netlist alone, 0; of the second alone, 1: 'b' (41)\n",
-    ),
-    (
-        "",
-        ".model f;.outputs y;.names y;.end;.model g;.outputs z;.names z;.end;",
-        "refused pair 0 42;",
-        "eqc: outputs of the first netlist alone, 1: 'y'; of the second alone, 1: 'z' (42)\n",
-    ),
-    (
-        "--order ada",
-        PERMUTED,
-        "refused order 0 51;",
-        "eqc: words of the order text that are no inputs, 1: 'd' (51)\n",
-    ),
-    (
-        "--order aba",
-        PERMUTED,
-        "refused order 0 52;",
-        "eqc: 'a' stands twice in the order text (52)\n",
-    ),
-    (
-        "--order a",
-        PERMUTED,
-        "refused order 0 53;",
-        "eqc: inputs that the order text leaves out, 1: 'b' (53)\n",
-    ),
-    (
-        "--nodes 1",
-        UNEQUAL,
-        "stopped 71;",
-        "eqc: the diagrams want more than --nodes 1 (71); try a larger number, up to 1048574, or another --order, as scripts/order makes\n",
-    ),
-    (
-        "--workers 65",
-        UNEQUAL,
-        "refused options 0 81;",
-        "eqc: --workers 65: 1 to 64 are allowed (81)\n",
-    ),
-    (
-        "--nodes 0",
-        UNEQUAL,
-        "refused options 0 82;",
-        "eqc: --nodes 0: 1 to 1048574 are allowed (82)\n",
-    ),
-    (
-        "--cells 3",
-        UNEQUAL,
-        "refused options 0 83;",
-        "eqc: --cells 3: a power of two up to 1048576 is wanted (83)\n",
-    ),
-    (
-        "--forks 17",
-        UNEQUAL,
-        "refused options 0 84;",
-        "eqc: --forks 17: 0 to 16 are allowed (84)\n",
-    ),
-    ("and nofile", "", "", "eqc: nofile: entity not found (91)\n"),
-    (
-        "and or --order nofile",
-        "",
-        "",
-        "eqc: nofile: entity not found (91)\n",
-    ),
-    (
-        "and broken!",
-        "",
-        "",
-        "eqc: broken!: operation interrupted (91)\n",
-    ),
-    (
-        "and or --order broken!",
-        "",
-        "",
-        "eqc: broken!: operation interrupted (91)\n",
-    ),
+#[rattlefmt::skip]
+static COMPARING: &[Row<Told>] = &[
+    ("other inputs", LEAF_FIRST, ("", "refused pair 0 41;", &["eqc: inputs of the first netlist alone, 0; of the second alone, 1: 'b' (41)"])),
+    ("other outputs", ".model f;.outputs y;.names y;.end;.model g;.outputs z;.names z;.end;", ("", "refused pair 0 42;", &["eqc: outputs of the first netlist alone, 1: 'y'; of the second alone, 1: 'z' (42)"])),
+    ("a word that is no input", PERMUTED, ("--order ada", "refused order 0 51;", &["eqc: words of the order text that are no inputs, 1: 'd' (51)"])),
+    ("a word twice", PERMUTED, ("--order aba", "refused order 0 52;", &["eqc: 'a' stands twice in the order text (52)"])),
+    ("an input left out", PERMUTED, ("--order a", "refused order 0 53;", &["eqc: inputs that the order text leaves out, 1: 'b' (53)"])),
+    ("too few nodes", UNEQUAL, ("--nodes 1", "stopped 71;", &["eqc: the diagrams want more than --nodes 1 (71); try a larger number, up to 1048574, or another --order, as scripts/order makes"])),
+    ("too many workers", UNEQUAL, ("--workers 65", "refused options 0 81;", &["eqc: --workers 65: 1 to 64 are allowed (81)"])),
+    ("no node", UNEQUAL, ("--nodes 0", "refused options 0 82;", &["eqc: --nodes 0: 1 to 1048574 are allowed (82)"])),
+    ("three cells", UNEQUAL, ("--cells 3", "refused options 0 83;", &["eqc: --cells 3: a power of two up to 1048576 is wanted (83)"])),
+    ("too many forks", UNEQUAL, ("--forks 17", "refused options 0 84;", &["eqc: --forks 17: 0 to 16 are allowed (84)"])),
+    ("a missing file", "", ("and nofile", "", &["eqc: nofile: entity not found (91)"])),
+    ("a missing order text", "", ("and or --order nofile", "", &["eqc: nofile: entity not found (91)"])),
+    ("a file that fails", "", ("and broken!", "", &["eqc: broken!: operation interrupted (91)"])),
+    ("an order text that fails", "", ("and or --order broken!", "", &["eqc: broken!: operation interrupted (91)"])),
 ];
 
 /// The status of a command line on a text, where it writes this report, and exactly this on standard error.
@@ -276,64 +89,72 @@ fn fault_of(report: &str) -> &'static str {
     if report.is_empty() { "fault 91\n" } else { "" }
 }
 
-/// The status of a row without an explanation.
+/// The status of a text without an explanation.
 fn plain_status(
     rt: &(impl AllocGlobal + Threads + Wait + Sync),
-    row: &Row,
+    text: &str,
+    options: &str,
+    report: &str,
 ) -> Result<Option<u8>, AllocError> {
-    let (options, text, report, _) = *row;
     let line = format!(in rt.alloc(); "eqc {options}")?;
     status_of(rt, &line, text, report, fault_of(report))
 }
 
-/// The status of a command line on the text of a row with its explanation.
-fn told_status(
-    rt: &(impl AllocGlobal + Threads + Wait + Sync),
-    line: &str,
-    row: &Row,
-) -> Result<Option<u8>, AllocError> {
-    let (_, text, report, said) = *row;
-    let said = format!(in rt.alloc(); "{said}{}", fault_of(report))?;
-    status_of(rt, line, text, report, &said)
+/// Lines, and what ends standard error behind them.
+fn joined(alloc: Global, lines: &[&str], end: &str) -> Result<String, AllocError> {
+    let mut all = String::new(alloc);
+    for line in lines {
+        all.push_str(line)?;
+        all.push('\n')?;
+    }
+    all.push_str(end)?;
+    Ok(all)
 }
 
-/// The status of a row with its explanation.
+/// The status of a text with its explanation.
 fn explained_status(
     rt: &(impl AllocGlobal + Threads + Wait + Sync),
-    row: &Row,
+    text: &str,
+    told: &Told,
 ) -> Result<Option<u8>, AllocError> {
-    let line = format!(in rt.alloc(); "eqc --explain {}", row.0)?;
-    told_status(rt, &line, row)
+    let (options, report, said) = *told;
+    let line = format!(in rt.alloc(); "eqc --explain {options}")?;
+    let said = joined(rt.alloc(), said, fault_of(report))?;
+    status_of(rt, &line, text, report, &said)
 }
 
-/// Whether a row ends with one status, with its explanation and without.
-fn is_told(rt: &(impl AllocGlobal + Threads + Wait + Sync), row: &Row) -> Result<bool, AllocError> {
-    let plain = plain_status(rt, row)?;
-    let explained = explained_status(rt, row)?;
+/// Whether a text ends with one status, with its explanation and without.
+fn is_told(
+    rt: &(impl AllocGlobal + Threads + Wait + Sync),
+    text: &str,
+    told: &Told,
+) -> Result<bool, AllocError> {
+    let plain = plain_status(rt, text, told.0, told.1)?;
+    let explained = explained_status(rt, text, told)?;
     Ok(plain.is_some() && explained == plain)
 }
 
-/// Each row is reported as ever, with the lines of its explanation where `--explain` asks for them, and with none where it
+/// Each text is reported as ever, with the lines of its explanation where `--explain` asks for them, and with none where it
 /// doesn't.
-fn check_rows(rt: &(impl Abort + AllocGlobal + Threads + Wait + Sync), rows: &[Row]) {
-    for row in rows {
-        holds_at(rt, is_told(rt, row), row.0, row.1);
+fn check_told(rt: &(impl Abort + AllocGlobal + Threads + Wait + Sync), rows: &[Row<Told>]) {
+    for (case, text, told) in rows {
+        holds(rt, is_told(rt, text, told), case);
     }
 }
 
 #[test]
 fn texts_at_fault_are_explained(rt: HostRuntime) {
-    check_rows(&rt, READING.as_slice());
+    check_told(&rt, READING);
 }
 
 #[test]
 fn hierarchies_at_fault_are_explained(rt: HostRuntime) {
-    check_rows(&rt, FLATTENING.as_slice());
+    check_told(&rt, FLATTENING);
 }
 
 #[test]
 fn runs_without_a_verdict_are_explained(rt: HostRuntime) {
-    check_rows(&rt, COMPARING.as_slice());
+    check_told(&rt, COMPARING);
 }
 
 /// A main model with so many inputs.
@@ -456,12 +277,10 @@ fn a_failed_write_is_explained(rt: HostRuntime) -> Result<(), AllocError> {
 }
 
 /// Stops that no small text brings about, and what is said of them.
-static STOPS: [(Stop, &str); 3] = [
+#[rattlefmt::skip]
+static STOPS: &[(Stop, &str)] = &[
     (Stop::Memory, "eqc: the memory is exhausted (72);"),
-    (
-        Stop::References,
-        "eqc: a diagram has as many references as can be counted (73);",
-    ),
+    (Stop::References, "eqc: a diagram has as many references as can be counted (73);"),
     (Stop::Threads, "eqc: a thread could not be started (74);"),
 ];
 
@@ -488,7 +307,7 @@ fn is_said_of(alloc: Global, stop: Stop, said: &str) -> bool {
 
 #[test]
 fn stops_are_explained(rt: HostRuntime) {
-    for (stop, said) in &STOPS {
+    for (stop, said) in STOPS {
         same(&rt, is_said_of(rt.alloc(), *stop, said), true, said);
     }
 }

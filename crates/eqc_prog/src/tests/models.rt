@@ -1,8 +1,8 @@
 //! Which models are compared, by their names or their places, and the warnings on models that others contain.
 
-use super::program::{LEAF_FIRST, words_of, writes, written_by};
+use super::program::{LEAF_FIRST, Line, words_of, writes, written_by};
 use eqc_command::program;
-use eqc_testing::{Drain, Feed, holds, is_text};
+use eqc_testing::{Drain, Feed, Row, holds, is_text};
 use std::alloc::AllocError;
 use std::rt::Files;
 use std::sync::Wait;
@@ -17,110 +17,40 @@ const ON_BOTH_OF_ONE: &str =
     "eqc: warning: leaf_first: model 'leaf' is compared, which model 'top' contains;eqc: warning: leaf_first: model 'leaf' is compared, which model 'top' contains;";
 
 /// Command lines with files, their report, status and warnings.
-static NAMED: [(&str, &str, u8, &str); 15] = [
-    ("eqc leaf_first other_top", "equivalent;", 0, ON_BOTH),
-    (
-        "eqc --first-model top --second-model top leaf_first other_top",
-        "differs at z;a=0;b=1;first=0;second=1;",
-        1,
-        "",
-    ),
-    (
-        "eqc --second-model top leaf_first other_top",
-        "refused pair 0 41;",
-        2,
-        "",
-    ),
-    (
-        "eqc --first-model=leaf leaf_first other_top",
-        "equivalent;",
-        0,
-        ON_BOTH,
-    ),
-    (
-        "eqc --first-model none leaf_first other_top",
-        "refused first 0 13;",
-        2,
-        "",
-    ),
-    (
-        "eqc --second-model none leaf_first other_top",
-        "refused second 0 13;",
-        2,
-        "",
-    ),
-    (
-        "eqc --first-model none leaf_first latch",
-        "refused first 0 13;",
-        2,
-        "",
-    ),
-    (
-        "eqc --second-model none latch leaf_first",
-        "refused first 2 4;",
-        2,
-        "",
-    ),
-    ("eqc leaf_first", "refused pair 0 41;", 2, ""),
-    ("eqc --first-model top leaf_first", "equivalent;", 0, ""),
-    (
-        "eqc --second-model leaf leaf_first",
-        "equivalent;",
-        0,
-        ON_BOTH_OF_ONE,
-    ),
-    (
-        "eqc --first-model top --second-model leaf leaf_first",
-        "refused pair 0 41;",
-        2,
-        "",
-    ),
-    (
-        "eqc --first-model m --second-model m or",
-        "equivalent;",
-        0,
-        "",
-    ),
-    (
-        "eqc --second-model m --first-model none or",
-        "refused first 0 13;",
-        2,
-        "",
-    ),
-    (
-        "eqc --second-model leaf leaf_first leaf_first --nodes 0",
-        "refused options 0 82;",
-        2,
-        "",
-    ),
+#[rattlefmt::skip]
+static NAMED: &[Line<(&str, u8, &str)>] = &[
+    ("eqc leaf_first other_top", ("equivalent;", 0, ON_BOTH)),
+    ("eqc --first-model top --second-model top leaf_first other_top", ("differs at z;a=0;b=1;first=0;second=1;", 1, "")),
+    ("eqc --second-model top leaf_first other_top", ("refused pair 0 41;", 2, "")),
+    ("eqc --first-model=leaf leaf_first other_top", ("equivalent;", 0, ON_BOTH)),
+    ("eqc --first-model none leaf_first other_top", ("refused first 0 13;", 2, "")),
+    ("eqc --second-model none leaf_first other_top", ("refused second 0 13;", 2, "")),
+    ("eqc --first-model none leaf_first latch", ("refused first 0 13;", 2, "")),
+    ("eqc --second-model none latch leaf_first", ("refused first 2 4;", 2, "")),
+    ("eqc leaf_first", ("refused pair 0 41;", 2, "")),
+    ("eqc --first-model top leaf_first", ("equivalent;", 0, "")),
+    ("eqc --second-model leaf leaf_first", ("equivalent;", 0, ON_BOTH_OF_ONE)),
+    ("eqc --first-model top --second-model leaf leaf_first", ("refused pair 0 41;", 2, "")),
+    ("eqc --first-model m --second-model m or", ("equivalent;", 0, "")),
+    ("eqc --second-model m --first-model none or", ("refused first 0 13;", 2, "")),
+    ("eqc --second-model leaf leaf_first leaf_first --nodes 0", ("refused options 0 82;", 2, "")),
 ];
 
 #[test]
 fn models_are_chosen_and_warned_of(rt: HostRuntime) {
-    for (line, report, status, warnings) in &NAMED {
+    for (line, (report, status, warnings)) in NAMED {
         let input = Feed::whole("");
-        holds(
-            &rt,
-            writes(&rt, line, input, *status, report, warnings),
-            line,
-        );
+        let found = writes(&rt, line, input, *status, report, warnings);
+        holds(&rt, found, line);
     }
 }
 
 /// Texts on standard input, and the warnings on them: a container that is compared is none to warn of.
-static CONTAINED: [(&str, &str); 3] = [
-    (
-        ".model f;.inputs a;.outputs z;.subckt g a=a z=z;.end;.model g;.inputs a;.outputs z;.names a z;1 1;.end;",
-        "",
-    ),
-    (
-        ".model f;.inputs a;.outputs z;.names a z;1 1;.end;.model g;.inputs a;.outputs z;.names a z;1 1;.end;.model h;.subckt g a=a z=z;.end;",
-        "eqc: warning: standard input: model 'g' is compared, which model 'h' contains;",
-    ),
-    (
-        ".model f;.outputs z;.names z;.end;.model g;.outputs z;.names z;1;.end;.model h;.end;.model i;.subckt f;.end;.model j;.subckt f;.end;",
-        "eqc: warning: standard input: model 'f' is compared, which model 'i' contains;",
-    ),
+#[rattlefmt::skip]
+static CONTAINED: &[Row<&str>] = &[
+    ("a container that is compared", ".model f;.inputs a;.outputs z;.subckt g a=a z=z;.end;.model g;.inputs a;.outputs z;.names a z;1 1;.end;", ""),
+    ("a container of the second model", ".model f;.inputs a;.outputs z;.names a z;1 1;.end;.model g;.inputs a;.outputs z;.names a z;1 1;.end;.model h;.subckt g a=a z=z;.end;", "eqc: warning: standard input: model 'g' is compared, which model 'h' contains;"),
+    ("two containers of the first model", ".model f;.outputs z;.names z;.end;.model g;.outputs z;.names z;1;.end;.model h;.end;.model i;.subckt f;.end;.model j;.subckt f;.end;", "eqc: warning: standard input: model 'f' is compared, which model 'i' contains;"),
 ];
 
 /// Whether a text is compared, and these are the warnings on it.
@@ -135,8 +65,8 @@ fn is_warned_of(
 
 #[test]
 fn containers_are_named(rt: HostRuntime) {
-    for (text, warnings) in &CONTAINED {
-        holds(&rt, is_warned_of(&rt, text, warnings), text);
+    for (case, text, warnings) in CONTAINED {
+        holds(&rt, is_warned_of(&rt, text, warnings), case);
     }
 }
 

@@ -12,7 +12,7 @@ use std::sync::Wait;
 use std::thread::Threads;
 
 /// Command lines whose files can't be opened or read, the options being looked at after the opening.
-static FAULTS: [&str; 11] = [
+static FAULTS: &[&str] = &[
     "eqc --order none",
     "eqc none",
     "eqc none or",
@@ -38,7 +38,7 @@ fn files_that_fail_are_faults(rt: HostRuntime) {
 }
 
 /// Bad command lines.
-static BAD_WORDS: [&str; 17] = [
+static BAD_WORDS: &[&str] = &[
     "eqc --workers x",
     "eqc a b c",
     "eqc --workers",
@@ -75,7 +75,7 @@ fn bad_command_lines_are_told(rt: HostRuntime) {
 }
 
 /// The numbers of all refusals, stops and faults.
-static NUMBERS: [u8; 38] = [
+static NUMBERS: &[u8] = &[
     1, 2, 3, 4, 5, 6, 7, 8, 9, 10, 11, 12, 13, 21, 22, 23, 24, 25, 26, 27, 28, 29, 30, 41, 42, 51,
     52, 53, 71, 72, 73, 74, 81, 82, 83, 84, 91, 92,
 ];
@@ -93,7 +93,7 @@ fn has_status(alloc: Global, help: &str, status: u8) -> Result<bool, AllocError>
 }
 
 /// The options of the command line.
-static OPTIONS: [&str; 9] = [
+static OPTIONS: &[&str] = &[
     "--workers <N>",
     "--nodes <N>",
     "--cells <N>",
@@ -176,7 +176,7 @@ fn the_version_says_what_is_proved(rt: HostRuntime) {
 
 /// Command lines, and for a writer how many bytes it takes at most, which write fails and whether it flushes; then
 /// what is written.
-static CUT_OFF: [(&str, usize, usize, bool, &str); 5] = [
+static CUT_OFF: &[(&str, usize, usize, bool, &str)] = &[
     ("eqc", NEVER, 0, true, ""),
     ("eqc", 4, 1, true, "equi"),
     ("eqc", 0, NEVER, true, ""),
