@@ -11,7 +11,7 @@ use eqc_check::{
 use eqc_flat::Flat;
 use eqc_netlist_testing::two_flats;
 use eqc_plain::Plain;
-use eqc_testing::{DIFFERENCE, EQUAL, Row, UNEQUAL, check_rows, holds, is_text, lines};
+use eqc_testing::{DIFFERENCE, EQUAL, Row, UNEQUAL, check_rows_at, holds, is_text, lines};
 use eqc_tree::{References, Stop};
 use std::alloc::{AllocError, Global};
 use std::sync::Wait;
@@ -86,7 +86,7 @@ fn two_stores(alloc: Global, inputs: u16) -> Result<Vec<Plain>, Stop>
 }
 
 /// How a pair is compared.
-#[derive(Clone, Copy)]
+#[derive(Clone, Copy, Debug)]
 pub enum Way {
     /// By so many workers, with a store of 16 nodes.
     Workers(u32),
@@ -215,7 +215,7 @@ static ROWS: &[Row<&str>] = &[
 #[test]
 fn pairs_are_compared_by_workers(rt: HostRuntime) {
     for way in WAYS {
-        check_rows(&rt, ROWS, |alloc, text, report| {
+        check_rows_at(&rt, *way, ROWS, |alloc, text, report| {
             is_word_of(&rt, alloc, text, *way, &NoGate, report)
         });
     }

@@ -9,6 +9,7 @@ ghost use Rattle.eqc_apply.specs.Teaming.{IsTeam, forest_of};
 ghost use Rattle.eqc_forest_tests.specs.Building.{AreHeld, IsSame, IsBeside, IsBuilding};
 
 use eqc_apply::{Applier, Ref, team};
+use eqc_testing::{keep, keep_all};
 use eqc_tree::{Diagrams, Op, References, Stop};
 use std::process::Abort;
 use std::sync::Wait;
@@ -98,24 +99,6 @@ pub fn next(rt: &(impl Abort + AllocGlobal), first: &Builder, waiting: &mut Vec<
         },
         None => panic!(rt; "nobody waits"),
     }
-}
-
-/// Puts a reference behind the others.
-fn keep(rt: &impl Abort, references: &mut Vec<Ref>, reference: Ref)
-    ensures { references.new.items ≡ references.old.items ++ reference ∷ [] }
-{
-    references.reserve(1).expect(rt, "there is memory");
-    references.push(reference).unwrap();
-}
-
-/// Puts references behind the others.
-fn keep_all(rt: &impl Abort, references: &mut Vec<Ref>, more: Vec<Ref>)
-    ensures { references.new.items ≡ references.old.items ++ more.items }
-{
-    let mut more = more;
-    references.reserve(more.len()).expect(rt, "there is memory");
-    references.append(&mut more).unwrap();
-    more.destroy_empty();
 }
 
 /// The reference at a place.

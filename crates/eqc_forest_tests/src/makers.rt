@@ -20,7 +20,8 @@ use eqc_guard::fault::SplitFault;
 use eqc_guard::forest::Forest;
 use eqc_guard::reference::Ref;
 use eqc_guard::worker::Worker;
-use eqc_store_testing::{Driver, MOST_HELD, keep};
+use eqc_store_testing::{Driver, MOST_HELD};
+use eqc_testing::{keep, keep_all};
 use eqc_tree::{Op, Stop, unpack_node};
 use std::process::Abort;
 use std::sync::Wait;
@@ -400,12 +401,8 @@ impl Maker {
             references,
             variables: _,
         } = other;
-        let mut references = references;
         self.worker.absorb(worker);
-        self.references
-            .append(&mut references)
-            .expect(rt, "there is memory");
-        references.destroy_empty();
+        keep_all(rt, &mut self.references, references);
     }
 
     /// Closes the forest in vain, since another worker is out.

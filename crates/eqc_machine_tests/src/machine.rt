@@ -7,9 +7,16 @@ ghost use Rattle.std.specs.Prelude.{◌≡◌, IfOk};
 use eqc_core::{Core, Event, ReplayFault, Step, replay};
 use eqc_testing::same;
 use std::alloc::{AllocError, Global};
+use std::process::Abort;
 
 /// The and of slot 2 with itself, which is slot 2, as the word of a cell.
 const WORD: u64 = (1 << 60) + (2 << 40) + (2 << 20) + 2;
+
+/// Steps, each with its worker.
+type Steps = &'static [(u32, Step)];
+
+/// A case: its name, two lists of steps, and what is read after both, or which step the machine refuses.
+type Played<W> = (&'static str, Steps, Steps, Result<W, ReplayFault>);
 
 /// The events of both lists of steps.
 fn list(
@@ -83,24 +90,30 @@ fn readings_after(
     Ok(readings(&last))
 }
 
+/// After both lists of each row a stocked core has these readings.
+fn check_readings(rt: &(impl Abort + AllocGlobal), rows: &[Played<[u64; 5]>]) {
+    for (case, steps, more, wanted) in rows {
+        same(rt, readings_after(rt.alloc(), steps, more), *wanted, case);
+    }
+}
+
+static STOCKED: &[Played<[u64; 5]>] = &[
+    ("no step", &[], &[], Ok([0, 0, 2, 1, 0])),
+    (
+        "no such cell",
+        &[],
+        &[(0, Step::Look(1))],
+        Err(ReplayFault::Event(0)),
+    ),
+];
+
 #[test]
 fn a_stocked_core_is_read(rt: HostRuntime) {
-    same(
-        &rt,
-        readings_after(rt.alloc(), &[], &[]),
-        Ok([0, 0, 2, 1, 0]),
-        "same",
-    );
-    same(
-        &rt,
-        readings_after(rt.alloc(), &[], &[(0, Step::Look(1))]),
-        Err(ReplayFault::Event(0)),
-        "look",
-    );
+    check_readings(&rt, STOCKED);
 }
 
 /// A worker announces a name that was scanned before.
-static MISSED: &[(u32, Step)] = &[
+const MISSED: Steps = &[
     (0, Step::Split(1)),
     (0, Step::Up(2)),
     (0, Step::Up(2)),
@@ -112,26 +125,25 @@ static MISSED: &[(u32, Step)] = &[
     (0, Step::ScanOne),
     (1, Step::Announce(2)),
     (1, Step::Recheck),
+];
+
+static AFTER_MISSED: &[Played<[u64; 5]>] = &[
+    ("missed", MISSED, &[], Ok([0, 2, 5, 4, 0])),
+    (
+        "counted up",
+        MISSED,
+        &[(1, Step::Up(2))],
+        Err(ReplayFault::Event(11)),
+    ),
 ];
 
 #[test]
 fn a_name_that_was_scanned_is_missed(rt: HostRuntime) {
-    same(
-        &rt,
-        readings_after(rt.alloc(), MISSED, &[]),
-        Ok([0, 2, 5, 4, 0]),
-        "last",
-    );
-    same(
-        &rt,
-        readings_after(rt.alloc(), MISSED, &[(1, Step::Up(2))]),
-        Err(ReplayFault::Event(11)),
-        "more",
-    );
+    check_readings(&rt, AFTER_MISSED);
 }
 
 /// A worker announces and confirms a name before it is scanned.
-static CONFIRMED: &[(u32, Step)] = &[
+const CONFIRMED: Steps = &[
     (0, Step::Split(1)),
     (0, Step::Up(2)),
     (0, Step::Up(2)),
@@ -148,30 +160,29 @@ static CONFIRMED: &[(u32, Step)] = &[
     (0, Step::Down(2)),
 ];
 
+static AFTER_CONFIRMED: &[Played<[u64; 5]>] = &[
+    ("confirmed", CONFIRMED, &[], Ok([0, 2, 2, 0, 1])),
+    (
+        "given back once more",
+        CONFIRMED,
+        &[(0, Step::Down(2))],
+        Err(ReplayFault::Event(14)),
+    ),
+    (
+        "counted up",
+        CONFIRMED,
+        &[(1, Step::Up(2))],
+        Ok([0, 2, 3, 0, 1]),
+    ),
+];
+
 #[test]
 fn a_name_that_is_confirmed_stays(rt: HostRuntime) {
-    same(
-        &rt,
-        readings_after(rt.alloc(), CONFIRMED, &[]),
-        Ok([0, 2, 2, 0, 1]),
-        "last",
-    );
-    same(
-        &rt,
-        readings_after(rt.alloc(), CONFIRMED, &[(0, Step::Down(2))]),
-        Err(ReplayFault::Event(14)),
-        "down",
-    );
-    same(
-        &rt,
-        readings_after(rt.alloc(), CONFIRMED, &[(1, Step::Up(2))]),
-        Ok([0, 2, 3, 0, 1]),
-        "up",
-    );
+    check_readings(&rt, AFTER_CONFIRMED);
 }
 
 /// The name that was missed is given back, its slot taken back, and claimed: the announcement of it isn't confirmed.
-static TAKEN_BACK: &[(u32, Step)] = &[
+const TAKEN_BACK: Steps = &[
     (0, Step::Down(2)),
     (0, Step::Down(2)),
     (0, Step::Down(2)),
@@ -182,31 +193,28 @@ static TAKEN_BACK: &[(u32, Step)] = &[
     (0, Step::Claim(2, true)),
 ];
 
+static AFTER_TAKEN_BACK: &[Played<[u64; 5]>] = &[(
+    "claimed",
+    MISSED,
+    TAKEN_BACK,
+    Ok([0, 2, 2, 0, 0]),
+)];
+
 #[test]
 fn a_name_that_was_missed_is_taken_back(rt: HostRuntime) {
-    same(
-        &rt,
-        readings_after(rt.alloc(), MISSED, TAKEN_BACK),
-        Ok([0, 2, 2, 0, 0]),
-        "last",
-    );
+    check_readings(&rt, AFTER_TAKEN_BACK);
 }
+
+/// A worker takes a stripe's lock, and then the slot of a name that another one has confirmed.
+#[rattlefmt::skip]
+static LOCKED: &[Played<[u64; 5]>] = &[
+    ("taken back", CONFIRMED, &[(0, Step::Lock(1, true)), (0, Step::Reclaim(2))], Err(ReplayFault::Event(15))),
+    ("claimed", CONFIRMED, &[(0, Step::Lock(1, true)), (0, Step::Claim(2, true))], Err(ReplayFault::Event(15))),
+];
 
 #[test]
 fn a_name_that_is_confirmed_is_not_taken_back(rt: HostRuntime) {
-    let lock = (0, Step::Lock(1, true));
-    same(
-        &rt,
-        readings_after(rt.alloc(), CONFIRMED, &[lock, (0, Step::Reclaim(2))]),
-        Err(ReplayFault::Event(15)),
-        "reclaimed",
-    );
-    same(
-        &rt,
-        readings_after(rt.alloc(), CONFIRMED, &[lock, (0, Step::Claim(2, true))]),
-        Err(ReplayFault::Event(15)),
-        "claimed",
-    );
+    check_readings(&rt, LOCKED);
 }
 
 /// The and of slot 2 with itself as a task in a box.
@@ -216,7 +224,7 @@ const TASK: u64 = (5 << 60) + (2 << 40) + (2 << 20);
 const STOPPED: u64 = (14 << 60) + (2 << 40) + (2 << 20);
 
 /// A worker offers a task in its first box, another one takes it, does it and puts the result back.
-static OFFERED: &[(u32, Step)] = &[
+const OFFERED: Steps = &[
     (0, Step::Split(1)),
     (0, Step::Up(2)),
     (0, Step::SwapBox(0, TASK)),
@@ -227,54 +235,33 @@ static OFFERED: &[(u32, Step)] = &[
     (0, Step::SwapBox(0, 0)),
 ];
 
+#[rattlefmt::skip]
+static AFTER_OFFERED: &[Played<[u64; 5]>] = &[
+    ("done", OFFERED, &[], Ok([0, 0, 4, 3, 0])),
+    ("stopped", OFFERED, &[(0, Step::SwapBox(31, STOPPED)), (1, Step::SwapBox(31, 0))], Ok([0, 0, 4, 1, 0])),
+    ("in a scan", OFFERED, &[(0, Step::ScanOne), (0, Step::LookBox(0))], Err(ReplayFault::Event(9))),
+];
+
 #[test]
 fn a_task_comes_back_as_its_result(rt: HostRuntime) {
-    same(
-        &rt,
-        readings_after(rt.alloc(), OFFERED, &[]),
-        Ok([0, 0, 4, 3, 0]),
-        "last",
-    );
-    let stop = (0, Step::SwapBox(31, STOPPED));
-    same(
-        &rt,
-        readings_after(rt.alloc(), OFFERED, &[stop, (1, Step::SwapBox(31, 0))]),
-        Ok([0, 0, 4, 1, 0]),
-        "stopped",
-    );
-    same(
-        &rt,
-        readings_after(
-            rt.alloc(),
-            OFFERED,
-            &[(0, Step::ScanOne), (0, Step::LookBox(0))],
-        ),
-        Err(ReplayFault::Event(9)),
-        "scanning",
-    );
+    check_readings(&rt, AFTER_OFFERED);
 }
+
+/// Words that no box takes.
+#[rattlefmt::skip]
+static NO_WORDS: &[Played<[u64; 5]>] = &[
+    ("no box", OFFERED, &[(0, Step::LookBox(32))], Err(ReplayFault::Event(8))),
+    ("no names", OFFERED, &[(1, Step::SwapBox(0, TASK))], Err(ReplayFault::Event(8))),
+    ("a wrong result", OFFERED, &[(0, Step::SwapBox(0, (2 << 60) + WORD))], Err(ReplayFault::Event(8))),
+    ("a task with a result", OFFERED, &[(0, Step::SwapBox(0, TASK + 2))], Err(ReplayFault::Event(8))),
+    ("a stop with a result", OFFERED, &[(0, Step::SwapBox(0, STOPPED + 2))], Err(ReplayFault::Event(8))),
+    ("no number", OFFERED, &[(0, Step::SwapBox(0, (4 << 60) + TASK))], Err(ReplayFault::Event(8))),
+    ("a number below stops", OFFERED, &[(0, Step::SwapBox(0, (7 << 60) + TASK))], Err(ReplayFault::Event(8))),
+];
 
 #[test]
 fn boxes_take_words_of_their_own_alone(rt: HostRuntime) {
-    for (case, step) in [
-        ("no box", (0, Step::LookBox(32))),
-        ("no names", (1, Step::SwapBox(0, TASK))),
-        ("a wrong result", (0, Step::SwapBox(0, (2 << 60) + WORD))),
-        ("a task with a result", (0, Step::SwapBox(0, TASK + 2))),
-        ("a stop with a result", (0, Step::SwapBox(0, STOPPED + 2))),
-        ("no number", (0, Step::SwapBox(0, (4 << 60) + TASK))),
-        (
-            "a number below stops",
-            (0, Step::SwapBox(0, (7 << 60) + TASK)),
-        ),
-    ] {
-        same(
-            &rt,
-            readings_after(rt.alloc(), OFFERED, &[step]),
-            Err(ReplayFault::Event(8)),
-            case,
-        );
-    }
+    check_readings(&rt, NO_WORDS);
 }
 
 /// All readings of a core with 3 workers, 4 nodes and 2 cells, in one number.
@@ -309,8 +296,15 @@ fn digest_after(
     Ok(digest(&last))
 }
 
+/// After both lists of each row a stocked core with 3 workers, 4 nodes and 2 cells has this digest.
+fn check_digests(rt: &(impl Abort + AllocGlobal), rows: &[Played<u64>]) {
+    for (case, steps, more, wanted) in rows {
+        same(rt, digest_after(rt.alloc(), steps, more), *wanted, case);
+    }
+}
+
 /// A list by chance.
-static FIRST: &[(u32, Step)] = &[
+const FIRST: Steps = &[
     (0, Step::Down(2)),
     (0, Step::Down(5)),
     (0, Step::Up(3)),
@@ -353,25 +347,19 @@ static FIRST: &[(u32, Step)] = &[
     (0, Step::Up(3)),
 ];
 
+#[rattlefmt::skip]
+static AFTER_FIRST: &[Played<u64>] = &[
+    ("the list", FIRST, &[], Ok(8636760986609832085)),
+    ("a forbidden step", FIRST, &[(1, Step::SwapCell(0, 3458764513822638082))], Err(ReplayFault::Event(40))),
+];
+
 #[test]
 fn the_first_random_list_ends_as_elsewhere(rt: HostRuntime) {
-    same(
-        &rt,
-        digest_after(rt.alloc(), FIRST, &[]),
-        Ok(8636760986609832085),
-        "last",
-    );
-    let forbidden = (1, Step::SwapCell(0, 3458764513822638082));
-    same(
-        &rt,
-        digest_after(rt.alloc(), FIRST, &[forbidden]),
-        Err(ReplayFault::Event(40)),
-        "more",
-    );
+    check_digests(&rt, AFTER_FIRST);
 }
 
 /// Another list by chance.
-static SECOND: &[(u32, Step)] = &[
+const SECOND: Steps = &[
     (0, Step::Split(1)),
     (1, Step::Look(1)),
     (0, Step::Down(2)),
@@ -414,25 +402,19 @@ static SECOND: &[(u32, Step)] = &[
     (0, Step::ScanOne),
 ];
 
+#[rattlefmt::skip]
+static AFTER_SECOND: &[Played<u64>] = &[
+    ("the list", SECOND, &[], Ok(3781607041970279465)),
+    ("a forbidden step", SECOND, &[(2, Step::SwapCell(0, 1152923703631151106))], Err(ReplayFault::Event(40))),
+];
+
 #[test]
 fn the_second_random_list_ends_as_elsewhere(rt: HostRuntime) {
-    same(
-        &rt,
-        digest_after(rt.alloc(), SECOND, &[]),
-        Ok(3781607041970279465),
-        "last",
-    );
-    let forbidden = (2, Step::SwapCell(0, 1152923703631151106));
-    same(
-        &rt,
-        digest_after(rt.alloc(), SECOND, &[forbidden]),
-        Err(ReplayFault::Event(40)),
-        "more",
-    );
+    check_digests(&rt, AFTER_SECOND);
 }
 
 /// A list by chance with steps on stripes, drafts and nodes.
-static THIRD: &[(u32, Step)] = &[
+const THIRD: Steps = &[
     (0, Step::ReadNode(2)),
     (0, Step::ScanOne),
     (0, Step::ScanOne),
@@ -495,25 +477,19 @@ static THIRD: &[(u32, Step)] = &[
     (0, Step::SwapCell(0, 1152922604121620483)),
 ];
 
+#[rattlefmt::skip]
+static AFTER_THIRD: &[Played<u64>] = &[
+    ("the list", THIRD, &[], Ok(15425200296797180857)),
+    ("a forbidden step", THIRD, &[(0, Step::SwapCell(1, 2305848506771832837))], Err(ReplayFault::Event(60))),
+];
+
 #[test]
 fn the_third_random_list_ends_as_elsewhere(rt: HostRuntime) {
-    same(
-        &rt,
-        digest_after(rt.alloc(), THIRD, &[]),
-        Ok(15425200296797180857),
-        "last",
-    );
-    let forbidden = (0, Step::SwapCell(1, 2305848506771832837));
-    same(
-        &rt,
-        digest_after(rt.alloc(), THIRD, &[forbidden]),
-        Err(ReplayFault::Event(60)),
-        "more",
-    );
+    check_digests(&rt, AFTER_THIRD);
 }
 
 /// Another such list.
-static FOURTH: &[(u32, Step)] = &[
+const FOURTH: Steps = &[
     (0, Step::Lock(3, true)),
     (0, Step::Up(2)),
     (0, Step::Look(1)),
@@ -576,19 +552,13 @@ static FOURTH: &[(u32, Step)] = &[
     (1, Step::Claim(2, false)),
 ];
 
+#[rattlefmt::skip]
+static AFTER_FOURTH: &[Played<u64>] = &[
+    ("the list", FOURTH, &[], Ok(4023163620145408469)),
+    ("a forbidden step", FOURTH, &[(1, Step::SwapCell(0, 4611688217452740608))], Err(ReplayFault::Event(60))),
+];
+
 #[test]
 fn the_fourth_random_list_ends_as_elsewhere(rt: HostRuntime) {
-    same(
-        &rt,
-        digest_after(rt.alloc(), FOURTH, &[]),
-        Ok(4023163620145408469),
-        "last",
-    );
-    let forbidden = (1, Step::SwapCell(0, 4611688217452740608));
-    same(
-        &rt,
-        digest_after(rt.alloc(), FOURTH, &[forbidden]),
-        Err(ReplayFault::Event(60)),
-        "more",
-    );
+    check_digests(&rt, AFTER_FOURTH);
 }

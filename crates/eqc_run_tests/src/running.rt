@@ -1,8 +1,7 @@
 //! Runs with several options, and what they write.
 
 use eqc_check::{Options, RunFault, Status, Texts, run};
-use eqc_testing::{Feed, Row, is_text};
-use std::fmt::Display;
+use eqc_testing::{Feed, Row, check_rows_at, is_text};
 use std::io::{Read, Write};
 use std::process::Abort;
 use std::sync::Wait;
@@ -32,11 +31,6 @@ pub fn options(numbers: Numbers) -> Options {
         cells,
         forks,
     }
-}
-
-/// Ends the test, and names the row and the numbers, where it doesn't hold.
-pub fn holds_by(rt: &impl Abort, found: bool, row: impl Display + Copy, numbers: Numbers) {
-    assert!(rt; found, "{row} {numbers:?}");
 }
 
 /// A run.
@@ -90,9 +84,9 @@ pub fn check_runs(
     teams: &[Numbers],
     rows: &[Row<&str>],
 ) {
-    for (case, text, report) in rows {
-        for numbers in teams {
-            holds_by(rt, reports_on(rt, text, *numbers, report), case, *numbers);
-        }
+    for numbers in teams {
+        check_rows_at(rt, *numbers, rows, |_alloc, text, report| {
+            Ok(reports(rt, Texts::One(text), None, *numbers, report))
+        });
     }
 }

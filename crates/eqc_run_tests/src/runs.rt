@@ -2,9 +2,11 @@
 //! are small enough to be worked out by hand.
 
 use crate::reports::WRITERS;
-use crate::running::{Numbers, TEAMS, TWO, holds_by, options, ran, reports, reports_on};
+use crate::running::{Numbers, TEAMS, TWO, options, ran, reports, reports_on};
 use eqc_check::{RunFault, Status, Texts, options_fault};
-use eqc_testing::{DIFFERENCE, Drain, EQUAL, Endless, Feed, NEVER, PERMUTED, XOR, is_text, same};
+use eqc_testing::{
+    DIFFERENCE, Drain, EQUAL, Endless, Feed, NEVER, PERMUTED, XOR, holds_at, is_text, same,
+};
 use std::sync::Wait;
 use std::thread::Threads;
 
@@ -47,7 +49,7 @@ static LIMITED: &[(Numbers, &str)] = &[
 fn options_are_looked_at_first(rt: HostRuntime) {
     for (numbers, report) in LIMITED {
         let found = reports_on(&rt, EQUAL, *numbers, report);
-        holds_by(&rt, found, report, *numbers);
+        holds_at(&rt, Ok(found), report, *numbers);
     }
 }
 
@@ -86,7 +88,7 @@ fn a_text_is_read_whole(rt: HostRuntime) {
     for numbers in TEAMS {
         for (step, reads) in READS {
             let found = is_read_whole(&rt, ".model m;", *step, *reads, *numbers);
-            holds_by(&rt, found, step, *numbers);
+            holds_at(&rt, Ok(found), step, *numbers);
         }
     }
 }
@@ -114,7 +116,7 @@ fn a_text_may_come_byte_by_byte(rt: HostRuntime) {
         for step in [1, 2, 7, 1000] {
             let texts = Texts::One(Feed::new(EQUAL, step, NEVER));
             let found = reports(&rt, texts, None, *numbers, "equivalent;");
-            holds_by(&rt, found, step, *numbers);
+            holds_at(&rt, Ok(found), step, *numbers);
         }
     }
 }
@@ -162,7 +164,7 @@ fn a_part_is_written_before_a_failed_write(rt: HostRuntime) {
         for (row, (step, fails_at, flushes, outcome, written)) in WRITERS.iter().enumerate() {
             let out = Drain::new(Vec::new(rt.alloc()), *step, *fails_at, *flushes);
             let found = is_written(&rt, out, *numbers, *outcome, written);
-            holds_by(&rt, found, row, *numbers);
+            holds_at(&rt, Ok(found), row, *numbers);
         }
     }
 }
@@ -197,7 +199,7 @@ fn order_texts_change_no_answer(rt: HostRuntime) {
             let texts = Texts::One(Feed::whole(text));
             let order = Some(Feed::whole(order));
             let found = reports(&rt, texts, order, *numbers, report);
-            holds_by(&rt, found, case, *numbers);
+            holds_at(&rt, Ok(found), case, *numbers);
         }
     }
 }
@@ -218,7 +220,7 @@ fn two_texts_have_sides(rt: HostRuntime) {
         for (case, first, second, report) in SIDES {
             let texts = Texts::Two(Feed::whole(first), Feed::whole(second));
             let found = reports(&rt, texts, None, *numbers, report);
-            holds_by(&rt, found, case, *numbers);
+            holds_at(&rt, Ok(found), case, *numbers);
         }
     }
 }

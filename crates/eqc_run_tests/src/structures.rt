@@ -2,8 +2,8 @@
 //! them. Covers that only mean the same are not looked into.
 ghost use Rattle.std.specs.Prelude.{◌+◌, ◌<◌, ◌^◌};
 
-use crate::running::{Numbers, TWO, check_runs, holds_by, reports_on};
-use eqc_testing::{Row, holds, same};
+use crate::running::{Numbers, TWO, check_runs, reports_on};
+use eqc_testing::{Row, holds, holds_at, same};
 use std::alloc::{AllocError, Global};
 use std::sync::Wait;
 use std::thread::Threads;
@@ -183,7 +183,7 @@ fn a_comparison_goes_on_in_the_whole_forest(rt: HostRuntime) -> Result<(), Alloc
     same(&rt, found, true, "few nodes");
     for numbers in LARGE {
         let found = reports_on(&rt, &text, *numbers, &report);
-        holds_by(&rt, found, "many nodes", *numbers);
+        holds_at(&rt, Ok(found), "many nodes", *numbers);
     }
     Ok(())
 }

@@ -15,6 +15,7 @@ use eqc_guard::filled::Filled;
 use eqc_guard::forest::Forest;
 use eqc_guard::reference::Ref;
 use eqc_guard::worker::Worker;
+use eqc_testing::{keep, keep_all};
 use eqc_tree::{Op, unpack_cell, unpack_node};
 use std::process::Abort;
 use std::sync::Wait;
@@ -50,14 +51,6 @@ fn is_quiet(phase: Phase) -> bool
         Phase::Idle | Phase::Seen(_, _) => true,
         Phase::Announced(_, _) | Phase::Confirmed(_) | Phase::Missed(_) => false,
     }
-}
-
-/// Puts a reference behind the others.
-pub fn keep(rt: &impl Abort, references: &mut Vec<Ref>, reference: Ref)
-    ensures { references.new.items ≡ references.old.items ++ reference ∷ [] }
-{
-    references.reserve(1).expect(rt, "there is memory");
-    references.push(reference).unwrap();
 }
 
 /// Counts a name up.
@@ -383,12 +376,8 @@ impl Driver {
             phase: _,
             position: _,
         } = other;
-        let mut references = references;
         self.worker.absorb(worker);
-        self.references
-            .append(&mut references)
-            .expect(rt, "there is memory");
-        references.destroy_empty();
+        keep_all(rt, &mut self.references, references);
     }
 
     /// Stores the and of a name with itself in the cache.

@@ -3,4 +3,4 @@
 
 mod drivers;
 
-pub use drivers::{Driver, MOST_HELD, Scan, bare, keep, stocked};
+pub use drivers::{Driver, MOST_HELD, Scan, bare, stocked};

@@ -17,6 +17,6 @@ mod texts;
 
 pub use chance::Chance;
 pub use line::Line;
-pub use rows::{Row, check_rows, holds, holds_at, same};
+pub use rows::{Row, check_rows, check_rows_at, holds, holds_at, keep, keep_all, same};
 pub use streams::{Disk, Drain, Endless, Feed, NEVER};
 pub use texts::{DIFFERENCE, EQUAL, PERMUTED, UNEQUAL, XOR, doubling, input_names, is_text, lines};

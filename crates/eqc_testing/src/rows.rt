@@ -1,4 +1,5 @@
 //! Rows of cases, and the ends of tests, which name the row that doesn't hold.
+ghost use Rattle.std.specs.Prelude.{◌≡◌, ◌++◌, ◌∷◌, []};
 
 use crate::texts::lines;
 use std::alloc::{AllocError, Global};
@@ -10,18 +11,18 @@ pub fn holds_at(
     rt: &impl Abort,
     found: Result<bool, AllocError>,
     row: impl Display + Copy,
-    turn: impl Display + Copy,
+    turn: impl Debug + Copy,
 ) {
     match found {
         Ok(true) => {}
-        Ok(false) => panic!(rt; "{row} {turn}"),
-        Err(_) => panic!(rt; "no memory: {row} {turn}"),
+        Ok(false) => panic!(rt; "{row} {turn:?}"),
+        Err(_) => panic!(rt; "no memory: {row} {turn:?}"),
     }
 }
 
 /// Ends the test, and names the row, where it doesn't hold.
 pub fn holds(rt: &impl Abort, found: Result<bool, AllocError>, row: impl Display + Copy) {
-    holds_at(rt, found, row, "");
+    holds_at(rt, found, row, ());
 }
 
 /// Ends the test, and names the row, where something else is found there.
@@ -45,8 +46,25 @@ pub fn check_rows<W, F: Fn(Global, &[u8], &W) -> Result<bool, AllocError>>(
 )
     requires { F.IsAlwaysCallable is_wanted }
 {
+    check_rows_at(rt, (), rows, is_wanted);
+}
+
+/// The same in one of several turns, which is named beside the row.
+pub fn check_rows_at<W, F: Fn(Global, &[u8], &W) -> Result<bool, AllocError>>(
+    rt: &(impl Abort + AllocGlobal),
+    turn: impl Debug + Copy,
+    rows: &[Row<W>],
+    is_wanted: F,
+)
+    requires { F.IsAlwaysCallable is_wanted }
+{
     for (name, text, wanted) in rows {
-        holds(rt, is_as_wanted(rt.alloc(), text, wanted, &is_wanted), name);
+        holds_at(
+            rt,
+            is_as_wanted(rt.alloc(), text, wanted, &is_wanted),
+            name,
+            turn,
+        );
     }
 }
 
@@ -61,4 +79,22 @@ fn is_as_wanted<W, F: Fn(Global, &[u8], &W) -> Result<bool, AllocError>>(
 {
     let text = lines(alloc, text)?;
     is_wanted(alloc, &text, wanted)
+}
+
+/// Puts an item behind the others.
+pub fn keep<T>(rt: &impl Abort, items: &mut Vec<T>, item: T)
+    ensures { items.new.items ≡ items.old.items ++ item ∷ [] }
+{
+    items.reserve(1).expect(rt, "there is memory");
+    items.push(item).unwrap();
+}
+
+/// Puts items behind the others.
+pub fn keep_all<T>(rt: &impl Abort, items: &mut Vec<T>, more: Vec<T>)
+    ensures { items.new.items ≡ items.old.items ++ more.items }
+{
+    let mut more = more;
+    items.reserve(more.len()).expect(rt, "there is memory");
+    items.append(&mut more).unwrap();
+    more.destroy_empty();
 }

@@ -42,6 +42,16 @@ impl<'a> Feed<'a> {
         Feed::new(text, NEVER, NEVER)
     }
 
+    /// The same of a text that has its LFs.
+    pub fn of_bytes(text: &'a [u8]) -> Feed<'a> {
+        Feed {
+            text,
+            step: NEVER,
+            fails_at: NEVER,
+            calls: 0,
+        }
+    }
+
     /// Whether the whole text was given.
     pub fn is_at_end(&self) -> bool {
         self.text.is_empty()

@@ -38,7 +38,7 @@ fn formal(alloc: Global, code: &str, found: &FoundFormal<'_>) -> Result<Line, Al
 /// Whether a circle has a signal of this name.
 fn has_signal(circle: &Circle<'_>, letter: u8) -> bool {
     for name in circle.signals() {
-        if name.name() == &[letter] {
+        if name.name() == [letter].as_slice() {
             return true;
         }
     }

@@ -258,7 +258,7 @@ const HIGH: &[u8] = b".inputs \xc3\xa9 \xff\n";
 
 /// Whether it is read as it is.
 fn reads_high_bytes(alloc: Global) -> Result<bool, AllocError> {
-    Ok(answer(alloc, HIGH)?.as_slice() == b"(\xc3\xa9 \xff>)")
+    Ok(answer(alloc, HIGH)?.as_slice() == b"(\xc3\xa9 \xff>)".as_slice())
 }
 
 #[test]

@@ -4,8 +4,8 @@ use super::program::{LEAF_FIRST, words_of, writes, written_by};
 use eqc_check::{Diagnostics, Options};
 use eqc_command::{Request, explanation_for, program};
 use eqc_testing::{
-    Drain, Endless, Feed, NEVER, PERMUTED, Row, UNEQUAL, doubling, holds, input_names, is_text,
-    same,
+    Drain, Endless, Feed, NEVER, PERMUTED, Row, UNEQUAL, check_rows, doubling, holds, input_names,
+    is_text, same,
 };
 use eqc_tree::Stop;
 use std::alloc::{AllocError, Global};
@@ -75,11 +75,11 @@ static COMPARING: &[Row<Told>] = &[
 fn status_of(
     rt: &(impl AllocGlobal + Threads + Wait + Sync),
     line: &str,
-    text: &str,
+    text: &[u8],
     report: &str,
     said: &str,
 ) -> Result<Option<u8>, AllocError> {
-    let written = written_by(rt, line.trim_end(), Feed::whole(text))?;
+    let written = written_by(rt, line.trim_end(), Feed::of_bytes(text))?;
     let as_said = is_text(&written.out, report) && written.err.as_slice() == said.as_bytes();
     Ok(as_said.then_some(written.status))
 }
@@ -92,7 +92,7 @@ fn fault_of(report: &str) -> &'static str {
 /// The status of a text without an explanation.
 fn plain_status(
     rt: &(impl AllocGlobal + Threads + Wait + Sync),
-    text: &str,
+    text: &[u8],
     options: &str,
     report: &str,
 ) -> Result<Option<u8>, AllocError> {
@@ -114,7 +114,7 @@ fn joined(alloc: Global, lines: &[&str], end: &str) -> Result<String, AllocError
 /// The status of a text with its explanation.
 fn explained_status(
     rt: &(impl AllocGlobal + Threads + Wait + Sync),
-    text: &str,
+    text: &[u8],
     told: &Told,
 ) -> Result<Option<u8>, AllocError> {
     let (options, report, said) = *told;
@@ -126,7 +126,7 @@ fn explained_status(
 /// Whether a text ends with one status, with its explanation and without.
 fn is_told(
     rt: &(impl AllocGlobal + Threads + Wait + Sync),
-    text: &str,
+    text: &[u8],
     told: &Told,
 ) -> Result<bool, AllocError> {
     let plain = plain_status(rt, text, told.0, told.1)?;
@@ -137,9 +137,7 @@ fn is_told(
 /// Each text is reported as ever, with the lines of its explanation where `--explain` asks for them, and with none where it
 /// doesn't.
 fn check_told(rt: &(impl Abort + AllocGlobal + Threads + Wait + Sync), rows: &[Row<Told>]) {
-    for (case, text, told) in rows {
-        holds(rt, is_told(rt, text, told), case);
-    }
+    check_rows(rt, rows, |_alloc, text, told| is_told(rt, text, told));
 }
 
 #[test]

@@ -2,7 +2,7 @@
 
 use super::program::{LEAF_FIRST, Line, words_of, writes, written_by};
 use eqc_command::program;
-use eqc_testing::{Drain, Feed, Row, holds, is_text};
+use eqc_testing::{Drain, Feed, Row, check_rows, holds, is_text};
 use std::alloc::AllocError;
 use std::rt::Files;
 use std::sync::Wait;
@@ -56,18 +56,20 @@ static CONTAINED: &[Row<&str>] = &[
 /// Whether a text is compared, and these are the warnings on it.
 fn is_warned_of(
     rt: &(impl AllocGlobal + Threads + Wait + Sync),
-    text: &str,
+    text: &[u8],
     warnings: &str,
 ) -> Result<bool, AllocError> {
-    let written = written_by(rt, "eqc", Feed::whole(text))?;
+    let written = written_by(rt, "eqc", Feed::of_bytes(text))?;
     Ok(written.status < 2 && is_text(&written.err, warnings))
 }
 
 #[test]
 fn containers_are_named(rt: HostRuntime) {
-    for (case, text, warnings) in CONTAINED {
-        holds(&rt, is_warned_of(&rt, text, warnings), case);
-    }
+    check_rows(
+        &rt,
+        CONTAINED,
+        |_alloc, text, warnings| is_warned_of(&rt, text, warnings),
+    );
 }
 
 /// Whether these leaves are equivalent, with as much of a warning as standard error takes.

@@ -3,7 +3,8 @@
 
 use eqc_command::program;
 use eqc_testing::{
-    DIFFERENCE, Disk, EQUAL, Feed, NEVER, PERMUTED, Row, UNEQUAL, XOR, holds, holds_at, is_text,
+    DIFFERENCE, Disk, EQUAL, Feed, NEVER, PERMUTED, Row, UNEQUAL, XOR, check_rows_at, holds,
+    is_text,
 };
 use std::alloc::{AllocError, Global};
 use std::process::Abort;
@@ -106,11 +107,10 @@ type Reported = (&'static str, u8);
 
 /// Each text on standard input gives its report and status, whatever the number of workers and of forks.
 fn check_texts(rt: &(impl Abort + AllocGlobal + Threads + Wait + Sync), rows: &[Row<Reported>]) {
-    for (case, text, (report, status)) in rows {
-        for line in BY_WORKERS {
-            let found = reports(rt, line, Feed::whole(text), report, *status);
-            holds_at(rt, found, line, case);
-        }
+    for line in BY_WORKERS {
+        check_rows_at(rt, *line, rows, |_alloc, text, (report, status)| {
+            reports(rt, line, Feed::of_bytes(text), report, *status)
+        });
     }
 }
 
