@@ -1,3 +1,5 @@
+//! What an applier hands out for a node or a constant: a reference, which has to be given back.
+
 use eqc_guard::worker::Worker;
 use std::snapshot::Snapshot;
 

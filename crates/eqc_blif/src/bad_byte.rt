@@ -1,3 +1,4 @@
+//! The first byte of a text that no text may have, as it is named of a refusal: with its physical line and column.
 ghost use Rattle.std.specs.Prelude.{◌≡◌, ◌<◌, ◌^◌, length, true, Some};
 ghost use Rattle.std.specs.List.{list_any, position};
 ghost use Rattle.eqc_blif.specs.Lines.{numbered};

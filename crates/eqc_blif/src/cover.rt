@@ -1,3 +1,4 @@
+//! Covers (`.names`): their columns, output and rows, the reading of a row, and the value of the output.
 ghost use Rattle.std.specs.Prelude.{◌≡◌, IfOk, length, MatchOption, [], nat_lt, IsTrue};
 ghost use Rattle.std.specs.List.{list_all};
 ghost use Rattle.eqc_blif.specs.Cover.{cover_value};

@@ -1,3 +1,4 @@
+//! What a model declares: its inputs, outputs, covers and instances, in the order of the text.
 ghost use Rattle.std.specs.Prelude.{◌≡◌, []};
 ghost use Rattle.eqc_blif.specs.Steps.{no_declarations};
 

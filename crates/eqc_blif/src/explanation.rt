@@ -1,3 +1,4 @@
+//! What is at fault in a refused text, found by reading it once more up to the line of the refusal.
 ghost use Rattle.std.specs.Prelude.{◌≡◌, ◌≢◌, IfOk, Some};
 ghost use Rattle.std.specs.Option.{option_map};
 ghost use Rattle.eqc_blif.specs.Reading.{start};

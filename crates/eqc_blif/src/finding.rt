@@ -1,3 +1,5 @@
+//! What a refusal of a text is about: the byte, word, row, name or number at fault, by the rule that it breaks.
+
 use crate::name::Name;
 
 /// What is at fault in a text that is refused.

@@ -1,3 +1,5 @@
+//! Instances of models (`.subckt`): the model that an instance names, and which formal is connected to which actual.
+
 use crate::name::Name;
 use std::marker::Model;
 

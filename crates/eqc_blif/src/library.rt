@@ -1,3 +1,4 @@
+//! The models of a text, found by number or by name, with what each of them declares.
 ghost use Rattle.std.specs.Prelude.{◌≡◌, ◌<◌, ◌++◌, ◌∷◌, [], false, length, map, nat_lt, not, position, bytes_eq, slice_index_or, OnOk};
 ghost use Rattle.eqc_blif.specs.Names.{is_named, has_twice};
 ghost use Rattle.eqc_blif.specs.Netlist.{no_model};

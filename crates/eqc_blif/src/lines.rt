@@ -1,3 +1,4 @@
+//! How the bytes of a text become logical lines: comments and trailing blanks are cut off, and continued lines are joined.
 ghost use Rattle.std.specs.Prelude.{◌≡◌, ◌+◌, ◌<◌, ◌≤◌, IsTrue, ℕ, [], ◌∷◌, length, IfOk, ◌==◌, ◌^◌};
 ghost use Rattle.std.specs.List.{list_all, position_or_len};
 ghost use Rattle.std.specs.Option.{option_map, option_copied};

@@ -1,3 +1,4 @@
+//! A set of names in their order, for those that are too many to be compared one by one.
 ghost use Rattle.std.specs.Prelude.{◌≡◌, [], ◌∷◌, ◌++◌, IfOk, IfErr, not, if◌then◌else◌, false};
 ghost use Rattle.eqc_blif.specs.Names.{is_named, has_twice};
 

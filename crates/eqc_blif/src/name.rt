@@ -1,3 +1,4 @@
+//! Names in a netlist, as bytes: a short one is kept in place, without an allocation.
 ghost use Rattle.std.specs.Prelude.{◌≡◌, IfOk, bytes_eq, [], ◌∷◌};
 ghost use Rattle.std.specs.Cmp.{partial_equiv_from_equiv};
 ghost use Rattle.std.specs.Cmp.Lexicographic.{nat_list_eq_equiv, bytes_decides};

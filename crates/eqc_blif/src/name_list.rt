@@ -1,3 +1,4 @@
+//! The names of a model's inputs or outputs, in a vector while they are few, and else in a set.
 ghost use Rattle.std.specs.Prelude.{◌≡◌, [], ◌∷◌, ◌++◌, IfOk, not, if◌then◌else◌, true, false};
 ghost use Rattle.std.specs.List.{list_any};
 ghost use Rattle.eqc_blif.specs.Words.{words};

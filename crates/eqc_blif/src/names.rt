@@ -1,3 +1,4 @@
+//! The names of a model's inputs or outputs, kept so that a model without any takes no memory for them.
 ghost use Rattle.std.specs.Prelude.{◌≡◌, [], ◌++◌, IfOk, not, true, false};
 ghost use Rattle.eqc_blif.specs.Words.{words};
 ghost use Rattle.eqc_blif.specs.Names.{has_twice};

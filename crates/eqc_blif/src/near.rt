@@ -1,3 +1,4 @@
+//! The search of a line for the first of two bytes, made to be fast where that is near.
 ghost use Rattle.std.specs.Prelude.{◌≡◌, ◌≤◌, length};
 ghost use Rattle.std.specs.List.{position_or_len};
 ghost use Rattle.eqc_blif.specs.Steps.{is_either};

@@ -1,3 +1,4 @@
+//! The model that is open while a text is read, and what each statement adds to it or is refused for.
 ghost use Rattle.std.specs.Prelude.{◌≡◌, ◌++◌, IfOk, OnOk, IsTrue, true, false, None};
 ghost use Rattle.eqc_blif.specs.Words.{words, without_blanks};
 ghost use Rattle.eqc_blif.specs.Names.{has_twice};

@@ -1,3 +1,4 @@
+//! The state of reading between two logical lines, closed models and an open one, and what the next line makes of it.
 ghost use Rattle.std.specs.Prelude.{◌≡◌, ◌++◌, IfOk, OnOk, IsTrue, true, false, is_some, Some, None, [], map};
 ghost use Rattle.std.specs.List.{list_any};
 ghost use Rattle.eqc_blif.specs.Words.{words, without_blanks};

@@ -1,3 +1,4 @@
+//! The reading of a text: from its bytes to its library, or to the refusal by its first fault.
 ghost use Rattle.std.specs.Prelude.{◌≡◌, ◌<◌, ◌^◌, ◌⊎◌, length, IfOk, IfErr, Ok, Err, Some, None};
 ghost use Rattle.eqc_blif.specs.Lines.{logical_lines};
 ghost use Rattle.eqc_blif.specs.Reading.{start, after, models, first_fault, outcome};

@@ -1,3 +1,5 @@
+//! Why a text is refused: the number of the line and the code of its first fault, by the rule that it breaks.
+
 use crate::rule::{RULES, Rule};
 use std::alloc::AllocError;
 use thiserror::Error;

@@ -1,3 +1,4 @@
+//! The way back to the line that a text is refused for: all before it is read again.
 ghost use Rattle.std.specs.Prelude.{◌≡◌, ◌<◌, ◌^◌, length, OnOk, Some};
 ghost use Rattle.eqc_blif.specs.Lines.{logical_lines};
 ghost use Rattle.eqc_blif.specs.Reading.{start, first_fault, line_code};

@@ -1,3 +1,4 @@
+//! Room in vectors of which most keep one item only: they get no more of it than the first push needs.
 ghost use Rattle.std.specs.Prelude.{◌≡◌, ◌+◌, ◌≤◌, [], ◌∷◌, ◌++◌, is_ok, if◌then◌else◌, OnOk, vec_len, vec_capacity};
 
 use std::alloc::AllocError;

@@ -1,3 +1,4 @@
+//! How a logical line is cut into words: into names, into pairs of formal and actual, or into a row without blanks.
 ghost use Rattle.std.specs.Prelude.{◌≡◌, ◌<◌, ◌≤◌, ◌++◌, [], ◌∷◌, length, IfOk, IfSome, MatchOption, map, true, false, ◌+◌, is_ok, if◌then◌else◌, vec_len, vec_capacity};
 ghost use Rattle.std.specs.List.{position_or_len, list_all};
 ghost use Rattle.std.specs.Option.{option_map};

@@ -1,3 +1,4 @@
+//! The building of the diagrams of an output's two signals: step by step, and each is given back after its last use.
 ghost use Rattle.std.specs.Prelude.{◌≡◌, ◌≢◌, ℕ, ◌+◌, ◌<◌, length, IfOk, IfErr, OnOk, OnErr, IsSome, Some, map, slice_index};
 ghost use Rattle.eqc_tree.specs.Holding.{Keeps};
 ghost use Rattle.eqc_cover.specs.Making.{Makes};

@@ -1,3 +1,4 @@
+//! When each step that one output needs is used for the last time, where that output alone is compared.
 ghost use Rattle.std.specs.Prelude.{◌+◌, ◌<◌, ◌≤◌, ◌∷◌, [], length, IfOk, OnOk};
 ghost use Rattle.std.specs.Ordering.{nat_cmp};
 ghost use Rattle.std.specs.BinaryHeap.{heap_items, IsHeap};

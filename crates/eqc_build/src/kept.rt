@@ -1,3 +1,4 @@
+//! References that stay from one output to the next, and which of them are to be given back when.
 ghost use Rattle.std.specs.Prelude.{◌≡◌, ℕ, ◌≤◌, [], length, IfOk, None};
 ghost use Rattle.eqc_tree.specs.Holding.{Holding};
 ghost use Rattle.eqc_build.specs.Building.{Moves, OwnsTable, KeepsLater, reference_of};

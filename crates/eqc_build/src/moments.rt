@@ -1,3 +1,4 @@
+//! The last moments at which steps are used, noted for all steps or only for those that an output needs.
 ghost use Rattle.std.specs.Prelude.{◌≡◌, ◌<◌, length, slice_index};
 ghost use Rattle.eqc_build.specs.Listed.{listed, moment_in, moments_in};
 

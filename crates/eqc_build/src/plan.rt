@@ -1,3 +1,4 @@
+//! Plans of a comparison, of all outputs or of one: the steps of the pair, and when each is used for the last time.
 ghost use Rattle.std.specs.Prelude.{◌≡◌, ◌<◌, length, IfOk};
 ghost use Rattle.eqc_build.specs.Turns.{IsTurn, AreTurns};
 

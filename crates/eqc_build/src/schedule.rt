@@ -1,3 +1,4 @@
+//! When each step is used for the last time, where the outputs that are not marked are compared in their order.
 ghost use Rattle.std.specs.Prelude.{◌≡◌, ℕ, ◌+◌, ◌<◌, ◌≤◌, false, length, IfOk, slice_index};
 ghost use Rattle.eqc_build.specs.Steps.{roots_of, steps_in};
 ghost use Rattle.eqc_build.specs.Schedule.{moment, end_of, AreLastMoments, AreUsedUntil, IsRaised};

@@ -1,3 +1,4 @@
+//! The references of steps, put in when a diagram is built and given back when it is used no more.
 ghost use Rattle.std.specs.Prelude.{◌≡◌, ℕ, ◌<◌, length, IfOk, IfErr, OnOk, OnErr, IsSome, Some, None, nat_eq, slice_index, slice_set, []};
 ghost use Rattle.std.specs.Option.{option_copied};
 ghost use Rattle.indexmap.specs.IndexMap.{get};

@@ -1,3 +1,4 @@
+//! The report on a pair, by one thread, and how what a comparison found becomes a report.
 ghost use Rattle.std.specs.Prelude.{◌≡◌, ◌≢◌, ◌<◌, ◌≤◌, Bool, true, false, List, length, Some, IfOk, IfErr, slice_index_or, not, []};
 ghost use Rattle.std.specs.List.{zip};
 ghost use Rattle.eqc_compare.specs.Verdict.{first_value, differs_under};

@@ -1,3 +1,4 @@
+//! Laws of the definition of a run's answer. The functions do nothing: their contracts are the laws.
 ghost use Rattle.eqc_check.specs.AnswerLaws.{AnswerIsOne, AnswerIsEquivalent, AnswerDiffers, AnswerIsFirstRefusal, AnswerCompares, ChecksAccept, AnswerIsNoStop, ModelIsChosen, IsAnswerOfRuns};
 
 use std::io::Read;

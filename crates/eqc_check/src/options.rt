@@ -1,3 +1,4 @@
+//! What a comparison may use: workers, nodes, cells and levels that are shared, each within its range.
 ghost use Rattle.std.specs.Prelude.{◌≡◌};
 ghost use Rattle.eqc_check.specs.Options.{options_code, is_cell_count};
 

@@ -1,3 +1,4 @@
+//! Reports, which are the answers of runs, and their kinds, which a program's status shows.
 ghost use Rattle.std.specs.Prelude.{◌≡◌};
 ghost use Rattle.eqc_check.specs.ReportView.{report_of, status_of};
 

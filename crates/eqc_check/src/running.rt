@@ -1,3 +1,4 @@
+//! Runs: texts are read, a report is decided on and written, and why it is a refusal is told where that is wanted.
 ghost use Rattle.std.specs.Prelude.{◌≡◌, ◌≢◌, ◌≤◌, IfOk, IfErr, OnErr, Err, None};
 ghost use Rattle.std.specs.Option.{option_map, option_copied};
 ghost use Rattle.eqc_check.specs.Sources.{IsRead, MayBeRead, AreRead};

@@ -1,3 +1,4 @@
+//! The classes that were found so far: the class of a shape is looked up, and a new one where there is none.
 ghost use Rattle.std.specs.Prelude.{◌≡◌, ℕ, ◌<◌, false, [], IfOk, OnOk, length};
 ghost use Rattle.eqc_class.specs.Structure.{constant};
 ghost use Rattle.eqc_class.specs.Shapes.{grown, IsShapeWithin};

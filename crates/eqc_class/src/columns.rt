@@ -1,3 +1,4 @@
+//! The classes of the columns of a cover, as a part of the shape by which a class is looked up.
 ghost use Rattle.std.specs.Prelude.{◌≡◌, ℕ, IfOk, ◌<◌, length, map, bytes_eq, slice_index};
 ghost use Rattle.std.specs.Cmp.{partial_equiv_from_equiv};
 ghost use Rattle.std.specs.Cmp.Lexicographic.{nat_list_eq_equiv, bytes_decides};

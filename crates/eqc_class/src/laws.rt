@@ -1,3 +1,4 @@
+//! Laws of the definition of a signal's structure. The functions do nothing: their contracts are the laws.
 ghost use Rattle.eqc_class.specs.Laws.{StructuresFollowDrivers, EqualStructuresHaveEqualValues};
 
 /// The structure of a signal is what its driver makes of the structures of the signals: a connection has that of its

@@ -1,3 +1,4 @@
+//! The class of each signal of one netlist, by its driver and by the classes of the signals that this depends on.
 ghost use Rattle.std.specs.Prelude.{◌≡◌, ℕ, ◌<◌, false, true, [], IfOk, OnOk, length, map, slice_index, slice_index_or, slice_get};
 ghost use Rattle.eqc_flat.specs.Graph.{driver_at, dependencies};
 ghost use Rattle.eqc_class.specs.Structure.{constant, passes_on, repeats, cover_structure, driver_structure};

@@ -1,3 +1,4 @@
+//! The rows of the covers of both netlists, each once, so that equal rows have one number.
 ghost use Rattle.std.specs.Prelude.{◌≡◌, ℕ, ◌<◌, ◌≤◌, [], IfOk, IfErr, length};
 ghost use Rattle.eqc_flat.specs.Graph.{driver_at};
 ghost use Rattle.eqc_flat.specs.Drivers.{driver_of};

@@ -1,3 +1,4 @@
+//! The rows of a cover as the key of a map, in which equal rows are found.
 ghost use Rattle.std.specs.Prelude.{◌≡◌, ◌==◌, false};
 ghost use Rattle.std.specs.Cmp.{partial_equiv_from_equiv};
 ghost use Rattle.std.specs.Cmp.Lexicographic.{pointwise, lists_equiv, nat_list_eq_equiv, pointwise_decides, bytes_decides};

@@ -1,3 +1,4 @@
+//! What tells a class from all others: a variable, a constant, or rows over the classes of columns.
 ghost use Rattle.std.specs.Prelude.{◌≡◌};
 
 use crate::columns::Columns;

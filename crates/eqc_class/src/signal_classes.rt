@@ -1,3 +1,4 @@
+//! The classes of the signals of two netlists, which are numbered one after the other over one table.
 ghost use Rattle.std.specs.Prelude.{◌≡◌, IfOk, length};
 ghost use Rattle.eqc_flat.specs.Graph.{IsFlat, FollowsDrivers};
 ghost use Rattle.eqc_class.specs.Classes.{AreClasses, HaveOneValueEach};

@@ -1,3 +1,4 @@
+//! Laws of the definitions of differences and verdicts. The functions do nothing: their contracts are the laws.
 ghost use Rattle.eqc_compare.specs.VerdictLaws.{DifferenceLaw, MatchingLaw, LeastLaw, NoneLaw, UniqueLaw, FirstLaw, EquivalentLaw};
 
 /// An output differs under an assignment exactly where it has different values in the two netlists.

@@ -1,3 +1,4 @@
+//! The least assignment of a pair's inputs, for any order of these as variables, under which a function is true.
 ghost use Rattle.std.specs.Prelude.{◌≡◌, ◌≢◌, ℕ, ◌<◌, ◌≤◌, length, IfOk, IfErr};
 ghost use Rattle.eqc_tree.specs.Holding.{IsHeld, says, Keeps};
 ghost use Rattle.eqc_tree.specs.Assigned.{IsSatisfiable};

@@ -1,3 +1,4 @@
+//! The diagram of a cover over the diagrams of its columns, by Shannon's expansion over these or row by row.
 ghost use Rattle.std.specs.Prelude.{◌≡◌, ◌≢◌, ℕ, ◌<◌, ◌-◌, Bool, true, false, List, [], ◌∷◌, length, map, not, if◌then◌else◌};
 ghost use Rattle.eqc_tree.specs.Holding.{IsHeld, says};
 ghost use Rattle.eqc_blif.specs.Cover.{allows, row_matches, cover_value};

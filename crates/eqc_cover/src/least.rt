@@ -1,3 +1,4 @@
+//! The least assignment under which a function is true, from the diagrams' nodes or by applies to blocks of variables.
 ghost use Rattle.std.specs.Prelude.{◌≡◌, ◌≢◌, ◌↔◌, ℕ, ◌<◌, ◌≤◌, ◌++◌, ◌&&◌, Bool, false, not, length, replicate, IsTrue, IfOk, IfErr, OnOk, OnErr};
 ghost use Rattle.std.specs.List.{All, find, list_any};
 ghost use Rattle.eqc_tree.specs.Holding.{IsHeld, says, Keeps, Loses};

@@ -1,3 +1,4 @@
+//! Circles of signals, each of which depends on the next one, as they are told of a refused hierarchy.
 ghost use Rattle.std.specs.Prelude.{◌≡◌};
 
 use crate::hierarchical_name::HierarchicalName;

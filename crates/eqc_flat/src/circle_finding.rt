@@ -1,3 +1,4 @@
+//! The circle of signals that a hierarchy is refused for, and the names of the first of its signals.
 ghost use Rattle.std.specs.Prelude.{◌≡◌, ℕ, ◌+◌, ◌-◌, ◌<◌, length, map, take, Some, slice_index_or, IfOk};
 ghost use Rattle.eqc_hierarchy.specs.Codes.{flat_code};
 ghost use Rattle.eqc_flat.specs.Flattened.{signal_at};

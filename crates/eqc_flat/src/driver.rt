@@ -1,3 +1,5 @@
+//! What drives a flat signal: an input of the main model, the other end of a connection, or a cover.
+
 use crate::signals::Signals;
 
 /// What drives a flat signal.

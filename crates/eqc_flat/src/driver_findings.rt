@@ -1,3 +1,4 @@
+//! The signal that is driven twice, or by nothing, in a hierarchy that is refused for one.
 ghost use Rattle.std.specs.Prelude.{◌≡◌, ◌<◌, ◌≤◌, length, map, false, Some, IfOk};
 ghost use Rattle.eqc_hierarchy.specs.Hierarchy.{model};
 ghost use Rattle.eqc_hierarchy.specs.Signals.{signals, sources, drivings};

@@ -1,3 +1,4 @@
+//! How drivers are found: each input, cover and pair drives its signal, and each signal has to be driven exactly once.
 ghost use Rattle.std.specs.Prelude.{◌≡◌, ℕ, ◌+◌, ◌<◌, ◌≤◌, ◌++◌, ◌∷◌, [], List, length, map, true, false, Some, None, is_some, is_none, position, slice_index_or, IfOk, IfErr, MatchOption};
 ghost use Rattle.std.specs.List.{flat_map, enumerate_from};
 ghost use Rattle.eqc_blif.specs.Netlist.{ModelOf};

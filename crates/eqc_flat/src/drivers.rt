@@ -1,3 +1,4 @@
+//! The drivers of all flat signals, with the columns of a cover kept once for all instances of its model.
 ghost use Rattle.std.specs.Prelude.{◌≡◌, ◌<◌, length, map, slice_index_or};
 ghost use Rattle.eqc_flat.specs.Graph.{input};
 ghost use Rattle.eqc_flat.specs.Drivers.{driver_of};

@@ -1,3 +1,4 @@
+//! The values of a flat netlist's outputs under values of its inputs, by one pass over its signals in their order.
 ghost use Rattle.std.specs.Prelude.{◌≡◌, ℕ, ◌<◌, false, length, map, IfOk, IfErr, slice_index, slice_index_or};
 ghost use Rattle.eqc_flat.specs.Graph.{driver_at, driven, value_of};
 ghost use Rattle.eqc_flat.specs.Evaluating.{values_of};

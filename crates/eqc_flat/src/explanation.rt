@@ -1,3 +1,4 @@
+//! What is at fault in a refused hierarchy: it is flattened once more, and then searched for what its rule is about.
 ghost use Rattle.std.specs.Prelude.{◌≡◌, ◌<◌, length, IfOk, Some};
 ghost use Rattle.std.specs.Option.{option_map};
 ghost use Rattle.eqc_hierarchy.specs.Codes.{flat_code};

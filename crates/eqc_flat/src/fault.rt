@@ -1,3 +1,4 @@
+//! Why a netlist is refused, or could not be evaluated: the code of its hierarchy's first fault, or want of memory.
 ghost use Rattle.std.specs.Prelude.{◌≡◌, nat_eq, position};
 ghost use Rattle.eqc_hierarchy.specs.Rule.{rule_code};
 

@@ -1,3 +1,5 @@
+//! What a refusal of a hierarchy is about: the instance, models, signals or number at fault, by the rule that it breaks.
+
 use crate::circle::Circle;
 use crate::hierarchical_name::HierarchicalName;
 use eqc_hierarchy::{FoundFormal, FoundInstance};

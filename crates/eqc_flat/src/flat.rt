@@ -1,3 +1,4 @@
+//! Flat netlists: signals in an order by dependency, each with its driver, its instance and its name.
 ghost use Rattle.std.specs.Prelude.{◌≡◌, ◌<◌, ◌≤◌, ◌-◌, length, slice_index_or, [], map};
 ghost use Rattle.eqc_flat.specs.Graph.{driver_at, FollowsDrivers, IsFlat};
 ghost use Rattle.eqc_flat.specs.Drivers.{driver_of};

@@ -1,3 +1,4 @@
+//! Names of flat signals as a reader of the text finds them: the instances down to the signal's own, and its name there.
 ghost use Rattle.std.specs.Prelude.{◌≡◌};
 
 use std::marker::Model;

@@ -1,3 +1,4 @@
+//! The instances below a main model in a row, each with its model, its parent and its first signal, up to a limit.
 ghost use Rattle.std.specs.Prelude.{◌≡◌, ◌+◌, ◌<◌, ◌≤◌, ◌++◌, ◌∷◌, [], length, vec_len, true, false, IfOk, MatchOption};
 ghost use Rattle.eqc_hierarchy.specs.Hierarchy.{paths};
 ghost use Rattle.eqc_hierarchy.specs.Codes.{is_too_large};

@@ -1,3 +1,4 @@
+//! Laws of the definitions of hierarchies and of values. The functions do nothing: their contracts are the laws.
 ghost use Rattle.eqc_flat.specs.HierarchyLaws.{SignalsStandOnce, SignalsAreNamesOfInstances, RecursiveWhereReached, CyclicWhereReached};
 ghost use Rattle.eqc_flat.specs.ValueLaws.{ValuesStay, ValuesAreThereForAll, AcceptedHaveValues, ValuesDependOnInputsAlone, CoversDependOnColumnsAlone};
 

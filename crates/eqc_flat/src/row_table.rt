@@ -1,3 +1,4 @@
+//! The rows of all covers of a library, numbered once, so that the instances of a model share them.
 ghost use Rattle.std.specs.Prelude.{◌≡◌, ◌+◌, ◌<◌, ◌++◌, [], length, map, slice_index_or, IfOk, OnOk};
 ghost use Rattle.eqc_blif.specs.Netlist.{no_cover};
 ghost use Rattle.eqc_hierarchy.specs.Hierarchy.{model};

@@ -1,3 +1,4 @@
+//! An order of the flat signals by dependency, or a way into a circle where they have none.
 ghost use Rattle.std.specs.Prelude.{◌≡◌, ◌<◌, ◌≤◌, length, nat_lt, true, false, IfOk, MatchOption};
 ghost use Rattle.std.specs.List.{list_all};
 ghost use Rattle.eqc_hierarchy.specs.Searching.{IsClosed};

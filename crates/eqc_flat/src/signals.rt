@@ -1,3 +1,4 @@
+//! Lists of flat signals, kept so that the instances of a model share the columns of its covers.
 ghost use Rattle.std.specs.Prelude.{◌≡◌, ℕ, ◌+◌, ◌<◌, length, map, slice_index_or};
 
 use std::marker::Model;

@@ -1,3 +1,5 @@
+//! Drivers of flat signals, in the form in which they are kept.
+
 /// What drives a flat signal, in the form in which it is kept.
 #[derive(Clone, Copy)]
 pub(crate) enum StoredDriver {

@@ -1,3 +1,4 @@
+//! The calls of a library: for each model the numbers of the models that its instances name.
 ghost use Rattle.std.specs.Prelude.{◌≡◌, ◌+◌, ◌<◌, ◌≤◌, length, IfOk};
 ghost use Rattle.eqc_hierarchy.specs.Hierarchy.{model, model_number, callees};
 

@@ -1,3 +1,4 @@
+//! Conditions on an instance, and the first instance in a list of models that meets one.
 ghost use Rattle.std.specs.Prelude.{◌≡◌, ◌<◌, Bool, true, length, slice_index_or, is_some, IfOk, IfSome};
 ghost use Rattle.std.specs.List.{list_any};
 ghost use Rattle.eqc_blif.specs.Netlist.{InstanceOf};

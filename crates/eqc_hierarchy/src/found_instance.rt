@@ -1,3 +1,4 @@
+//! How an instance at fault is told: where it stands in the library, and which name of its model is at fault.
 ghost use Rattle.std.specs.Prelude.{◌≡◌, ◌<◌, length, slice_index_or};
 ghost use Rattle.eqc_hierarchy.specs.Hierarchy.{model};
 ghost use Rattle.eqc_hierarchy.specs.Reaching.{no_instance};

@@ -1,3 +1,4 @@
+//! What a search along dependencies asks of a graph: what each numbered node depends on, in order.
 ghost use Rattle.std.specs.Prelude.{◌≡◌, ℕ, ◌+◌, ◌^◌, ◌<◌, List, slice_get, IfSome};
 
 /// A graph of numbered signals or models, each with those that it depends on.

@@ -1,3 +1,4 @@
+//! The conditions by which an instance is at fault: no such model, an unknown formal, a formal twice, an input without a pair.
 ghost use Rattle.std.specs.Prelude.{◌≡◌, ◌<◌, [], true, not, map, take, length, position, is_some, slice_index_or, IfOk, OnOk, IfSome};
 ghost use Rattle.std.specs.List.{list_any, fold};
 ghost use Rattle.std.specs.Str.{bytes_eq};

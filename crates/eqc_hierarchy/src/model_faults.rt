@@ -1,3 +1,4 @@
+//! The first rule that is broken by the models that a main model reaches, told before any instance is numbered.
 ghost use Rattle.std.specs.Prelude.{◌≡◌, ℕ, ◌<◌, ◌≤◌, length, Some, IfOk, MatchOption};
 ghost use Rattle.eqc_hierarchy.specs.Dependency.{among};
 ghost use Rattle.eqc_hierarchy.specs.Hierarchy.{reached};

@@ -1,3 +1,4 @@
+//! The names that occur in one model, each once, and where the columns of its covers stand among them.
 ghost use Rattle.std.specs.Prelude.{◌≡◌, ℕ, ◌<◌, ◌++◌, List, [], length, map, IfOk, OnOk};
 ghost use Rattle.std.specs.List.{fold, flat_map};
 ghost use Rattle.eqc_hierarchy.specs.Hierarchy.{model};

@@ -1,3 +1,4 @@
+//! Sets of names, each of which has a place by the order in which they came.
 ghost use Rattle.std.specs.Prelude.{◌≡◌, ℕ, ◌<◌, List, [], length, position, slice_index_or, not, Some, IfOk, OnOk, IfSome};
 ghost use Rattle.std.specs.List.{fold};
 ghost use Rattle.std.specs.Str.{bytes_eq};

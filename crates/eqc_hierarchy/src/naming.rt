@@ -1,3 +1,4 @@
+//! The names that occur in each model of a library, with their places: an instance of a model has a signal for each.
 ghost use Rattle.std.specs.Prelude.{◌≡◌, ◌<◌, [], length, map, true, slice_index_or, IfOk};
 ghost use Rattle.std.specs.List.{position_or_len};
 ghost use Rattle.std.specs.Str.{bytes_eq};

@@ -1,3 +1,4 @@
+//! The chain of models that a recursive hierarchy is refused for: it comes back to one that stands in it before.
 ghost use Rattle.std.specs.Prelude.{◌≡◌, ◌<◌, length, Some, IfOk};
 ghost use Rattle.eqc_hierarchy.specs.Codes.{flat_code};
 ghost use Rattle.eqc_hierarchy.specs.Hierarchy.{callees};

@@ -1,3 +1,4 @@
+//! A depth-first search along dependencies, for an order in which each node stands behind those it depends on, or for a circle.
 ghost use Rattle.std.specs.Prelude.{◌≡◌, ℕ, ◌+◌, ◌<◌, List, [], ◌∷◌, vec_len, IfOk, OnOk, true, false, ◌++◌, ◌-◌, ◌↔◌, take, slice_set, IsTrue};
 ghost use Rattle.eqc_hierarchy.specs.Dependency.{among, ends_within};
 ghost use Rattle.eqc_hierarchy.specs.Walks.{WalksBack};

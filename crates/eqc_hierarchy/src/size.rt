@@ -1,3 +1,4 @@
+//! How many signals and instances a hierarchy has, counted model by model, since they may be too many to number.
 ghost use Rattle.std.specs.Prelude.{◌≡◌, ℕ, ◌+◌, ◌-◌, ◌<◌, ◌≤◌, None, length, vec_len, true, false, slice_index_or, IfOk};
 ghost use Rattle.std.specs.List.{sum_by};
 ghost use Rattle.eqc_hierarchy.specs.Codes.{is_recursive};

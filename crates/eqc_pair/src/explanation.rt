@@ -1,3 +1,4 @@
+//! What is at fault in two netlists that make no pair, or in the order text that is given for them.
 ghost use Rattle.std.specs.Prelude.{◌≡◌, ◌==◌, map, true, false, IfOk, MatchOption};
 ghost use Rattle.std.specs.Option.{option_copied};
 ghost use Rattle.eqc_blif.specs.Names.{has_twice};

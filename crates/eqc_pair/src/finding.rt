@@ -1,3 +1,5 @@
+//! What a refusal of a pair is about: inputs or outputs that the other netlist lacks, or what is wrong in the order text.
+
 use crate::unmatched::Unmatched;
 
 /// What is at fault in two netlists that make no pair, or in the order text that is given for them.

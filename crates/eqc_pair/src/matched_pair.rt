@@ -1,3 +1,4 @@
+//! Pairs, with all that a comparison reads of one: variables of inputs, matched outputs, and the step of each signal.
 ghost use Rattle.std.specs.Prelude.{◌≡◌, true, map, length, IfOk, EachIndex, slice_index, slice_index_or, ◌<◌};
 ghost use Rattle.eqc_pair.specs.Matched.{position_of, same_names};
 ghost use Rattle.eqc_pair.specs.PairOf.{IsPair, IsOrder, ArePlaces, variables_in, first_variables, second_variables, second_signals};

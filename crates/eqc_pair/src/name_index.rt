@@ -1,3 +1,4 @@
+//! Where names stand among others, and whether one of them stands twice.
 ghost use Rattle.std.specs.Prelude.{◌≡◌, map, true, false, IfOk, MatchOption};
 ghost use Rattle.eqc_blif.specs.Names.{has_twice};
 ghost use Rattle.eqc_blif.specs.Finding.{StandsTwice};

@@ -1,3 +1,4 @@
+//! Orders of a netlist's inputs as variables: the one that an order text gives, else that of the declarations.
 ghost use Rattle.std.specs.Prelude.{◌≡◌, ◌⊎◌, ◌==◌, ◌++◌, ◌+◌, ◌<◌, ◌≤◌, [], ◌∷◌, Some, None, false, length, drop, map, filter, slice_index, EachIndex, IfOk, IfErr, OnOk, MatchOption};
 ghost use Rattle.std.specs.List.{position_or_len, range_with_len};
 ghost use Rattle.std.specs.Option.{option_map, option_copied};

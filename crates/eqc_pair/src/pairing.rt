@@ -1,3 +1,4 @@
+//! The matching of two flat netlists by the names of their inputs and outputs: a pair, or the first refusal.
 ghost use Rattle.std.specs.Prelude.{◌≡◌, ◌⊎◌, Some, None, true, false, map, IfOk, IfErr, MatchOption};
 ghost use Rattle.std.specs.Option.{option_copied};
 ghost use Rattle.eqc_blif.specs.Names.{has_twice};

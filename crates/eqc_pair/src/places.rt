@@ -1,3 +1,4 @@
+//! Where each signal of a flat netlist stands in the order by dependency.
 ghost use Rattle.std.specs.Prelude.{IfOk};
 ghost use Rattle.eqc_pair.specs.PairOf.{ArePlaces};
 

@@ -1,3 +1,4 @@
+//! Refusals in a comparison: the side that is refused, the line in its text, and the code of the rule.
 ghost use Rattle.std.specs.Prelude.{◌≡◌};
 ghost use Rattle.eqc_pair.specs.Side.{side_word};
 

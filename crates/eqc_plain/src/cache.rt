@@ -1,3 +1,4 @@
+//! The operation cache, or computed table: results of operations, each in one cell, which a later result may take.
 ghost use Rattle.std.specs.Prelude.{◌≡◌, ◌<◌, ◌^◌, length, IfSome};
 ghost use Rattle.eqc_plain.specs.Cells.{IsKept, MayHave, HasNoMore};
 

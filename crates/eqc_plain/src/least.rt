@@ -1,3 +1,4 @@
+//! The least assignment under which a function in the store is true, searched for without making a node.
 ghost use Rattle.std.specs.Prelude.{◌≡◌, ℕ, ◌+◌, ◌<◌, length, Some, IfOk};
 ghost use Rattle.std.specs.List.{All, find};
 ghost use Rattle.eqc_tree.specs.Assigned.{assigned, assignments, AreDistinct, DependsOnlyOn, IsSatisfiable};

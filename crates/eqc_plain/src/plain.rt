@@ -1,3 +1,4 @@
+//! The diagrams as callers have them: a node store, an operation cache and a stack of tasks, with the calls of the traits.
 ghost use Rattle.std.specs.Prelude.{◌≡◌};
 ghost use Rattle.eqc_plain.specs.Cache.{IsCache};
 ghost use Rattle.eqc_plain.specs.Meaning.{meaning_of};

@@ -1,3 +1,5 @@
+//! What the diagrams hand out for a node or a constant: a reference, which has to be given back.
+
 use crate::unique_table::UniqueTable;
 use std::snapshot::Snapshot;
 

@@ -1,3 +1,4 @@
+//! The search for a least assignment: values chosen so far, which nodes can still lead to true, and a way to true that is known.
 ghost use Rattle.std.specs.Prelude.{◌≡◌, ℕ, ◌+◌, ◌<◌, ◌≤◌, Bool, true, false, None, length, slice_index_or, IfOk};
 ghost use Rattle.eqc_tree.specs.Assigned.{IsSatisfiable};
 ghost use Rattle.eqc_tree.specs.Tree.{value};

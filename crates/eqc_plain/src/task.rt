@@ -1,3 +1,5 @@
+//! Operations under way, as the stack of an apply keeps them.
+
 /// An operation on `f` and `g` under way, whose top variable is `variable`.
 #[derive(Clone, Copy, Debug)]
 pub enum Task {

@@ -1,3 +1,4 @@
+//! The unique table: the word of each node, which stands in one slot only and is found by slot or by word.
 ghost use Rattle.std.specs.Prelude.{◌≡◌, ◌≢◌, ℕ, ◌<◌, [], ◌∷◌, ◌++◌, length, slice_index, IfSome, IfNone, OnOk, OnErr};
 
 use indexmap::IndexSet;

@@ -1,3 +1,4 @@
+//! Why a run ends without its report: memory was refused, or a read or a write failed.
 ghost use Rattle.std.specs.Prelude.{◌≡◌};
 ghost use Rattle.eqc_check.specs.Ends.{fault_code};
 

@@ -1,3 +1,4 @@
+//! The reading of a text in blocks, up to one byte more than a text may have.
 ghost use Rattle.std.specs.Prelude.{◌≡◌, ◌<◌, ◌≤◌, length, IfOk, if◌then◌else◌, IfSome, IsTrue, false, vec_len};
 ghost use Rattle.std.specs.Io.KnownBytes.{Consumes, IsAtEnd};
 ghost use Rattle.eqc_check.specs.Ends.{Gives, bytes_read};

@@ -1,3 +1,4 @@
+//! The writing of a text: whole and flushed, with nothing tried again.
 ghost use Rattle.std.specs.Prelude.{◌≡◌, ◌<◌, ◌≤◌, [], length, take, IfOk, IfErr, OnOk, OnErr, is_ok, if◌then◌else◌};
 ghost use Rattle.std.specs.Io.KnownBytes.{Appends, Keeps};
 ghost use Rattle.eqc_check.specs.Ends.{AppendsPrefix};
