@@ -162,18 +162,10 @@ module _ (v : ℕ) (refs others : List Ref) (old other new : Standing) (m : IsMa
     covered = covered;
   }
 
-  makes_both : (all : List Ref) (w : ℕ) → IsMaking w others other → all ≡ refs ++ others → IsMaking v all new
+  pub makes_both : (all : List Ref) (w : ℕ) → IsMaking w others other → all ≡ refs ++ others → IsMaking v all new
   makes_both all w n is = with_covered all (λ y two.
       let a : references_of y all ≡ references_of y (refs ++ others) = ap {B = ℕ} (references_of y) is in
       omega (arith, a, held_now y, m.covered y two, n.covered y two, sum_by-append (λ (r : Ref). cond {A = ℕ} (eqb r.number y) 1 0) refs others))
-
-  makes_one : IsMaking v refs new
-  makes_one = with_covered refs (λ y two. omega (arith, held_now y, m.covered y two))
-
-  -- with its references, or without them where there was no memory for them
-  pub makes_joined : (all : List Ref) (w : ℕ) (b : Bool) → IsMaking w others other → all ≡ (if b then refs ++ others else refs) → IsMaking v all new
-  makes_joined all w true n is = makes_both all w n is
-  makes_joined all w false n is = subst (λ (l : List Ref). IsMaking v l new) (sym is) makes_one
 
 -- the cells are others
 pub makes_before : (v : ℕ) (refs : List Ref) (old new : Standing) → IsMaking v refs old → IsAsBefore old new → IsMaking v refs new

@@ -1,5 +1,4 @@
 //! Rows of cases, and the ends of tests, which name the row that doesn't hold.
-ghost use Rattle.std.specs.Prelude.{◌≡◌, ◌++◌, ◌∷◌, []};
 
 use crate::texts::lines;
 use std::alloc::{AllocError, Global};
@@ -79,22 +78,4 @@ fn is_as_wanted<W, F: Fn(Global, &[u8], &W) -> Result<bool, AllocError>>(
 {
     let text = lines(alloc, text)?;
     is_wanted(alloc, &text, wanted)
-}
-
-/// Puts an item behind the others.
-pub fn keep<T>(rt: &impl Abort, items: &mut Vec<T>, item: T)
-    ensures { items.new.items ≡ items.old.items ++ item ∷ [] }
-{
-    items.reserve(1).expect(rt, "there is memory");
-    items.push(item).unwrap();
-}
-
-/// Puts items behind the others.
-pub fn keep_all<T>(rt: &impl Abort, items: &mut Vec<T>, more: Vec<T>)
-    ensures { items.new.items ≡ items.old.items ++ more.items }
-{
-    let mut more = more;
-    items.reserve(more.len()).expect(rt, "there is memory");
-    items.append(&mut more).unwrap();
-    more.destroy_empty();
 }

@@ -1,5 +1,4 @@
-use Rattle.std.specs.Result.{is_ok}
-use Rattle.eqc_forest_tests.proofs.Making.{at_rest, makes_joined}
+use Rattle.eqc_forest_tests.proofs.Making.{at_rest, makes_both}
 use Rattle.eqc_forest_tests.proofs.makers.Maker.absorb.Goals as goal
 
 pub absorb-requires-clause-rest : goal.absorb-requires-clause-rest
@@ -11,6 +10,6 @@ absorb-requires-clause-other_rest g c = at_rest c.args.other.worker.known.core c
 pub invariant_of-self : goal.invariant_of-self
 invariant_of-self g c = record {
   making =
-      makes_joined c.args.self.now.variables c.args.self.now.references.items c.args.other.references.items c.args.self.now.worker c.args.other.worker c.absorb.new.self c.args.self.now.making c.absorb.ensures c.append.new.self.items
-      c.args.other.variables (is_ok c.append.result) c.args.other.making c.append.ensures.items;
+      makes_both c.args.self.now.variables c.args.self.now.references.items c.args.other.references.items c.args.self.now.worker c.args.other.worker c.absorb.new.self c.args.self.now.making c.absorb.ensures c.keep_all.new.references.items
+      c.args.other.variables c.args.other.making c.keep_all.ensures;
 }
