@@ -39,7 +39,7 @@ class Formula:
         self.left = deque(tokens)
         table = self.alternatives()
         if self.left:
-            raise ValueError(f"nothing may follow before {shown(self.left[0])}")
+            raise ValueError(f"{shown(self.left[0])} is out of place")
         self.rows = self.shorter_rows(table)
 
     @staticmethod

@@ -44,7 +44,7 @@ class Register:
     def clock_told(self):
         if not self.clock:
             return "none that is named"
-        return f"{KINDS.get(self.kind, shown(self.kind))} of {shown(self.clock)}"
+        return f"{KINDS.get(self.kind) or shown(self.kind) or 'some edge'} of {shown(self.clock)}"
 
 
 @dataclass(slots=True)
