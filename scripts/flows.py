@@ -17,7 +17,7 @@ VALUES = {b"0": "0", b"1": "1", b"2": OPEN, b"3": OPEN}
 class Register:
     """`.latch`: what goes in, what it holds, the kind and name of its clock, its initial value; where it has an
     asynchronous reset, that and the rows of its output over the reset and what is held; later all of its names, the one
-    that its cut has, whether its clock is compared too, and the constant that takes its place."""
+    that its cut has, whether its clock is compared too, and the constant or the other register that takes its place."""
 
     data: bytes
     held: bytes
@@ -31,6 +31,7 @@ class Register:
     name: bytes = b""
     has_clock_output: bool = False
     constant: bytes = b""
+    twin: bytes = b""
 
     def needs(self):
         """The signals that a register needs."""
