@@ -107,6 +107,8 @@ def logical_lines(text):
 class Reader:
     """Takes a text's statements one by one."""
 
+    model_type = Model
+
     def __init__(self):
         self.models, self.names = [], set()
         self.model = self.cover = None
@@ -127,7 +129,7 @@ class Reader:
         if words[0] in SKIPPED:
             return None
         command = self.commands.get(words[0])
-        if words[0] == b".latch":
+        if command is None and words[0] == b".latch":
             raise Fault("a latch: cut the registers on both sides first", 4, number)
         if command is None:
             raise Fault(f"unknown command {shown(words[0])}", 3, number)
@@ -147,7 +149,7 @@ class Reader:
         if name in self.names:
             raise Fault(f"a second model {shown(name)}", 11, number)
         self.names.add(name)
-        self.model, self.has_ended = Model(name, number), False
+        self.model, self.has_ended = self.model_type(name, number), False
         self.declared = {b".inputs": set(), b".outputs": set()}
         self.models.append(self.model)
 
@@ -191,11 +193,11 @@ class Reader:
         self.has_ended = True
 
 
-def models_of(text):
-    """The models of a text."""
-    if len(text) > LONGEST_TEXT:
+def models_of(text, reader=None):
+    """The models of a text, as eqc reads it or as another reader does, which has no limit."""
+    if reader is None and len(text) > LONGEST_TEXT:
         raise Fault(f"a text of over {LONGEST_TEXT} bytes", 2)
-    reader = Reader()
+    reader = reader or Reader()
     for number, line in logical_lines(text):
         reader.take(number, line)
     if not reader.models:

@@ -1,0 +1,162 @@
+"""Functions of cells, for `prepare`: those of a genlib, and yosys's register cells, whose names tell what they do."""
+import re
+from collections import deque
+
+from netlist import Cover, Fault, shown, text_of
+
+
+def rows_between(lower, upper, n):
+    """Rows that cover a truth table and at most another one, without redundant rows, and the table that they cover."""
+    if not lower:
+        return [], 0
+    if upper == (1 << (1 << n)) - 1:
+        return [b"-" * n], upper
+    half = 1 << (n - 1)
+    mask = (1 << half) - 1
+    low0, low1, up0, up1 = lower & mask, lower >> half, upper & mask, upper >> half
+    rows0, table0 = rows_between(low0 & ~up1, up0, n - 1)
+    rows1, table1 = rows_between(low1 & ~up0, up1, n - 1)
+    both, table = rows_between(low0 & ~table0 | low1 & ~table1, up0 & up1, n - 1)
+    rows = [it + b"0" for it in rows0] + [it + b"1" for it in rows1] + [it + b"-" for it in both]
+    return rows, table0 | table | (table1 | table) << half
+
+
+class Formula:
+    """A function of a genlib: `!` or `'` not, `*`, `&` or nothing and, `^` exclusive or, `+` or `|` or."""
+
+    TOKEN = re.compile(rb"[!~'*&^+|()]|[^\s!~'*&^+|()]+")
+    CONSTANTS = {b"CONST0": 0, b"CONST1": 1, b"0": 0, b"1": 1}
+
+    def __init__(self, text):
+        tokens = self.TOKEN.findall(text)
+        names = [it for it in tokens if it not in self.CONSTANTS and not self.is_sign(it)]
+        self.pins = list(dict.fromkeys(names))
+        if len(self.pins) > 14:
+            raise ValueError("a function of over 14 pins")
+        self.size = 1 << len(self.pins)
+        self.full = (1 << self.size) - 1
+        self.tables = {name: self.table_of_pin(k) for k, name in enumerate(self.pins)}
+        self.left = deque(tokens)
+        table = self.alternatives()
+        if self.left:
+            raise ValueError(f"{shown(self.left[0])} is out of place")
+        self.rows = self.shorter_rows(table)
+
+    @staticmethod
+    def is_sign(token):
+        return token in b"!~'*&^+|()"
+
+    def table_of_pin(self, k):
+        block, period = ((1 << (1 << k)) - 1) << (1 << k), 1 << (k + 1)
+        return sum(block << at for at in range(0, self.size, period))
+
+    def shorter_rows(self, table):
+        n = len(self.pins)
+        on, _ = rows_between(table, table, n)
+        off, _ = rows_between(self.full & ~table, self.full & ~table, n)
+        # Without a row a cover is 0.
+        if len(off) < len(on) and off:
+            return [it + b"0" for it in off]
+        return [it + b"1" for it in on]
+
+    def accept(self, signs):
+        return self.left.popleft() if self.left and self.left[0] in signs else None
+
+    def alternatives(self):
+        table = self.differences()
+        while self.accept((b"+", b"|")):
+            table |= self.differences()
+        return table
+
+    def differences(self):
+        table = self.factors()
+        while self.accept((b"^",)):
+            table ^= self.factors()
+        return table
+
+    def factors(self):
+        table = self.factor()
+        while self.accept((b"*", b"&")) or (self.left and self.left[0] not in (b"+", b"|", b"^", b")")):
+            table &= self.factor()
+        return table
+
+    def factor(self):
+        if self.accept((b"!", b"~")):
+            return self.full & ~self.factor()
+        if self.accept((b"(",)):
+            table = self.alternatives()
+            if not self.accept((b")",)):
+                raise ValueError("a `)` is missing")
+        elif not self.left or self.is_sign(self.left[0]):
+            raise ValueError(f"a pin is missing {'before ' + shown(self.left[0]) if self.left else 'at the end'}")
+        else:
+            token = self.left.popleft()
+            table = self.full * self.CONSTANTS[token] if token in self.CONSTANTS else self.tables[token]
+        while self.accept((b"'",)):
+            table = self.full & ~table
+        return table
+
+
+class Genlib:
+    """The functions of cells: for each name a map from outputs to formulas."""
+
+    HEAD = re.compile(rb"^[ \t]*(GATE|LATCH)\b", re.MULTILINE)
+    CELL = re.compile(rb'(?:GATE|LATCH)\s+("[^"]*"|\S+)\s+\S+\s+("[^"]*"|[^\s=]+)\s*=\s*([^;]*);')
+
+    def __init__(self, path):
+        self.path, self.cells = path, {}
+        text = re.sub(rb"#[^\n]*", b"", text_of(path))
+        for head in self.HEAD.finditer(text):
+            line = text.count(b"\n", 0, head.start(1)) + 1
+            cell = self.CELL.match(text, head.start(1))
+            if not cell:
+                raise Fault(f"{path}: line {line}: no `{shown(head[1])} NAME AREA OUTPUT=FUNCTION;`")
+            name, output, function = cell.groups()
+            try:
+                formula = Formula(function)
+            except ValueError as error:
+                raise Fault(f"{path}: line {line}: {shown(name)}: {error}") from None
+            self.cells.setdefault(name.strip(b'"'), {})[output.strip(b'"')] = formula
+        if not self.cells:
+            raise Fault(f"{path}: the file has no GATE")
+
+    def covers(self, name, actuals, line):
+        """The covers of a cell whose formals have these actuals, one for each output."""
+        if name not in self.cells:
+            raise Fault(f"{self.path} has no cell {shown(name)}", 3, line)
+        for output, formula in self.cells[name].items():
+            if output in actuals:
+                lost = [it for it in formula.pins if it not in actuals]
+                if lost:
+                    raise Fault(f"the cell {shown(name)} has no pair for {shown(lost[0])}", 25, line)
+                yield output, Cover([actuals[it] for it in formula.pins], actuals[output], line, formula.rows)
+
+
+class RegisterCell:
+    """yosys's register cells, whose names tell edge, reset with its value, and enable: the formula of what goes in, and
+    where the reset is asynchronous that of what comes out, over the reset `R` and what is held, `H`."""
+
+    ANY = re.compile(rb"\$_(?:S?DFF\w*|ALDFF\w*|DLATCH\w*|SR|FF)_(?:[NP01]+_)?")
+    NAME = re.compile(rb"\$_(S?)DFF(C?)(E?)_([NP])(?:([NP])([01]))?([NP])?_")
+
+    def __init__(self, name, line):
+        found = self.NAME.fullmatch(name)
+        sync, needs_enable, has_enable, edge, reset, value, enable = found.groups() if found else (b"",) * 7
+        if not found or bool(has_enable) != bool(enable) or (sync and not reset):
+            said = f"the register cell {shown(name)}; yosys's 'dfflegalize -cell $_DFF_P_ x' may make a plain one of it"
+            raise Fault(said, 21, line)
+        self.kind = b"re" if edge == b"P" else b"fe"
+        steps = [(b"E", enable, b"Q", True)] * bool(enable) + [(b"R", reset, value, False)] * bool(reset)
+        # A reset goes before the enable, unless it needs the enable.
+        text = b"D"
+        for step in reversed(steps) if needs_enable else steps:
+            text = self.chosen(text, *step)
+        self.next = Formula(text)
+        self.has_reset = bool(reset) and not sync
+        self.now = Formula(self.chosen(b"H", b"R", reset, value, False)) if self.has_reset else None
+
+    @staticmethod
+    def chosen(text, pin, active, other, has_active):
+        """A formula where a pin is active, or where it isn't, and another one elsewhere."""
+        on, off = (pin, b"!" + pin) if (active == b"P") == has_active else (b"!" + pin, pin)
+        return b"(%s*%s+%s*%s)" % (on, text, off, other)

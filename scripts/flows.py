@@ -1,0 +1,186 @@
+"""Reads netlists as flows write them, for `prepare`: BLIF with registers, mapped cells, and lines that eqc refuses."""
+from collections import Counter
+from dataclasses import dataclass, field
+
+from cells import RegisterCell
+from netlist import SKIPPED, Cover, Fault, Model, Reader, shown
+
+BUFFER = [b"11"]
+# Commands beside SKIPPED that say nothing on functions.
+TOLD_NOTHING = SKIPPED | frozenset(b".param .clock .clock_event .latch_order".split())
+KINDS = {b"re": "rising edge", b"fe": "falling edge", b"ah": "1", b"al": "0", b"as": "no edge"}
+OPEN = "open"
+VALUES = {b"0": "0", b"1": "1", b"2": OPEN, b"3": OPEN}
+
+
+@dataclass(slots=True)
+class Register:
+    """`.latch`: what goes in, what it holds, the kind and name of its clock, its initial value; where it has an
+    asynchronous reset, that and the rows of its output over the reset and what is held; later all of its names, the one
+    that its cut has, whether its clock is compared too, and the constant or the other register that takes its place."""
+
+    data: bytes
+    held: bytes
+    kind: bytes
+    clock: bytes
+    initial: str
+    line: int
+    reset: bytes = b""
+    reset_rows: list = field(default_factory=list)
+    names: list = field(default_factory=list)
+    name: bytes = b""
+    has_clock_output: bool = False
+    constant: bytes = b""
+    twin: bytes = b""
+
+    def needs(self):
+        """The signals that a register needs."""
+        return [it for it in (self.data, self.clock, self.reset) if it]
+
+    def renamed(self, names):
+        """The same register with other names of its signals."""
+        data, held, clock, reset = (names[it] if it else it for it in (self.data, self.held, self.clock, self.reset))
+        return Register(data, held, self.kind, clock, self.initial, self.line, reset, self.reset_rows)
+
+    def clock_told(self):
+        if not self.clock:
+            return "none that is named"
+        return f"{KINDS.get(self.kind) or shown(self.kind) or 'some edge'} of {shown(self.clock)}"
+
+
+@dataclass(slots=True)
+class Design(Model):
+    """A model with registers; an instance may have a name, by its place."""
+
+    registers: list = field(default_factory=list)
+    cnames: dict = field(default_factory=dict)
+    black_box: int = 0
+
+
+class FlowReader(Reader):
+    """Takes statements that flows write beside those that eqc reads, and counts what becomes something else."""
+
+    model_type = Design
+
+    def __init__(self, genlib, cuts):
+        super().__init__()
+        self.genlib, self.cuts, self.changed = genlib, cuts, Counter()
+        self.behind_instance, self.cells = False, {}
+        self.commands |= {
+            b".latch": self.add_latch,
+            b".mlatch": self.add_mapped_latch,
+            b".gate": self.add_gate,
+            b".conn": self.add_buffer,
+            b".barbuf": self.add_buffer,
+            b".short": self.add_buffer,
+            b".blackbox": self.close_to_view,
+        }
+
+    def take(self, number, line):
+        word = line.split(None, 1)[0]
+        if word in TOLD_NOTHING:
+            self.changed[word] += 1
+            # yosys writes `.cname` behind covers and latches too.
+            if word == b".cname" and self.behind_instance:
+                self.model.cnames[len(self.model.instances) - 1] = line.split()[-1]
+            return None
+        self.behind_instance = word == b".subckt"
+        if word == b".exdc":
+            raise Fault(".exdc: a part with don't-cares, which eqc doesn't compare", 3, number)
+        if word == b".search":
+            raise Fault(".search: put the models of that file into this one", 3, number)
+        return super().take(number, line)
+
+    def add_instance(self, number, words):
+        if len(words) < 2 or not RegisterCell.ANY.fullmatch(words[1]):
+            return super().add_instance(number, words)
+        return self.add_register_cell(number, words)
+
+    def add_register_cell(self, number, words):
+        """A cell of yosys, as `$_DFFE_PP_`, becomes a register and the cover of what goes in."""
+        name = words[1]
+        if not self.cuts:
+            raise Fault(f"a register {shown(name)}: --cut makes an input and an output of it", 4, number)
+        self.behind_instance = False
+        if name not in self.cells:
+            self.cells[name] = RegisterCell(name, number)
+        cell, (actuals, _) = self.cells[name], self.pairs(number, words)
+        for pin in (*cell.next.pins, b"C", b"Q"):
+            if pin not in actuals:
+                raise Fault(f"{shown(name)} has no pair for {shown(pin)}", 25, number)
+        held = actuals[b"Q"]
+        data = b"%s$next$%d" % (held, number)
+        register = Register(data, held, cell.kind, actuals[b"C"], OPEN, number)
+        if cell.has_reset:
+            register.reset, register.reset_rows = actuals[b"R"], cell.now.rows
+        self.model.covers.append(Cover([actuals[it] for it in cell.next.pins], data, number, cell.next.rows))
+        self.model.registers.append(register)
+        self.changed[name] += 1
+
+    def add_buffer(self, number, words):
+        if len(words) != 3:
+            raise Fault(f"{shown(words[0])} takes two names", 3, number)
+        self.changed[words[0]] += 1
+        self.model.covers.append(Cover([words[1]], words[2], number, BUFFER))
+
+    def close_to_view(self, number, _words):
+        self.model.black_box = number
+
+    def pairs(self, number, words):
+        if len(words) < 2:
+            raise Fault(f"{shown(words[0])} without a word", 10, number)
+        actuals, rest = {}, []
+        for word in words[2:]:
+            formal, sign, actual = word.partition(b"=")
+            if sign and not (formal and actual):
+                raise Fault(f"the pair {shown(word)} has no name on one side", 9, number)
+            if not sign:
+                rest.append(word)
+            elif formal in actuals:
+                raise Fault(f"{shown(formal)} stands in two pairs", 24, number)
+            else:
+                actuals[formal] = actual
+        return actuals, rest
+
+    def want_genlib(self, number, words):
+        if self.genlib is None:
+            raise Fault(f"{shown(words[0])} {shown(words[1])}: --genlib FILE tells what the cell is", 3, number)
+
+    def add_gate(self, number, words):
+        if len(words) > 1 and RegisterCell.ANY.fullmatch(words[1]):
+            return self.add_register_cell(number, words)
+        actuals, rest = self.pairs(number, words)
+        if rest:
+            raise Fault(f"the pair {shown(rest[0])} has no name on one side", 9, number)
+        self.want_genlib(number, words)
+        self.changed[b".gate"] += 1
+        self.model.covers += (cover for _, cover in self.genlib.covers(words[1], actuals, number))
+
+    def add_latch(self, number, words):
+        if not self.cuts:
+            raise Fault("a latch: --cut makes an input and an output of it", 4, number)
+        if not 3 <= len(words) <= 6:
+            raise Fault(".latch takes two names, then a kind and a clock, then an initial value", 4, number)
+        self.add_register(number, words[1], words[2], words[3:])
+
+    def add_mapped_latch(self, number, words):
+        if not self.cuts:
+            raise Fault("an .mlatch: --cut makes an input and an output of it", 4, number)
+        actuals, rest = self.pairs(number, words)
+        self.want_genlib(number, words)
+        for output, cover in list(self.genlib.covers(words[1], actuals, number)):
+            held, cover.output = cover.output, b"%s$%s$%d" % (cover.output, words[1], number)
+            self.model.covers.append(cover)
+            self.changed[b".mlatch"] += 1
+            self.add_register(number, cover.output, held, [b"", *rest] if len(rest) == 2 else rest)
+
+    def add_register(self, number, data, held, rest):
+        initial = rest.pop() if len(rest) in (1, 3) else b"3"
+        kind, clock = rest or (b"", b"")
+        # An `.mlatch` may name its clock alone.
+        if initial not in VALUES:
+            if rest:
+                raise Fault(f"the initial value {shown(initial)} isn't 0, 1, 2 or 3", 4, number)
+            clock, initial = initial, b"3"
+        clock = b"" if clock == b"NIL" else clock
+        self.model.registers.append(Register(data, held, kind, clock, VALUES[initial], number))
