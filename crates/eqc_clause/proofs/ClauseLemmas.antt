@@ -1,6 +1,5 @@
 -- What stays sound.
-use Rattle.std.proofs.Common.{◌≡◌, ◌≢◌, ℕ, zero, suc, ◌+◌, ◌/◌, ◌<◌, Bool, true, false, not, ◌||◌, List, [], ◌∷◌, length, get_or, refl, sym, ◌∙◌, ap, subst, inl, inr, eqb, arith}
-use Rattle.std.specs.List.{list_any}
+use Rattle.std.proofs.Common.{◌≡◌, ℕ, suc, Bool, true, false, not, ◌||◌, List, [], ◌∷◌, refl, sym, ◌∙◌, ap, subst, inl, inr, arith}
 use Rattle.std.proofs.lemmas.Bool.Decides.{eqb_tells}
 use Rattle.std.proofs.lemmas.Bool.{false≢true}
 use Rattle.eqc_graph.specs.declared.node.Node.{Node}
@@ -14,11 +13,6 @@ none_sound nodes = record { kept = λ k. tt; within = λ k. record { within = λ
 true_kept : (nodes : List Node) (c : List ℕ) → IsTrueOf nodes c → IsKept nodes c
 true_kept nodes [] so = tt
 true_kept nodes (l ∷ c) so = so
-
--- a clause that is kept, and isn't empty, is true
-pub kept_true : (nodes : List Node) (c : List ℕ) → IsKept nodes c → eqb (length c) 0 ≡ false → IsTrueOf nodes c
-kept_true nodes [] kept some = absurd (false≢true (sym some))
-kept_true nodes (l ∷ c) kept some = kept
 
 none_kept : (nodes : List Node) → IsKept nodes []
 none_kept nodes = tt

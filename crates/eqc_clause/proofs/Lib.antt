@@ -1,4 +1,3 @@
 pub mod ClauseLemmas
 pub mod StoreLemmas
-pub mod CheckLemmas
-pub mod GateLemmas
+pub mod LeftLemmas

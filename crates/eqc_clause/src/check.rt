@@ -95,8 +95,9 @@ fn shows(
 
 impl Clauses {
     /// Takes in a clause that the hints show: with its literals false, each names a clause that is unit, or one that is
-    /// false, which ends it. Gives the clause's number, or `None` where they don't show it; a clause of no literals, or
-    /// of one that the graph doesn't have, is never shown. Hints may name any numbers. Fails where memory is refused, and then the store is as before.
+    /// false, which ends it. Gives the clause's number, or `None` where they don't show it. A clause of no literals, or
+    /// of one that the graph doesn't have, is never taken in. Hints may name any numbers. Fails where memory is refused,
+    /// or where 2^32 - 1 clauses are in use, and then the store is as before.
     pub fn learn(
         &mut self,
         graph: &Graph,

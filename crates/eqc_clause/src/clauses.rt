@@ -25,8 +25,10 @@ impl Model for Clauses {
 
 impl Clauses {
     /// No clauses.
+    #[tactic(auto, using(crate::proofs::ClauseLemmas::none_sound))]
     pub fn new(alloc: Global) -> Clauses
-        ensures { result ≡ [] }
+        ensures empty { result ≡ [] }
+        ensures sound { (nodes : List Node) → IsSound nodes result }
     {
         Clauses {
             alloc,

@@ -5,7 +5,7 @@ use Rattle.std.proofs.Math.Seq.{get_or-append_seam, take-append_seam, drop-cons}
 use Rattle.eqc_graph.specs.declared.node.Node.{Node}
 use Rattle.eqc_graph.specs.declared.node.Node.TheVariants.{Constant, Input, And, Xor}
 use Rattle.eqc_graph.specs.Graph.{differ, value_among, node_value, values_from, literal_value, IsWithin, IsBelow, node_at, IsGraph, Extends}
-use Rattle.eqc_graph.proofs.LiteralLemmas.{value_of_literal}
+use Rattle.eqc_graph.proofs.LiteralLemmas.{value_of_literal, value_behind}
 
 -- the values of more nodes come behind
 values_behind : (a : ℕ → Bool) (values : List Bool) (nodes more : List Node) → values_from a values (nodes ++ more) ≡ values_from a (values_from a values nodes) more
@@ -105,3 +105,18 @@ value_of_read items nodes k n same graph inside read =
     subst
     (λ (all : List Node). (a : ℕ → Bool) → literal_value all a (2 * k) ≡ node_value a (literal_value all a) n) same
     (subst (λ (m : Node). (a : ℕ → Bool) → literal_value items a (2 * k) ≡ node_value a (literal_value items a) m) (sym is) at_node)
+
+-- literal 0 is false, and literal 1 is true
+pub value_of_zero : (nodes : List Node) (a : ℕ → Bool) → IsGraph nodes → literal_value nodes a 0 ≡ false
+value_of_zero nodes a graph = value_at_node nodes 0 a graph.some (graph.earlier 0 graph.some) ∙ ap (node_value a (literal_value nodes a)) graph.constant
+
+pub value_of_one : (nodes : List Node) (a : ℕ → Bool) → IsGraph nodes → literal_value nodes a 1 ≡ true
+value_of_one nodes a graph = value_behind nodes a 0 refl ∙ ap not (value_of_zero nodes a graph)
+
+-- nodes that were pushed and taken back leave the graph as it was
+pub unmade : (old new cut more : List Node) (n : ℕ) → new ≡ old ++ more → n ≡ length old → cut ≡ take n new → cut ≡ old
+unmade old new cut more n pushed is back =
+    back ∙ (ap (take n) pushed ∙ (ap (λ (k : ℕ). take k (old ++ more)) is ∙ cut_back old more))
+
+pub extends_same : (old new : List Node) → new ≡ old → Extends old new
+extends_same old new same = subst (λ (nodes : List Node). Extends old nodes) (sym same) (extends_itself old)

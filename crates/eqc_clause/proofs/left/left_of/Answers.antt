@@ -1,5 +1,5 @@
 use Rattle.std.proofs.Common.{sym}
-use Rattle.eqc_clause.proofs.CheckLemmas.{nothing_seen, one_kept, false_kept}
+use Rattle.eqc_clause.proofs.LeftLemmas.{nothing_seen, one_kept, false_kept}
 use Rattle.eqc_clause.proofs.left.left_of.Goals as goal
 use Rattle.eqc_clause.proofs.left.left_of.Goals.{then-not-is_false+else-is_some, else-not-is_false}
 

@@ -1,7 +1,6 @@
-use Rattle.std.proofs.Common.{arith, vec_len}
+use Rattle.std.proofs.Common.{arith}
 use Rattle.eqc_clause.proofs.ClauseLemmas.{given_up_sound}
 use Rattle.eqc_clause.proofs.StoreLemmas.{give_up_at_seen}
-use Rattle.eqc_clause.specs.Clauses.{GivesUp}
 use Rattle.eqc_clause.proofs.clauses.Clauses.give_up.Goals as goal
 
 pub returns-then-not-is_empty-clause-gone : goal.returns-then-not-is_empty-clause-gone
