@@ -1,4 +1,4 @@
-pub mod Names
+pub mod Held
 pub mod Before
 pub mod Meaning
 pub mod Combining
