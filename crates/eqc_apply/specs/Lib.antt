@@ -1,4 +1,4 @@
-pub mod Held
+pub mod Names
 pub mod Before
 pub mod Meaning
 pub mod Combining

@@ -1,4 +1,4 @@
-use Rattle.std.proofs.Common.{[], ◌∷◌, refl, arith}
+use Rattle.std.proofs.Common.{◌^◌, [], ◌∷◌, refl, arith}
 use Rattle.eqc_guard.specs.declared.parcel.Parcel.TheVariants.{Task}
 use Rattle.eqc_arena.proofs.Changing.{held_still}
 use Rattle.eqc_arena.proofs.Unboxing.{came_went}
@@ -21,7 +21,7 @@ put-requires c =
     let g = c.another-second.result in
     let t = pair_comes f.number g.number (as_named c.args.f f.number c.another-first.ensures.name c.another-first.ensures.came) (as_named c.args.g g.number c.another-second.ensures.name c.another-second.ensures.came) in
     let few = few_held c.args.self.now.once c.recall_laws.ensures in
-    record { may = come_may (f.number ∷ g.number ∷ []) t c.in-Some.b (Task c.args.op f g) c.args.self.now.once.rest.ready (omega arith) (omega arith) (omega arith) (come_held (f.number ∷ g.number ∷ []) t) }
+    record { may = come_may (f.number ∷ g.number ∷ []) t c.in-Some.b (Task c.args.op f g) c.args.self.now.once.rest.ready c.in-Some.ensures.1 (omega arith) (omega arith) (come_held (f.number ∷ g.number ∷ []) t) }
 
 pub returns : goal.returns
 returns c =

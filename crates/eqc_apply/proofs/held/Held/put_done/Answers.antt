@@ -1,4 +1,4 @@
-use Rattle.std.proofs.Common.{[], ◌∷◌, refl, arith}
+use Rattle.std.proofs.Common.{◌^◌, [], ◌∷◌, refl, arith}
 use Rattle.eqc_guard.specs.declared.parcel.Parcel.TheVariants.{Done}
 use Rattle.eqc_arena.proofs.Changing.{held_still, same_tree}
 use Rattle.eqc_arena.proofs.Unboxing.{came_went}
