@@ -60,7 +60,7 @@ pub fn give_parcel(worker: &mut Worker, parcel: Parcel)
 /// `b` is less than 16 for each worker, and worker w's boxes are those from 16 w on. The references
 /// of the parcel are held, and a result is right. No scan is under way, and at most 2^39 names are held.
 pub fn put(worker: &mut Worker, b: u32, parcel: Parcel)
-    requires may { MayPut worker.old.known b parcel }
+    requires { MayPut worker.old.known b parcel }
     ensures changes { Exchanges (parcel_names parcel) [] worker.old worker.new }
     ensures sets { SetsBox b (parcel_word parcel) worker.old.known worker.new.known }
 {

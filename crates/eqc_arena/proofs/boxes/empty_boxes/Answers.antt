@@ -14,12 +14,10 @@ put-requires c =
     let same : c.loop-b.worker.known.core.sizes.workers ≡ c.args.worker.now.known.core.sizes.workers = ap (λ (v : View). v.sizes.workers) c.loop-b.invariant.changes.core in
     let room = c.requires.room in
     record {
-      may = record {
-        ready = ready_now c.loop-b.invariant.changes c.requires.ready;
-        there = omega arith;
-        parcel_is = tt;
-        room = omega (arith, lengths_now c.loop-b.invariant.changes);
-      };
+      ready = ready_now c.loop-b.invariant.changes c.requires.ready;
+      there = omega arith;
+      parcel_is = tt;
+      room = omega (arith, lengths_now c.loop-b.invariant.changes);
     }
 
 pub loop-b-preserved : goal.loop-b-preserved

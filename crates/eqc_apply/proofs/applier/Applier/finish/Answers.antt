@@ -24,8 +24,8 @@ keep-requires t c = node_right c.args.self.now.names c.node.new.self c.args.op c
 pub returns-else-held-clause-names : goal.returns-else-held-clause-names
 returns-else-held-clause-names t c = extends_trans c.args.self.now.names c.node.new.self c.keep.new.self.names c.node.ensures.names c.keep.ensures.names
 
-pub invariant_of-self-2 : goal.invariant_of-self-2
-invariant_of-self-2 t c = record { cached = cells_stay c.keep.new.self.names c.share.new.self c.keep.new.self.cells.cells.items c.share.ensures.names c.keep.new.self.cached }
+pub invariant_of-self-then-shares : goal.invariant_of-self-then-shares
+invariant_of-self-then-shares t c = record { cached = cells_stay c.keep.new.self.names c.share.new.self c.keep.new.self.cells.cells.items c.share.ensures.names c.keep.new.self.cached }
 
 pub returns-then-shares-clause-names : goal.returns-then-shares-clause-names
 returns-then-shares-clause-names t c =
