@@ -13,7 +13,7 @@ use Rattle.eqc_guard.specs.Known.{Known, tree_of}
 use Rattle.eqc_guard.specs.Standing.{Standing}
 use Rattle.eqc_guard.specs.Splitting.{IsAbsorbed}
 use Rattle.eqc_apply.specs.Names.{refs_of, Has}
-use Rattle.eqc_apply.specs.declared.names.Names.{Names}
+use Rattle.eqc_apply.specs.declared.held.Held.{Held}
 use Rattle.eqc_apply.specs.Extending.{Stays, entry_in, listed, holding_of, holding_in}
 use Rattle.eqc_apply.specs.Joining.{HasTwo, both_refs, IsMerged, Joins, TakesIn, HasTakenIn}
 use Rattle.eqc_apply.proofs.Holdings.{stands, listed_stands, no_count, refs_le}
@@ -101,7 +101,7 @@ out_same : (v w o p : View) → v.number ≡ w.number → v.out ≡ w.out → o.
 out_same v w o p a b c d = λ i. if eqb (a i) 0 then without_each (c i ∷ d i) (b i) else b i ++ c i ∷ d i
 
 -- what two appliers held is held by the one that took the other in, where both gave names up before
-module _ (old other mid left : Names) (s : Stays old mid) (t : Stays other left) where
+module _ (old other mid left : Held) (s : Stays old mid) (t : Stays other left) where
   -- few references stand on each name
   pub few_both : ((e : Entry) → copies (holding_in old) e + copies (holding_in other) e ≤ 2 ^ 38) → (x : ℕ) → both_refs mid.counts.items left.counts.items x ≤ 2 ^ 39
   few_both few x =

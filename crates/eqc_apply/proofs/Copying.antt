@@ -21,7 +21,7 @@ use Rattle.eqc_plain.proofs.Tasks.{pow_le}
 use Rattle.eqc_core.specs.declared.sizes.Sizes.{Sizes}
 use Rattle.eqc_guard.specs.Known.{IsHeld, IsKnown, tree_of}
 use Rattle.eqc_guard.proofs.Learning.{held_named}
-use Rattle.eqc_apply.specs.declared.names.Names.{Names}
+use Rattle.eqc_apply.specs.declared.held.Held.{Held}
 use Rattle.eqc_apply.specs.declared.plain_copy.PlainCopy.{PlainCopy}
 use Rattle.eqc_apply.specs.declared.plain_copy.Visit.{Visit}
 use Rattle.eqc_apply.specs.declared.plain_copy.Visit.TheVariants.{Reached, Opened}
@@ -77,7 +77,7 @@ module _ (ps : List (Option ℕ)) (x v l h : ℕ) where
   order_opened (Opened y w k m ∷ vs) o = (coming_opened vs k o.0, coming_opened vs m o.1, order_opened vs o.2)
 
 -- a copy stays one while names stay and the store grows
-pub copy_stays : (n m : Names) (s : Store) (x k : ℕ) → Extends n m → IsCopyOf n s x k → IsCopyOf m s x k
+pub copy_stays : (n m : Held) (s : Store) (x k : ℕ) → Extends n m → IsCopyOf n s x k → IsCopyOf m s x k
 copy_stays n m s x k e c =
     let t = names_stay n m e in
     record {
@@ -87,7 +87,7 @@ copy_stays n m s x k e c =
       function = λ a. c.function a ∙ sym (t.says x a c.held);
     }
 
-pub copy_grows : (n : Names) (s t : Store) (x k : ℕ) → Grows s t → IsCopyOf n s x k → IsCopyOf n t x k
+pub copy_grows : (n : Held) (s t : Store) (x k : ℕ) → Grows s t → IsCopyOf n s x k → IsCopyOf n t x k
 copy_grows n s t x k g c =
     let b = before s.nodes t.nodes g.grows in
     record {
@@ -98,29 +98,29 @@ copy_grows n s t x k g c =
     }
 
 -- so do visits
-due_one : (n m : Names) (v : Visit) → Extends n m → IsDue n v → IsDue m v
+due_one : (n m : Held) (v : Visit) → Extends n m → IsDue n v → IsDue m v
 due_one n m (Reached x) e d = e.before.held x d
 due_one n m (Opened x v l h) e d =
     let t = names_stay n m e in
     record { held = t.there x d.held; top = d.top ∙ sym (t.root x d.held); below = omega (arith, d.below, e.variables); halves = halves_stay t d.held d.halves }
 
-toil_one : (n m : Names) (v : Visit) → Extends n m → IsDue n v → toil_of m v ≡ toil_of n v
+toil_one : (n m : Held) (v : Visit) → Extends n m → IsDue n v → toil_of m v ≡ toil_of n v
 toil_one n m (Reached x) e d = rw ((names_stay n m e).root x d, e.variables) refl
 toil_one n m (Opened x v l h) e d = refl
 
-pub due_stay : (n m : Names) (vs : List Visit) → Extends n m → All (IsDue n) vs → All (IsDue m) vs
+pub due_stay : (n m : Held) (vs : List Visit) → Extends n m → All (IsDue n) vs → All (IsDue m) vs
 due_stay n m vs e d = All-weaker (IsDue n) (IsDue m) (λ v due. due_one n m v e due) vs d
 
-pub toil_stays : (n m : Names) (vs : List Visit) → Extends n m → All (IsDue n) vs → toil m vs ≡ toil n vs
+pub toil_stays : (n m : Held) (vs : List Visit) → Extends n m → All (IsDue n) vs → toil m vs ≡ toil n vs
 toil_stays n m [] e d = refl
 toil_stays n m (v ∷ vs) e d = omega (arith, sum_by-cons (toil_of m) v vs, sum_by-cons (toil_of n) v vs, toil_one n m v e (All-head (IsDue n) v vs d), toil_stays n m vs e (All-tail (IsDue n) v vs d))
 
 -- all visits but the one at the end, and that one
-due_apart : (n : Names) (vs : List Visit) (v : Visit) → All (IsDue n) (vs ++ v ∷ []) → All (IsDue n) vs × IsDue n v
+due_apart : (n : Held) (vs : List Visit) (v : Visit) → All (IsDue n) (vs ++ v ∷ []) → All (IsDue n) vs × IsDue n v
 due_apart n vs v d = let r = All-pop (IsDue n) (vs ++ v ∷ []) vs (Some v) refl d in (r.0, r.1)
 
 -- each visit leads to some step
-toil_some : (n : Names) (v : Visit) → 0 < toil_of n v
+toil_some : (n : Held) (v : Visit) → 0 < toil_of n v
 toil_some n (Reached x) = omega (arith, pow_pos (n.variables - root n.variables (tree_of n.worker.known x)))
 toil_some n (Opened x v l h) = omega arith
 
@@ -146,12 +146,12 @@ placed_within ps x m e = elim (cases_lt x (length ps)) [
 ]
 
 -- each name that is held has a place
-pub within_places : (n : Names) (c : PlainCopy) (x : ℕ) → IsKnown n.worker.known → IsFaithful n c → IsHeld n.worker.known.core x → x < length c.places.items
+pub within_places : (n : Held) (c : PlainCopy) (x : ℕ) → IsKnown n.worker.known → IsFaithful n c → IsHeld n.worker.known.core x → x < length c.places.items
 within_places n c x known f (inl small) = placed_within c.places.items x x (f.constants x small)
 within_places n c x known f (inr some) = omega (arith, f.size, known.below x (known.slots x some) (held_named n.worker.known.core x some))
 
 -- numbers stay right while names stay
-pub faithful_stays : (n m : Names) (c d : PlainCopy) → Extends n m → d.store ≡ c.store → d.places ≡ c.places → IsFaithful n c → IsFaithful m d
+pub faithful_stays : (n m : Held) (c d : PlainCopy) → Extends n m → d.store ≡ c.store → d.places ≡ c.places → IsFaithful n c → IsFaithful m d
 faithful_stays n m c d e s p f = record {
   variables = rw s (f.variables ∙ sym e.variables);
   size = rw p (f.size ∙ sym (ap (λ (z : Sizes). z.names) e.seat.sizes));
@@ -161,7 +161,7 @@ faithful_stays n m c d e s p f = record {
 }
 
 -- a name with a number is passed over
-pub passed : (n : Names) (c : PlainCopy) (v : Visit) → IsOnWay n c (c.visits.items ++ v ∷ []) → IsPlaced c.places.items (name_of v) → IsAdvance n c (c.visits.items ++ v ∷ []) n c
+pub passed : (n : Held) (c : PlainCopy) (v : Visit) → IsOnWay n c (c.visits.items ++ v ∷ []) → IsPlaced c.places.items (name_of v) → IsAdvance n c (c.visits.items ++ v ∷ []) n c
 passed n c v w here = record {
   way = record { faithful = w.faithful; due = (due_apart n c.visits.items v w.due).0; order = order_over c.places.items c.places.items v (λ y p. p) here c.visits.items w.order };
   coming = coming_over c.places.items c.places.items v (λ y p. p) here c.visits.items;
@@ -169,7 +169,7 @@ passed n c v w here = record {
 }
 
 -- a node is opened
-pub opened : (n m : Names) (c d : PlainCopy) (vs : List Visit) (x v l h : ℕ) → Extends n m → IsOnWay n c (vs ++ Reached x ∷ []) → d.store ≡ c.store → d.places ≡ c.places
+pub opened : (n m : Held) (c d : PlainCopy) (vs : List Visit) (x v l h : ℕ) → Extends n m → IsOnWay n c (vs ++ Reached x ∷ []) → d.store ≡ c.store → d.places ≡ c.places
     → d.visits.items ≡ vs ++ Opened x v l h ∷ Reached h ∷ Reached l ∷ [] → IsNodeOver m x v l h → IsAdvance n c (vs ++ Reached x ∷ []) m d
 opened n m c d vs x v l h e w s p is over =
     let three : List Visit = Opened x v l h ∷ Reached h ∷ Reached l ∷ [] in
@@ -192,7 +192,7 @@ opened n m c d vs x v l h e w s p is over =
     }
 
 -- a node is copied, which had no number
-module _ (n : Names) (c d : PlainCopy) (x v l h p q m : ℕ) (w : IsOnWay n c (c.visits.items ++ Opened x v l h ∷ [])) (none : get_or c.places.items x None ≡ None)
+module _ (n : Held) (c d : PlainCopy) (x v l h p q m : ℕ) (w : IsOnWay n c (c.visits.items ++ Opened x v l h ∷ [])) (none : get_or c.places.items x None ≡ None)
     (low_is : get_or c.places.items l None ≡ Some p) (high_is : get_or c.places.items h None ≡ Some q) (within : x < length c.places.items)
     (grows : Grows c.store d.store) (one : length d.store.nodes ≤ length c.store.nodes + 1) (node : IsNode d.store.variables d.store.nodes v p q m)
     (noted : d.places.items ≡ set c.places.items x (Some m)) (left : d.visits.items ≡ c.visits.items) where
@@ -254,7 +254,7 @@ module _ (n : Names) (c d : PlainCopy) (x v l h p q m : ℕ) (w : IsOnWay n c (c
       }
 
 -- a constant is its own copy
-constant_copy : (n : Names) (s : Store) (x : ℕ) → x < 2 → s.variables ≡ n.variables → IsCopyOf n s x x
+constant_copy : (n : Held) (s : Store) (x : ℕ) → x < 2 → s.variables ≡ n.variables → IsCopyOf n s x x
 constant_copy n s x small is = record {
   held = inl small;
   within = omega arith;
@@ -277,7 +277,7 @@ abbrev no_number : Option ℕ
 no_number = None
 
 -- a copy of the constants alone
-module _ (n : Names) (c : PlainCopy) (size : ℕ) (variables : c.store.variables ≡ n.variables) (empty : c.store.nodes ≡ []) (names : size ≡ n.worker.known.core.sizes.names)
+module _ (n : Held) (c : PlainCopy) (size : ℕ) (variables : c.store.variables ≡ n.variables) (empty : c.store.nodes ≡ []) (names : size ≡ n.worker.known.core.sizes.names)
     (limit : c.store.limit + 2 ≡ size) (are : c.places.items ≡ set (set (replicate size None) 0 (Some 0)) 1 (Some 1)) where
   blank : List (Option ℕ)
   blank = replicate size None
@@ -321,11 +321,11 @@ module _ (n : Names) (c : PlainCopy) (size : ℕ) (variables : c.store.variables
       ]
 
 -- the same copy, with the visits in other words
-pub way_as : (n : Names) (c d : PlainCopy) (vs us : List Visit) → d.store ≡ c.store → d.places ≡ c.places → vs ≡ us → IsOnWay n c vs → IsOnWay n d us
+pub way_as : (n : Held) (c d : PlainCopy) (vs us : List Visit) → d.store ≡ c.store → d.places ≡ c.places → vs ≡ us → IsOnWay n c vs → IsOnWay n d us
 way_as n c d vs us s p e w = record { faithful = faithful_stays n n c d (extends_refl n) s p w.faithful; due = rw (← e) w.due; order = rw (← e, p) w.order }
 
 -- one name is to be copied
-pub sets_out : (n : Names) (c d : PlainCopy) (f : ℕ) → IsFaithful n c → IsHeld n.worker.known.core f → d.store ≡ c.store → d.places ≡ c.places → d.visits.items ≡ Reached f ∷ [] → IsOnWay n d d.visits.items × IsComing d.places.items d.visits.items f
+pub sets_out : (n : Held) (c d : PlainCopy) (f : ℕ) → IsFaithful n c → IsHeld n.worker.known.core f → d.store ≡ c.store → d.places ≡ c.places → d.visits.items ≡ Reached f ∷ [] → IsOnWay n d d.visits.items × IsComing d.places.items d.visits.items f
 sets_out n c d f faithful held s p e =
     let way : IsOnWay n d (Reached f ∷ []) = record { faithful = faithful_stays n n c d (extends_refl n) s p faithful; due = All-cons (IsDue n) (Reached f) [] held (All-nil (IsDue n)); order = tt } in
     let coming : IsComing d.places.items (Reached f ∷ []) f = inr (inl refl) in
@@ -336,7 +336,7 @@ pub arrives : (ps : List (Option ℕ)) (vs : List Visit) (f : ℕ) → IsComing 
 arrives ps vs f k e = coming_none ps f (rw e at k)
 
 -- what a copy's function has in common with that of its name
-module _ (n : Names) (s : Store) (x m : ℕ) (c : IsCopyOf n s x m) where
+module _ (n : Held) (s : Store) (x m : ℕ) (c : IsCopyOf n s x m) where
   pub copy_satisfiable : IsSatisfiable (value (tree_of n.worker.known x)) → IsSatisfiable (value (tree_at s.nodes m))
   copy_satisfiable satisfiable none = satisfiable (λ a. sym (c.function a) ∙ none a)
 
@@ -347,13 +347,13 @@ module _ (n : Names) (s : Store) (x m : ℕ) (c : IsCopyOf n s x m) where
   copy_least variables = find_same (λ values. value (tree_at s.nodes m) (assigned variables values)) (λ values. value (tree_of n.worker.known x) (assigned variables values)) (λ values. c.function (assigned variables values)) (assignments (length variables))
 
 -- a copy of what a name was
-pub copy_was : (n m : Names) (s : Store) (x k : ℕ) → Extends n m → IsHeld n.worker.known.core x → IsCopyOf m s x k → IsCopyOf n s x k
+pub copy_was : (n m : Held) (s : Store) (x k : ℕ) → Extends n m → IsHeld n.worker.known.core x → IsCopyOf m s x k → IsCopyOf n s x k
 copy_was n m s x k e held c =
     let t = names_stay n m e in
     record { held = held; within = c.within; starts = rw (← t.root x held) c.starts; function = λ a. c.function a ∙ t.says x a held }
 
 -- the visit at the end is of a name that is held
-pub last_held : (n : Names) (c : PlainCopy) (vs : List Visit) (v : Visit) → IsOnWay n c (vs ++ v ∷ []) → IsHeld n.worker.known.core (name_of v)
+pub last_held : (n : Held) (c : PlainCopy) (vs : List Visit) (v : Visit) → IsOnWay n c (vs ++ v ∷ []) → IsHeld n.worker.known.core (name_of v)
 last_held n c vs v w = held v (due_apart n vs v w.due).1
   where
     held : (v : Visit) → IsDue n v → IsHeld n.worker.known.core (name_of v)
@@ -361,14 +361,14 @@ last_held n c vs v w = held v (due_apart n vs v w.due).1
     held (Opened x u l h) d = d.held
 
 -- a name without a number is a node
-pub last_inner : (n : Names) (c : PlainCopy) (vs : List Visit) (v : Visit) → IsOnWay n c (vs ++ v ∷ []) → get_or c.places.items (name_of v) None ≡ None → 2 ≤ name_of v
+pub last_inner : (n : Held) (c : PlainCopy) (vs : List Visit) (v : Visit) → IsOnWay n c (vs ++ v ∷ []) → get_or c.places.items (name_of v) None ≡ None → 2 ≤ name_of v
 last_inner n c vs v w none = elim (cases_lt (name_of v) 2) [
   | inl small ↦ let there : None ≡ Some (name_of v) = sym none ∙ w.faithful.constants (name_of v) small in cc
   | inr large ↦ large
 ]
 
 -- what was read of a node that is opened: its root, and then its cofactors
-pub over_of : (n0 n1 n2 : Names) (x v l h : ℕ) → Extends n0 n1 → Extends n1 n2 → IsHeld n0.worker.known.core x → v ≡ root n1.variables (tree_of n1.worker.known x) → v < n1.variables → AreCofactors n2.variables n2.worker.known v x l h → IsNodeOver n2 x v l h
+pub over_of : (n0 n1 n2 : Held) (x v l h : ℕ) → Extends n0 n1 → Extends n1 n2 → IsHeld n0.worker.known.core x → v ≡ root n1.variables (tree_of n1.worker.known x) → v < n1.variables → AreCofactors n2.variables n2.worker.known v x l h → IsNodeOver n2 x v l h
 over_of n0 n1 n2 x v l h e f held top below cofactors =
     let held1 = e.before.held x held in
     let below2 : v < n2.variables = omega (arith, below, f.variables) in
@@ -385,11 +385,11 @@ on_ok (Ok a) f p = f p
 on_ok (Err e) f p = tt
 
 -- a node at the end of the visits
-pub last_over : (n : Names) (c : PlainCopy) (vs : List Visit) (x v l h : ℕ) → IsOnWay n c (vs ++ Opened x v l h ∷ []) → IsNodeOver n x v l h
+pub last_over : (n : Held) (c : PlainCopy) (vs : List Visit) (x v l h : ℕ) → IsOnWay n c (vs ++ Opened x v l h ∷ []) → IsNodeOver n x v l h
 last_over n c vs x v l h w = (due_apart n vs (Opened x v l h) w.due).1
 
 -- where a name has no number, the store has room
-pub has_room : (n : Names) (c : PlainCopy) (x : ℕ) → IsFaithful n c → get_or c.places.items x None ≡ None → x < length c.places.items → length c.store.nodes < c.store.limit
+pub has_room : (n : Held) (c : PlainCopy) (x : ℕ) → IsFaithful n c → get_or c.places.items x None ≡ None → x < length c.places.items → length c.store.nodes < c.store.limit
 has_room n c x f none within =
     let fewer : sum_by free (set c.places.items x (Some 0)) + free (get_or c.places.items x None) ≡ sum_by free c.places.items + free (Some 0) = sum_by-set free c.places.items x (Some 0) None within in
     let counted : sum_by free (set c.places.items x (Some 0)) + 1 ≡ sum_by free c.places.items + 0 = rw none at fewer in

@@ -17,7 +17,7 @@ use Rattle.eqc_arena.proofs.Changing.{lengths_now}
 use Rattle.eqc_arena.proofs.Unboxing.{may_empty}
 use Rattle.eqc_arena.proofs.Emptying.{tells_none}
 use Rattle.eqc_apply.specs.Names.{refs_of, Has}
-use Rattle.eqc_apply.specs.declared.names.Names.{Names}
+use Rattle.eqc_apply.specs.declared.held.Held.{Held}
 use Rattle.eqc_apply.specs.Extending.{Stays, holding_in}
 use Rattle.eqc_apply.proofs.Absorbing.{refs_held}
 
@@ -40,7 +40,7 @@ holds_nothing n s cs h known none gone = none_stands s.known.core.held one
     ]
 
 -- so it is after names were given up
-pub left_nothing : (old mid : Names) → Stays old mid → IsKnown mid.worker.known → ((x : ℕ) → get_or mid.counts.items x 0 ≢ 1) → (holding_in old).held ≡ [] → mid.worker.known.core.held ≡ []
+pub left_nothing : (old mid : Held) → Stays old mid → IsKnown mid.worker.known → ((x : ℕ) → get_or mid.counts.items x 0 ≢ 1) → (holding_in old).held ≡ [] → mid.worker.known.core.held ≡ []
 left_nothing old mid s known gone none =
     holds_nothing mid.variables mid.worker mid.counts.items mid.once known
     (λ x. omega (arith, s.references x, refs_held old.variables old.worker.known old.counts.items x, ap {B = ℕ} (λ l. length l) none)) gone

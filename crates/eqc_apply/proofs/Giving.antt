@@ -12,7 +12,7 @@ use Rattle.eqc_guard.proofs.Learning.{held_named}
 use Rattle.eqc_arena.specs.Changing.{Exchanges}
 use Rattle.eqc_arena.proofs.Changing.{ready_now, quiet_now, hand_now, draft_now, names_now}
 use Rattle.eqc_arena.proofs.References.{gives}
-use Rattle.eqc_apply.specs.declared.names.Names.{Names}
+use Rattle.eqc_apply.specs.declared.held.Held.{Held}
 use Rattle.eqc_apply.specs.Names.{Has, Drops, SameReferences}
 use Rattle.eqc_apply.specs.Extending.{Stays}
 use Rattle.eqc_apply.proofs.Once.{counted_held, seat_of, seat_refl, seat_trans}
@@ -64,10 +64,10 @@ module _ (x n m : ℕ) (counts : List ℕ) (old : Standing) (within : x < length
         once y two (no d) = omega (arith, get_or-set_other counts x y 0 0 (λ e. d (sym e)), h.once y two, names_now gone y, times-slots_of y (x ∷ []) two, times-other y x [] d, times-nil y)
 
 -- nothing changed
-pub stays_refl : (a : Names) → Stays a a
+pub stays_refl : (a : Held) → Stays a a
 stays_refl a = record { forest = refl; seat = seat_refl a.worker.known.core; variables = refl; references = λ x. refl; tree = λ x two. refl }
 
-pub stays_drops : (a b c : Names) → Stays a b → Drops b.counts.items b.worker c.worker → SameReferences b.counts.items c.counts.items → c.variables ≡ b.variables → Stays a c
+pub stays_drops : (a b c : Held) → Stays a b → Drops b.counts.items b.worker c.worker → SameReferences b.counts.items c.counts.items → c.variables ≡ b.variables → Stays a c
 stays_drops a b c s d r v = record {
   forest = d.forest ∙ s.forest;
   seat = seat_trans s.seat d.seat;

@@ -46,14 +46,6 @@ module _ (names : List ℕ) {old new : Standing} (t : Exchanges [] (slots_of nam
     room = omega (arith, come_few (2 ^ 30) few);
   }
 
--- what came may be given back
-pub comes_held : (out : Parcel) {gone : List ℕ} {old new : Standing} → Exchanges gone (parcel_names out) old new → HoldsParcel new.known.core out
-comes_held out t x = let e = t.enough x in omega (arith, names_now t x)
-
--- what came goes again
-pub came_went : {gone names : List ℕ} {old mid new : Standing} → Exchanges gone names old mid → Exchanges names [] mid new → Exchanges gone [] old new
-came_went t u = on t [] (here t u) (λ x. omega arith) (λ x. omega (arith, times-nil x)) (omega arith)
-
 -- two names come, one after the other, and three
 pub pair_comes : {s0 s1 s2 : Standing} (x y : ℕ) → Exchanges [] (slots_of (x ∷ [])) s0 s1 → Exchanges [] (slots_of (y ∷ [])) s1 s2 → Exchanges [] (slots_of (x ∷ y ∷ [])) s0 s2
 pair_comes x y t u = and t (slots_of (x ∷ y ∷ [])) (here t u) (λ w. slots_times w x (y ∷ [])) (slots_length x (y ∷ []))

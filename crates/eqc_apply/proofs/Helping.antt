@@ -6,7 +6,7 @@ use Rattle.eqc_tree.specs.Holding.{Entry, Holding, IsHeld as IsIn, Keeps, Gains,
 use Rattle.eqc_tree.specs.declared.operation.Op.{Op}
 use Rattle.eqc_tree.proofs.HoldingLemmas.{counts_itself}
 use Rattle.eqc_guard.specs.Known.{IsHeld, tree_of}
-use Rattle.eqc_apply.specs.declared.names.Names.{Names}
+use Rattle.eqc_apply.specs.declared.held.Held.{Held}
 use Rattle.eqc_apply.specs.declared.reference.Ref.{Ref}
 use Rattle.eqc_apply.specs.Extending.{Extends, holding_in}
 use Rattle.eqc_apply.specs.Referring.{entry_of}
@@ -32,15 +32,15 @@ gained_still r e f g h = omega (arith, g.held e)
 pub kept_held : {a b : Holding} (e : Entry) → Keeps a b → IsIn a e → IsIn b e
 kept_held e k h = omega (arith, k.held e)
 
-pub extends_keeps : (old new : Names) → Extends old new → Keeps (holding_in old) (holding_in new)
+pub extends_keeps : (old new : Held) → Extends old new → Keeps (holding_in old) (holding_in new)
 extends_keeps old new e = stays_keeps old new (extends_stays old new e)
 
 -- the name of a reference that is held
-pub name_held : (n : Names) (r : Ref) → IsIn (holding_in n) (entry_of r) → IsHeld n.worker.known.core r.name
+pub name_held : (n : Held) (r : Ref) → IsIn (holding_in n) (entry_of r) → IsHeld n.worker.known.core r.name
 name_held n r h = referenced_held n r.name (is_referenced n r.at.value r.name h)
 
 -- the function of a result, in the trees that the worker knows now
-pub says_right : (n : Names) (op : Op) (f g r : Ref) → IsIn (holding_in n) (entry_of f) → IsIn (holding_in n) (entry_of g) → IsIn (holding_in n) (entry_of r)
+pub says_right : (n : Held) (op : Op) (f g r : Ref) → IsIn (holding_in n) (entry_of f) → IsIn (holding_in n) (entry_of g) → IsIn (holding_in n) (entry_of r)
     → ((a : ℕ → Bool) → says (entry_of r) a ≡ operate op (says (entry_of f) a) (says (entry_of g) a))
     → (a : ℕ → Bool) → operate op (value (tree_of n.worker.known f.name) a) (value (tree_of n.worker.known g.name) a) ≡ value (tree_of n.worker.known r.name) a
 says_right n op f g r hf hg hr right a =

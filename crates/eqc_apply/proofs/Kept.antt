@@ -6,7 +6,7 @@ use Rattle.eqc_plain.specs.Cache.{IsCache}
 use Rattle.eqc_plain.proofs.Combining.{result_stays, stays_trans}
 use Rattle.eqc_plain.proofs.Caching.{cache_stays, found_right, no_more_right, kept_right}
 use Rattle.eqc_guard.specs.Known.{Known}
-use Rattle.eqc_apply.specs.declared.names.Names.{Names}
+use Rattle.eqc_apply.specs.declared.held.Held.{Held}
 use Rattle.eqc_apply.specs.Extending.{Extends}
 use Rattle.eqc_apply.specs.Combining.{IsResult}
 use Rattle.eqc_apply.specs.Meaning.{meaning_of, kept_of}
@@ -22,6 +22,6 @@ kept variables k old mid new op f g x more may right c =
     kept_right (kept_of variables k) mid new op f g x may (result_stays (to_kept variables k) right) (no_more_right (kept_of variables k) old mid more c)
 
 -- cells stay right while names stay
-pub cells_stay : (old new : Names) (cells : List ℕ) → Extends old new → IsCache (kept_of old.variables old.worker.known) cells → IsCache (kept_of new.variables new.worker.known) cells
+pub cells_stay : (old new : Held) (cells : List ℕ) → Extends old new → IsCache (kept_of old.variables old.worker.known) cells → IsCache (kept_of new.variables new.worker.known) cells
 cells_stay old new cells e c =
     cache_stays (kept_of old.variables old.worker.known) (kept_of new.variables new.worker.known) cells (stays_trans (from_kept old.variables old.worker.known) (stays_trans (names_stay old new e) (to_kept new.variables new.worker.known))) c

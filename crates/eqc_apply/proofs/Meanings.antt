@@ -8,17 +8,17 @@ use Rattle.eqc_plain.specs.Combining.{AreHalves, IsWhole, HasBoth}
 use Rattle.eqc_plain.proofs.Combining.{Stays, HasConstants, combined, both_stay}
 use Rattle.eqc_core.specs.Words.{times}
 use Rattle.eqc_guard.specs.Known.{Known, IsHeld, tree_of}
-use Rattle.eqc_apply.specs.declared.names.Names.{Names}
+use Rattle.eqc_apply.specs.declared.held.Held.{Held}
 use Rattle.eqc_apply.specs.Extending.{Extends}
 use Rattle.eqc_apply.specs.Combining.{IsNode, AreCofactors, IsResult}
 use Rattle.eqc_apply.specs.Meaning.{meaning_of, meaning_in, kept_of}
 use Rattle.eqc_apply.proofs.Once.{before_refl, before_trans, seat_refl, seat_trans, held_some}
 use Rattle.eqc_apply.proofs.Reading.{root_constant, starts_root}
 
-pub extends_refl : (n : Names) → Extends n n
+pub extends_refl : (n : Held) → Extends n n
 extends_refl n = record { forest = refl; seat = seat_refl n.worker.known.core; variables = refl; references = λ x. refl; before = before_refl n.worker.known }
 
-pub extends_trans : (a b c : Names) → Extends a b → Extends b c → Extends a c
+pub extends_trans : (a b c : Held) → Extends a b → Extends b c → Extends a c
 extends_trans a b c p q =
     record {
       forest = q.forest ∙ p.forest;
@@ -29,7 +29,7 @@ extends_trans a b c p q =
     }
 
 -- names keep their meaning
-pub names_stay : (old new : Names) → Extends old new → Stays (meaning_in old) (meaning_in new)
+pub names_stay : (old new : Held) → Extends old new → Stays (meaning_in old) (meaning_in new)
 names_stay old new e =
     record {
       variables = e.variables;
@@ -76,6 +76,6 @@ pub whole_of : {variables : ℕ} {k : Known} {v low high x : ℕ} → v < variab
 whole_of {variables} {k} {v} {low} {high} {x} below n = record { within = n.within; root_at = starts_from variables v (tree_of k x) below n.starts; function = n.function }
 
 -- the node over both results has the operation's result
-pub node_right : (old new : Names) (op : Op) (f g v low high x : ℕ) → Extends old new → HasBoth (meaning_in old) op f g v low high → IsNode new.variables new.worker.known v low high x → IsResult new.variables op new.worker.known f g x
+pub node_right : (old new : Held) (op : Op) (f g v low high x : ℕ) → Extends old new → HasBoth (meaning_in old) op f g v low high → IsNode new.variables new.worker.known v low high x → IsResult new.variables op new.worker.known f g x
 node_right old new op f g v low high x e b n =
     combined (meaning_in new) op v f g low high x (both_stay (names_stay old new e) b) (whole_of (omega (arith, b.expansion.below, e.variables)) n)

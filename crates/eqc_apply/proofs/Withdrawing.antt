@@ -8,14 +8,14 @@ use Rattle.eqc_plain.proofs.Combining.{result_stays}
 use Rattle.eqc_core.specs.View.{View}
 use Rattle.eqc_guard.specs.Searching.{HasSeenAll}
 use Rattle.eqc_arena.specs.Unboxing.{KeepsMarks}
-use Rattle.eqc_apply.specs.declared.names.Names.{Names}
+use Rattle.eqc_apply.specs.declared.held.Held.{Held}
 use Rattle.eqc_apply.specs.Combining.{IsResult}
 use Rattle.eqc_apply.specs.Extending.{Extends}
 use Rattle.eqc_apply.specs.Stopping.{HasStopped}
 use Rattle.eqc_apply.proofs.Meanings.{names_stay}
 use Rattle.eqc_apply.proofs.Handing.{stopped_stays}
 
-pub results_stay : (old new : Names) (op : Op) (f g : ℕ) (o : Result ℕ Stop) → Extends old new → IfOk o (λ x. IsResult old.variables op old.worker.known f g x) → IfOk o (λ x. IsResult new.variables op new.worker.known f g x)
+pub results_stay : (old new : Held) (op : Op) (f g : ℕ) (o : Result ℕ Stop) → Extends old new → IfOk o (λ x. IsResult old.variables op old.worker.known f g x) → IfOk o (λ x. IsResult new.variables op new.worker.known f g x)
 results_stay old new op f g o e = IfOk-weaker o _ _ (λ x r. result_stays (names_stay old new e) r)
 
 pub stops_stay : (o : Result ℕ Stop) (u v : View) → KeepsMarks u v → IfErr o (λ s. HasStopped s u) → IfErr o (λ s. HasStopped s v)

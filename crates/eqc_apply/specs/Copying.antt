@@ -6,14 +6,14 @@ use Rattle.eqc_plain.specs.Store.{root, tree_at}
 use Rattle.eqc_plain.specs.Combining.{AreHalves}
 use Rattle.eqc_plain.specs.declared.store.Store.{Store}
 use Rattle.eqc_guard.specs.Known.{IsHeld, tree_of}
-use Rattle.eqc_apply.specs.declared.names.Names.{Names}
+use Rattle.eqc_apply.specs.declared.held.Held.{Held}
 use Rattle.eqc_apply.specs.declared.plain_copy.PlainCopy.{PlainCopy}
 use Rattle.eqc_apply.specs.declared.plain_copy.Visit.{Visit}
 use Rattle.eqc_apply.specs.declared.plain_copy.Visit.TheVariants.{Reached, Opened}
 use Rattle.eqc_apply.specs.Meaning.{meaning_in}
 
 -- the number m of a store has the function of the name x, and starts no higher
-pub record IsCopyOf (n : Names) (s : Store) (x m : ℕ) : Type 0 where
+pub record IsCopyOf (n : Held) (s : Store) (x m : ℕ) : Type 0 where
   pub held : IsHeld n.worker.known.core x
   pub within : m < length s.nodes + 2
   pub starts : root n.variables (tree_of n.worker.known x) ≤ root s.variables (tree_at s.nodes m)
@@ -24,14 +24,14 @@ name_of (Reached x) = x
 name_of (Opened x v low high) = x
 
 -- v is the variable of a node that is held, whose children are low and high
-pub record IsNodeOver (n : Names) (x v low high : ℕ) : Type 0 where
+pub record IsNodeOver (n : Held) (x v low high : ℕ) : Type 0 where
   pub held : IsHeld n.worker.known.core x
   pub top : v ≡ root n.variables (tree_of n.worker.known x)
   pub below : v < n.variables
   pub halves : AreHalves (meaning_in n) v x low high
 
 -- what is visited is held
-abbrev pub IsDue : Names → Visit → Type 0
+abbrev pub IsDue : Held → Visit → Type 0
 IsDue n (Reached x) = IsHeld n.worker.known.core x
 IsDue n (Opened x v low high) = IsNodeOver n x v low high
 
@@ -60,7 +60,7 @@ free None = 1
 free (Some m) = 0
 
 -- each number that is noted is its name's, and the store has room for a node for each name without one
-pub record IsFaithful (n : Names) (c : PlainCopy) : Type 0 where
+pub record IsFaithful (n : Held) (c : PlainCopy) : Type 0 where
   pub variables : c.store.variables ≡ n.variables
   pub size : length c.places.items ≡ n.worker.known.core.sizes.names
   pub constants : (x : ℕ) → x < 2 → slice_index_or c.places.items x None ≡ Some x
@@ -68,21 +68,21 @@ pub record IsFaithful (n : Names) (c : PlainCopy) : Type 0 where
   pub placed : (x m : ℕ) → slice_index_or c.places.items x None ≡ Some m → IsCopyOf n c.store x m
 
 -- a copy that is faithful so far, with these visits to come
-pub record IsOnWay (n : Names) (c : PlainCopy) (vs : List Visit) : Type 0 where
+pub record IsOnWay (n : Held) (c : PlainCopy) (vs : List Visit) : Type 0 where
   pub faithful : IsFaithful n c
   pub due : All (IsDue n) vs
   pub order : AreInOrder c.places.items vs
 
 -- a bound on the steps that a visit leads to: those of a full tree of the variables below
-abbrev pub toil_of : Names → Visit → ℕ
+abbrev pub toil_of : Held → Visit → ℕ
 toil_of n (Reached x) = 4 * 2 ^ (n.variables - root n.variables (tree_of n.worker.known x)) - 2
 toil_of n (Opened x v low high) = 1
 
-abbrev pub toil : Names → List Visit → ℕ
+abbrev pub toil : Held → List Visit → ℕ
 toil n vs = sum_by (toil_of n) vs
 
 -- one step of a copy with these visits to come: what was to be copied still is, and fewer steps are left
-pub record IsAdvance (n : Names) (c : PlainCopy) (vs : List Visit) (m : Names) (d : PlainCopy) : Type 0 where
+pub record IsAdvance (n : Held) (c : PlainCopy) (vs : List Visit) (m : Held) (d : PlainCopy) : Type 0 where
   pub way : IsOnWay m d d.visits.items
   pub coming : (x : ℕ) → IsComing c.places.items vs x → IsComing d.places.items d.visits.items x
   pub less : toil m d.visits.items < toil n vs

@@ -2,7 +2,7 @@
 use Rattle.std.specs.Prelude.{◌≡◌, ℕ, ◌+◌, ◌-◌, ◌≤◌, List, [], ◌∷◌, ◌++◌, get_or, replicate}
 use Rattle.eqc_tree.specs.Holding.{Entry, Holding}
 use Rattle.eqc_guard.specs.Known.{Known, tree_of}
-use Rattle.eqc_apply.specs.declared.names.Names.{Names}
+use Rattle.eqc_apply.specs.declared.held.Held.{Held}
 use Rattle.eqc_apply.specs.Names.{refs_of}
 use Rattle.eqc_apply.specs.Before.{IsBefore, IsSeat}
 
@@ -19,13 +19,13 @@ listed k i (c ∷ cs) = replicate (c - 1) (entry_in k i) ++ listed k (i + 1) cs
 unfoldable pub holding_of : ℕ → Known → List ℕ → Holding
 holding_of variables k counts = record { variables = variables; held = listed k 0 counts }
 
-abbrev pub holding_in : Names → Holding
+abbrev pub holding_in : Held → Holding
 holding_in n = holding_of n.variables n.worker.known n.counts.items
 
 -- From here on: what the calls say to one another. No public promise cites it.
 
 -- the same references stand on names with the same trees
-pub record Stays (old new : Names) : Type 0 where
+pub record Stays (old new : Held) : Type 0 where
   pub forest : new.worker.forest ≡ old.worker.forest
   pub seat : IsSeat old.worker.known.core new.worker.known.core
   pub variables : new.variables ≡ old.variables
@@ -33,7 +33,7 @@ pub record Stays (old new : Names) : Type 0 where
   pub tree : (x : ℕ) → 2 ≤ get_or old.counts.items x 0 → tree_of new.worker.known x ≡ tree_of old.worker.known x
 
 -- and what was held is held, with its tree
-pub record Extends (old new : Names) : Type 0 where
+pub record Extends (old new : Held) : Type 0 where
   pub forest : new.worker.forest ≡ old.worker.forest
   pub seat : IsSeat old.worker.known.core new.worker.known.core
   pub variables : new.variables ≡ old.variables

@@ -4,7 +4,7 @@ ghost use Rattle.eqc_plain.specs.Cache.{IsCache};
 ghost use Rattle.std.proofs.Props.{props};
 ghost use Rattle.eqc_apply.specs.Meaning.{kept_of};
 
-use crate::names::Names;
+use crate::held::Held;
 use eqc_plain::cache::Cache;
 use eqc_plain::task::Task;
 
@@ -14,7 +14,7 @@ use eqc_plain::task::Task;
 /// in them stays held as long as they stand.
 #[derive(Drop)]
 pub struct Applier {
-    pub(crate) names: Names,
+    pub(crate) names: Held,
     pub(crate) cells: Cache,
     pub(crate) tasks: Vec<Task>,
     // In how many levels of an operation one half is offered to other workers.
@@ -32,7 +32,7 @@ pub struct Applier {
 
 impl Applier {
     /// The names alone.
-    pub(crate) fn into_names(self) -> Names
+    pub(crate) fn into_names(self) -> Held
         ensures { result ≡ self.names }
     {
         let Applier {

@@ -120,8 +120,7 @@ impl Applier {
         ensures right { IfSome result (IsResult self.new.names.variables op self.new.names.worker.known f g) }
         ensures tasks { self.new.tasks ≡ self.old.tasks }
     {
-        // What the worker knows is in order.
-        let _cells = self.names.worker.cells();
+        self.names.worker.recall_laws();
         if let Some(x) = self.cells.find(op, f, g) {
             return Some(x);
         }
@@ -199,7 +198,7 @@ impl Applier {
         self.keep(op, f, g, x);
         // A node that is new to this worker took steps to come by: others are spared them.
         if self.names.worker.held() > held && self.names.has_others() && self.shares(variable) {
-            self.share(op, f, g, x);
+            self.names.share(op, f, g, x);
         }
         Ok(x)
     }
@@ -211,21 +210,10 @@ impl Applier {
         ensures still { IsResult self.new.names.variables op self.new.names.worker.known f g x }
         ensures tasks { self.new.tasks ≡ self.old.tasks }
     {
-        // What the worker knows is in order.
-        let _cells = self.names.worker.cells();
+        self.names.worker.recall_laws();
         let nodes = self.names.worker.held() as usize;
         self.cells.grow(nodes);
         self.cells.keep(op, f, g, x);
-    }
-
-    /// Puts a result into the cells that all workers share.
-    fn share(&mut self, op: Op, f: u32, g: u32, x: u32)
-        requires { IsResult self.old.names.variables op self.old.names.worker.known f g x }
-        ensures names { Extends self.old.names self.new.names }
-        ensures still { IsResult self.new.names.variables op self.new.names.worker.known f g x }
-        ensures tasks { self.new.tasks ≡ self.old.tasks }
-    {
-        self.names.share(op, f, g, x);
     }
 
     /// Ends the tasks on top that `x` is the last missing result of, up to one whose high cofactors

@@ -1,30 +1,43 @@
-//! An operation changes hands: a worker puts it into a box of its own, and takes it out again, by
-//! itself or with the result that another worker came to.
-ghost use Rattle.std.specs.Prelude.{◌≡◌, ◌≢◌, ℕ, Bool, ◌*◌, ◌^◌, ◌<◌, ◌≤◌, [], ◌∷◌, length, None, IfOk, IfErr, IfSome};
+//! The boxes: an operation changes hands there. A worker offers one in a box of its own, and takes it back, by itself or with the
+//! result that another worker came to; it takes operations out of boxes of others, and puts there what became of them.
+ghost use Rattle.std.specs.Prelude.{◌≡◌, ◌≢◌, ℕ, Bool, ◌+◌, ◌*◌, ◌^◌, ◌<◌, ◌≤◌, [], ◌∷◌, length, None, IfOk, IfErr, IfSome};
 ghost use Rattle.eqc_tree.specs.Tree.{value};
 ghost use Rattle.eqc_tree.specs.Operation.{operate};
 ghost use Rattle.eqc_core.specs.Words.{slots_of};
 ghost use Rattle.eqc_core.specs.Moves.{IsReady};
 ghost use Rattle.eqc_guard.specs.Known.{IsHeld, tree_of};
-ghost use Rattle.eqc_guard.specs.Sharing.{MayPut, parcel_names};
 ghost use Rattle.eqc_guard.specs.declared.parcel.Parcel.TheVariants.{Empty, Done, Stopped};
 ghost use Rattle.eqc_arena.specs.Changing.{Exchanges};
-ghost use Rattle.eqc_arena.specs.Unboxing.{HoldsParcel, KeepsMarks, NotesStop};
 ghost use Rattle.eqc_apply.specs.Stopping.{HasStopped};
 ghost use Rattle.eqc_apply.specs.Handing.{ComesOut, IsOwn, HasCome};
+ghost use Rattle.eqc_apply.specs.Combining.{IsResult};
+ghost use Rattle.eqc_apply.specs.Extending.{Extends};
+ghost use Rattle.eqc_guard.specs.Sharing.{parcel_names};
+ghost use Rattle.eqc_arena.specs.Unboxing.{HoldsParcel, KeepsMarks, NotesStop};
 
+use crate::held::{Held, count_in, grow_counts, settle};
 use crossbeam_utils::Backoff;
-use eqc_arena::boxes::{exchange, give_parcel};
+use eqc_arena::boxes::{give_parcel, put};
 use eqc_arena::nodes::copy;
 use eqc_guard::filled::Filled;
 use eqc_guard::parcel::Parcel;
 use eqc_guard::reference::Ref as Name;
 use eqc_guard::worker::Worker;
-use eqc_tree::{Op, Stop};
+use eqc_tree::{Op, Stop, unpack_cell};
 use std::sync::Wait;
 
-/// One more reference of a name that is held, of which there are few.
-pub(crate) fn another(worker: &mut Worker, x: u32) -> Name
+/// How many boxes a worker has: one for each of the first levels of an operation, in which one half can be offered.
+pub(crate) const LEVELS: u32 = 16;
+
+// Whether the word of a box has an operation to be done. A result has the number of its operation,
+// 1 to 4, and a stop one from 13 on.
+fn is_task(word: u64) -> bool {
+    let (tag, _, _, _) = unpack_cell(word);
+    tag > 4 && tag < 9
+}
+
+// One more reference of a name that is held, of which there are few.
+fn another(worker: &mut Worker, x: u32) -> Name
     requires ready { IsReady worker.old.known.core }
     requires held { IsHeld worker.old.known.core x }
     requires few { length worker.old.known.core.held ≤ 2 ^ 30 }
@@ -40,70 +53,6 @@ pub(crate) fn another(worker: &mut Worker, x: u32) -> Name
     }
 }
 
-/// Puts a parcel into a box, and gives back what it had.
-pub(crate) fn put(worker: &mut Worker, b: u32, parcel: Parcel)
-    requires { MayPut worker.old.known b parcel }
-    ensures { Exchanges (parcel_names parcel) [] worker.old worker.new }
-{
-    let came = exchange(worker, b, parcel);
-    give_parcel(worker, came);
-}
-
-/// Puts an operation into a box, whose operands stay held.
-pub(crate) fn put_task(worker: &mut Worker, b: u32, op: Op, f: u32, g: u32)
-    requires ready { IsReady worker.old.known.core }
-    requires there { b < 16 * worker.old.known.core.sizes.workers }
-    requires f { IsHeld worker.old.known.core f }
-    requires g { IsHeld worker.old.known.core g }
-    requires few { length worker.old.known.core.held ≤ 2 ^ 29 }
-    ensures { Exchanges [] [] worker.old worker.new }
-{
-    let first = another(worker, f);
-    let second = another(worker, g);
-    put(worker, b, Parcel::Task(op, first, second));
-}
-
-/// Puts the result of an operation into a box, with its operands. All three stay held.
-pub(crate) fn put_done(worker: &mut Worker, b: u32, op: Op, f: u32, g: u32, x: u32)
-    requires ready { IsReady worker.old.known.core }
-    requires there { b < 16 * worker.old.known.core.sizes.workers }
-    requires f { IsHeld worker.old.known.core f }
-    requires g { IsHeld worker.old.known.core g }
-    requires x { IsHeld worker.old.known.core x }
-    requires right { (a : ℕ → Bool) → operate op (value (tree_of worker.old.known f) a) (value (tree_of worker.old.known g) a) ≡ value (tree_of worker.old.known x) a }
-    requires few { length worker.old.known.core.held ≤ 2 ^ 29 }
-    ensures { Exchanges [] [] worker.old worker.new }
-{
-    let first = another(worker, f);
-    let second = another(worker, g);
-    let r = another(worker, x);
-    put(
-        worker,
-        b,
-        Parcel::Done(Filled {
-            op,
-            f: first,
-            g: second,
-            r,
-        }),
-    );
-}
-
-/// Puts into a box why an operation stopped, with its operands, which stay held.
-pub(crate) fn put_stop(worker: &mut Worker, b: u32, stop: Stop, f: u32, g: u32)
-    requires ready { IsReady worker.old.known.core }
-    requires there { b < 16 * worker.old.known.core.sizes.workers }
-    requires f { IsHeld worker.old.known.core f }
-    requires g { IsHeld worker.old.known.core g }
-    requires stop { stop ≢ Stop.Threads }
-    requires few { length worker.old.known.core.held ≤ 2 ^ 29 }
-    ensures { Exchanges [] [] worker.old worker.new }
-{
-    let first = another(worker, f);
-    let second = another(worker, g);
-    put(worker, b, Parcel::Stopped(stop, first, second));
-}
-
 // What a box has now, which comes out of it.
 fn take_now(worker: &mut Worker, b: u32) -> Parcel
     requires ready { IsReady worker.old.known.core }
@@ -111,13 +60,12 @@ fn take_now(worker: &mut Worker, b: u32) -> Parcel
     requires few { length worker.old.known.core.held ≤ 2 ^ 30 }
     ensures { ComesOut result worker.old worker.new }
 {
-    // What the worker knows is in order.
-    let _cells = worker.cells();
+    worker.recall_laws();
     // A look takes no step that others would have to wait for.
     if worker.look_box(b) == 0 {
         return Parcel::Empty;
     }
-    exchange(worker, b, Parcel::Empty)
+    worker.swap_box(b, Parcel::Empty)
 }
 
 // What a box has, once it is not empty.
@@ -127,8 +75,7 @@ fn wait_for<R: Wait>(worker: &mut Worker, rt: &R, b: u32) -> Parcel
     requires few { length worker.old.known.core.held ≤ 2 ^ 30 }
     ensures { ComesOut result worker.old worker.new }
 {
-    // What the worker knows is in order.
-    let _cells = worker.cells();
+    worker.recall_laws();
     let backoff = Backoff::new();
     for _ in rt.forever() {
         match take_now(worker, b) {
@@ -139,9 +86,9 @@ fn wait_for<R: Wait>(worker: &mut Worker, rt: &R, b: u32) -> Parcel
     unreachable!()
 }
 
-/// Takes an operation out of a box, where it is still to be done. What else was in the box is put
-/// back.
-pub(crate) fn task_out(worker: &mut Worker, b: u32) -> Option<(Op, Name, Name)>
+// Takes an operation out of a box, where it is still to be done. What else was in the box is put
+// back.
+fn task_out(worker: &mut Worker, b: u32) -> Option<(Op, Name, Name)>
     requires ready { IsReady worker.old.known.core }
     requires there { b < 16 * worker.old.known.core.sizes.workers }
     requires few { length worker.old.known.core.held ≤ 2 ^ 30 }
@@ -206,8 +153,8 @@ fn own_stop(
     if own { Err(stop) } else { Ok(()) }
 }
 
-/// Empties a box, whatever it has, which is given back. Says whether there was something in it.
-pub(crate) fn empty(worker: &mut Worker, b: u32) -> bool
+// Empties a box, whatever it has, which is given back. Says whether there was something in it.
+fn empty(worker: &mut Worker, b: u32) -> bool
     requires ready { IsReady worker.old.known.core }
     requires there { b < 16 * worker.old.known.core.sizes.workers }
     requires few { length worker.old.known.core.held ≤ 2 ^ 30 }
@@ -220,10 +167,10 @@ pub(crate) fn empty(worker: &mut Worker, b: u32) -> bool
     is_full
 }
 
-/// Takes an operation out of a box, once there is something in it: with its result, where another
-/// worker did it. The error is why it stopped there. Where the box had something else, or the
-/// operation as it was put there, it is still to be done.
-pub(crate) fn take_out<R: Wait>(
+// Takes an operation out of a box, once there is something in it: with its result, where another
+// worker did it. The error is why it stopped there. Where the box had something else, or the
+// operation as it was put there, it is still to be done.
+fn take_out<R: Wait>(
     worker: &mut Worker,
     rt: &R,
     b: u32,
@@ -254,5 +201,174 @@ pub(crate) fn take_out<R: Wait>(
             Ok(None)
         }
         Parcel::Empty => Ok(None),
+    }
+}
+
+impl Held {
+    // The worker's own box for a level, where there is one.
+    fn own_box(&self, level: u32) -> Option<u32>
+        ensures { IfSome result (λ b. (b ≡ 16 * self.now.worker.known.core.number + level) × (b < 16 * self.now.worker.known.core.sizes.workers)) }
+    {
+        let b = self
+            .worker
+            .number()
+            .checked_mul(LEVELS)?
+            .checked_add(level)?;
+        if b < self.worker.boxes() {
+            Some(b)
+        } else {
+            None
+        }
+    }
+
+    /// The box of another worker at which a worker looks as its `nth` one: level by level, and
+    /// at the workers behind it first, so that workers without work look elsewhere.
+    pub(crate) fn other_box(&self, nth: u32) -> Option<u32>
+        ensures { IfSome result (λ b. b < 16 * self.now.worker.known.core.sizes.workers) }
+    {
+        let workers = self.worker.announcement_words().max(1);
+        let number = self.worker.number();
+        let owner = number.checked_add(nth % workers)?.checked_add(1)? % workers;
+        let b = owner.checked_mul(LEVELS)?.checked_add(nth / workers)?;
+        if owner != number && b < self.worker.boxes() {
+            Some(b)
+        } else {
+            None
+        }
+    }
+
+    /// Whether there is an operation to be done in a box.
+    pub(crate) fn is_offered(&mut self, b: u32) -> bool
+        requires { b < 16 * self.old.worker.known.core.sizes.workers }
+        ensures { Extends self.old self.new }
+    {
+        self.worker.recall_laws();
+        let word = self.worker.look_box(b);
+        is_task(word)
+    }
+
+    /// Offers an operation to other workers, in the box of this level, and says whether it did.
+    pub(crate) fn offer(&mut self, level: u32, op: Op, f: u32, g: u32) -> bool
+        requires f { IsHeld self.old.worker.known.core f }
+        requires g { IsHeld self.old.worker.known.core g }
+        ensures { Extends self.old self.new }
+    {
+        self.worker.recall_laws();
+        let Some(b) = self.own_box(level) else {
+            return false;
+        };
+        let first = another(&mut self.worker, f);
+        let second = another(&mut self.worker, g);
+        put(&mut self.worker, b, Parcel::Task(op, first, second));
+        true
+    }
+
+    /// Takes an operation back that was offered at this level: its result, where another worker did
+    /// it, which is held then, and none where it is still to be done. The call may wait. The errors
+    /// are why it stopped at the other worker, and 72.
+    pub(crate) fn take_back<R: Wait>(
+        &mut self,
+        rt: &R,
+        level: u32,
+        op: Op,
+        f: u32,
+        g: u32,
+    ) -> Result<Option<u32>, Stop>
+        requires f { IsHeld self.old.worker.known.core f }
+        requires g { IsHeld self.old.worker.known.core g }
+        ensures names { Extends self.old self.new }
+        ensures ok { IfOk result (λ found. IfSome found (IsResult self.new.variables op self.new.worker.known f g)) }
+        ensures stop { IfErr result (λ s. HasStopped s self.new.worker.known.core) }
+    {
+        self.worker.recall_laws();
+        let Some(b) = self.own_box(level) else {
+            return Ok(None);
+        };
+        let Some(name) = take_out(&mut self.worker, rt, b, op, f, g)? else {
+            return Ok(None);
+        };
+        let x = settle(&mut self.worker, &mut self.counts, name)?;
+        Ok(Some(x))
+    }
+
+    /// Whether another worker is at the operation that was offered at this level.
+    pub(crate) fn is_taken(&mut self, level: u32) -> bool
+        ensures { Extends self.old self.new }
+    {
+        self.worker.recall_laws();
+        let Some(b) = self.own_box(level) else {
+            return false;
+        };
+        self.worker.look_box(b) == 0
+    }
+
+    /// Takes back what is in the box of this level, and leaves it. Says whether there was something: where an operation
+    /// was offered and nothing is there, another worker is at it.
+    pub(crate) fn withdraw(&mut self, level: u32) -> bool
+        ensures names { Extends self.old self.new }
+        ensures marks { KeepsMarks self.old.worker.known.core self.new.worker.known.core }
+    {
+        self.worker.recall_laws();
+        match self.own_box(level) {
+            Some(b) => empty(&mut self.worker, b),
+            None => true,
+        }
+    }
+
+    /// Takes an operation out of a box of another worker, where it is still to be done. Its operands
+    /// are held then. What else was in the box is put back, and so is the operation where memory is refused for its operands.
+    pub(crate) fn take_task(&mut self, b: u32) -> Option<(Op, u32, u32)>
+        requires { b < 16 * self.old.worker.known.core.sizes.workers }
+        ensures names { Extends self.old self.new }
+        ensures held { IfSome result (λ t. IsHeld self.new.worker.known.core t.1 × IsHeld self.new.worker.known.core t.2) }
+    {
+        self.worker.recall_laws();
+        let Some((op, f, g)) = task_out(&mut self.worker, b) else {
+            return None;
+        };
+        let Ok(()) = grow_counts(&mut self.counts, f.number().max(g.number())) else {
+            // Its owner has room for both, and does it by itself.
+            put(&mut self.worker, b, Parcel::Task(op, f, g));
+            return None;
+        };
+        let first = count_in(&mut self.worker, &mut self.counts, f);
+        let second = count_in(&mut self.worker, &mut self.counts, g);
+        Some((op, first, second))
+    }
+
+    /// Puts the result of an operation into the box from which it was taken.
+    pub(crate) fn put_done(&mut self, b: u32, op: Op, f: u32, g: u32, x: u32)
+        requires there { b < 16 * self.old.worker.known.core.sizes.workers }
+        requires f { IsHeld self.old.worker.known.core f }
+        requires g { IsHeld self.old.worker.known.core g }
+        requires x { IsHeld self.old.worker.known.core x }
+        requires right { (a : ℕ → Bool) → operate op (value (tree_of self.old.worker.known f) a) (value (tree_of self.old.worker.known g) a) ≡ value (tree_of self.old.worker.known x) a }
+        ensures { Extends self.old self.new }
+    {
+        self.worker.recall_laws();
+        let first = another(&mut self.worker, f);
+        let second = another(&mut self.worker, g);
+        let r = another(&mut self.worker, x);
+        let filled = Filled {
+            op,
+            f: first,
+            g: second,
+            r,
+        };
+        put(&mut self.worker, b, Parcel::Done(filled));
+    }
+
+    /// Puts why an operation stopped into the box from which it was taken.
+    pub(crate) fn put_stop(&mut self, b: u32, stop: Stop, f: u32, g: u32)
+        requires there { b < 16 * self.old.worker.known.core.sizes.workers }
+        requires f { IsHeld self.old.worker.known.core f }
+        requires g { IsHeld self.old.worker.known.core g }
+        requires stop { stop ≢ Stop.Threads }
+        ensures { Extends self.old self.new }
+    {
+        self.worker.recall_laws();
+        let first = another(&mut self.worker, f);
+        let second = another(&mut self.worker, g);
+        put(&mut self.worker, b, Parcel::Stopped(stop, first, second));
     }
 }

@@ -4,7 +4,7 @@ ghost use Rattle.eqc_core.specs.Seating.{IsAtRest};
 ghost use Rattle.eqc_guard.specs.Splitting.{IsAlone};
 
 use crate::applier::Applier;
-use crate::names::Names;
+use crate::held::Held;
 use eqc_arena::boxes::empty_boxes;
 use eqc_arena::collecting::collect;
 use eqc_guard::tally::Tally;
@@ -30,7 +30,7 @@ fn finish<R: Wait>(worker: Worker, rt: &R) -> Tally
     }
 }
 
-impl Names {
+impl Held {
     ghost use Rattle.eqc_apply.specs.Extending.{holding_in};
 
     /// Whether the worker is worker 0, and no number is out.
@@ -47,9 +47,8 @@ impl Names {
     {
         let mut names = self;
         names.give_up();
-        // What the worker knows is in order.
-        let _cells = names.worker.cells();
-        let Names {
+        names.worker.recall_laws();
+        let Held {
             worker,
             variables: _,
             counts: _,

@@ -141,14 +141,12 @@ impl References for Applier {
     }
 
     fn same(&self, f: &Ref, g: &Ref) -> bool {
-        // What the worker knows is in order.
-        let _cells = self.names.worker.cells();
+        self.names.worker.recall_laws();
         f.name == g.name
     }
 
     fn as_constant(&self, f: &Ref) -> Option<bool> {
-        // What the worker knows is in order.
-        let _cells = self.names.worker.cells();
+        self.names.worker.recall_laws();
         if f.name >= 2 {
             return None;
         }

@@ -6,7 +6,7 @@ ghost use Rattle.eqc_apply.specs.Meaning.{meaning_in};
 ghost use Rattle.eqc_apply.specs.Extending.{Extends};
 ghost use Rattle.eqc_apply.specs.Expanding.{Expands};
 
-use crate::names::Names;
+use crate::held::Held;
 use eqc_tree::Stop;
 
 /// The top variable of two names, and the cofactors of both there: low and high.
@@ -17,23 +17,24 @@ pub struct Expansion {
     pub g: (u32, u32),
 }
 
-// The variable of the higher root of two names, one of which is no constant.
-fn top_variable(names: &mut Names, f: u32, g: u32) -> u16
-    requires f { IsHeld names.old.worker.known.core f }
-    requires g { IsHeld names.old.worker.known.core g }
-    requires inner { ¬ ((f < 2) × (g < 2)) }
-    ensures top { result ≡ min (root names.old.variables (tree_of names.old.worker.known f)) (root names.old.variables (tree_of names.old.worker.known g)) }
-    ensures below { result < names.old.variables }
-    ensures names { Extends names.old names.new }
-{
-    let top_f = names.root(f);
-    let top_g = names.root(g);
-    top_f.min(top_g)
+impl Held {
+    /// The variable of the higher root of two names, or the number of variables for constants.
+    pub(crate) fn higher_root(&mut self, f: u32, g: u32) -> u16
+        requires f { IsHeld self.old.worker.known.core f }
+        requires g { IsHeld self.old.worker.known.core g }
+        ensures top { result ≡ min (root self.old.variables (tree_of self.old.worker.known f)) (root self.old.variables (tree_of self.old.worker.known g)) }
+        ensures below { ¬ ((f < 2) × (g < 2)) → result < self.old.variables }
+        ensures names { Extends self.old self.new }
+    {
+        let first = self.root(f);
+        let second = self.root(g);
+        first.min(second)
+    }
 }
 
 /// The expansion of two names, one of which is no constant. All four cofactors are held then. The
 /// error is 72 alone.
-pub(crate) fn expand(names: &mut Names, f: u32, g: u32) -> Result<Expansion, Stop>
+pub(crate) fn expand(names: &mut Held, f: u32, g: u32) -> Result<Expansion, Stop>
     requires f { IsHeld names.old.worker.known.core f }
     requires g { IsHeld names.old.worker.known.core g }
     requires inner { ¬ ((f < 2) × (g < 2)) }
@@ -41,7 +42,7 @@ pub(crate) fn expand(names: &mut Names, f: u32, g: u32) -> Result<Expansion, Sto
     ensures names { Extends names.old names.new }
     ensures only { IfErr result (λ s. s ≡ Stop.Memory) }
 {
-    let variable = top_variable(names, f, g);
+    let variable = names.higher_root(f, g);
     let f = names.cofactors(variable, f)?;
     let g = names.cofactors(variable, g)?;
     Ok(Expansion { variable, f, g })

@@ -3,7 +3,7 @@
 ghost use Rattle.std.specs.Prelude.{◌≡◌, [], IfSome, IfOk, IfErr};
 
 use crate::applier::Applier;
-use crate::offering::LEVELS;
+use crate::boxes::LEVELS;
 use eqc_tree::{Op, Stop};
 use std::sync::Wait;
 
@@ -32,7 +32,7 @@ impl Applier {
             return;
         }
         let level = level as u32;
-        if self.is_owed(level) {
+        if self.withdraw_late(level) {
             return;
         }
         if self.known(op, f, g).is_some() {
@@ -103,13 +103,13 @@ impl Applier {
             return;
         }
         for level in 0..LEVELS {
-            self.is_owed(level);
+            self.withdraw_late(level);
         }
     }
 
     /// Whether another worker is still at what was offered at this level some time ago. An answer that came since is
     /// given back.
-    fn is_owed(&mut self, level: u32) -> bool
+    fn withdraw_late(&mut self, level: u32) -> bool
         ensures names { Extends self.old.names self.new.names }
         ensures tasks { self.new.tasks ≡ self.old.tasks }
     {

@@ -4,7 +4,7 @@ ghost use Rattle.eqc_apply.specs.Names.{Has};
 ghost use Rattle.eqc_apply.specs.Joining.{HasTwo, Merges, AreOrdered, IsMerged, HasTakenIn, both_refs};
 
 use crate::applier::Applier;
-use crate::names::Names;
+use crate::held::Held;
 use eqc_guard::worker::Worker;
 use std::mem;
 
@@ -20,8 +20,7 @@ fn merge_one(worker: &mut Worker, counts: &mut Vec<u64>, more: &mut Vec<u64>, pl
     ensures gone { get_or more.new.items place 0 ≡ 0 }
     ensures others { (y : ℕ) → y < place → get_or more.new.items y 0 ≡ get_or more.old.items y 0 }
 {
-    // What the worker knows is in order.
-    let _cells = worker.cells();
+    worker.recall_laws();
     let second = more[place];
     if second == 0 {
         return;
@@ -71,20 +70,19 @@ fn take_in(worker: &mut Worker, counts: &mut Vec<u64>, other: Worker, more: Vec<
     ensures has { (n : ℕ) → Has [] n worker.old counts.old.items → Has [] n worker.new counts.new.items }
     ensures taken { HasTakenIn worker.old counts.old.items other more.items worker.new counts.new.items }
 {
-    // What both workers know is in order.
-    let _cells = worker.cells();
-    let _other_cells = other.cells();
+    worker.recall_laws();
+    other.recall_laws();
     worker.absorb(other);
     merge(worker, counts, more);
 }
 
-impl Names {
+impl Held {
     ghost use Rattle.eqc_tree.specs.Holding.{Entry, copies};
     ghost use Rattle.eqc_apply.specs.Extending.{holding_in};
     ghost use Rattle.eqc_apply.specs.Joining.{Joins, TakesIn};
 
     /// Takes in another worker of the forest, with the references that stand on its names.
-    pub(crate) fn absorb(&mut self, other: Names)
+    pub(crate) fn absorb(&mut self, other: Held)
         requires number { 0 < other.worker.known.core.number }
         requires forest { other.worker.forest ≡ self.old.worker.forest }
         requires few { (e : Entry) → copies (holding_in self.old) e + copies (holding_in other) e ≤ 2 ^ 38 }
@@ -94,7 +92,7 @@ impl Names {
         let mut other = other;
         self.give_up();
         other.give_up();
-        let Names {
+        let Held {
             worker,
             variables: _,
             counts,

@@ -6,12 +6,12 @@ ghost use Rattle.eqc_tree.specs.Tree.{value};
 ghost use Rattle.eqc_guard.specs.Known.{IsHeld, tree_of};
 ghost use Rattle.eqc_apply.specs.Extending.{Extends};
 
-use crate::names::Names;
+use crate::held::Held;
 use crate::plain_copy::PlainCopy;
 use eqc_tree::Stop;
 use std::alloc::Global;
 
-impl Names {
+impl Held {
     /// The least assignment under which a name's function is true, in lexicographic order over these variables.
     ///
     /// It makes no node. Nodes are read once each, and held then, as those that an operation reads; the rest is done on

@@ -4,11 +4,11 @@
 //! reference, a copy and an operation on what it names cost no step on a word that others see; only a
 //! node that is made, or met for the first time, does. Read the modules in this order:
 //!
-//! - `names`, what a worker holds: its counts, cofactors and nodes; `reference`, what is handed out
+//! - `held`, what a worker holds: its counts, cofactors and nodes; `reference`, what is handed out
 //! - `applier`, with the results that a worker keeps for itself; `expansion` and `apply`, the loop; `parts`, with which
 //!   part of an operation a worker begins
 //! - `shared`, the operation cache that all workers share
-//! - `boxes`, `offering` and `forking`, in which one half of an operation is offered to other workers; `serving`, which
+//! - `boxes` and `forking`, in which one half of an operation is offered to other workers; `serving`, which
 //!   do it
 //! - `least`, the least assignment, found on a `plain_copy` of a diagram
 //! - `diagrams`, the calls of the traits; `members`, the appliers of a new forest
@@ -22,11 +22,10 @@ mod closing;
 mod diagrams;
 mod expansion;
 mod forking;
+mod held;
 mod joining;
 mod least;
 mod members;
-mod names;
-mod offering;
 mod parts;
 mod plain_copy;
 mod reference;

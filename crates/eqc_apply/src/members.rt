@@ -7,14 +7,14 @@ ghost use Rattle.eqc_guard.specs.Rule.{sizes_of};
 ghost use Rattle.eqc_apply.specs.Teaming.{AreTeamSizes, IsTeam, IsLead, number_of, forest_of, sizes_in};
 
 use crate::applier::Applier;
-use crate::names::Names;
+use crate::held::Held;
 use eqc_guard::forest::Forest;
 use eqc_plain::cache::Cache;
 use eqc_tree::Stop;
 use std::alloc::Global;
 
 // The first member, whose forest is new.
-fn found(
+fn first_member(
     alloc: Global,
     vars: u16,
     nodes: u32,
@@ -29,7 +29,7 @@ fn found(
 {
     let worker = Forest::new(alloc, vars, nodes, cells, workers)?;
     Ok(Applier {
-        names: Names {
+        names: Held {
             worker,
             variables: vars,
             counts: Vec::new(alloc),
@@ -47,7 +47,7 @@ fn found(
 }
 
 // The next member, which the first one splits off.
-fn join(alloc: Global, lead: &mut Applier) -> Result<Applier, Stop>
+fn next_member(alloc: Global, lead: &mut Applier) -> Result<Applier, Stop>
     requires lead { (n : ℕ) × (s : Sizes) × (g : ℕ) × IsLead n s g lead.old × (g < s.workers) }
     ensures lead { (n : ℕ) (s : Sizes) (g : ℕ) → IsLead n s g lead.old → IfOk result (λ a. IsLead n s (g + 1) lead.new × IsNew n (holding_in a.names) × (number_of a ≡ g) × (sizes_in a ≡ s)) }
     ensures forest { IfOk result (λ a. (forest_of lead.new ≡ forest_of lead.old) × (forest_of a ≡ forest_of lead.old)) }
@@ -58,7 +58,7 @@ fn join(alloc: Global, lead: &mut Applier) -> Result<Applier, Stop>
     let anew = lead.anew;
     match lead.names.worker.split() {
         Ok(worker) => Ok(Applier {
-            names: Names {
+            names: Held {
                 worker,
                 variables,
                 counts: Vec::new(alloc),
@@ -91,10 +91,10 @@ fn gather(
     ensures count { IfOk result (λ members. vec_len members ≡ workers) }
     ensures only { IfErr result (λ s. s ≡ Stop.Memory) }
 {
-    let mut lead = found(alloc, vars, nodes, cells, workers, forks, anew)?;
+    let mut lead = first_member(alloc, vars, nodes, cells, workers, forks, anew)?;
     let mut members = Vec::new(alloc);
     for _ in 1..workers {
-        let Ok(()) = members.push(join(alloc, &mut lead)?) else {
+        let Ok(()) = members.push(next_member(alloc, &mut lead)?) else {
             return Err(Stop::Memory);
         };
     }

@@ -4,7 +4,7 @@ ghost use Rattle.eqc_guard.specs.Known.{IsHeld, tree_of};
 ghost use Rattle.eqc_apply.specs.Extending.{Extends};
 ghost use Rattle.eqc_apply.specs.Copying.{IsCopyOf, IsFaithful, IsOnWay, IsAdvance};
 
-use crate::names::Names;
+use crate::held::Held;
 use eqc_plain::store::Store;
 use eqc_tree::Stop;
 use std::alloc::Global;
@@ -48,13 +48,12 @@ pub(crate) struct PlainCopy {
 
 impl PlainCopy {
     /// A copy of the two constants, with room for all nodes of the forest. The error is 72 alone.
-    pub(crate) fn new(alloc: Global, names: &Names) -> Result<PlainCopy, Stop>
+    pub(crate) fn new(alloc: Global, names: &Held) -> Result<PlainCopy, Stop>
         ensures faithful { IfOk result (IsFaithful names.now) }
         ensures idle { IfOk result (λ c. c.visits.items ≡ []) }
         ensures only { IfErr result (λ s. s ≡ Stop.Memory) }
     {
-        // What the worker knows is in order.
-        let _cells = names.worker.cells();
+        names.worker.recall_laws();
         let slots = names.worker.slots();
         let store = Store::new(alloc, names.variables, slots)?;
         let Ok(mut places) = vec![in alloc; None; slots as usize + 2] else {
@@ -77,7 +76,7 @@ impl PlainCopy {
     }
 
     /// Copies a name with all nodes below it, each once, and answers its number in the store. The error is 72 alone.
-    pub(crate) fn copy(&mut self, names: &mut Names, f: u32) -> Result<u32, Stop>
+    pub(crate) fn copy(&mut self, names: &mut Held, f: u32) -> Result<u32, Stop>
         requires held { IsHeld names.old.worker.known.core f }
         requires faithful { IsFaithful names.old self.old }
         requires idle { self.old.visits.items ≡ [] }
@@ -90,8 +89,7 @@ impl PlainCopy {
         'visits: while let Some(visit) = self.visits.pop() {
             self.visit(names, visit)?;
         }
-        // What the worker knows is in order.
-        let _cells = names.worker.cells();
+        names.worker.recall_laws();
         match self.place(f) {
             Some(number) => Ok(number),
             None => unreachable!(),
@@ -99,14 +97,13 @@ impl PlainCopy {
     }
 
     /// One step of a copy, at the visit that was taken from the end of the list.
-    fn visit(&mut self, names: &mut Names, visit: Visit) -> Result<(), Stop>
+    fn visit(&mut self, names: &mut Held, visit: Visit) -> Result<(), Stop>
         requires { IsOnWay names.old self.old (self.old.visits.items ++ visit ∷ []) }
         ensures advance { OnOk result (IsAdvance names.old self.old (self.old.visits.items ++ visit ∷ []) names.new self.new) }
         ensures names { Extends names.old names.new }
         ensures only { IfErr result (λ s. s ≡ Stop.Memory) }
     {
-        // What the worker knows is in order.
-        let _cells = names.worker.cells();
+        names.worker.recall_laws();
         if let Some(_number) = self.place(visit.name()) {
             return Ok(());
         }
@@ -122,7 +119,7 @@ impl PlainCopy {
     }
 
     /// Puts a node's children before the node.
-    fn open(&mut self, names: &mut Names, x: u32) -> Result<(), Stop>
+    fn open(&mut self, names: &mut Held, x: u32) -> Result<(), Stop>
         requires way { IsOnWay names.old self.old (self.old.visits.items ++ Visit.Reached x ∷ []) }
         requires new { slice_index_or self.old.places.items x None ≡ None }
         ensures advance { OnOk result (IsAdvance names.old self.old (self.old.visits.items ++ Visit.Reached x ∷ []) names.new self.new) }
@@ -167,7 +164,7 @@ impl PlainCopy {
     /// Copies a node whose children are copied.
     fn close(
         &mut self,
-        names: &Names,
+        names: &Held,
         name: u32,
         variable: u16,
         low: u32,
@@ -178,8 +175,7 @@ impl PlainCopy {
         ensures advance { OnOk result (IsAdvance names.now self.old (self.old.visits.items ++ Visit.Opened name variable low high ∷ []) names.now self.new) }
         ensures only { IfErr result (λ s. s ≡ Stop.Memory) }
     {
-        // What the worker knows is in order.
-        let _cells = names.worker.cells();
+        names.worker.recall_laws();
         let Some(low) = self.place(low) else {
             unreachable!();
         };

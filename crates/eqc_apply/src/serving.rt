@@ -80,11 +80,11 @@ impl Applier {
     }
 
     /// Looks into one box, and does the operation in it, if there is one.
-    fn serve_turn<R: Wait>(&mut self, rt: &R, turn: u32) -> bool
+    fn serve_nth<R: Wait>(&mut self, rt: &R, nth: u32) -> bool
         ensures kept { Keeps (holding_in self.old.names) (holding_in self.new.names) }
         ensures worker { IsWorker self.old.names.worker self.new.names.worker }
     {
-        let Some(b) = self.names.other_box(turn) else {
+        let Some(b) = self.names.other_box(nth) else {
             return false;
         };
         self.names.is_offered(b) && self.serve_box(rt, b)
@@ -95,8 +95,8 @@ impl Applier {
         ensures kept { Keeps (holding_in self.old.names) (holding_in self.new.names) }
         ensures worker { IsWorker self.old.names.worker self.new.names.worker }
     {
-        for turn in 0..boxes {
-            if self.serve_turn(rt, turn) {
+        for nth in 0..boxes {
+            if self.serve_nth(rt, nth) {
                 return true;
             }
         }
@@ -129,7 +129,7 @@ impl Applier {
 
     /// Makes room for others, where for some time there was nothing to do or where there can be nothing: what is kept
     /// without references is given up.
-    fn make_room(&mut self)
+    fn give_up_idle(&mut self)
         ensures names { Stays self.old.names self.new.names }
     {
         if self.forks > 0 && self.vain < VAIN_LOOKS {
@@ -157,7 +157,7 @@ impl Applier {
         if served {
             self.vain = 0;
         } else {
-            self.make_room();
+            self.give_up_idle();
         }
         served
     }

@@ -4,27 +4,16 @@ ghost use Rattle.eqc_guard.specs.Known.{IsHeld};
 ghost use Rattle.eqc_apply.specs.Combining.{IsResult};
 ghost use Rattle.eqc_apply.specs.Extending.{Extends};
 
-use crate::names::{Names, settle};
+use crate::held::{Held, settle};
 use eqc_cache::finding::lookup;
 use eqc_cache::storing::store;
 use eqc_tree::{Op, Stop};
 
-impl Names {
+impl Held {
     /// Whether there are other workers: what one of them finds in the shared cells, a worker that
     /// is alone has in its own.
     pub(crate) fn has_others(&self) -> bool {
         self.worker.announcement_words() > 1
-    }
-
-    /// The variable of the higher root of two names, or the number of variables for constants.
-    pub(crate) fn higher_root(&mut self, f: u32, g: u32) -> u16
-        requires f { IsHeld self.old.worker.known.core f }
-        requires g { IsHeld self.old.worker.known.core g }
-        ensures names { Extends self.old self.new }
-    {
-        let first = self.root(f);
-        let second = self.root(g);
-        first.min(second)
     }
 
     /// The result of an operation, where the shared cells have it. It is held then. The error is 72
@@ -36,8 +25,7 @@ impl Names {
         ensures ok { IfOk result (λ found. IfSome found (IsResult self.new.variables op self.new.worker.known f g)) }
         ensures only { IfErr result (λ s. s ≡ Stop.Memory) }
     {
-        // What the worker knows is in order.
-        let _cells = self.worker.cells();
+        self.worker.recall_laws();
         let first = self.worker.reference(f);
         let second = self.worker.reference(g);
         let hit = lookup(&mut self.worker, op, &first, &second);
@@ -55,8 +43,7 @@ impl Names {
         requires { IsResult self.old.variables op self.old.worker.known f g x }
         ensures names { Extends self.old self.new }
     {
-        // What the worker knows is in order.
-        let _cells = self.worker.cells();
+        self.worker.recall_laws();
         let first = self.worker.reference(f);
         let second = self.worker.reference(g);
         let found = self.worker.reference(x);

@@ -84,12 +84,12 @@ pub notes_stop : (out given : Parcel) (old new : Standing) → IsWhole out → S
 notes_stop out given old new whole s = ap (λ (v : View). v.stops) s.known.core ∙ ap (λ (l : List ℕ). old.known.core.stops ++ l) (stops_of_word out whole)
 
 -- what came out may be given back
-pub came_held : (out : Parcel) (old mid : Standing) → Exchanges [] (parcel_names out) old mid → HoldsParcel mid.known.core out
-came_held out old mid t x = omega (arith, names_now t x, times-nil x)
+pub comes_held : (out : Parcel) {gone : List ℕ} {old new : Standing} → Exchanges gone (parcel_names out) old new → HoldsParcel new.known.core out
+comes_held out t x = let e = t.enough x in omega (arith, names_now t x)
 
--- and is
-pub came_gone : (out : Parcel) (old mid new : Standing) → Exchanges [] (parcel_names out) old mid → Exchanges (parcel_names out) [] mid new → Exchanges [] [] old new
-came_gone out old mid new t u = on t [] (here t u) (λ x. omega arith) (λ x. omega (arith, times-nil x)) (omega arith)
+-- and is: what came goes again
+pub came_went : {gone names : List ℕ} {old mid new : Standing} → Exchanges gone names old mid → Exchanges names [] mid new → Exchanges gone [] old new
+came_went t u = on t [] (here t u) (λ x. omega arith) (λ x. omega (arith, times-nil x)) (omega arith)
 
 -- no box is said to be empty yet
 pub none_unboxed : (k : Known) → AreUnboxed 0 k k

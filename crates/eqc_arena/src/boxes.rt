@@ -1,19 +1,19 @@
-//! Parcels go into boxes and come out of them, what came out is given back, and all boxes are emptied.
+//! Parcels go into boxes, what came out of them is given back, and all boxes are emptied.
 ghost use Rattle.std.specs.Prelude.{◌≡◌, ◌*◌, ◌^◌, ◌<◌, ◌≤◌, [], ◌∷◌, length};
 ghost use Rattle.eqc_core.specs.Words.{slots_of};
 ghost use Rattle.eqc_core.specs.Moves.{IsReady};
 ghost use Rattle.eqc_guard.specs.Known.{IsHeld};
 ghost use Rattle.eqc_guard.specs.Copying.{KeepsCells, SetsBox};
-ghost use Rattle.eqc_guard.specs.Sharing.{MayPut, IsGenuine, IsWhole, parcel_names};
+ghost use Rattle.eqc_guard.specs.Sharing.{MayPut, parcel_names, parcel_word};
 ghost use Rattle.eqc_arena.specs.Changing.{Exchanges};
-ghost use Rattle.eqc_arena.specs.Unboxing.{HoldsParcel, AreUnboxed, KeepsMarks, NotesStop};
+ghost use Rattle.eqc_arena.specs.Unboxing.{HoldsParcel, AreUnboxed, KeepsMarks};
 
 use eqc_guard::filled::Filled;
 use eqc_guard::parcel::Parcel;
 use eqc_guard::reference::Ref;
 use eqc_guard::worker::Worker;
 
-// Gives a reference back.
+// Gives a reference back. What a parcel's proof cites of each of its references stands here once.
 fn give(worker: &mut Worker, f: Ref)
     requires ready { IsReady worker.old.known.core }
     requires held { IsHeld worker.old.known.core f.number }
@@ -21,8 +21,7 @@ fn give(worker: &mut Worker, f: Ref)
     ensures cells { KeepsCells worker.old.known worker.new.known }
     ensures marks { KeepsMarks worker.old.known.core worker.new.known.core }
 {
-    // What the worker knows is in order.
-    let _cells = worker.cells();
+    worker.recall_laws();
     worker.down(f);
 }
 
@@ -37,8 +36,7 @@ pub fn give_parcel(worker: &mut Worker, parcel: Parcel)
     ensures cells { KeepsCells worker.old.known worker.new.known }
     ensures marks { KeepsMarks worker.old.known.core worker.new.known.core }
 {
-    // What the worker knows is in order.
-    let _cells = worker.cells();
+    worker.recall_laws();
     match parcel {
         Parcel::Empty => {}
         Parcel::Task(_, f, g) => {
@@ -57,36 +55,18 @@ pub fn give_parcel(worker: &mut Worker, parcel: Parcel)
     }
 }
 
-/// Puts a parcel into box `b`, whose references the box then has, and gives the one that it had: its
-/// references are held, a result is right, and a stop is noted.
+/// Puts a parcel into box `b`, whose references the box then has, and gives back what it had.
 ///
 /// `b` is less than 16 for each worker, and worker w's boxes are those from 16 w on. The references
 /// of the parcel are held, and a result is right. No scan is under way, and at most 2^39 names are held.
-pub fn exchange(worker: &mut Worker, b: u32, parcel: Parcel) -> Parcel
-    requires may { MayPut worker.old.known b parcel }
-    ensures changes { Exchanges (parcel_names parcel) (parcel_names result) worker.old worker.new }
-    ensures whole { IsWhole result }
-    ensures right { IsGenuine worker.new.known result }
-    ensures marks { KeepsMarks worker.old.known.core worker.new.known.core }
-    ensures noted { NotesStop result worker.new.known.core }
+pub fn put(worker: &mut Worker, b: u32, parcel: Parcel)
+    requires { MayPut worker.old.known b parcel }
+    ensures changes { Exchanges (parcel_names parcel) [] worker.old worker.new }
+    ensures sets { SetsBox b (parcel_word parcel) worker.old.known worker.new.known }
 {
-    // What the worker knows is in order.
-    let _cells = worker.cells();
-    worker.swap_box(b, parcel)
-}
-
-// Empties a box, and gives the references back that it had.
-fn empty_box(worker: &mut Worker, b: u32)
-    requires ready { IsReady worker.old.known.core }
-    requires there { b < 16 * worker.old.known.core.sizes.workers }
-    requires room { length worker.old.known.core.held ≤ 2 ^ 39 }
-    ensures changes { Exchanges [] [] worker.old worker.new }
-    ensures sets { SetsBox b 0 worker.old.known worker.new.known }
-{
-    // What the worker knows is in order.
-    let _cells = worker.cells();
-    let parcel = worker.swap_box(b, Parcel::Empty);
-    give_parcel(worker, parcel);
+    worker.recall_laws();
+    let came = worker.swap_box(b, parcel);
+    give_parcel(worker, came);
 }
 
 /// Empties all boxes, one after the other, and gives the references back that they had.
@@ -99,9 +79,8 @@ pub fn empty_boxes(worker: &mut Worker)
     ensures changes { Exchanges [] [] worker.old worker.new }
     ensures empty { AreUnboxed (16 * worker.old.known.core.sizes.workers) worker.old.known worker.new.known }
 {
-    // What the worker knows is in order.
-    let _cells = worker.cells();
+    worker.recall_laws();
     for b in 0..worker.boxes() {
-        empty_box(worker, b);
+        put(worker, b, Parcel::Empty);
     }
 }

@@ -74,8 +74,7 @@ fn give_child(worker: &mut Worker, fallen: &mut Fallen, child: Ref)
     ensures gives { Exchanges (slots_of (child.number ∷ [])) [] worker.old worker.new }
     ensures tries { GivesChild child.number worker.old worker.new }
 {
-    // What the worker knows is in order.
-    let _cells = worker.cells();
+    worker.recall_laws();
     if child.number() < 2 {
         worker.down(child);
         return;
@@ -102,8 +101,7 @@ fn try_entry(
     ensures tries { TriesEntry i map.old.entries map.new.entries (if result then 1 else 0) worker.old worker.new }
     ensures takes { TakesMore (if result then 1 else 0) worker.old worker.new }
 {
-    // What the worker knows is in order.
-    let _cells = worker.cells();
+    worker.recall_laws();
     let Some((word, slot)) = map.get_index(i) else {
         unreachable!();
     };
@@ -132,8 +130,7 @@ pub(crate) fn take_stripe<R: Wait>(
     ensures changes { Exchanges [] [] worker.old worker.new }
     ensures tries { TriesStripe stripe result worker.old worker.new }
 {
-    // What the worker knows is in order.
-    let _cells = worker.cells();
+    worker.recall_laws();
     let mut map = worker.lock_stripe(rt, stripe);
     let mut taken = 0u32;
     for i in (0..map.len()).rev() {
@@ -153,8 +150,7 @@ fn take_word<R: Wait>(worker: &mut Worker, rt: &R, word: u64, fallen: &mut Falle
     ensures changes { Exchanges [] [] worker.old worker.new }
     ensures takes { TakesMore (if result then 1 else 0) worker.old worker.new }
 {
-    // What the worker knows is in order.
-    let _cells = worker.cells();
+    worker.recall_laws();
     let (var, low, high) = unpack_node(word);
     let stripe = stripe_for(var, low, high);
     let mut map = worker.lock_stripe(rt, stripe);
@@ -176,8 +172,7 @@ pub(crate) fn take_fallen<R: Wait>(worker: &mut Worker, rt: &R, fallen: &mut Fal
     ensures changes { Exchanges [] [] worker.old worker.new }
     ensures takes { TakesMore result worker.old worker.new }
 {
-    // What the worker knows is in order.
-    let _cells = worker.cells();
+    worker.recall_laws();
     let mut taken = 0u32;
     for _try in 0..MOST_TRIES {
         let Some(word) = fallen.words.pop() else {
@@ -198,8 +193,7 @@ fn turn<R: Wait>(worker: &mut Worker, rt: &R, fallen: &mut Fallen) -> u32
     ensures changes { Exchanges [] [] worker.old worker.new }
     ensures tries { TriesAll result worker.old worker.new }
 {
-    // What the worker knows is in order.
-    let _cells = worker.cells();
+    worker.recall_laws();
     let mut taken = 0u32;
     for stripe in 0..16u32 {
         fallen.passed = stripe;
@@ -223,8 +217,7 @@ pub fn collect<R: Wait>(worker: &mut Worker, rt: &R) -> u32
     ensures changes { Exchanges [] [] worker.old worker.new }
     ensures empty { MayEmpty worker.old.known → HasNoCounts worker.new.known }
 {
-    // What the worker knows is in order.
-    let _cells = worker.cells();
+    worker.recall_laws();
     eqc_cache::storing::clear(worker);
     worker.scan();
     let mut fallen = Fallen::new(0);

@@ -29,8 +29,7 @@ fn copies(worker: &mut Worker, low: &Ref, high: &Ref) -> Result<(Ref, Ref), Stop
     ensures full { OnErr result (2 ^ 32 - 2 ≤ length worker.old.known.core.held) }
     ensures only { IfErr result (λ s. s ≡ Stop.References) }
 {
-    // What the worker knows is in order.
-    let _cells = worker.cells();
+    worker.recall_laws();
     let first = copy(worker, low)?;
     match copy(worker, high) {
         Ok(second) => Ok((first, second)),
@@ -58,8 +57,7 @@ fn put(
     ensures full { IfErr result (λ s. s ≡ Stop.References → 2 ^ 32 - 2 ≤ length worker.old.known.core.held) }
     ensures only { IfErr result (λ s. (s ≡ Stop.Memory) ⊎ (s ≡ Stop.References)) }
 {
-    // What the worker knows is in order.
-    let _cells = worker.cells();
+    worker.recall_laws();
     let (first, second) = copies(worker, low, high)?;
     let word = pack_node(var, low.number(), high.number());
     // The entry comes first, so that no node has to be taken back where the map can't grow.
@@ -89,8 +87,7 @@ fn enter(
     ensures all { IfErr result (λ s. s ≡ Stop.NodeLimit → HasSeenAll worker.new.known.core) }
     ensures only { IfErr result (λ s. s ≢ Stop.Threads) }
 {
-    // What the worker knows is in order.
-    let _cells = worker.cells();
+    worker.recall_laws();
     let word = pack_node(var, low.number(), high.number());
     if let Some(slot) = map.get(&word) {
         return worker.up(*slot);
@@ -134,8 +131,7 @@ fn attempt<R: Wait>(
     ensures all { IfErr result (λ s. s ≡ Stop.NodeLimit → HasSeenAll worker.new.known.core) }
     ensures only { IfErr result (λ s. s ≢ Stop.Threads) }
 {
-    // What the worker knows is in order.
-    let _cells = worker.cells();
+    worker.recall_laws();
     let stripe = stripe_for(var, low.number(), high.number());
     let mut map = worker.lock_stripe(rt, stripe);
     let made = enter(worker, &mut map, var, low, high);
@@ -156,8 +152,7 @@ fn attempt_after<R: Wait>(
     requires differ { low.now.number ≢ high.now.number }
     ensures { IsGiven var low.now.number high.now.number result worker.old worker.new }
 {
-    // What the worker knows is in order.
-    let _cells = worker.cells();
+    worker.recall_laws();
     take_back(worker, rt, effort);
     attempt(worker, rt, var, low, high)
 }
@@ -174,8 +169,7 @@ fn insist<R: Wait>(
     requires differ { low.now.number ≢ high.now.number }
     ensures { IsGiven var low.now.number high.now.number result worker.old worker.new }
 {
-    // What the worker knows is in order.
-    let _cells = worker.cells();
+    worker.recall_laws();
     match attempt_after(worker, rt, Effort::Share, var, low, high) {
         Err(Stop::NodeLimit) => {}
         made => return made,
@@ -205,8 +199,7 @@ pub fn mk<R: Wait>(
     requires { MayAsk worker.old.known var low.now.number high.now.number }
     ensures { IsGiven var low.now.number high.now.number result worker.old worker.new }
 {
-    // What the worker knows is in order.
-    let _cells = worker.cells();
+    worker.recall_laws();
     if low.number() == high.number() {
         return copy(worker, low);
     }

@@ -25,8 +25,7 @@ fn count(worker: &mut Worker, x: u32) -> Result<Ref, Stop>
     ensures full { OnErr result (2 ^ 32 - 1 ≤ length worker.old.known.core.held) }
     ensures only { IfErr result (λ s. s ≡ Stop.References) }
 {
-    // What the worker knows is in order.
-    let _cells = worker.cells();
+    worker.recall_laws();
     if x < 2 {
         return Ok(worker.constant(x == 1));
     }
@@ -58,8 +57,7 @@ pub fn give_back(worker: &mut Worker, f: Ref)
     requires held { IsHeld worker.old.known.core f.number }
     ensures { Exchanges (slots_of (f.number ∷ [])) [] worker.old worker.new }
 {
-    // What the worker knows is in order.
-    let _cells = worker.cells();
+    worker.recall_laws();
     worker.down(f);
 }
 

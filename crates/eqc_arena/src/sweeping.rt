@@ -41,8 +41,7 @@ fn turn<R: Wait>(worker: &mut Worker, rt: &R, fallen: &mut Fallen, few: u32) -> 
     requires room { length worker.old.known.core.held ≤ 2 ^ 39 }
     ensures changes { Exchanges [] [] worker.old worker.new }
 {
-    // What the worker knows is in order.
-    let _cells = worker.cells();
+    worker.recall_laws();
     let mut taken = 0u32;
     for passed in 0..16u32 {
         fallen.passed = passed;
@@ -63,8 +62,7 @@ fn empty_cells(worker: &mut Worker)
     requires room { length worker.old.known.core.held ≤ 2 ^ 39 }
     ensures changes { Exchanges [] [] worker.old worker.new }
 {
-    // What the worker knows is in order.
-    let _cells = worker.cells();
+    worker.recall_laws();
     eqc_cache::storing::clear(worker);
     worker.scan();
 }
@@ -76,8 +74,7 @@ fn sweep<R: Wait>(worker: &mut Worker, rt: &R, few: u32)
     requires room { length worker.old.known.core.held ≤ 2 ^ 39 }
     ensures changes { Exchanges [] [] worker.old worker.new }
 {
-    // What the worker knows is in order.
-    let _cells = worker.cells();
+    worker.recall_laws();
     let mut fallen = Fallen::new(first_stripe(worker));
     for _turn in 0..TURNS {
         let taken = turn(worker, rt, &mut fallen, few);

@@ -69,8 +69,8 @@ fn entry(worker: &mut Worker, op: Op, first: u32, second: u32, found: u32) -> Op
     Some(Filled { op, f, g, r })
 }
 
-// Makes room for one more retired name.
-fn make_room(worker: &mut Worker)
+// Scans where there is no room for one more retired name.
+fn scan_when_full(worker: &mut Worker)
     requires known { IsKnown worker.old.known }
     requires ready { IsReady worker.old.known.core }
     requires quiet { IsQuiet (phase_at worker.old.known.core 0) }
@@ -92,7 +92,7 @@ fn replace(worker: &mut Worker, cell: u32, filled: Option<Filled>)
     ensures trades { Trades (entry_names filled) [] worker.old worker.new }
     ensures sets { SetsCell cell (word_of filled) worker.old.known worker.new.known }
 {
-    make_room(worker);
+    scan_when_full(worker);
     if let Some((f, g)) = worker.swap_cell(cell, filled) {
         worker.down(f);
         worker.down(g);

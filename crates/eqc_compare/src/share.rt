@@ -191,20 +191,20 @@ fn put_together(words: &Words, pair: &Pair<'_>, mine: Share, theirs: Share) -> R
 
 /// What a thread of several members promises.
 #[derive(Drop)]
-struct Kept<'f> {
+struct Pledge<'f> {
     pair: Snapshot<Pair<'f>>,
     words: Snapshot<Words>,
     members: u64,
 }
 
-impl<'f> Kept<'f> {
+impl<'f> Pledge<'f> {
     /// The promise of a thread of so many members.
-    fn of(pair: &Pair<'f>, words: &Words, members: usize) -> Kept<'f>
+    fn of(pair: &Pair<'f>, words: &Words, members: usize) -> Pledge<'f>
         ensures pair { result.pair.value ≡ pair.now }
         ensures words { result.words.value ≡ words.now }
         ensures members { result.members ≡ members }
     {
-        Kept {
+        Pledge {
             pair: Snapshot::of(pair),
             words: Snapshot::of(words),
             members: members as u64,
@@ -212,7 +212,7 @@ impl<'f> Kept<'f> {
     }
 }
 
-impl<'f> Promise<Result<Share, Stop>> for Kept<'f> {
+impl<'f> Promise<Result<Share, Stop>> for Pledge<'f> {
     ghost kept_by = { λ p r. IfOk r (λ s. IsShare p.pair.value p.words.value.table_id p.members s.seat s.verdicts.items) };
 }
 
@@ -245,7 +245,7 @@ fn work<
     let Ok((mine, theirs)) = halves(words, pair, group) else {
         return Err(task.patience.note(Stop::Memory));
     };
-    let kept = Kept::of(pair, words, theirs.members.len());
+    let kept = Pledge::of(pair, words, theirs.members.len());
     let there = move || -> Result<Share, Stop>
         requires { IsSync R.row × IsSync G.row × IsSend D.row × IsTask pair.now task.now
             × AreSeated D.holding pair.now words.now.table_id words.now.key theirs.seat theirs.worker theirs.members }

@@ -655,6 +655,13 @@ impl Worker {
         self.held
     }
 
+    /// What the worker knows is in order: from here on a proof can cite it.
+    pub fn recall_laws(&self)
+        ensures { IsKnown self.now.known }
+    {
+        let _cells = self.cells();
+    }
+
     /// How many cells the operation cache has. What the worker knows is in order.
     pub fn cells(&self) -> u32
         ensures cells { result ≡ self.now.known.core.sizes.cells }

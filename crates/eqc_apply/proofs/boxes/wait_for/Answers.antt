@@ -3,7 +3,7 @@ use Rattle.eqc_apply.proofs.Handing.{marks_refl, marks_trans}
 use Rattle.eqc_apply.proofs.boxes.wait_for.Goals as goal
 
 pub loop-init : goal.loop-init
-loop-init g c = record { changes = stays c.args.worker.now c.cells-cells.ensures.known; marks = marks_refl c.args.worker.now.known.core }
+loop-init g c = record { changes = stays c.args.worker.now c.recall_laws.ensures; marks = marks_refl c.args.worker.now.known.core }
 
 pub returns-in_default : goal.returns-in_default
 returns-in_default g c =

@@ -9,11 +9,11 @@ pub loop-preserved : goal.loop-preserved
 loop-preserved c =
     let i = c.loop.invariant in
     let s : Sizes = sizes_of c.args.vars c.args.nodes c.args.cells c.args.workers in
-    let l = c.in_ok-join.ensures.lead c.args.vars s c.loop.counter i.lead in
-    let f = c.in_ok-join.ensures.forest in
+    let l = c.in_ok-next_member.ensures.lead c.args.vars s c.loop.counter i.lead in
+    let f = c.in_ok-next_member.ensures.forest in
     let back : c.loop.counter + 1 - 1 ≡ c.loop.counter - 1 + 1 = let s = i.some in omega arith in
-    let o = more_others c.args.vars s (c.loop.counter - 1) (forest_of c.join.new.lead) c.loop.members.items c.in_ok-join.field-0
-    (other_forest c.args.vars s (c.loop.counter - 1) (forest_of c.loop.lead) (forest_of c.join.new.lead) c.loop.members.items f.0 i.others) l.1 (let some = i.some in omega (arith, l.2)) (f.1 ∙ sym f.0) l.3 in
+    let o = more_others c.args.vars s (c.loop.counter - 1) (forest_of c.next_member.new.lead) c.loop.members.items c.in_ok-next_member.field-0
+    (other_forest c.args.vars s (c.loop.counter - 1) (forest_of c.loop.lead) (forest_of c.next_member.new.lead) c.loop.members.items f.0 i.others) l.1 (let some = i.some in omega (arith, l.2)) (f.1 ∙ sym f.0) l.3 in
     record {
       some = omega arith;
       lead = l.0;

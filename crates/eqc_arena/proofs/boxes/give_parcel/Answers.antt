@@ -8,7 +8,7 @@ use Rattle.eqc_arena.proofs.Unboxing.{HasAll, first_held, rest_held, front_goes}
 use Rattle.eqc_arena.proofs.boxes.give_parcel.Goals as goal
 
 pub returns-in-Empty-clause-changes : goal.returns-in-Empty-clause-changes
-returns-in-Empty-clause-changes c = subst (λ (p : Parcel). Exchanges (parcel_names p) [] c.args.worker.now c.args.worker.now) (sym c.in-Empty.is) (stays c.args.worker.now c.cells-cells.ensures.known)
+returns-in-Empty-clause-changes c = subst (λ (p : Parcel). Exchanges (parcel_names p) [] c.args.worker.now c.args.worker.now) (sym c.in-Empty.is) (stays c.args.worker.now c.recall_laws.ensures)
 
 pub give-requires-clause-held : goal.give-requires-clause-held
 give-requires-clause-held c =

@@ -5,7 +5,7 @@ use Rattle.eqc_arena.proofs.Taking.{constant_gives, slot_goes, slot_gives}
 use Rattle.eqc_arena.proofs.collecting.give_child.Goals as goal
 
 pub returns-then-number-lt2-clause-gives : goal.returns-then-number-lt2-clause-gives
-returns-then-number-lt2-clause-gives c = gives c.args.child.number c.args.worker.now c.down.new.self c.cells-cells.ensures.known c.requires.held c.down.ensures.constant c.down.ensures.step
+returns-then-number-lt2-clause-gives c = gives c.args.child.number c.args.worker.now c.down.new.self c.recall_laws.ensures c.requires.held c.down.ensures.constant c.down.ensures.step
 
 pub returns-then-number-lt2-clause-tries : goal.returns-then-number-lt2-clause-tries
 returns-then-number-lt2-clause-tries c = let small : c.args.child.number < 2 = let lt = c.if-number-lt2.true in let e = c.number.ensures in omega arith in constant_gives c.args.child.number c.args.worker.now c.down.new.self small (c.down.ensures.constant small)

@@ -52,7 +52,7 @@ returns-clause-home c =
     subst (λ o. IfSome o (λ p. c.swap_remove_index-entry.new.self.entries ≡ swap_remove c.args.map.now.entries c.args.i p)) (c.swap_remove_index-entry.ensures.entry ∙ at) c.swap_remove_index-entry.ensures.entries in
     let won = c.in-Some-reclaim.ensures.won in
     home_again c.in-Some.word.now c.in-Some.slot.now c.in-Some-reclaim.low.number c.in-Some-reclaim.high.number c.args.worker.now c.reclaim.new.self c.give_child.new.worker c.give_child-2.new.worker won.2 won.0 won.1 c.give_child.ensures.gives c.give_child-2.ensures.gives
-    c.args.map.now.entries c.swap_remove_index-entry.new.self.entries c.args.i c.cells-cells.ensures.known at left
+    c.args.map.now.entries c.swap_remove_index-entry.new.self.entries c.args.i c.recall_laws.ensures at left
 
 pub returns-clause-changes : goal.returns-clause-changes
 returns-clause-changes c =

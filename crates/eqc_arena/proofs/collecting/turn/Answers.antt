@@ -6,7 +6,7 @@ use Rattle.eqc_arena.proofs.Taking.{rest_now}
 use Rattle.eqc_arena.proofs.collecting.turn.Goals as goal
 
 pub loop-stripe-init : goal.loop-stripe-init
-loop-stripe-init g c = record { few = omega arith; changes = stays c.args.worker.now c.cells-cells.ensures.known; tries = λ n b. b }
+loop-stripe-init g c = record { few = omega arith; changes = stays c.args.worker.now c.recall_laws.ensures; tries = λ n b. b }
 
 pub take_stripe-taken-requires-clause-rest : goal.take_stripe-taken-requires-clause-rest
 take_stripe-taken-requires-clause-rest g c = rest_now c.requires.rest c.loop-stripe.invariant.changes

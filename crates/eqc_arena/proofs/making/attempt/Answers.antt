@@ -6,10 +6,10 @@ use Rattle.eqc_arena.proofs.Asking.{may_enter, all_made, all_still, all_seen}
 use Rattle.eqc_arena.proofs.making.attempt.Goals as goal
 
 pub stripe_for-stripe-requires-clause-low : goal.stripe_for-stripe-requires-clause-low
-stripe_for-stripe-requires-clause-low g c = subst (λ (n : ℕ). n < 2 ^ 20) (sym c.number.ensures) (held_small c.args.worker.now.known c.args.low.now.number c.cells-cells.ensures.known c.requires.may.low_held)
+stripe_for-stripe-requires-clause-low g c = subst (λ (n : ℕ). n < 2 ^ 20) (sym c.number.ensures) (held_small c.args.worker.now.known c.args.low.now.number c.recall_laws.ensures c.requires.may.low_held)
 
 pub stripe_for-stripe-requires-clause-high : goal.stripe_for-stripe-requires-clause-high
-stripe_for-stripe-requires-clause-high g c = subst (λ (n : ℕ). n < 2 ^ 20) (sym c.number-2.ensures) (held_small c.args.worker.now.known c.args.high.now.number c.cells-cells.ensures.known c.requires.may.high_held)
+stripe_for-stripe-requires-clause-high g c = subst (λ (n : ℕ). n < 2 ^ 20) (sym c.number-2.ensures) (held_small c.args.worker.now.known c.args.high.now.number c.recall_laws.ensures c.requires.may.high_held)
 
 pub enter-made-requires : goal.enter-made-requires
 enter-made-requires g c =

@@ -6,5 +6,5 @@ attempt-requires-clause-may g c = asks_still c.args.var c.args.low.now.number c.
 
 pub returns : goal.returns
 returns g c =
-    attempt_given c.args.var c.args.low.now.number c.args.high.now.number c.args.worker.now c.take_back.new.worker c.requires.may c.cells-cells.ensures.known c.requires.differ c.take_back.ensures.changes
+    attempt_given c.args.var c.args.low.now.number c.args.high.now.number c.args.worker.now c.take_back.new.worker c.requires.may c.recall_laws.ensures c.requires.differ c.take_back.ensures.changes
     c.attempt.new.worker c.attempt.result c.attempt.ensures.hand c.attempt.ensures.made c.attempt.ensures.still c.attempt.ensures.full c.attempt.ensures.all c.attempt.ensures.only

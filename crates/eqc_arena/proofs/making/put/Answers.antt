@@ -9,10 +9,10 @@ use Rattle.eqc_arena.proofs.Putting.{may_make, made, home_made, inserted}
 use Rattle.eqc_arena.proofs.making.put.Goals as goal
 
 pub pack_node-word-requires-clause-lo : goal.pack_node-word-requires-clause-lo
-pack_node-word-requires-clause-lo c = subst (λ (n : ℕ). n < 2 ^ 20) (sym c.number.ensures) (held_small c.args.worker.now.known c.args.low.now.number c.cells-cells.ensures.known c.requires.low_held)
+pack_node-word-requires-clause-lo c = subst (λ (n : ℕ). n < 2 ^ 20) (sym c.number.ensures) (held_small c.args.worker.now.known c.args.low.now.number c.recall_laws.ensures c.requires.low_held)
 
 pub pack_node-word-requires-clause-hi : goal.pack_node-word-requires-clause-hi
-pack_node-word-requires-clause-hi c = subst (λ (n : ℕ). n < 2 ^ 20) (sym c.number-2.ensures) (held_small c.args.worker.now.known c.args.high.now.number c.cells-cells.ensures.known c.requires.high_held)
+pack_node-word-requires-clause-hi c = subst (λ (n : ℕ). n < 2 ^ 20) (sym c.number-2.ensures) (held_small c.args.worker.now.known c.args.high.now.number c.recall_laws.ensures c.requires.high_held)
 
 pub write_node-requires : goal.write_node-requires
 write_node-requires c =
@@ -22,7 +22,7 @@ write_node-requires c =
 pub returns-in-Ok-clause-made : goal.returns-in-Ok-clause-made
 returns-in-Ok-clause-made c =
     made c.args.map.now.entries c.args.slot c.args.var c.args.low.now.number c.args.high.now.number c.args.worker.now c.copies.new.worker c.requires c.in_ok-first.ensures.copied (c.in_ok-first.ensures.room c.requires.room) c.write_node.new.self
-    c.in_ok-first.first.number c.in_ok-first.second.number c.write_node.result.number c.in_ok-first.ensures.names.0 c.in_ok-first.ensures.names.1 c.cells-cells.ensures.known c.write_node.ensures.step c.write_node.ensures.name c.write_node.ensures.tree
+    c.in_ok-first.first.number c.in_ok-first.second.number c.write_node.result.number c.in_ok-first.ensures.names.0 c.in_ok-first.ensures.names.1 c.recall_laws.ensures c.write_node.ensures.step c.write_node.ensures.name c.write_node.ensures.tree
 
 pub returns-in-Ok-clause-home : goal.returns-in-Ok-clause-home
 returns-in-Ok-clause-home c = λ s home.
@@ -31,7 +31,7 @@ returns-in-Ok-clause-home c = λ s home.
     let absent : table_word c.pack_node-word.result c.args.map.now.entries ≡ 0 =
     subst (λ (w : ℕ). table_word w c.args.map.now.entries ≡ 0) ((λ i. node_word c.args.var (sym c.number.ensures i) (sym c.number-2.ensures i)) ∙ sym c.pack_node-word.ensures) c.requires.new in
     home_made c.args.map.now.entries c.args.slot c.args.var c.args.low.now.number c.args.high.now.number c.args.worker.now c.copies.new.worker c.requires c.in_ok-first.ensures.copied (c.in_ok-first.ensures.room c.requires.room) c.write_node.new.self
-    c.in_ok-first.first.number c.in_ok-first.second.number c.write_node.result.number c.in_ok-first.ensures.names.0 c.in_ok-first.ensures.names.1 c.cells-cells.ensures.known c.write_node.ensures.step c.write_node.ensures.name c.write_node.ensures.tree
+    c.in_ok-first.first.number c.in_ok-first.second.number c.write_node.result.number c.in_ok-first.ensures.names.0 c.in_ok-first.ensures.names.1 c.recall_laws.ensures c.write_node.ensures.step c.write_node.ensures.name c.write_node.ensures.tree
     s c.insert.new.self.entries
     (c.in-Ok.ensures.entries ∙ (inserted c.pack_node-word.result c.args.slot c.args.map.now.entries absent ∙ (λ i. c.args.map.now.entries ++ (sym names i, c.args.slot) ∷ []))) home
 

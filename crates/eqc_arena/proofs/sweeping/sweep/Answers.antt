@@ -4,7 +4,7 @@ use Rattle.eqc_arena.proofs.Taking.{rest_now}
 use Rattle.eqc_arena.proofs.sweeping.sweep.Goals as goal
 
 pub loop-turn-init : goal.loop-turn-init
-loop-turn-init g c = record { changes = stays c.args.worker.now c.cells-cells.ensures.known }
+loop-turn-init g c = record { changes = stays c.args.worker.now c.recall_laws.ensures }
 
 pub turn-taken-requires-clause-rest : goal.turn-taken-requires-clause-rest
 turn-taken-requires-clause-rest g c = rest_now c.requires.rest c.loop-turn.invariant.changes

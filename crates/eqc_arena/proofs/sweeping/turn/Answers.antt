@@ -4,7 +4,7 @@ use Rattle.eqc_arena.proofs.Taking.{rest_now}
 use Rattle.eqc_arena.proofs.sweeping.turn.Goals as goal
 
 pub loop-passed-init : goal.loop-passed-init
-loop-passed-init g c = record { few = omega arith; changes = stays c.args.worker.now c.cells-cells.ensures.known }
+loop-passed-init g c = record { few = omega arith; changes = stays c.args.worker.now c.recall_laws.ensures }
 
 pub take_stripe-here-requires-clause-rest : goal.take_stripe-here-requires-clause-rest
 take_stripe-here-requires-clause-rest g c = rest_now c.requires.rest c.loop-passed.invariant.changes

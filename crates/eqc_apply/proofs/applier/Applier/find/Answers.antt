@@ -4,10 +4,10 @@ use Rattle.eqc_apply.proofs.Kept.{found}
 use Rattle.eqc_apply.proofs.applier.Applier.find.Goals as goal
 
 pub find-requires-clause-f : goal.find-requires-clause-f
-find-requires-clause-f c = held_small c.args.self.now.names.worker.known c.args.f c.cells-cells.ensures.known c.requires.f
+find-requires-clause-f c = held_small c.args.self.now.names.worker.known c.args.f c.recall_laws.ensures c.requires.f
 
 pub find-requires-clause-g : goal.find-requires-clause-g
-find-requires-clause-g c = held_small c.args.self.now.names.worker.known c.args.g c.cells-cells.ensures.known c.requires.g
+find-requires-clause-g c = held_small c.args.self.now.names.worker.known c.args.g c.recall_laws.ensures c.requires.g
 
 pub returns-in-Some-clause-right : goal.returns-in-Some-clause-right
 returns-in-Some-clause-right c =

@@ -1,7 +1,7 @@
-use Rattle.eqc_plain.proofs.Combining.{both_fit}
+use Rattle.eqc_plain.proofs.Combining.{both_fit, result_stays}
 use Rattle.eqc_guard.specs.Known.{tree_of}
 use Rattle.eqc_apply.proofs.Reading.{starts_below}
-use Rattle.eqc_apply.proofs.Meanings.{extends_trans, node_right}
+use Rattle.eqc_apply.proofs.Meanings.{extends_trans, names_stay, node_right}
 use Rattle.eqc_apply.proofs.Kept.{cells_stay}
 use Rattle.eqc_apply.proofs.applier.Applier.finish.Goals as goal
 
@@ -24,5 +24,13 @@ keep-requires t c = node_right c.args.self.now.names c.node.new.self c.args.op c
 pub returns-else-held-clause-names : goal.returns-else-held-clause-names
 returns-else-held-clause-names t c = extends_trans c.args.self.now.names c.node.new.self c.keep.new.self.names c.node.ensures.names c.keep.ensures.names
 
+pub invariant_of-self-then-shares : goal.invariant_of-self-then-shares
+invariant_of-self-then-shares t c = record { cached = cells_stay c.keep.new.self.names c.share.new.self c.keep.new.self.cells.cells.items c.share.ensures.names c.keep.new.self.cached }
+
 pub returns-then-shares-clause-names : goal.returns-then-shares-clause-names
-returns-then-shares-clause-names t c = extends_trans c.args.self.now.names c.keep.new.self.names c.share.new.self.names (extends_trans c.args.self.now.names c.node.new.self c.keep.new.self.names c.node.ensures.names c.keep.ensures.names) c.share.ensures.names
+returns-then-shares-clause-names t c =
+    extends_trans c.args.self.now.names c.keep.new.self.names c.share.new.self
+    (extends_trans c.args.self.now.names c.node.new.self c.keep.new.self.names c.node.ensures.names c.keep.ensures.names) c.share.ensures.names
+
+pub returns-then-shares-clause-ok : goal.returns-then-shares-clause-ok
+returns-then-shares-clause-ok t c = result_stays (names_stay c.keep.new.self.names c.share.new.self c.share.ensures.names) c.keep.ensures.still

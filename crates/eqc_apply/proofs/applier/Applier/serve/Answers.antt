@@ -13,11 +13,11 @@ returns-else-served-clause-kept g c =
     let n = c.args.self.now.names in
     let m = c.take_late.new.self.names in
     let k = c.look_through-served.new.self.names in
-    keeps_trans (keeps_trans (stays_keeps n m (extends_stays n m c.take_late.ensures.names)) c.look_through-served.ensures.kept) (stays_keeps k c.make_room.new.self.names c.make_room.ensures.names)
+    keeps_trans (keeps_trans (stays_keeps n m (extends_stays n m c.take_late.ensures.names)) c.look_through-served.ensures.kept) (stays_keeps k c.give_up_idle.new.self.names c.give_up_idle.ensures.names)
 
 pub returns-else-served-clause-worker : goal.returns-else-served-clause-worker
 returns-else-served-clause-worker g c =
     let n = c.args.self.now.names in
     let m = c.take_late.new.self.names in
     let k = c.look_through-served.new.self.names in
-    worker_trans (worker_trans (worker_stays n m (extends_stays n m c.take_late.ensures.names)) c.look_through-served.ensures.worker) (worker_stays k c.make_room.new.self.names c.make_room.ensures.names)
+    worker_trans (worker_trans (worker_stays n m (extends_stays n m c.take_late.ensures.names)) c.look_through-served.ensures.worker) (worker_stays k c.give_up_idle.new.self.names c.give_up_idle.ensures.names)

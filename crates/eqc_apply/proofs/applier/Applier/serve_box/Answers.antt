@@ -1,7 +1,7 @@
 use Rattle.std.proofs.Common.{sym, subst}
 use Rattle.eqc_plain.specs.Cache.{IsCache}
 use Rattle.eqc_tree.specs.Holding.{Keeps}
-use Rattle.eqc_apply.specs.declared.names.Names.{Names}
+use Rattle.eqc_apply.specs.declared.held.Held.{Held}
 use Rattle.eqc_apply.specs.Meaning.{kept_of}
 use Rattle.eqc_apply.specs.Extending.{holding_in}
 use Rattle.eqc_apply.specs.Referring.{entry_of}
@@ -28,10 +28,10 @@ pub invariant_of-self-in-Err : goal.invariant_of-self-in-Err
 invariant_of-self-in-Err g c =
     let s = c.args.self.now in
     let cached = cells_stay s.names c.take_task.new.self s.cells.cells.items c.take_task.ensures.names s.cached in
-    record { cached = cells_stay c.refer.new.self c.put_stop.new.self s.cells.cells.items c.put_stop.ensures (subst (λ (n : Names). IsCache (kept_of n.variables n.worker.known) s.cells.cells.items) (sym c.in-Err.ensures.still) cached) }
+    record { cached = cells_stay c.refer.new.self c.put_stop.new.self s.cells.cells.items c.put_stop.ensures (subst (λ (n : Held). IsCache (kept_of n.variables n.worker.known) s.cells.cells.items) (sym c.in-Err.ensures.still) cached) }
 
 pub returns-in-Ok-clause-kept : goal.returns-in-Ok-clause-kept
 returns-in-Ok-clause-kept g c = keeps_trans (extends_keeps c.args.self.now.names c.take_task.new.self c.take_task.ensures.names) (kept_again (entry_of c.in-Ok.first) _ c.in-Ok.ensures.ok c.answer_with.ensures.kept c.give_back.ensures.loses)
 
 pub returns-in-Err-clause-kept : goal.returns-in-Err-clause-kept
-returns-in-Err-clause-kept g c = keeps_trans (extends_keeps c.args.self.now.names c.take_task.new.self c.take_task.ensures.names) (subst (λ (n : Names). Keeps (holding_in n) (holding_in c.put_stop.new.self)) c.in-Err.ensures.still (extends_keeps c.refer.new.self c.put_stop.new.self c.put_stop.ensures))
+returns-in-Err-clause-kept g c = keeps_trans (extends_keeps c.args.self.now.names c.take_task.new.self c.take_task.ensures.names) (subst (λ (n : Held). Keeps (holding_in n) (holding_in c.put_stop.new.self)) c.in-Err.ensures.still (extends_keeps c.refer.new.self c.put_stop.new.self c.put_stop.ensures))

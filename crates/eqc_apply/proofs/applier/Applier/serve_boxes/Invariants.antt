@@ -3,8 +3,8 @@ use Rattle.eqc_apply.specs.Before.{IsWorker}
 use Rattle.eqc_apply.specs.Extending.{holding_in}
 use Rattle.eqc_apply.proofs.applier.Applier.serve_boxes.Given as goal
 
-abbrev pub invariant-loop-turn : goal.invariant-loop-turn
-invariant-loop-turn g l = record {
+abbrev pub invariant-loop-nth : goal.invariant-loop-nth
+invariant-loop-nth g l = record {
   kept : Keeps (holding_in l.fn.self.names) (holding_in l.self.names);
   worker : IsWorker l.fn.self.names.worker l.self.names.worker;
 }

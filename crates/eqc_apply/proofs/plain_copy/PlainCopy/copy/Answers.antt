@@ -26,7 +26,7 @@ visits-preserved c =
     }
 
 pub place-requires : goal.place-requires
-place-requires c = within_places c.visits.names c.visits.self c.args.f c.cells-cells.ensures.known c.visits.invariant.way.faithful (c.visits.invariant.names.before.held c.args.f c.requires.held)
+place-requires c = within_places c.visits.names c.visits.self c.args.f c.recall_laws.ensures c.visits.invariant.way.faithful (c.visits.invariant.names.before.held c.args.f c.requires.held)
 
 pub returns-clause-ok : goal.returns-clause-ok
 returns-clause-ok c = c.visits.invariant.way.faithful.placed c.args.f c.in-Some-place.number (sym c.place.ensures ∙ c.in-Some-place.is)
