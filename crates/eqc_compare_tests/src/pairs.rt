@@ -5,12 +5,13 @@
 ghost use Rattle.std.specs.Prelude.{◌<◌, ◌≤◌, IsTrue, length};
 ghost use Rattle.eqc_tree.specs.Holding.{Keeps};
 
+use crate::ends::{check_rows, same};
 use eqc_blif::{Library, read};
 use eqc_check::{Pair, Report, check_plain, compare_output, least_assignment, pair, write_report};
 use eqc_flat::Flat;
 use eqc_netlist_testing::two_flats;
 use eqc_plain::Plain;
-use eqc_testing::{DIFFERENCE, EQUAL, Row, UNEQUAL, check_rows, input_names, lines, same};
+use eqc_testing::{DIFFERENCE, EQUAL, Row, UNEQUAL, input_names, lines};
 use eqc_tree::{Diagrams, Op, References, Stop};
 use std::alloc::{AllocError, Global};
 use std::process::Abort;

@@ -1,8 +1,9 @@
 //! Exclusive ors of inputs that no other output has: how many nodes they take, by one worker and by two that share them.
 
+use crate::ends::holds;
 use crate::workers::{Held, Way, gives};
 use eqc_check::NoGate;
-use eqc_testing::{holds, input_names};
+use eqc_testing::input_names;
 use std::alloc::{AllocError, Global};
 use std::sync::Wait;
 use std::thread::Threads;

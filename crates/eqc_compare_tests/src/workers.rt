@@ -3,6 +3,7 @@
 ghost use Rattle.std.specs.Prelude.{◌≤◌, vec_len, IfOk};
 ghost use Rattle.std.specs.List.{All};
 
+use crate::ends::{check_rows_at, holds};
 use crate::pairs::report_word;
 use eqc_blif::{Library, read};
 use eqc_check::{
@@ -11,7 +12,7 @@ use eqc_check::{
 use eqc_flat::Flat;
 use eqc_netlist_testing::two_flats;
 use eqc_plain::Plain;
-use eqc_testing::{DIFFERENCE, EQUAL, Row, UNEQUAL, check_rows_at, holds, is_text, lines};
+use eqc_testing::{DIFFERENCE, EQUAL, Row, UNEQUAL, is_text, lines};
 use eqc_tree::{References, Stop};
 use std::alloc::{AllocError, Global};
 use std::sync::Wait;

@@ -3,6 +3,7 @@
 //! - `program`, reports and statuses; `program_ends`, faults, bad command lines and help
 //! - `models`, which models are compared, and warnings; `explained_runs`, what `--explain` tells
 
+mod ends;
 mod explained_runs;
 mod models;
 mod program;

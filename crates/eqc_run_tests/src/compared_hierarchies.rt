@@ -1,7 +1,8 @@
 //! Runs over hierarchies: covers of covers, instances, ties, and their refusals.
 
+use crate::ends::{holds, same};
 use crate::running::{Numbers, TEAMS, TWO, check_runs, reports_on};
-use eqc_testing::{Row, doubling, holds, input_names, same};
+use eqc_testing::{Row, doubling, input_names};
 use std::alloc::{AllocError, Global};
 use std::sync::Wait;
 use std::thread::Threads;

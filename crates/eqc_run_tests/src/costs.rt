@@ -1,8 +1,9 @@
 //! Texts whose author would like a run to be long, or a store to fill. That they are answered, and how, is tested here;
 //! what they cost is measured by scripts.
 
+use crate::ends::same;
 use crate::running::{TWO, reports_on};
-use eqc_testing::{doubling, input_names, same};
+use eqc_testing::{doubling, input_names};
 use std::alloc::{AllocError, Global};
 
 /// Appends a part so many times.

@@ -10,6 +10,8 @@ mod compared_hierarchies;
 #[cfg(test)]
 mod costs;
 #[cfg(test)]
+mod ends;
+#[cfg(test)]
 mod messages;
 #[cfg(test)]
 mod reports;

@@ -1,7 +1,8 @@
 //! Runs with several options, and what they write.
 
+use crate::ends::check_rows_at;
 use eqc_check::{Options, RunFault, Status, Texts, run};
-use eqc_testing::{Feed, Row, check_rows_at, is_text};
+use eqc_testing::{Feed, Row, is_text};
 use std::io::{Read, Write};
 use std::process::Abort;
 use std::sync::Wait;

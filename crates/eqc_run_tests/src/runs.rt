@@ -1,12 +1,11 @@
 //! Runs from texts to bytes, also over readers and writers that fail, and the ranges of their options. The texts and reports
 //! are small enough to be worked out by hand.
 
+use crate::ends::{holds_at, same};
 use crate::reports::WRITERS;
 use crate::running::{Numbers, TEAMS, TWO, options, ran, reports, reports_on};
 use eqc_check::{RunFault, Status, Texts, options_fault};
-use eqc_testing::{
-    DIFFERENCE, Drain, EQUAL, Endless, Feed, NEVER, PERMUTED, XOR, holds_at, is_text, same,
-};
+use eqc_testing::{DIFFERENCE, Drain, EQUAL, Endless, Feed, NEVER, PERMUTED, XOR, is_text};
 use std::sync::Wait;
 use std::thread::Threads;
 

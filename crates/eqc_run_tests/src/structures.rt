@@ -2,8 +2,9 @@
 //! them. Covers that only mean the same are not looked into.
 ghost use Rattle.std.specs.Prelude.{◌+◌, ◌<◌, ◌^◌};
 
+use crate::ends::{holds, holds_at, same};
 use crate::running::{Numbers, TWO, check_runs, reports_on};
-use eqc_testing::{Row, holds, holds_at, same};
+use eqc_testing::Row;
 use std::alloc::{AllocError, Global};
 use std::sync::Wait;
 use std::thread::Threads;

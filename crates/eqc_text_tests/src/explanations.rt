@@ -5,9 +5,10 @@
 //! its instance before it; for a recursion the models; for a circle how many signals it has, and their names, which are letters,
 //! in the order of the alphabet; and for a size what is there and what may be.
 
+use crate::ends::{check_rows, holds};
 use eqc_blif::{Library, read};
 use eqc_flat::{Circle, Finding, FoundFormal, FoundInstance, HierarchicalName, explain};
-use eqc_testing::{Line, Row, check_rows, holds, input_names};
+use eqc_testing::{Line, Row, input_names};
 use std::alloc::{AllocError, Global};
 
 /// A signal.

@@ -3,10 +3,11 @@
 
 ghost use Rattle.std.specs.Prelude.{◌<◌, length};
 
+use crate::ends::check_rows;
 use eqc_blif::{Library, read};
 use eqc_flat::{Driver, Flat, Signals, eval, flatten};
 use eqc_netlist_testing::flat_of;
-use eqc_testing::{Row, check_rows};
+use eqc_testing::Row;
 use std::alloc::{AllocError, Global};
 
 /// Whether this is the code of the first fault below the main model of a library.

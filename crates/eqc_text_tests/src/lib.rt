@@ -7,6 +7,8 @@
 #![tactic(auto)]
 
 #[cfg(test)]
+mod ends;
+#[cfg(test)]
 mod explanations;
 #[cfg(test)]
 mod hierarchies;

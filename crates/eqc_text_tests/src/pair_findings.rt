@@ -1,10 +1,11 @@
 //! What is at fault in two netlists that make no pair, and in an order text, worked out by hand.
 
+use crate::ends::{check_rows, holds};
 use eqc_blif::{Library, read};
 use eqc_flat::Flat;
 use eqc_netlist_testing::two_flats;
 use eqc_pair::{Finding, Unmatched, explain_pair};
-use eqc_testing::{EQUAL, Line, Row, check_rows, holds, lines};
+use eqc_testing::{EQUAL, Line, Row, lines};
 use std::alloc::{AllocError, Global};
 
 /// Adds how many names there are, and those that are told.

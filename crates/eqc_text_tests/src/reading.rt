@@ -10,10 +10,11 @@
 //! where `mux.v` has a module `top` with one instance of `mux4`, whose body is `assign y = d[s]; assign n = ~s;`.
 ghost use Rattle.std.specs.Prelude.{◌<◌, length};
 
+use crate::ends::{check_rows, holds, same};
 use eqc_blif::{
     Cover, Instance, Library, Name, Rows, allows, cover_value, is_on, is_on_set, read, row_matches,
 };
-use eqc_testing::{Row, check_rows, holds, lines, same};
+use eqc_testing::{Row, lines};
 use std::alloc::{AllocError, Global};
 use std::process::Abort;
 

@@ -1,7 +1,8 @@
 //! What is at fault in a text that is refused, worked out by hand.
 
+use crate::ends::{check_rows, holds};
 use eqc_blif::{Finding, explain};
-use eqc_testing::{Line, Row, check_rows, holds};
+use eqc_testing::{Line, Row};
 use std::alloc::{AllocError, Global};
 
 /// A finding on one line: its code, and what it names.

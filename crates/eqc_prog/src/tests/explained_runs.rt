@@ -1,11 +1,11 @@
 //! What `--explain` tells behind the report of a run without a verdict, for each code, worked out by hand from the texts.
 
+use super::ends::{check_rows, holds, same};
 use super::program::{LEAF_FIRST, words_of, writes, written_by};
 use eqc_check::{Diagnostics, Options};
 use eqc_command::{Request, explanation_for, program};
 use eqc_testing::{
-    Drain, Endless, Feed, NEVER, PERMUTED, Row, UNEQUAL, check_rows, doubling, holds, input_names,
-    is_text, same,
+    Drain, Endless, Feed, NEVER, PERMUTED, Row, UNEQUAL, doubling, input_names, is_text,
 };
 use eqc_tree::Stop;
 use std::alloc::{AllocError, Global};

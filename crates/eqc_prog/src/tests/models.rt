@@ -1,8 +1,9 @@
 //! Which models are compared, by their names or their places, and the warnings on models that others contain.
 
+use super::ends::{check_rows, holds};
 use super::program::{LEAF_FIRST, Line, words_of, writes, written_by};
 use eqc_command::program;
-use eqc_testing::{Drain, Feed, Row, check_rows, holds, is_text};
+use eqc_testing::{Drain, Feed, Row, is_text};
 use std::alloc::AllocError;
 use std::rt::Files;
 use std::sync::Wait;

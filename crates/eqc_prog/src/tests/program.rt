@@ -1,11 +1,9 @@
 //! The program's command lines, texts and files with their reports and statuses. They are small enough to be worked out by
 //! hand from the rules of the format and of the command line.
 
+use super::ends::{check_rows_at, holds};
 use eqc_command::program;
-use eqc_testing::{
-    DIFFERENCE, Disk, EQUAL, Feed, NEVER, PERMUTED, Row, UNEQUAL, XOR, check_rows_at, holds,
-    is_text,
-};
+use eqc_testing::{DIFFERENCE, Disk, EQUAL, Feed, NEVER, PERMUTED, Row, UNEQUAL, XOR, is_text};
 use std::alloc::{AllocError, Global};
 use std::process::Abort;
 use std::sync::Wait;

@@ -1,10 +1,9 @@
 //! How the program ends where it writes no report: faults of files, readers and writers, bad command lines, and help.
 
+use super::ends::{holds, holds_at};
 use super::program::{reports, words_of, writes, written_by};
 use eqc_command::program;
-use eqc_testing::{
-    DIFFERENCE, Drain, EQUAL, Endless, Feed, NEVER, UNEQUAL, holds, holds_at, is_text,
-};
+use eqc_testing::{DIFFERENCE, Drain, EQUAL, Endless, Feed, NEVER, UNEQUAL, is_text};
 use std::alloc::{AllocError, Global};
 use std::process::Abort;
 use std::rt::Files;

@@ -1,3 +1,0 @@
-pub mod Making
-pub mod Building
-pub mod Crossing

@@ -1,0 +1,4 @@
+pub mod Driving
+pub mod Making
+pub mod Building
+pub mod Crossing

@@ -1,0 +1,3 @@
+pub mod Driving
+pub mod Making
+pub mod Building

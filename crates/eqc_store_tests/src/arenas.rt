@@ -1,0 +1,170 @@
+//! The arena of the shared forest: what no clause says, as which number a node has and how many a collection takes back.
+ghost use Rattle.std.specs.Prelude.{◌≡◌};
+
+use crate::drivers::Driver;
+use crate::ends::same;
+use crate::makers::{Maker, planted, resting};
+use eqc_guard::fault::SplitFault;
+use eqc_tree::Stop;
+use std::process::Abort;
+use std::sync::Wait;
+use std::thread::join_mut;
+
+/// The constants' numbers.
+const FALSE: u32 = 0;
+
+const TRUE: u32 = 1;
+
+/// Makes a node that there is room for.
+fn node(rt: &(impl Abort + Wait), maker: &mut Maker, var: u16, low: u32, high: u32) -> u32
+    ensures { maker.new.worker.forest ≡ maker.old.worker.forest }
+{
+    match maker.mk(rt, var, low, high) {
+        Ok(x) => x,
+        Err(_) => panic!(rt; "there is room"),
+    }
+}
+
+#[test]
+fn a_node_has_one_number_and_a_full_arena_none(rt: HostRuntime) {
+    let mut maker = planted(&rt, 2, 2, 1, 1);
+    let x = node(&rt, &mut maker, 0, FALSE, TRUE);
+    let y = node(&rt, &mut maker, 1, FALSE, TRUE);
+    same(&rt, node(&rt, &mut maker, 1, FALSE, TRUE), y, "y again");
+    maker.give_back(&rt, y);
+    same(
+        &rt,
+        maker.mk(&rt, 0, FALSE, y),
+        Err(Stop::NodeLimit),
+        "full",
+    );
+    same(&rt, maker.worker.held(), 2, "held");
+    maker.give_back(&rt, x);
+    let r = node(&rt, &mut maker, 0, FALSE, y);
+    same(&rt, maker.children(&rt, r), (0, FALSE, y), "children");
+    maker.give_back(&rt, r);
+    maker.give_back(&rt, y);
+    same(&rt, maker.collect(&rt), 2, "collect");
+    same(&rt, maker.close(&rt), 0, "close");
+}
+
+/// The majority of variables 0, 1 and 2, whose root alone is held.
+fn majority(rt: &(impl Abort + Wait), maker: &mut Maker) -> u32
+    ensures { maker.new.worker.forest ≡ maker.old.worker.forest }
+{
+    let third = node(rt, maker, 2, FALSE, TRUE);
+    let both = node(rt, maker, 1, FALSE, third);
+    let either = node(rt, maker, 1, third, TRUE);
+    let root = node(rt, maker, 0, both, either);
+    maker.give_back(rt, third);
+    maker.give_back(rt, both);
+    maker.give_back(rt, either);
+    root
+}
+
+#[test]
+fn threads_make_one_node(rt: HostRuntime) {
+    let mut first = planted(&rt, 3, 100, 64, 2);
+    let mut second = first.another(&rt);
+    let (a, b) = join_mut(
+        &rt,
+        &mut || majority(&rt, &mut first),
+        &mut || majority(&rt, &mut second),
+    );
+    first.absorb(&rt, second);
+    same(&rt, a, b, "roots");
+    first.give_all_back();
+    same(&rt, first.collect(&rt), 4, "collect");
+    same(&rt, first.close(&rt), 0, "close");
+}
+
+#[test]
+fn a_forest_is_closed_after_its_workers(rt: HostRuntime) {
+    let mut first = planted(&rt, 2, 4, 8, 2);
+    let second = first.another(&rt);
+    same(&rt, second.worker.number(), 1, "number");
+    match first.split(&rt) {
+        Err(fault) => same(&rt, fault, SplitFault::NoneLeft, "third worker"),
+        Ok(_) => panic!(rt; "two workers are all"),
+    }
+    let mut first = first.is_refused(&rt);
+    first.absorb(&rt, second);
+    let x = node(&rt, &mut first, 0, FALSE, TRUE);
+    same(&rt, node(&rt, &mut first, 0, FALSE, TRUE), x, "again");
+    same(&rt, first.children(&rt, x), (0, FALSE, TRUE), "children");
+    first.give_all_back();
+    same(&rt, first.collect(&rt), 1, "collect");
+    same(&rt, first.close(&rt), 0, "close");
+}
+
+#[test]
+fn a_result_is_found_between_store_and_clear(rt: HostRuntime) {
+    let mut maker = planted(&rt, 2, 4, 8, 1);
+    let x = node(&rt, &mut maker, 0, FALSE, TRUE);
+    let y = node(&rt, &mut maker, 1, FALSE, TRUE);
+    let r = node(&rt, &mut maker, 0, FALSE, y);
+    same(&rt, maker.lookup_and(&rt, x, y), None, "before");
+    maker.store_and(&rt, x, y, r);
+    same(&rt, maker.lookup_and(&rt, x, y), Some(r), "stored");
+    maker.clear(&rt);
+    same(&rt, maker.lookup_and(&rt, x, y), None, "cleared");
+    same(&rt, maker.close(&rt), 3, "close");
+}
+
+/// A driven worker counts the result up that it has acquired, reads it and gives it back.
+fn use_acquired(rt: &impl Abort, driver: &mut Driver, x: u32)
+    ensures { driver.new.worker.forest ≡ driver.old.worker.forest }
+{
+    same(rt, driver.up_confirmed(rt), Some(x), "up confirmed");
+    same(rt, driver.children(0), Some((0, FALSE, TRUE)), "children");
+    same(rt, driver.release(), true, "release");
+    same(rt, driver.down(0), Some(x), "down");
+}
+
+#[test]
+fn an_acquired_node_outlives_a_collection(rt: HostRuntime) {
+    let mut first = planted(&rt, 1, 4, 1, 2);
+    let mut second = first.driven(&rt);
+    let x = node(&rt, &mut first, 0, FALSE, TRUE);
+    first.store_itself(&rt, x);
+    same(&rt, second.acquire(0), Some(x), "acquire");
+    first.clear(&rt);
+    first.give_back(&rt, x);
+    same(&rt, first.collect(&rt), 0, "collect in vain");
+    same(
+        &rt,
+        first.worker.retired_names(),
+        [x].as_slice(),
+        "retired names",
+    );
+    use_acquired(&rt, &mut second, x);
+    same(&rt, first.collect(&rt), 1, "collect");
+    first.absorb(&rt, resting(&rt, second));
+    same(&rt, first.close(&rt), 0, "close");
+}
+
+/// How many variables a deep diagram has.
+const DEEP: u16 = 2_000;
+
+/// A diagram with one node for each variable, whose root alone is held.
+fn deep(rt: &(impl Abort + Wait), maker: &mut Maker) -> u32
+    ensures { maker.new.worker.forest ≡ maker.old.worker.forest }
+{
+    let mut root = node(rt, maker, DEEP - 1, FALSE, TRUE);
+    for var in (0..DEEP - 1).rev() {
+        let next = node(rt, maker, var, root, FALSE);
+        maker.give_back(rt, root);
+        root = next;
+    }
+    root
+}
+
+#[test]
+fn a_deep_diagram_is_taken_back_whole(rt: HostRuntime) {
+    let mut maker = planted(&rt, DEEP, 2_048, 1, 1);
+    let root = deep(&rt, &mut maker);
+    same(&rt, maker.collect(&rt), 0, "collect in vain");
+    maker.give_back(&rt, root);
+    same(&rt, maker.collect(&rt), 2_000, "collect");
+    same(&rt, maker.close(&rt), 0, "close");
+}
