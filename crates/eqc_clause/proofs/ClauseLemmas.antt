@@ -21,7 +21,9 @@ none_within : (nodes : List Node) → AreWithin nodes []
 none_within nodes = record { within = λ i inside. absurd (omega (arith, inside)) }
 
 -- a store stays sound where a clause comes in that is true
-pub put_sound : (nodes : List Node) (old new : List (List ℕ)) (number : ℕ) (c : List ℕ) → Puts old new number c → IsTrueOf nodes c → AreWithin nodes c → IsSound nodes old → IsSound nodes new
+pub put_sound :
+    (nodes : List Node) (old new : List (List ℕ)) (number : ℕ) (c : List ℕ) →
+    Puts old new number c → IsTrueOf nodes c → AreWithin nodes c → IsSound nodes old → IsSound nodes new
 put_sound nodes old new number c puts so inside sound = record {
   kept = λ k. elim (eqb_tells k number) [
     | inl same ↦ subst (IsKept nodes) (sym puts.put ∙ ap (clause_of new) (sym same.1)) (true_kept nodes c so)
@@ -77,6 +79,11 @@ one_of_two true false nx ny is_nx is_ny there back = absurd (false≢true (sym (
 one_of_two false true nx ny is_nx is_ny there back = absurd (false≢true (sym (ap (λ (b : Bool). not b || false) is_nx) ∙ back))
 
 -- two literals are equal where neither can be true without the other
-pub equal_if_refuted : (nodes : List Node) (x y nx ny : ℕ) → ((a : ℕ → Bool) → literal_value nodes a nx ≡ not (literal_value nodes a x)) → ((a : ℕ → Bool) → literal_value nodes a ny ≡ not (literal_value nodes a y)) → IsRefuted nodes (x ∷ ny ∷ []) → IsRefuted nodes (nx ∷ y ∷ []) → (a : ℕ → Bool) → literal_value nodes a x ≡ literal_value nodes a y
+pub equal_if_refuted :
+    (nodes : List Node) (x y nx ny : ℕ) →
+    ((a : ℕ → Bool) → literal_value nodes a nx ≡ not (literal_value nodes a x)) →
+    ((a : ℕ → Bool) → literal_value nodes a ny ≡ not (literal_value nodes a y)) →
+    IsRefuted nodes (x ∷ ny ∷ []) → IsRefuted nodes (nx ∷ y ∷ []) →
+    (a : ℕ → Bool) → literal_value nodes a x ≡ literal_value nodes a y
 equal_if_refuted nodes x y nx ny is_nx is_ny there back a =
     one_of_two (literal_value nodes a x) (literal_value nodes a y) (literal_value nodes a nx) (literal_value nodes a ny) (is_nx a) (is_ny a) (there.one_is_false a) (back.one_is_false a)

@@ -41,11 +41,15 @@ has_behind None d l there = there
 has_behind (Some m) d l there = or_right _ _ there
 
 -- the same where what is left may be nothing yet
-pub false_kept : (c d : List ℕ) (i : ℕ) (old new : Option ℕ) → i < length c → has d (get_or c i 0) ≡ true → new ≡ old → Implies (take i c) (option_to_list old ++ d) → Implies (take (i + 1) c) (option_to_list new ++ d)
+pub false_kept :
+    (c d : List ℕ) (i : ℕ) (old new : Option ℕ) →
+    i < length c → has d (get_or c i 0) ≡ true → new ≡ old → Implies (take i c) (option_to_list old ++ d) → Implies (take (i + 1) c) (option_to_list new ++ d)
 false_kept c d i old new inside there same so =
     subst (λ left. Implies (take (i + 1) c) (option_to_list left ++ d)) (sym same) (false_seen c (option_to_list old ++ d) i inside (has_behind old d (get_or c i 0) there) so)
 
-pub one_kept : (c d : List ℕ) (i : ℕ) (old new : Option ℕ) → i < length c → is_some old ≡ false → new ≡ Some (get_or c i 0) → Implies (take i c) (option_to_list old ++ d) → Implies (take (i + 1) c) (option_to_list new ++ d)
+pub one_kept :
+    (c d : List ℕ) (i : ℕ) (old new : Option ℕ) →
+    i < length c → is_some old ≡ false → new ≡ Some (get_or c i 0) → Implies (take i c) (option_to_list old ++ d) → Implies (take (i + 1) c) (option_to_list new ++ d)
 one_kept c d i (Some l) new inside none same so = absurd (false≢true (sym none))
 one_kept c d i None new inside none same so =
     subst (λ left. Implies (take (i + 1) c) (option_to_list left ++ d)) (sym same) (one_seen c d i inside so)

@@ -20,14 +20,18 @@ give_up_at old number inside = record {
 }
 
 -- the same where places are seen through a function
-pub put_at_seen : {X : Type 0} (f : X → List ℕ) (xs : List X) (old : List (List ℕ)) (number : ℕ) (x : X) (c : List ℕ) → map f xs ≡ old → number < length xs → clause_of (map f xs) number ≡ [] → f x ≡ c → Puts old (map f (set xs number x)) number c
+pub put_at_seen :
+    {X : Type 0} (f : X → List ℕ) (xs : List X) (old : List (List ℕ)) (number : ℕ) (x : X) (c : List ℕ) →
+    map f xs ≡ old → number < length xs → clause_of (map f xs) number ≡ [] → f x ≡ c → Puts old (map f (set xs number x)) number c
 put_at_seen f xs old number x c same inside free is =
     let there : number < length (map f xs) = omega (arith, inside, length-map xs f) in
     let written : set (map f xs) number c ≡ map f (set xs number x) = ap (set (map f xs) number) (sym is) ∙ sym (map-set f xs number x) in
     subst (λ (now : List (List ℕ)). Puts old now number c) written
     (subst (λ (before : List (List ℕ)). Puts before (set (map f xs) number c) number c) same (put_at (map f xs) number c there free))
 
-pub give_up_at_seen : {X : Type 0} (f : X → List ℕ) (xs : List X) (old : List (List ℕ)) (number : ℕ) (x : X) → map f xs ≡ old → number < length xs → f x ≡ [] → GivesUp old (map f (set xs number x)) number
+pub give_up_at_seen :
+    {X : Type 0} (f : X → List ℕ) (xs : List X) (old : List (List ℕ)) (number : ℕ) (x : X) →
+    map f xs ≡ old → number < length xs → f x ≡ [] → GivesUp old (map f (set xs number x)) number
 give_up_at_seen f xs old number x same inside is =
     let there : number < length (map f xs) = omega (arith, inside, length-map xs f) in
     let written : set (map f xs) number [] ≡ map f (set xs number x) = ap (set (map f xs) number) (sym is) ∙ sym (map-set f xs number x) in
