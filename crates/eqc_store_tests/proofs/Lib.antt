@@ -1,4 +1,3 @@
 pub mod Driving
 pub mod Making
 pub mod Building
-pub mod Crossing

@@ -1,5 +1,5 @@
 use denote.Param.Send.{sendable}
-use Rattle.eqc_store_tests.proofs.Crossing.{builder_send}
+use Rattle.eqc_store_tests.proofs.builders.Crossing.{builder_send}
 use Rattle.eqc_store_tests.proofs.forks.is_shared.Goals as goal
 
 pub join_mut-right-requires-send-F : goal.join_mut-right-requires-send-F

@@ -1,5 +1,5 @@
 use denote.Param.Send.{sendable}
-use Rattle.eqc_store_tests.proofs.Crossing.{builder_send}
+use Rattle.eqc_store_tests.proofs.builders.Crossing.{builder_send}
 use Rattle.eqc_store_tests.proofs.teams.a_member_takes_in_what_another_one_built.Goals as goal
 
 pub join_mut-all-requires-send-F : goal.join_mut-all-requires-send-F
