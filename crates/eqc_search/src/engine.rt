@@ -58,11 +58,10 @@ impl Engine {
         self.visits = self.visits.wrapping_add(1);
     }
 
-    /// Takes the visits from what may be spent. Says whether something is left.
-    pub(crate) fn charge(&mut self, left: &mut u64) -> bool {
+    /// Takes the visits from what may be spent.
+    pub(crate) fn charge(&mut self, left: &mut u64) {
         *left = left.saturating_sub(self.visits);
         self.visits = 0;
-        *left > 0
     }
 
     /// Makes the window so large, as far as there are gates.
@@ -75,11 +74,14 @@ impl Engine {
         Ok(())
     }
 
-    /// Begins a question. Says whether no assumption is the complement of another one or false.
-    pub(crate) fn begin(&mut self, graph: &Graph, assumptions: &[u32]) -> Result<bool, AllocError> {
+    /// Begins a question. Gives an assumption that is false because of another one or by itself, if there is one.
+    pub(crate) fn begin(
+        &mut self,
+        graph: &Graph,
+        assumptions: &[u32],
+    ) -> Result<Option<u32>, AllocError> {
         self.grow(graph)?;
         self.restarts = Restarts::new();
-        self.analysis.hints.clear();
         for literal in assumptions {
             self.window.enter(graph, node_of(*literal))?;
         }
@@ -87,11 +89,11 @@ impl Engine {
         for literal in assumptions {
             match self.values.value(*literal) {
                 Value::True => {}
-                Value::False => return Ok(false),
+                Value::False => return Ok(Some(*literal)),
                 Value::Free => self.values.assign(*literal, Reason::Decided),
             }
         }
-        Ok(true)
+        Ok(None)
     }
 
     /// Takes back all values of higher levels.

@@ -10,10 +10,11 @@
 //!   of the latest conflict first; `restarts`, when all decisions are taken back
 //! - `window`, the gates that are looked at; `learned`, the learned clauses and who watches them
 //! - `engine`, these together; `propagation`, what follows; `conflict`, what a conflict teaches and how it is shown
-//! - `search`, the question
+//! - `contradiction`, assumptions that need no search; `search`, the question
 #![tactic(auto)]
 
 mod conflict;
+mod contradiction;
 mod decisions;
 mod engine;
 mod learned;

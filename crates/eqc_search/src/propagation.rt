@@ -3,13 +3,13 @@ use crate::engine::Engine;
 use crate::reads::{NONE, literal_of, node_at};
 use crate::values::{Reason, Value};
 use crate::window::Fanout;
-use eqc_graph::{Graph, Node, node_of};
+use eqc_graph::{Graph, Node, negated_if, node_of};
 
 /// What becomes of a clause, one of whose watched literals is false.
 enum Watched {
     Kept,
-    /// This literal is watched instead.
-    Moved(u32),
+    /// Another literal is watched instead.
+    Moved { to: u32, blocker: u32 },
     Conflict,
 }
 
@@ -108,39 +108,39 @@ impl Engine {
 
     /// Makes true what follows for an exclusive or, where one of three values is missing.
     fn visit_xor(&mut self, node: u32, a: u32, b: u32) -> Option<Reason> {
-        let of_gate = self.values.value(literal_of(node, true));
+        let gate = literal_of(node, true);
+        let of_gate = self.values.value(gate);
         let of_a = self.values.value(a);
         let of_b = self.values.value(b);
-        let is_true = of_gate == Value::True;
         let a_is_true = of_a == Value::True;
         let b_is_true = of_b == Value::True;
+        let is_true = of_gate == Value::True;
         match (of_gate, of_a, of_b) {
-            (Value::Free, Value::True | Value::False, Value::True | Value::False) => {
+            (Value::Free, Value::Free, _)
+            | (Value::Free, _, Value::Free)
+            | (_, Value::Free, Value::Free) => None,
+            (Value::Free, _, _) => {
                 let side = xor_side(a_is_true, b_is_true);
-                let literal = literal_of(node, a_is_true != b_is_true);
-                self.values.assign(literal, Reason::Gate { node, side });
-                None
+                self.imply(
+                    literal_of(node, a_is_true != b_is_true),
+                    Reason::Gate { node, side },
+                )
             }
-            (Value::True | Value::False, Value::Free, Value::True | Value::False) => {
+            (_, Value::Free, _) => {
                 let becomes = is_true != b_is_true;
                 let side = xor_side(!becomes, b_is_true);
-                let literal = if becomes { a } else { a ^ 1 };
-                self.values.assign(literal, Reason::Gate { node, side });
-                None
+                self.imply(negated_if(a, !becomes), Reason::Gate { node, side })
             }
-            (Value::True | Value::False, Value::True | Value::False, Value::Free) => {
+            (_, _, Value::Free) => {
                 let becomes = is_true != a_is_true;
                 let side = xor_side(a_is_true, !becomes);
-                let literal = if becomes { b } else { b ^ 1 };
-                self.values.assign(literal, Reason::Gate { node, side });
-                None
+                self.imply(negated_if(b, !becomes), Reason::Gate { node, side })
             }
-            (Value::True | Value::False, Value::True | Value::False, Value::True | Value::False)
-                if is_true == (a_is_true == b_is_true) => Some(Reason::Gate {
-                node,
-                side: xor_side(a_is_true, b_is_true),
-            }),
-            _ => None,
+            _ => {
+                let side = xor_side(a_is_true, b_is_true);
+                let is_wrong = is_true == (a_is_true == b_is_true);
+                is_wrong.then_some(Reason::Gate { node, side })
+            }
         }
     }
 
@@ -211,9 +211,9 @@ impl Engine {
             }
             match self.visit_clause(at) {
                 Watched::Kept => previous = at,
-                Watched::Moved(literal) => {
+                Watched::Moved { to, blocker } => {
                     self.learned.unlink(falsified, previous, at);
-                    self.learned.link(literal, at, watch.blocker);
+                    self.learned.link(to, at, blocker);
                 }
                 Watched::Conflict => return Some(Reason::Learned(at / 2)),
             }
@@ -229,8 +229,8 @@ impl Engine {
         let own = begin.wrapping_add(watch % 2);
         let other = self.learned.literal(begin.wrapping_add(1 - watch % 2));
         let value = self.values.value(other);
-        self.learned.set_blocker(watch, other);
         if value == Value::True {
+            self.learned.set_blocker(watch, other);
             return Watched::Kept;
         }
         for at in begin.wrapping_add(2)..end {
@@ -238,7 +238,10 @@ impl Engine {
             let literal = self.learned.literal(at);
             if self.values.value(literal) != Value::False {
                 self.learned.swap(own, at);
-                return Watched::Moved(literal);
+                return Watched::Moved {
+                    to: literal,
+                    blocker: other,
+                };
             }
         }
         if value == Value::False {

@@ -1,7 +1,8 @@
 //! The question whether assumptions can be true together.
-ghost use Rattle.std.specs.Prelude.{◌≡◌, IfOk};
+ghost use Rattle.std.specs.Prelude.{◌≡◌, IfOk, IsTrue};
 ghost use Rattle.eqc_clause.specs.Clauses.{IsSound, IsRefuted};
 
+use crate::contradiction::contradict;
 use crate::engine::Engine;
 use crate::values::Reason;
 use eqc_clause::{Clauses, Marks};
@@ -17,6 +18,19 @@ pub enum Answer {
     Satisfied,
     /// The budget is used up.
     GaveUp,
+}
+
+impl Answer {
+    /// That the assumptions are refuted, where that is shown.
+    fn refuted_where(is_shown: bool) -> Answer
+        ensures { result ≡ Answer.Refuted → IsTrue is_shown }
+    {
+        if is_shown {
+            Answer::Refuted
+        } else {
+            Answer::GaveUp
+        }
+    }
 }
 
 /// What a search may spend. What was spent is taken away.
@@ -38,6 +52,7 @@ pub struct Search {
 }
 
 impl Search {
+    /// A search that has met no graph.
     pub fn new(alloc: Global) -> Search {
         Search {
             engine: Engine::new(alloc),
@@ -71,6 +86,7 @@ impl Search {
         self.model.clear();
         self.store.clear();
         let answer = self.run(graph, assumptions, budget);
+        self.engine.charge(&mut budget.visits);
         self.engine.finish();
         answer
     }
@@ -85,8 +101,9 @@ impl Search {
         requires { IsSound graph.now self.old.store }
         ensures { IfOk result (λ answer. answer ≡ Answer.Refuted → IsRefuted graph.now assumptions.now) }
     {
-        if !self.engine.begin(graph, assumptions)? {
-            return self.close(graph, assumptions);
+        if let Some(l) = self.engine.begin(graph, assumptions)? {
+            let is_shown = contradict(graph, assumptions, l);
+            return Ok(Answer::refuted_where(is_shown));
         }
         'rounds: for _ in 0..u32::MAX {
             match self.engine.propagate(graph) {
@@ -106,7 +123,8 @@ impl Search {
                     }
                 }
             }
-            if !self.engine.charge(&mut budget.visits) {
+            self.engine.charge(&mut budget.visits);
+            if budget.visits == 0 {
                 return Ok(Answer::GaveUp);
             }
         }
@@ -158,12 +176,9 @@ impl Search {
         ensures { IfOk result (λ answer. answer ≡ Answer.Refuted → IsRefuted graph.now assumptions.now) }
     {
         let hints = self.engine.analysis.hints.as_slice();
-        if self
+        let is_shown = self
             .store
-            .refutes(graph, assumptions, hints, &mut self.marks)?
-        {
-            return Ok(Answer::Refuted);
-        }
-        Ok(Answer::GaveUp)
+            .refutes(graph, assumptions, hints, &mut self.marks)?;
+        Ok(Answer::refuted_where(is_shown))
     }
 }

@@ -1,0 +1,48 @@
+//! Assumptions that can't be true together whatever the gates are.
+ghost use Rattle.std.specs.Prelude.{IsTrue, List};
+ghost use Rattle.eqc_clause.specs.Clauses.{IsRefuted};
+ghost use Rattle.eqc_search.specs.Contradiction.{IsAmong};
+
+use eqc_graph::{Graph, Node, negated};
+
+#[tactic(auto, using(crate::proofs::ContradictionLemmas::among_at))]
+/// Whether a literal is among some.
+fn is_among(l: u32, literals: &[u32]) -> bool
+    ensures { IsTrue result → IsAmong l literals.now }
+{
+    for other in literals {
+        if *other == l {
+            return true;
+        }
+    }
+    false
+}
+
+#[tactic(auto, using(crate::proofs::ContradictionLemmas::false_refutes))]
+/// Whether the constant that is false is assumed.
+fn assumes_false(graph: &Graph, assumptions: &[u32]) -> bool
+    ensures { IsTrue result → IsRefuted graph.now assumptions.now }
+{
+    if graph.len() == 0 || !is_among(0, assumptions) {
+        return false;
+    }
+    match graph.node(0) {
+        Node::Constant => true,
+        Node::Input(_) | Node::And(_, _) | Node::Xor(_, _) => false,
+    }
+}
+
+#[tactic(auto, using(crate::proofs::ContradictionLemmas::both_refute))]
+/// Whether a literal and its complement are assumed.
+fn assumes_both(assumptions: &[u32], l: u32) -> bool
+    ensures { IsTrue result → (nodes : List Node) → IsRefuted nodes assumptions.now }
+{
+    is_among(l, assumptions) && is_among(negated(l), assumptions)
+}
+
+/// Whether assumptions, of which `l` is one, are seen to contradict one another.
+pub(crate) fn contradict(graph: &Graph, assumptions: &[u32], l: u32) -> bool
+    ensures { IsTrue result → IsRefuted graph.now assumptions.now }
+{
+    assumes_false(graph, assumptions) || assumes_both(assumptions, l)
+}
