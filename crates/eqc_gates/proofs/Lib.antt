@@ -1,0 +1,3 @@
+pub mod TableLaws
+pub mod RowLaws
+pub mod LiteralLaws
