@@ -3,7 +3,7 @@ use Rattle.std.proofs.Common.{◌≡◌, ℕ, zero, suc, ◌+◌, ◌-◌, ◌*�
 use Rattle.std.specs.Prelude.{Result, Ok, Err, IfOk}
 use Rattle.std.specs.List.{list_all, list_any}
 use Rattle.std.proofs.lemmas.Bool.{or_cases, eqb-true, cases_eq, ne_eqb, eq-eqb}
-use Rattle.std.proofs.lemmas.List.{drop_all, drop_more, drop-append-le, take_all, get_or-map, length_push, get_or_append_left, get_or_at, length-map}
+use Rattle.std.proofs.lemmas.List.{drop_more, drop-append-le, take_all, get_or-map, length_push, get_or_append_left, get_or_at, length-map}
 use Rattle.std.proofs.lemmas.List.Folds.{list_all-append, list_any_more}
 use Rattle.eqc_blif.specs.Cover.{allows, row_matches, cover_value}
 use Rattle.eqc_blif.proofs.RowLemmas.{row_over}
@@ -18,15 +18,9 @@ use Rattle.eqc_gates.proofs.RowLaws.{some_matches, matches_more, matches_whole, 
 
 -- ---- one literal
 
--- the same literal for a function that is the same, and its complement
+-- the same literal for a function that is the same
 pub value_as : (nodes : List Node) (l : ℕ) (f g : (ℕ → Bool) → Bool) → ((a : ℕ → Bool) → f a ≡ g a) → HasValue nodes l f → HasValue nodes l g
 value_as nodes l f g same is = record { within = is.within; value = λ a. is.value a ∙ same a }
-
-pub opposite_value : (nodes : List Node) (l m : ℕ) (f g : (ℕ → Bool) → Bool) → m / 2 ≡ l / 2 → ((nodes : List Node) (a : ℕ → Bool) → literal_value nodes a m ≡ not (literal_value nodes a l)) → ((a : ℕ → Bool) → not (f a) ≡ g a) → HasValue nodes l f → HasValue nodes m g
-opposite_value nodes l m f g node opposite same is = record {
-  within = omega (arith, node, is.within);
-  value = λ a. opposite nodes a ∙ (ap not (is.value a) ∙ same a);
-}
 
 -- a literal m that is the complement of a literal l in every graph
 pub record IsOpposite (m l : ℕ) : Type 0 where
@@ -48,76 +42,9 @@ or_value old new x y nx ny l m ox oy om is = record {
     neither_not false true = refl
     neither_not false false = refl
 
--- ---- a multiplexer
-
+-- what a multiplexer says
 abbrev pub chosen : List Node → ℕ → ℕ → ℕ → (ℕ → Bool) → Bool
 chosen nodes x high low a = cond (literal_value nodes a x) (literal_value nodes a high) (literal_value nodes a low)
-
-pub same_branches : (nodes : List Node) (x high low : ℕ) → IsWithin nodes high → high ≡ low → HasValue nodes high (chosen nodes x high low)
-same_branches nodes x high low within is = record { within = within; value = λ a. rw (← is) (by (literal_value nodes a x) (literal_value nodes a high)) }
-  where
-    by : (b h : Bool) → h ≡ cond b h h
-    by true h = refl
-    by false h = refl
-
-pub opposite_branches : (old new : List Node) (x high low n l : ℕ) → IsOpposite n low → high ≡ n → HasValue new l (λ a. differ (literal_value old a x) (literal_value old a low)) → HasValue new l (chosen old x high low)
-opposite_branches old new x high low n l opposite is made =
-    value_as new l (λ a. differ (literal_value old a x) (literal_value old a low)) (chosen old x high low) (λ a. by (literal_value old a x) (literal_value old a high) (literal_value old a low) (ap (literal_value old a) is ∙ opposite.value old a)) made
-  where
-    by : (b h l : Bool) → h ≡ not l → differ b l ≡ cond b h l
-    by true h l e = sym e
-    by false h l e = refl
-
-pub false_above : (old new : List Node) (x high low nx l c : ℕ) → IsOpposite nx x → HasValue old c (λ a. false) → high ≡ c → HasValue new l (λ a. literal_value old a nx && literal_value old a low) → HasValue new l (chosen old x high low)
-false_above old new x high low nx l c opposite never is made =
-    value_as new l (λ a. literal_value old a nx && literal_value old a low) (chosen old x high low)
-    (λ a. by (literal_value old a x) (literal_value old a nx) (literal_value old a high) (literal_value old a low) (opposite.value old a) (ap (literal_value old a) is ∙ never.value a)) made
-  where
-    by : (b n h l : Bool) → n ≡ not b → h ≡ false → (n && l) ≡ cond b h l
-    by true n h l e f = rw (e, f) refl
-    by false n h l e f = rw e refl
-
-pub true_above : (old new : List Node) (x high low l c : ℕ) → HasValue old c (λ a. true) → high ≡ c → HasValue new l (λ a. literal_value old a x || literal_value old a low) → HasValue new l (chosen old x high low)
-true_above old new x high low l c always is made =
-    value_as new l (λ a. literal_value old a x || literal_value old a low) (chosen old x high low)
-    (λ a. by (literal_value old a x) (literal_value old a high) (literal_value old a low) (ap (literal_value old a) is ∙ always.value a)) made
-  where
-    by : (b h l : Bool) → h ≡ true → (b || l) ≡ cond b h l
-    by true h l f = sym f
-    by false h l f = refl
-
-pub false_below : (old new : List Node) (x high low l c : ℕ) → HasValue old c (λ a. false) → low ≡ c → HasValue new l (λ a. literal_value old a x && literal_value old a high) → HasValue new l (chosen old x high low)
-false_below old new x high low l c never is made =
-    value_as new l (λ a. literal_value old a x && literal_value old a high) (chosen old x high low)
-    (λ a. by (literal_value old a x) (literal_value old a high) (literal_value old a low) (ap (literal_value old a) is ∙ never.value a)) made
-  where
-    by : (b h l : Bool) → l ≡ false → (b && h) ≡ cond b h l
-    by true h l f = refl
-    by false h l f = sym f
-
-pub true_below : (old new : List Node) (x high low nx l c : ℕ) → IsOpposite nx x → HasValue old c (λ a. true) → low ≡ c → HasValue new l (λ a. literal_value old a nx || literal_value old a high) → HasValue new l (chosen old x high low)
-true_below old new x high low nx l c opposite always is made =
-    value_as new l (λ a. literal_value old a nx || literal_value old a high) (chosen old x high low)
-    (λ a. by (literal_value old a x) (literal_value old a nx) (literal_value old a high) (literal_value old a low) (opposite.value old a) (ap (literal_value old a) is ∙ always.value a)) made
-  where
-    by : (b n h l : Bool) → n ≡ not b → l ≡ true → (n || h) ≡ cond b h l
-    by true n h l e f = rw e refl
-    by false n h l e f = rw (e, f) refl
-
-or_false : (b : Bool) → (b || false) ≡ b
-or_false true = refl
-or_false false = refl
-
-pub both_branches : (n0 n1 n2 n3 : List Node) (x high low nx first second l : ℕ) → IsOpposite nx x → IsWithin n0 x → IsWithin n0 low → Extends n0 n1 → Extends n1 n2
-    → HasValue n1 first (λ a. literal_value n0 a x && literal_value n0 a high) → HasValue n2 second (λ a. literal_value n1 a nx && literal_value n1 a low) → HasValue n3 l (λ a. literal_value n2 a first || literal_value n2 a second) → HasValue n3 l (chosen n0 x high low)
-both_branches n0 n1 n2 n3 x high low nx first second l opposite within below more again one two made =
-    value_as n3 l (λ a. literal_value n2 a first || literal_value n2 a second) (chosen n0 x high low)
-    (λ a. by (literal_value n0 a x) (literal_value n1 a nx) (literal_value n0 a high) (literal_value n0 a low) (literal_value n2 a first) (literal_value n2 a second)
-    (opposite.value n1 a ∙ ap not (more.same x a within)) (again.same first a one.within ∙ one.value a) (two.value a ∙ ap (λ b. literal_value n1 a nx && b) (more.same low a below))) made
-  where
-    by : (b n h l f s : Bool) → n ≡ not b → f ≡ (b && h) → s ≡ (n && l) → (f || s) ≡ cond b h l
-    by true n h l f s e g k = rw (g, k, e) (or_false h)
-    by false n h l f s e g k = rw (g, k, e) refl
 
 -- ---- literals of a later graph
 
@@ -212,19 +139,6 @@ reduction_goes_on old now new literals work more next both so_far inside extends
 and_true : (b : Bool) → b ≡ (b && true)
 and_true true = refl
 and_true false = refl
-
--- one is left, or none
-pub reduction_ends : (old now : List Node) (literals work : List ℕ) (next : ℕ) → IsReduced old now literals work next → next < length work → length work ≤ next + 1 → HasValue now (get_or work next 0) (λ a. list_all (literal_value old a) literals)
-reduction_ends old now literals work next so_far some few = record {
-  within = so_far.within.each next some;
-  value = λ a. and_true (literal_value now a (get_or work next 0)) ∙ (ap (list_all (literal_value now a)) (sym (drop_more work next 0 some ∙ ap (λ rest. get_or work next 0 ∷ rest) (drop_all (next + 1) work few))) ∙ so_far.value a);
-}
-
-pub reduction_of_none : (old now : List Node) (literals work : List ℕ) (next l : ℕ) → IsReduced old now literals work next → length work ≤ next → HasValue now l (λ a. true) → HasValue now l (λ a. list_all (literal_value old a) literals)
-reduction_of_none old now literals work next l so_far none made = record {
-  within = made.within;
-  value = λ a. made.value a ∙ (ap (list_all (literal_value now a)) (sym (drop_all next work none)) ∙ so_far.value a);
-}
 
 -- ---- the literals of a row
 

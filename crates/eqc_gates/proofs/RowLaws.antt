@@ -101,10 +101,6 @@ rows_end t n k rows whole is = record { value = λ vs size. is.value vs size ∙
 
 -- ---- a cover by its rows
 
-pub cover_without_rows : (rows : List (List ℕ)) (vs : List Bool) → (length rows == 0) ≡ true → false ≡ cover_value rows vs
-cover_without_rows [] vs none = refl
-cover_without_rows (row ∷ rows) vs none = let e : length (row ∷ rows) ≡ 0 = eqb-true _ _ none in absurd (omega arith)
-
 pub cover_on : (rows : List (List ℕ)) (vs : List Bool) → is_on_set rows ≡ true → some_matches rows vs ≡ cover_value rows vs
 cover_on [] vs on = absurd (false≢true on)
 cover_on (row ∷ rows) vs on = ap (λ b. cond b (some_matches (row ∷ rows) vs) (not (some_matches (row ∷ rows) vs))) (sym on)

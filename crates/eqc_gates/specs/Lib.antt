@@ -1,2 +1,3 @@
 pub mod Table
 pub mod Literals
+pub mod Entering

@@ -2,7 +2,7 @@
 //!
 //! Read the modules in this order:
 //!
-//! - `literals`, the literals of steps in their order; `marks`, which steps are needed. What they say of a pair stands in
+//! - `steps`, the literals of steps in their order; `marks`, which steps are needed. What they say of a pair stands in
 //!   `specs/Entering.antt`
 //! - `cover`, the literal of a cover, by its table or by its rows; lists of literals stand in `specs/Literals.antt`
 //! - `table`, the truth table of a cover of few columns, with `specs/Table.antt`: what a table says
@@ -12,6 +12,10 @@
 mod cover;
 mod expansion;
 mod gate;
+mod marks;
+mod steps;
 mod table;
 
 pub use cover::cover_literal;
+pub use marks::needed;
+pub use steps::literals;
