@@ -291,3 +291,7 @@ pub unmatched_made : {E : Type 0} (old now new : List Node) (columns : List ℕ)
     → IfOk r (λ l. HasValue new l (λ a. not (some_matches rows (map (literal_value old a) columns))))
 unmatched_made old now new columns rows none k (Ok l) whole so_far made = unmatched_all old now new columns rows none k l whole so_far made
 unmatched_made old now new columns rows none k (Err e) whole so_far made = made
+
+pub made_as : {E : Type 0} (nodes : List Node) (r : Result ℕ E) (f g : (ℕ → Bool) → Bool) → ((a : ℕ → Bool) → f a ≡ g a) → IfOk r (λ l. HasValue nodes l f) → IfOk r (λ l. HasValue nodes l g)
+made_as nodes (Ok l) f g same made = value_as nodes l f g same made
+made_as nodes (Err e) f g same made = made

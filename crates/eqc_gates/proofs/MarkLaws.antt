@@ -79,12 +79,14 @@ roots_same g wanted marks o so_far none = record {
 -- of the steps from k on, what a marked one uses is marked
 pub record AreClosedFrom (g : StepsOf) (wanted marks : List Bool) (k : ℕ) : Type 0 where
   pub size : length marks ≡ steps_in g.pair
+  pub inside : k ≤ steps_in g.pair
   pub roots : HaveRoots g wanted marks (length wanted)
   pub uses : (j c : ℕ) → k ≤ j → j < steps_in g.pair → is_marked marks j ≡ true → c < length (uses_of g j) → is_marked marks (get_or (uses_of g j) c 0) ≡ true
 
 pub closed_begins : (g : StepsOf) (wanted marks : List Bool) (o n : ℕ) → HaveRootsSoFar g wanted marks o → length wanted ≤ o → n ≡ steps_in g.pair → AreClosedFrom g wanted marks n
 closed_begins g wanted marks o n so_far whole count = record {
   size = so_far.size;
+  inside = omega (arith, count);
   roots = record { each = λ p inside is. so_far.roots.each p (omega arith) is };
   uses = λ j c above inside. absurd (omega arith);
 }
@@ -92,6 +94,7 @@ closed_begins g wanted marks o n so_far whole count = record {
 pub closed_more : (g : StepsOf) (wanted old new : List Bool) (k : ℕ) → AreSteps g → k < steps_in g.pair → AreClosedFrom g wanted old (k + 1) → AreMarked old new (uses_of g k) (length (uses_of g k)) → AreClosedFrom g wanted new k
 closed_more g wanted old new k steps within so_far marked = record {
   size = marked.size ∙ so_far.size;
+  inside = omega (arith, within);
   roots = record { each = λ p inside is. (let both = so_far.roots.each p inside is in (marked.kept (first_root g p) both.0, marked.kept (second_root g p) both.1)) };
   uses = λ j c above inside is lt. elim (cases_eq j k) [
     | inl here ↦ subst (λ i. c < length (uses_of g i) → is_marked new (get_or (uses_of g i) c 0) ≡ true) (sym here) (λ less. marked.there c less) lt
@@ -105,6 +108,7 @@ closed_more g wanted old new k steps within so_far marked = record {
 pub closed_same : (g : StepsOf) (wanted marks : List Bool) (k : ℕ) → AreClosedFrom g wanted marks (k + 1) → is_marked marks k ≡ false → AreClosedFrom g wanted marks k
 closed_same g wanted marks k so_far none = record {
   size = so_far.size;
+  inside = omega (arith, so_far.inside);
   roots = so_far.roots;
   uses = λ j c above inside is lt. elim (cases_eq j k) [
     | inl here ↦ absurd (false≢true (sym none ∙ (ap (is_marked marks) (sym here) ∙ is)))
