@@ -1,18 +1,18 @@
 -- Laws of literals that are made: columns of a later graph, conjunctions, and the literals of rows.
-use Rattle.std.proofs.Common.{◌≡◌, ℕ, zero, suc, ◌+◌, ◌-◌, ◌*◌, ◌/◌, ◌%◌, ◌^◌, ◌<◌, ◌≤◌, min, eqb, Bool, true, false, not, ◌&&◌, ◌||◌, cond, List, [], ◌∷◌, ◌++◌, length, get_or, take, drop, map, refl, sym, ◌∙◌, ap, ◌⊎◌, inl, inr, arith}
+use Rattle.std.proofs.Common.{◌≡◌, ℕ, zero, suc, ◌+◌, ◌-◌, ◌/◌, ◌%◌, ◌^◌, ◌<◌, ◌≤◌, min, eqb, Bool, true, false, not, ◌&&◌, ◌||◌, cond, List, [], ◌∷◌, ◌++◌, length, get_or, take, drop, map, refl, sym, ◌∙◌, ap, inl, inr, arith}
 use Rattle.std.specs.Prelude.{Result, Ok, Err, IfOk}
-use Rattle.std.specs.List.{list_all, list_any}
-use Rattle.std.proofs.lemmas.Bool.{or_cases, eqb-true, cases_eq, ne_eqb, eq-eqb}
+use Rattle.std.specs.List.{list_all}
+use Rattle.std.proofs.lemmas.Bool.{or_cases, eqb-true, cases_eq, ne_eqb}
 use Rattle.std.proofs.lemmas.List.{drop_more, drop-append-le, take_all, get_or-map, length_push, get_or_append_left, get_or_at, length-map}
 use Rattle.std.proofs.lemmas.List.Folds.{list_all-append, list_any_more}
-use Rattle.eqc_blif.specs.Cover.{allows, row_matches, cover_value}
+use Rattle.eqc_blif.specs.Cover.{allows, row_matches}
 use Rattle.eqc_blif.proofs.RowLemmas.{row_over}
 use Rattle.eqc_graph.specs.declared.node.Node.{Node}
 use Rattle.eqc_graph.specs.Graph.{literal_value, IsWithin, Extends, differ}
 use Rattle.eqc_graph.proofs.GraphLemmas.{extends_itself, extends_along}
 use Rattle.eqc_sweep.specs.Sweeping.{HasValue}
 use Rattle.eqc_gates.specs.Literals.{AreWithin, AreAskedFor}
-use Rattle.eqc_gates.specs.Table.{table_value, Tabulates, IsCofactor, DependsOnOpen}
+use Rattle.eqc_gates.specs.Table.{table_value, IsCofactor, DependsOnOpen}
 use Rattle.eqc_gates.proofs.TableLaws.{table-zero, table-ones, table-not, expansion, none_open}
 use Rattle.eqc_gates.proofs.RowLaws.{some_matches, matches_more, matches_whole, one_ends}
 

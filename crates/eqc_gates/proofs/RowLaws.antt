@@ -4,7 +4,7 @@ use Rattle.std.specs.List.{list_any}
 use Rattle.std.proofs.lemmas.Bool.{cases_lt, false≢true, ne_eqb}
 use Rattle.std.proofs.lemmas.List.{take_all}
 use Rattle.std.proofs.lemmas.List.Folds.{list_any_more}
-use Rattle.eqc_blif.specs.Cover.{allows, row_matches, is_on, is_on_set, cover_value}
+use Rattle.eqc_blif.specs.Cover.{allows, row_matches, is_on_set, cover_value}
 use Rattle.eqc_blif.proofs.RowLemmas.{row_over}
 use Rattle.eqc_gates.specs.Table.{table_value, Tabulates, IsColumn, SaysOfColumn}
 use Rattle.eqc_gates.proofs.TableLaws.{table-and, table-or, table-not, table-zero, table-ones, table_of_column}

@@ -1,15 +1,15 @@
 -- Laws of truth tables: their bits, their columns and their cofactors.
-use Rattle.std.proofs.Common.{◌≡◌, ℕ, zero, suc, ◌+◌, ◌-◌, ◌*◌, ◌/◌, ◌%◌, ◌^◌, ◌<◌, ◌≤◌, min, max, Bool, true, false, not, ◌&&◌, ◌||◌, cond, eqb, List, [], ◌∷◌, length, get_or, set, take, replicate, refl, sym, ◌∙◌, ap, subst, ◌⊎◌, inl, inr, arith, pow-suc, pow_mono, pow_pos}
-use Rattle.std.specs.Int.{bit_at, bit_not, w64}
+use Rattle.std.proofs.Common.{◌≡◌, ℕ, zero, suc, ◌+◌, ◌-◌, ◌*◌, ◌/◌, ◌%◌, ◌^◌, ◌<◌, ◌≤◌, min, max, Bool, true, false, not, ◌&&◌, ◌||◌, cond, eqb, List, [], ◌∷◌, length, get_or, set, replicate, refl, sym, ◌∙◌, ap, inl, inr, arith, pow-suc, pow_mono, pow_pos}
+use Rattle.std.specs.Int.{bit_at, w64}
 use Rattle.std.specs.Prelude.{bit_and, bit_or}
-use Rattle.std.proofs.lemmas.Bool.{agree_below_at, cases_lt, cases_Bool, cases_eq, eqb-true, eq-eqb, false≢true}
+use Rattle.std.proofs.lemmas.Bool.{agree_below_at, cases_lt, cases_Bool, cases_eq, eqb-true, false≢true}
 use Rattle.std.proofs.lemmas.List.{length-set, get_or-set_same, get_or-set_other, set-get_or, same_lists, get_or_default, get_or_past, length-replicate}
 use Rattle.std.proofs.lemmas.List.Sums.{sum_by-set}
 use Rattle.std.specs.List.{count_by}
 use Rattle.std.proofs.lemmas.Nat.{shr-shr, shr_split, one_shl}
 use Rattle.std.proofs.Math.Nat.{add-div_right}
 use Rattle.std.proofs.lemmas.Nat.Bits.{bit_at_lowest, bit_at-suc, bit_at-zero, bit_at-lt, bit_at_and, bit_at_or, bit_at_not, bit_at_ones, bit_at_above, bit_at_cat_low, bit_at_cat_high}
-use Rattle.eqc_gates.specs.Table.{index_of, table_value, Tabulates, IsColumn, SaysOfColumn, IsCofactor, DependsOnOpen}
+use Rattle.eqc_gates.specs.Table.{index_of, table_value, IsColumn, SaysOfColumn, IsCofactor, DependsOnOpen}
 
 -- ---- the number of some values
 

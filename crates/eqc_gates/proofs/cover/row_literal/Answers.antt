@@ -1,6 +1,3 @@
-use Rattle.std.proofs.Common.{map}
-use Rattle.eqc_graph.specs.Graph.{literal_value}
-use Rattle.eqc_gates.proofs.LiteralLaws.{value_as}
 use Rattle.eqc_gates.proofs.cover.row_literal.Goals as goal
 
 pub all_of-requires : goal.all_of-requires

@@ -1,4 +1,4 @@
-use Rattle.std.proofs.Common.{ℕ, ◌<◌, true, false, length, set, refl, sym, ◌∙◌, arith, rules}
+use Rattle.std.proofs.Common.{◌<◌, true, false, length, set, refl, sym, ◌∙◌, arith, rules}
 use Rattle.std.specs.List.{count_by}
 use Rattle.eqc_gates.specs.Table.{DependsOnOpen}
 use Rattle.eqc_gates.specs.Literals.{AreWithin}

@@ -1,4 +1,4 @@
-use Rattle.std.proofs.Common.{ℕ, ◌≡◌, ◌+◌, ◌-◌, ◌<◌, length, get_or, ap, subst, arith}
+use Rattle.std.proofs.Common.{◌≡◌, ◌+◌, ◌-◌, ◌<◌, get_or, ap, subst, arith}
 use Rattle.eqc_build.specs.Steps.{steps_in}
 use Rattle.eqc_build.proofs.StepLaws.{uses_within, root_first, root_second, first_root_within, second_root_within}
 use Rattle.eqc_gates.proofs.MarkLaws.{AreClosedFrom, roots_more, roots_same, closed_more}

@@ -1,6 +1,3 @@
-use Rattle.std.proofs.Common.{◌≡◌, length}
-use Rattle.eqc_build.specs.Steps.{steps_in}
-use Rattle.eqc_gates.specs.Entering.{HaveRoots}
 use Rattle.eqc_gates.proofs.MarkLaws.{HaveRootsSoFar, AreClosedFrom}
 use Rattle.eqc_gates.proofs.marks.needed.Given as goal
 
