@@ -26,5 +26,5 @@ pub use kept::{Kept, clear, give_back_kept, nothing_built, nothing_kept_of_few, 
 pub use moments::Moments;
 pub use plan::{Plan, plan_below, plan_of};
 pub use schedule::{is_marked, moment};
-pub use steps::Steps;
+pub use steps::{StepDriver, Steps, Uses};
 pub use table::{Table, reference_at};

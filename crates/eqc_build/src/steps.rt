@@ -35,7 +35,7 @@ impl<'a> Model for Steps<'a> {
 
 /// Steps that a step uses, in order and with repeats. Contracts see their list.
 #[derive(Drop)]
-pub(crate) struct Uses<'a> {
+pub struct Uses<'a> {
     signals: Signals<'a>,
     /// The step of each signal of the netlist, counted from 0 there.
     places: &'a [u32],
@@ -55,14 +55,14 @@ impl<'a> Model for Uses<'a> {
     ghost invariant = { λ a. (k : ℕ) → k < length a.signals → (slice_index a.signals k < length a.places.now) × (a.start + slice_index a.places.now (slice_index a.signals k) < 4294967296) };
 }
 
-/// What makes the value of a step.
+/// What makes the value of a step, out of values of steps before it.
 #[derive(Drop)]
-pub(crate) enum StepDriver<'a> {
+pub enum StepDriver<'a> {
     /// The value of this variable.
     Variable(u16),
     /// That of this step.
     Copy(u32),
-    /// A cover over these steps.
+    /// A cover with these rows, whose columns are these steps.
     Cover {
         columns: Uses<'a>,
         rows: &'a Rows<'a>,
@@ -88,14 +88,14 @@ fn step_in(chosen: &[u32], places: &[u32], start: u32, s: u32) -> u32
 
 impl<'a> Uses<'a> {
     /// Their number.
-    pub(crate) fn len(&self) -> usize
+    pub fn len(&self) -> usize
         ensures { result ≡ length self.now }
     {
         self.signals.len()
     }
 
     /// The step at position `k`, which is below their number.
-    pub(crate) fn get(&self, k: usize) -> u32
+    pub fn get(&self, k: usize) -> u32
         requires { k < length self.now }
         ensures { result ≡ slice_index self.now k }
     {
@@ -216,8 +216,8 @@ impl<'a> Steps<'a> {
         ]
     }
 
-    /// What a step uses.
-    pub(crate) fn uses(&self, step: u32) -> Uses<'_>
+    /// The steps that a step uses: each comes before it. `step` is below their number.
+    pub fn uses(&self, step: u32) -> Uses<'_>
         requires { step < steps_in self.now.pair }
         ensures { result ≡ uses_of self.now step }
     {
@@ -231,8 +231,8 @@ impl<'a> Steps<'a> {
         uses_in(second, &self.chosen, self.others, count, step - count)
     }
 
-    /// What makes the value of a step.
-    pub(crate) fn driver(&self, step: u32) -> StepDriver<'_>
+    /// What makes the value of a step. `step` is below their number.
+    pub fn driver(&self, step: u32) -> StepDriver<'_>
         requires { step < steps_in self.now.pair }
         ensures { IsMadeBy self.now step result }
     {

@@ -1,0 +1,5 @@
+pub mod TableLaws
+pub mod RowLaws
+pub mod LiteralLaws
+pub mod MarkLaws
+pub mod EnteringLaws

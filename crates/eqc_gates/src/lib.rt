@@ -1,0 +1,21 @@
+//! The steps of a pair of netlists as literals of a graph: each step gets a literal whose value is the step's.
+//!
+//! Read the modules in this order:
+//!
+//! - `steps`, the literals of steps in their order; `marks`, which steps are needed. What they say of a pair stands in
+//!   `specs/Entering.antt`
+//! - `cover`, the literal of a cover, by its table or by its rows; lists of literals stand in `specs/Literals.antt`
+//! - `table`, the truth table of a cover of few columns, with `specs/Table.antt`: what a table says
+//! - `expansion`, the literal of a table; `gate`, literals made of literals: or, multiplexer, conjunction
+#![tactic(auto)]
+
+mod cover;
+mod expansion;
+mod gate;
+mod marks;
+mod steps;
+mod table;
+
+pub use cover::cover_literal;
+pub use marks::needed;
+pub use steps::literals;
