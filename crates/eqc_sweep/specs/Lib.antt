@@ -1,1 +1,5 @@
 pub mod Sweeping
+pub mod Gates
+pub mod Reducing
+pub mod Known
+pub mod Ordering

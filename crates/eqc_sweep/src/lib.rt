@@ -4,10 +4,21 @@
 //! that was not made is in no other. Read the modules in this order:
 //!
 //! - `sweep`, the public type and its calls; `effort`, what they may cost
+//! - `rules`, what stands in place of a gate, by `and_rules` and `xor_rules`; `gate`, what a literal is of its gate's
+//!   operands; `relations`, what numbers of literals tell; `reduced`, what a rule gives
+//! - `table`, structural hashing; `order`, the form under which a gate is looked up
 #![tactic(auto)]
 
+mod and_rules;
 mod effort;
+mod gate;
+mod order;
+mod reduced;
+mod relations;
+mod rules;
 mod sweep;
+mod table;
+mod xor_rules;
 
 pub use effort::Effort;
 pub use sweep::Sweep;
