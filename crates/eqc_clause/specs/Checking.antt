@@ -1,5 +1,5 @@
 -- What the check knows of the literals that it takes to be false, and of what is left of a clause without them.
-use Rattle.std.specs.Prelude.{◌≡◌, ℕ, ◌==◌, Bool, true, false, List, ◌∷◌, ⊤, slice_index_or}
+use Rattle.std.specs.Prelude.{◌≡◌, ℕ, ◌==◌, Bool, true, false, not, List, ◌∷◌, ⊤, slice_index_or}
 use Rattle.std.specs.List.{list_any}
 use Rattle.eqc_graph.specs.declared.node.Node.{Node}
 use Rattle.eqc_graph.specs.Graph.{literal_value, node_value}
@@ -22,6 +22,10 @@ pub record Implies (c d : List ℕ) : Type 0 where
 -- the same in one graph
 pub record LeadsTo (nodes : List Node) (c d : List ℕ) : Type 0 where
   pub leads : (a : ℕ → Bool) → clause_value nodes a c ≡ true → clause_value nodes a d ≡ true
+
+-- the first literals are complements of the others: one of them is true just where one of the others is false
+pub record AreComplements (c d : List ℕ) : Type 0 where
+  pub value : (nodes : List Node) (a : ℕ → Bool) → clause_value nodes a c ≡ list_any (λ l. not (literal_value nodes a l)) d
 
 -- wherever the clause is true, one of those literals is that are taken to be false, or the one that is left
 abbrev pub IsLeft : List ℕ → List ℕ → Left → Type 0

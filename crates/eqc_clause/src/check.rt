@@ -1,12 +1,12 @@
 //! The hints in their turn, and the calls that learn and refute.
 ghost use Rattle.std.specs.Prelude.{◌≡◌, ℕ, Bool, List, [], IsTrue, IfOk, OnErr, IfSome, IfNone, OnSome};
-ghost use Rattle.eqc_clause.specs.Clauses.{IsTrueOf, IsSound, IsRefuted, Puts};
+ghost use Rattle.eqc_clause.specs.Clauses.{IsTrueOf, AreWithin, IsSound, IsRefuted, Puts};
 
 use crate::falsified::Falsified;
 use crate::left::Left;
 use crate::reading::left_by;
 use crate::{Clauses, Hint, Marks};
-use eqc_graph::{Graph, negated};
+use eqc_graph::{Graph, negated, node_of};
 use std::alloc::AllocError;
 
 /// Whether the hints, each unit or false in its turn, show that one of the literals is true that are taken to be false.
@@ -64,6 +64,19 @@ fn refutation_follows(
     ends_in_conflict(graph, clauses, hints, falsified)
 }
 
+/// Whether the graph has each of the literals.
+fn are_within(graph: &Graph, clause: &[u32]) -> bool
+    ensures { IsTrue result → AreWithin graph.now clause.now }
+{
+    let count = graph.len();
+    for l in clause {
+        if node_of(*l) >= count {
+            return false;
+        }
+    }
+    true
+}
+
 /// Whether the hints show the clause.
 fn shows(
     graph: &Graph,
@@ -82,8 +95,9 @@ fn shows(
 
 impl Clauses {
     /// Takes in a clause that the hints show: with its literals false, each names a clause that is unit, or one that is
-    /// false, which ends it. Gives the clause's number, or `None` where they don't show it; a clause of no literals is
-    /// never shown. Literals and nodes may be any numbers. Fails where memory is refused, and then the store is as before.
+    /// false, which ends it. Gives the clause's number, or `None` where they don't show it. A clause of no literals, or
+    /// of one that the graph doesn't have, is never taken in. Hints may name any numbers. Fails where memory is refused,
+    /// or where 2^32 - 1 clauses are in use, and then the store is as before.
     pub fn learn(
         &mut self,
         graph: &Graph,
@@ -98,7 +112,10 @@ impl Clauses {
         ensures none { IfOk result (λ number. IfNone number (self.new ≡ self.old)) }
         ensures err { OnErr result (self.new ≡ self.old) }
     {
-        if clause.is_empty() || !shows(graph, self, clause, hints, marks)? {
+        if clause.is_empty() || !are_within(graph, clause) {
+            return Ok(None);
+        }
+        if !shows(graph, self, clause, hints, marks)? {
             return Ok(None);
         }
         let number = self.put(clause)?;
@@ -106,8 +123,8 @@ impl Clauses {
     }
 
     /// Whether the hints show that the assumptions can't all be true: with all of them true, each hint names a clause
-    /// that is unit, or one that is false, which ends it. Literals and nodes may be any numbers. Fails where memory is
-    /// refused.
+    /// that is unit, or one that is false, which ends it. Assumptions and hints may name any numbers. Fails where memory
+    /// is refused.
     pub fn refutes(
         &self,
         graph: &Graph,

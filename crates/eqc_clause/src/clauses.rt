@@ -1,5 +1,5 @@
 //! The store of clauses.
-ghost use Rattle.std.specs.Prelude.{◌≡◌, ℕ, List, [], length, IfOk, OnErr};
+ghost use Rattle.std.specs.Prelude.{◌≡◌, ℕ, ◌<◌, List, [], length, map, IfOk, OnErr, IfSome};
 ghost use Rattle.eqc_clause.specs.Clauses.{clause_of, IsSound, Puts, GivesUp};
 
 use eqc_graph::Node;
@@ -25,8 +25,10 @@ impl Model for Clauses {
 
 impl Clauses {
     /// No clauses.
+    #[tactic(auto, using(crate::proofs::ClauseLemmas::none_sound))]
     pub fn new(alloc: Global) -> Clauses
-        ensures { result ≡ [] }
+        ensures empty { result ≡ [] }
+        ensures sound { (nodes : List Node) → IsSound nodes result }
     {
         Clauses {
             alloc,
@@ -80,26 +82,30 @@ impl Clauses {
         ensures err { OnErr result (self.new ≡ self.old) }
     {
         let stored = Vec::from_slice(self.alloc, clause)?;
-        let number = self.free_number()?;
-        self.clauses[number as usize] = stored;
-        Ok(number)
-    }
-
-    /// A free number below the length, which grows where there is none.
-    fn free_number(&mut self) -> Result<u32, AllocError> {
-        while let Some(number) = self.free.pop() {
-            let at = number as usize;
-            if at < self.clauses.len() && self.clauses[at].is_empty() {
-                return Ok(number);
-            }
+        if let Some(number) = take_free(&mut self.free, self.clauses.as_slice()) {
+            self.clauses[number as usize] = stored;
+            return Ok(number);
         }
         let number = self.clauses.len();
         if number >= u32::MAX as usize {
             return Err(AllocError);
         }
-        self.clauses.push(Vec::new(self.alloc))?;
         // So that giving a clause up never wants memory.
-        self.free.reserve(self.clauses.capacity())?;
+        self.free.reserve(number + 1)?;
+        self.clauses.push(stored)?;
         Ok(number as u32)
     }
+}
+
+/// Takes a number from the list whose clause is empty.
+fn take_free(free: &mut Vec<u32>, clauses: &[Vec<u32>]) -> Option<u32>
+    ensures { IfSome result (λ number. (number < length clauses.now) × (clause_of (map (λ c. c.items) clauses.now) number ≡ [])) }
+{
+    while let Some(number) = free.pop() {
+        let at = number as usize;
+        if at < clauses.len() && clauses[at].is_empty() {
+            return Some(number);
+        }
+    }
+    None
 }

@@ -1,11 +1,8 @@
 //! The literals that are taken to be false.
-ghost use Rattle.std.specs.Prelude.{◌≡◌, ℕ, [], ◌∷◌, ◌++◌, Bool, not, true, List, IsTrue, OnOk};
-ghost use Rattle.std.specs.List.{list_any};
-ghost use Rattle.eqc_graph.specs.Graph.{literal_value};
-ghost use Rattle.eqc_clause.specs.Clauses.{clause_value};
-ghost use Rattle.eqc_clause.specs.Checking.{has};
+ghost use Rattle.std.specs.Prelude.{◌≡◌, ℕ, [], ◌∷◌, ◌++◌, true, IsTrue, OnOk};
+ghost use Rattle.eqc_clause.specs.Checking.{has, AreComplements};
 
-use eqc_graph::{Node, negated};
+use eqc_graph::negated;
 use std::alloc::{AllocError, Global};
 use std::marker::Model;
 
@@ -84,7 +81,7 @@ impl Falsified {
     /// Takes each of the literals to be true.
     pub(crate) fn set_all_true(&mut self, literals: &[u32]) -> Result<(), AllocError>
         requires { self.old ≡ [] }
-        ensures { OnOk result ((nodes : List Node) (a : ℕ → Bool) → clause_value nodes a self.new ≡ list_any (λ l. not (literal_value nodes a l)) literals.now) }
+        ensures { OnOk result (AreComplements self.new literals.now) }
     {
         for l in literals {
             self.set_false(negated(*l))?;

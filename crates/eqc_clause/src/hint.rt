@@ -5,8 +5,8 @@
 pub enum Hint {
     /// A clause of the store, by its number.
     Clause(u32),
-    /// A clause of a gate of the graph, by the gate's node. Of n = and(a, b) side 0 is (not n, a), 1 is (not n, b), and
-    /// 2 is (n, not a, not b). Of n = xor(a, b) side s, from 0 to 3, is the clause that forbids a = s % 2 and b = s / 2
-    /// with the n that is wrong for them.
+    /// A clause of a node of the graph. Of n = and(a, b) side 0 is (not n, a), 1 is (not n, b), and 2 is (n, not a, not b).
+    /// Of n = xor(a, b) side s, from 0 to 3, is the clause that forbids a = s % 2 and b = s / 2 with the n that is wrong
+    /// for them. Of the constant n side 0 is (not n). Other nodes and sides have no clause.
     Gate { node: u32, side: u32 },
 }

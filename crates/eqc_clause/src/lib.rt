@@ -8,6 +8,13 @@
 //! - `falsified`, the literals that are taken to be false; `marks`, the memory in which that is done
 //! - `left`, what is left of a clause; `reading`, the clause of a hint
 //! - `check`, the hints in their turn, and the calls that learn and refute
+//!
+//! `proofs/ClauseLemmas.antt` has what proofs above need besides the contracts, for `#[tactic(auto, using(..))]`:
+//!
+//! - `none_sound`, `extended_sound`: no clauses are sound, and what is sound for a graph is so for each that extends it
+//! - `put_sound`, `given_up_sound`: a store stays sound where a true clause comes in, and where one goes
+//! - `extended_true`: a clause that is true of a graph is true of each that extends it
+//! - `equal_if_refuted`: two literals are equal where neither can be true without the other
 #![tactic(auto)]
 
 mod check;

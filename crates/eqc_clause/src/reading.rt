@@ -36,15 +36,15 @@ fn left_of_kept(graph: &Graph, clauses: &Clauses, number: u32, falsified: &Falsi
     left_of(clause, falsified)
 }
 
-/// What is left of the clause on that side of a node whose literal is `n`.
+/// What is left of the clause on that side of a node whose literal is `n`; that of the constant is (not n).
 fn left_of_gate(n: u32, node: Node, side: u32, falsified: &Falsified) -> Left
     ensures { IsLeftOfGate n node falsified.now result }
 {
     match node {
         Node::And(a, b) => left_of_and(n, a, b, side, falsified),
         Node::Xor(a, b) => left_of_xor(n, a, b, side, falsified),
-        Node::Constant => Left::More,
-        Node::Input(_) => Left::More,
+        Node::Constant if side == 0 => left_of(&[negated(n)], falsified),
+        _ => Left::More,
     }
 }
 

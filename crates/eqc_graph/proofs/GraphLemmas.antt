@@ -1,11 +1,11 @@
 -- What the values of nodes and literals come to.
-use Rattle.std.proofs.Common.{◌≡◌, ℕ, zero, suc, ◌+◌, ◌-◌, ◌*◌, ◌/◌, ◌<◌, ◌≤◌, Bool, true, false, not, ◌&&◌, List, [], ◌∷◌, ◌++◌, length, take, drop, get_or, refl, sym, ◌∙◌, ap, subst, arith, append_assoc, add-one}
+use Rattle.std.proofs.Common.{◌≡◌, ℕ, suc, ◌+◌, ◌*◌, ◌/◌, ◌<◌, Bool, true, false, not, List, [], ◌∷◌, ◌++◌, length, take, drop, get_or, refl, sym, ◌∙◌, ap, subst, arith, append_assoc}
 use Rattle.std.proofs.lemmas.List.{length-append, take-append-drop, length-take-le, get_or_append_left, get_or_default}
 use Rattle.std.proofs.Math.Seq.{get_or-append_seam, take-append_seam, drop-cons}
 use Rattle.eqc_graph.specs.declared.node.Node.{Node}
 use Rattle.eqc_graph.specs.declared.node.Node.TheVariants.{Constant, Input, And, Xor}
-use Rattle.eqc_graph.specs.Graph.{differ, value_among, node_value, values_from, literal_value, IsWithin, IsBelow, node_at, IsGraph, Extends}
-use Rattle.eqc_graph.proofs.LiteralLemmas.{value_of_literal}
+use Rattle.eqc_graph.specs.Graph.{value_among, node_value, values_from, literal_value, IsWithin, IsBelow, node_at, IsGraph, Extends}
+use Rattle.eqc_graph.proofs.LiteralLemmas.{value_of_literal, value_behind}
 
 -- the values of more nodes come behind
 values_behind : (a : ℕ → Bool) (values : List Bool) (nodes more : List Node) → values_from a values (nodes ++ more) ≡ values_from a (values_from a values nodes) more
@@ -83,21 +83,28 @@ node_same a v w k (And x y) below same = rw (same x below.0, same y below.1) ref
 node_same a v w k (Xor x y) below same = rw (same x below.0, same y below.1) refl
 
 -- the value of a node's literal is what the node says
-pub value_at_node : (nodes : List Node) (k : ℕ) (a : ℕ → Bool) → k < length nodes → IsBelow k (node_at nodes k) → literal_value nodes a (2 * k) ≡ node_value a (literal_value nodes a) (node_at nodes k)
+pub value_at_node :
+    (nodes : List Node) (k : ℕ) (a : ℕ → Bool) →
+    k < length nodes → IsBelow k (node_at nodes k) → literal_value nodes a (2 * k) ≡ node_value a (literal_value nodes a) (node_at nodes k)
 value_at_node nodes k a inside below =
     let n = node_at nodes k in
     let front = take k nodes in
     let size : length (take k nodes) ≡ k = length-take-le k nodes (omega (arith, inside)) in
     let back : drop k nodes ≡ node_at nodes k ∷ drop (suc k) nodes = drop-cons nodes k Constant inside in
-    let whole : nodes ≡ (take k nodes ++ node_at nodes k ∷ []) ++ drop (suc k) nodes = sym (append_assoc front (n ∷ []) (drop (suc k) nodes) ∙ (ap (λ (rest : List Node). front ++ rest) (sym back) ∙ take-append-drop k nodes)) in
+    let whole : nodes ≡ (take k nodes ++ node_at nodes k ∷ []) ++ drop (suc k) nodes =
+    sym (append_assoc front (n ∷ []) (drop (suc k) nodes) ∙ (ap (λ (rest : List Node). front ++ rest) (sym back) ∙ take-append-drop k nodes)) in
     let within : IsWithin (front ++ n ∷ []) (2 * k) = omega (arith, size, length-append front (n ∷ [])) in
-    let cut : literal_value nodes a (2 * k) ≡ literal_value (front ++ n ∷ []) a (2 * k) = ap (λ (all : List Node). literal_value all a (2 * k)) whole ∙ value_stays (front ++ n ∷ []) (drop (suc k) nodes) a (2 * k) within in
-    let new : literal_value (front ++ n ∷ []) a (2 * k) ≡ node_value a (literal_value front a) n = ap (λ (m : ℕ). literal_value (front ++ n ∷ []) a (2 * m)) (sym size) ∙ value_pushed front n a in
+    let cut : literal_value nodes a (2 * k) ≡ literal_value (front ++ n ∷ []) a (2 * k) =
+    ap (λ (all : List Node). literal_value all a (2 * k)) whole ∙ value_stays (front ++ n ∷ []) (drop (suc k) nodes) a (2 * k) within in
+    let new : literal_value (front ++ n ∷ []) a (2 * k) ≡ node_value a (literal_value front a) n =
+    ap (λ (m : ℕ). literal_value (front ++ n ∷ []) a (2 * m)) (sym size) ∙ value_pushed front n a in
     let same : (l : ℕ) → l / 2 < k → literal_value front a l ≡ literal_value nodes a l = λ l low. sym ((extends_cut nodes k).same l a (omega (arith, size, low))) in
     cut ∙ (new ∙ node_same a (literal_value front a) (literal_value nodes a) k n below same)
 
 -- the same of a node that was read
-pub value_of_read : (items nodes : List Node) (k : ℕ) (n : Node) → items ≡ nodes → IsGraph items → k < length nodes → n ≡ get_or items k n → (a : ℕ → Bool) → literal_value nodes a (2 * k) ≡ node_value a (literal_value nodes a) n
+pub value_of_read :
+    (items nodes : List Node) (k : ℕ) (n : Node) →
+    items ≡ nodes → IsGraph items → k < length nodes → n ≡ get_or items k n → (a : ℕ → Bool) → literal_value nodes a (2 * k) ≡ node_value a (literal_value nodes a) n
 value_of_read items nodes k n same graph inside read =
     let there : k < length items = omega (arith, inside, ap length same) in
     let is : n ≡ node_at items k = read ∙ get_or_default items k n Constant there in
@@ -105,3 +112,18 @@ value_of_read items nodes k n same graph inside read =
     subst
     (λ (all : List Node). (a : ℕ → Bool) → literal_value all a (2 * k) ≡ node_value a (literal_value all a) n) same
     (subst (λ (m : Node). (a : ℕ → Bool) → literal_value items a (2 * k) ≡ node_value a (literal_value items a) m) (sym is) at_node)
+
+-- literal 0 is false, and literal 1 is true
+pub value_of_zero : (nodes : List Node) (a : ℕ → Bool) → IsGraph nodes → literal_value nodes a 0 ≡ false
+value_of_zero nodes a graph = value_at_node nodes 0 a graph.some (graph.earlier 0 graph.some) ∙ ap (node_value a (literal_value nodes a)) graph.constant
+
+pub value_of_one : (nodes : List Node) (a : ℕ → Bool) → IsGraph nodes → literal_value nodes a 1 ≡ true
+value_of_one nodes a graph = value_behind nodes a 0 refl ∙ ap not (value_of_zero nodes a graph)
+
+-- nodes that were pushed and taken back leave the graph as it was
+pub unmade : (old new cut more : List Node) (n : ℕ) → new ≡ old ++ more → n ≡ length old → cut ≡ take n new → cut ≡ old
+unmade old new cut more n pushed is back =
+    back ∙ (ap (take n) pushed ∙ (ap (λ (k : ℕ). take k (old ++ more)) is ∙ cut_back old more))
+
+pub extends_same : (old new : List Node) → new ≡ old → Extends old new
+extends_same old new same = subst (λ (nodes : List Node). Extends old nodes) (sym same) (extends_itself old)

@@ -1,0 +1,3 @@
+pub mod ClauseLemmas
+pub mod StoreLemmas
+pub mod LeftLemmas
