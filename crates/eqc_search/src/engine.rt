@@ -1,0 +1,183 @@
+//! The state of a search.
+use crate::conflict::Analysis;
+use crate::decisions::Decisions;
+use crate::learned::Learned;
+use crate::reads::{literal_of, node_at};
+use crate::restarts::Restarts;
+use crate::values::{Reason, Value, Values};
+use crate::window::Window;
+use eqc_graph::{Graph, Node, node_of};
+use std::alloc::{AllocError, Global};
+
+/// So many gates are in the first window, and so many times more in each further one.
+const FIRST_WINDOW: u32 = 200;
+
+const WINDOW_GROWTH: u32 = 4;
+
+/// All that a search keeps of a question, and of earlier ones to begin with.
+#[derive(Drop)]
+pub(crate) struct Engine {
+    pub(crate) values: Values,
+    pub(crate) decisions: Decisions,
+    pub(crate) window: Window,
+    pub(crate) learned: Learned,
+    pub(crate) restarts: Restarts,
+    pub(crate) analysis: Analysis,
+    /// The literals visited that aren't charged yet.
+    pub(crate) visits: u64,
+    /// So many gates the window may have.
+    aim: u32,
+}
+
+impl Engine {
+    pub(crate) fn new(alloc: Global) -> Engine {
+        Engine {
+            values: Values::new(alloc),
+            decisions: Decisions::new(alloc),
+            window: Window::new(alloc),
+            learned: Learned::new(alloc),
+            restarts: Restarts::new(),
+            analysis: Analysis::new(alloc),
+            visits: 0,
+            aim: FIRST_WINDOW,
+        }
+    }
+
+    /// Makes room for the nodes of a graph.
+    fn grow(&mut self, graph: &Graph) -> Result<(), AllocError> {
+        let nodes = graph.len();
+        self.values.grow(nodes)?;
+        self.decisions.grow(nodes)?;
+        self.window.grow(graph)?;
+        self.learned.grow(nodes)?;
+        self.analysis.grow(nodes)
+    }
+
+    #[inline(always)]
+    pub(crate) fn visit(&mut self) {
+        self.visits = self.visits.wrapping_add(1);
+    }
+
+    /// Takes the visits from what may be spent. Says whether something is left.
+    pub(crate) fn charge(&mut self, left: &mut u64) -> bool {
+        *left = left.saturating_sub(self.visits);
+        self.visits = 0;
+        *left > 0
+    }
+
+    /// Makes the window so large, as far as there are gates.
+    fn expand(&mut self, graph: &Graph, most: u32) -> Result<(), AllocError> {
+        let before = self.window.gates();
+        self.aim = most;
+        self.window.expand(graph, most)?;
+        let more = self.window.gates().saturating_sub(before);
+        self.visits = self.visits.wrapping_add(u64::from(more));
+        Ok(())
+    }
+
+    /// Begins a question. Says whether no assumption is the complement of another one or false.
+    pub(crate) fn begin(&mut self, graph: &Graph, assumptions: &[u32]) -> Result<bool, AllocError> {
+        self.grow(graph)?;
+        self.restarts = Restarts::new();
+        self.analysis.hints.clear();
+        for literal in assumptions {
+            self.window.enter(graph, node_of(*literal))?;
+        }
+        self.expand(graph, FIRST_WINDOW)?;
+        for literal in assumptions {
+            match self.values.value(*literal) {
+                Value::True => {}
+                Value::False => return Ok(false),
+                Value::Free => self.values.assign(*literal, Reason::Decided),
+            }
+        }
+        Ok(true)
+    }
+
+    /// Takes back all values of higher levels.
+    pub(crate) fn back_to(&mut self, level: u32) {
+        for _ in self.values.start_above(level)..self.values.len() {
+            let literal = self.values.take_back();
+            let node = node_of(literal);
+            self.decisions
+                .set_phase(node, literal == literal_of(node, true));
+            self.decisions.insert(node, self.window.height(node));
+        }
+        self.values.end_above(level);
+    }
+
+    /// The node to be decided next, if there is one.
+    fn next_decision(&mut self) -> Option<u32> {
+        for _ in 0..self.decisions.len() {
+            let node = self.decisions.pop()?;
+            if self.values.value(literal_of(node, true)) == Value::Free {
+                return Some(node);
+            }
+        }
+        None
+    }
+
+    /// Takes back all decisions, and drops learned clauses if there are too many.
+    fn restart(&mut self) -> Result<(), AllocError> {
+        self.back_to(0);
+        if self.learned.len() > self.restarts.limit() {
+            self.learned.reduce(&mut self.values)?;
+            self.values.propagate_anew();
+        }
+        self.restarts.restart();
+        Ok(())
+    }
+
+    /// Goes on where all that follows is there: a restart, a decision, or a larger window. Says whether there was
+    /// something to do. If not, all gates that have a value have it from their operands.
+    pub(crate) fn go_on(&mut self, graph: &Graph) -> Result<bool, AllocError> {
+        if self.restarts.is_due() {
+            self.restart()?;
+            return Ok(true);
+        }
+        if let Some(node) = self.next_decision() {
+            let literal = literal_of(node, self.decisions.phase(node));
+            self.values.decide(literal)?;
+            return Ok(true);
+        }
+        if !self.window.can_expand() {
+            return Ok(false);
+        }
+        self.back_to(0);
+        self.expand(graph, self.aim.saturating_mul(WINDOW_GROWTH))?;
+        self.values.propagate_anew();
+        Ok(true)
+    }
+
+    /// Puts the values of the inputs that have one into a row.
+    pub(crate) fn read_model(
+        &self,
+        graph: &Graph,
+        model: &mut Vec<(u32, bool)>,
+    ) -> Result<(), AllocError> {
+        for node in self.window.nodes() {
+            if let Node::Input(_) = node_at(graph, *node) {
+                match self.values.value(literal_of(*node, true)) {
+                    Value::True => model.push((*node, true))?,
+                    Value::False => model.push((*node, false))?,
+                    Value::Free => {}
+                }
+            }
+        }
+        Ok(())
+    }
+
+    /// Forgets the question.
+    pub(crate) fn finish(&mut self) {
+        self.back_to(0);
+        for _ in 0..self.values.len() {
+            self.values.take_back();
+        }
+        self.values.end_above(0);
+        self.values.propagate_anew();
+        self.decisions.clear();
+        self.learned.clear();
+        self.analysis.clear();
+        self.window.clear();
+    }
+}

@@ -1,0 +1,250 @@
+//! What follows from the values there are: along the gates of the window, and along the learned clauses.
+use crate::engine::Engine;
+use crate::reads::{NONE, literal_of, node_at};
+use crate::values::{Reason, Value};
+use crate::window::Fanout;
+use eqc_graph::{Graph, Node, node_of};
+
+/// What becomes of a clause, one of whose watched literals is false.
+enum Watched {
+    Kept,
+    /// This literal is watched instead.
+    Moved(u32),
+    Conflict,
+}
+
+/// The side of an exclusive or that forbids these values of its operands.
+fn xor_side(a: bool, b: bool) -> u32 {
+    match (a, b) {
+        (false, false) => 0,
+        (true, false) => 1,
+        (false, true) => 2,
+        (true, true) => 3,
+    }
+}
+
+impl Engine {
+    /// Makes true what follows. Gives a clause that is false, if there is one.
+    pub(crate) fn propagate(&mut self, graph: &Graph) -> Option<Reason> {
+        for _ in 0..u32::MAX {
+            let literal = self.values.next()?;
+            let conflict = self.propagate_literal(graph, literal);
+            if conflict.is_some() {
+                return conflict;
+            }
+        }
+        None
+    }
+
+    /// Makes true what follows from one literal.
+    fn propagate_literal(&mut self, graph: &Graph, literal: u32) -> Option<Reason> {
+        let node = node_of(literal);
+        if self.window.is_gate(node) {
+            let conflict = self.visit_gate(graph, node, literal);
+            if conflict.is_some() {
+                return conflict;
+            }
+        }
+        let conflict = self.visit_fanouts(node, literal);
+        if conflict.is_some() {
+            return conflict;
+        }
+        self.visit_watches(literal ^ 1)
+    }
+
+    /// Makes a literal true for this reason. Gives the reason if the literal is false.
+    #[inline(always)]
+    fn imply(&mut self, literal: u32, reason: Reason) -> Option<Reason> {
+        match self.values.value(literal) {
+            Value::True => None,
+            Value::False => Some(reason),
+            Value::Free => {
+                self.values.assign(literal, reason);
+                None
+            }
+        }
+    }
+
+    /// Lets the operands of a gate that has got a value be decided, and makes true what follows for them.
+    fn visit_gate(&mut self, graph: &Graph, node: u32, literal: u32) -> Option<Reason> {
+        self.visit();
+        match node_at(graph, node) {
+            Node::And(a, b) => {
+                self.offer(a);
+                self.offer(b);
+                if literal == literal_of(node, true) {
+                    let conflict = self.imply(a, Reason::Gate { node, side: 0 });
+                    if conflict.is_some() {
+                        return conflict;
+                    }
+                    return self.imply(b, Reason::Gate { node, side: 1 });
+                }
+                let reason = Reason::Gate { node, side: 2 };
+                if self.values.value(a) == Value::True {
+                    return self.imply(b ^ 1, reason);
+                }
+                if self.values.value(b) == Value::True {
+                    return self.imply(a ^ 1, reason);
+                }
+                None
+            }
+            Node::Xor(a, b) => {
+                self.offer(a);
+                self.offer(b);
+                self.visit_xor(node, a, b)
+            }
+            Node::Constant | Node::Input(_) => None,
+        }
+    }
+
+    /// Lets the node of a literal be decided if it is free.
+    #[inline(always)]
+    fn offer(&mut self, literal: u32) {
+        if self.values.value(literal) == Value::Free {
+            let node = node_of(literal);
+            self.decisions.insert(node, self.window.height(node));
+        }
+    }
+
+    /// Makes true what follows for an exclusive or, where one of three values is missing.
+    fn visit_xor(&mut self, node: u32, a: u32, b: u32) -> Option<Reason> {
+        let of_gate = self.values.value(literal_of(node, true));
+        let of_a = self.values.value(a);
+        let of_b = self.values.value(b);
+        let is_true = of_gate == Value::True;
+        let a_is_true = of_a == Value::True;
+        let b_is_true = of_b == Value::True;
+        match (of_gate, of_a, of_b) {
+            (Value::Free, Value::True | Value::False, Value::True | Value::False) => {
+                let side = xor_side(a_is_true, b_is_true);
+                let literal = literal_of(node, a_is_true != b_is_true);
+                self.values.assign(literal, Reason::Gate { node, side });
+                None
+            }
+            (Value::True | Value::False, Value::Free, Value::True | Value::False) => {
+                let becomes = is_true != b_is_true;
+                let side = xor_side(!becomes, b_is_true);
+                let literal = if becomes { a } else { a ^ 1 };
+                self.values.assign(literal, Reason::Gate { node, side });
+                None
+            }
+            (Value::True | Value::False, Value::True | Value::False, Value::Free) => {
+                let becomes = is_true != a_is_true;
+                let side = xor_side(a_is_true, !becomes);
+                let literal = if becomes { b } else { b ^ 1 };
+                self.values.assign(literal, Reason::Gate { node, side });
+                None
+            }
+            (Value::True | Value::False, Value::True | Value::False, Value::True | Value::False)
+                if is_true == (a_is_true == b_is_true) => Some(Reason::Gate {
+                node,
+                side: xor_side(a_is_true, b_is_true),
+            }),
+            _ => None,
+        }
+    }
+
+    /// Makes true what follows for the gates of which a node is an operand, now that a literal of it is true.
+    fn visit_fanouts(&mut self, node: u32, literal: u32) -> Option<Reason> {
+        let mut at = self.window.first_fanout(node);
+        for _ in 0..self.window.fanouts() {
+            if at == NONE {
+                return None;
+            }
+            self.visit();
+            let fanout = self.window.fanout(at);
+            let conflict = if fanout.is_xor {
+                self.visit_xor_of(fanout)
+            } else {
+                self.visit_and_of(fanout, literal)
+            };
+            if conflict.is_some() {
+                return conflict;
+            }
+            at = fanout.next;
+        }
+        None
+    }
+
+    fn visit_xor_of(&mut self, fanout: Fanout) -> Option<Reason> {
+        if fanout.side == 0 {
+            self.visit_xor(fanout.gate, fanout.own, fanout.other)
+        } else {
+            self.visit_xor(fanout.gate, fanout.other, fanout.own)
+        }
+    }
+
+    /// Makes true what follows for an and, of whose operand a literal is true.
+    #[inline(always)]
+    fn visit_and_of(&mut self, fanout: Fanout, literal: u32) -> Option<Reason> {
+        let node = fanout.gate;
+        let gate = literal_of(node, true);
+        if fanout.own != literal {
+            let side = fanout.side;
+            return self.imply(gate ^ 1, Reason::Gate { node, side });
+        }
+        let reason = Reason::Gate { node, side: 2 };
+        match self.values.value(fanout.other) {
+            Value::True => self.imply(gate, reason),
+            Value::Free if self.values.value(gate) == Value::False => {
+                self.values.assign(fanout.other ^ 1, reason);
+                None
+            }
+            Value::Free | Value::False => None,
+        }
+    }
+
+    /// Makes true what follows for the learned clauses that watch a literal, which is false now.
+    fn visit_watches(&mut self, falsified: u32) -> Option<Reason> {
+        let mut previous = NONE;
+        let mut at = self.learned.first_watch(falsified);
+        for _ in 0..self.learned.watches() {
+            if at == NONE {
+                return None;
+            }
+            self.visit();
+            let watch = self.learned.watch(at);
+            if self.values.value(watch.blocker) == Value::True {
+                previous = at;
+                at = watch.next;
+                continue;
+            }
+            match self.visit_clause(at) {
+                Watched::Kept => previous = at,
+                Watched::Moved(literal) => {
+                    self.learned.unlink(falsified, previous, at);
+                    self.learned.link(literal, at, watch.blocker);
+                }
+                Watched::Conflict => return Some(Reason::Learned(at / 2)),
+            }
+            at = watch.next;
+        }
+        None
+    }
+
+    /// Finds another literal for a watch of a clause, whose literal is false, or makes true the one that is left.
+    fn visit_clause(&mut self, watch: u32) -> Watched {
+        let place = watch / 2;
+        let (begin, end) = self.learned.bounds(place);
+        let own = begin.wrapping_add(watch % 2);
+        let other = self.learned.literal(begin.wrapping_add(1 - watch % 2));
+        let value = self.values.value(other);
+        self.learned.set_blocker(watch, other);
+        if value == Value::True {
+            return Watched::Kept;
+        }
+        for at in begin.wrapping_add(2)..end {
+            self.visit();
+            let literal = self.learned.literal(at);
+            if self.values.value(literal) != Value::False {
+                self.learned.swap(own, at);
+                return Watched::Moved(literal);
+            }
+        }
+        if value == Value::False {
+            return Watched::Conflict;
+        }
+        self.values.assign(other, Reason::Learned(place));
+        Watched::Kept
+    }
+}

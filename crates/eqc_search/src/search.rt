@@ -1,0 +1,169 @@
+//! The question whether assumptions can be true together.
+ghost use Rattle.std.specs.Prelude.{◌≡◌, IfOk};
+ghost use Rattle.eqc_clause.specs.Clauses.{IsSound, IsRefuted};
+
+use crate::engine::Engine;
+use crate::values::Reason;
+use eqc_clause::{Clauses, Marks};
+use eqc_graph::Graph;
+use std::alloc::{AllocError, Global};
+
+/// What a search found.
+#[derive(Clone, Copy, PartialEq, Eq, Debug)]
+pub enum Answer {
+    /// Whatever the values of the variables, one of the assumptions is false.
+    Refuted,
+    /// An assignment was found under which all seem to be true. It wasn't checked.
+    Satisfied,
+    /// The budget is used up.
+    GaveUp,
+}
+
+/// What a search may spend. What was spent is taken away.
+#[derive(Clone, Copy, PartialEq, Eq, Debug)]
+pub struct Budget {
+    /// Conflicts from which something is learned.
+    pub conflicts: u64,
+    /// Literals visited, of gates and of learned clauses.
+    pub visits: u64,
+}
+
+/// A search, with the memory that it needs for graphs of the largest size that it met.
+#[derive(Drop)]
+pub struct Search {
+    engine: Engine,
+    store: Clauses,
+    marks: Marks,
+    model: Vec<(u32, bool)>,
+}
+
+impl Search {
+    pub fn new(alloc: Global) -> Search {
+        Search {
+            engine: Engine::new(alloc),
+            store: Clauses::new(alloc),
+            marks: Marks::new(alloc),
+            model: Vec::new(alloc),
+        }
+    }
+
+    /// The values of inputs' nodes under the assignment that the last question found, if it was answered by one. What
+    /// has no value here may have any. Nothing is promised of it.
+    pub fn model(&self) -> &[(u32, bool)] {
+        self.model.as_slice()
+    }
+
+    /// Lets a decision on a node begin with this value, until the search has given it another one.
+    pub fn prefer(&mut self, node: u32, value: bool) {
+        self.engine.decisions.set_phase(node, value);
+    }
+
+    /// Answers whether the assumptions, literals of the graph, can be true together, unless the budget is used up
+    /// before. Fails where memory is refused.
+    pub fn ask(
+        &mut self,
+        graph: &Graph,
+        assumptions: &[u32],
+        budget: &mut Budget,
+    ) -> Result<Answer, AllocError>
+        ensures { IfOk result (λ answer. answer ≡ Answer.Refuted → IsRefuted graph.now assumptions.now) }
+    {
+        self.model.clear();
+        self.store.clear();
+        let answer = self.run(graph, assumptions, budget);
+        self.engine.finish();
+        answer
+    }
+
+    /// Searches from one conflict to the next.
+    fn run(
+        &mut self,
+        graph: &Graph,
+        assumptions: &[u32],
+        budget: &mut Budget,
+    ) -> Result<Answer, AllocError>
+        requires { IsSound graph.now self.old.store }
+        ensures { IfOk result (λ answer. answer ≡ Answer.Refuted → IsRefuted graph.now assumptions.now) }
+    {
+        if !self.engine.begin(graph, assumptions)? {
+            return self.close(graph, assumptions);
+        }
+        'rounds: for _ in 0..u32::MAX {
+            match self.engine.propagate(graph) {
+                Some(conflict) => {
+                    if self.engine.values.level() == 0 {
+                        self.engine.explain(graph, conflict)?;
+                        return self.close(graph, assumptions);
+                    }
+                    if budget.conflicts == 0 || !self.learn(graph, conflict)? {
+                        return Ok(Answer::GaveUp);
+                    }
+                    budget.conflicts -= 1;
+                }
+                None => {
+                    if !self.go_on(graph)? {
+                        return Ok(Answer::Satisfied);
+                    }
+                }
+            }
+            if !self.engine.charge(&mut budget.visits) {
+                return Ok(Answer::GaveUp);
+            }
+        }
+        Ok(Answer::GaveUp)
+    }
+
+    /// Learns from a conflict, and goes on from there. Says whether the hints showed the clause.
+    fn learn(&mut self, graph: &Graph, conflict: Reason) -> Result<bool, AllocError>
+        requires { IsSound graph.now self.old.store }
+        ensures { IsSound graph.now self.new.store }
+    {
+        let (level, glue) = self.engine.analyze(graph, conflict)?;
+        let analysis = &self.engine.analysis;
+        let learned = self.store.learn(
+            graph,
+            analysis.clause.as_slice(),
+            analysis.hints.as_slice(),
+            &mut self.marks,
+        )?;
+        let Some(number) = learned else {
+            return Ok(false);
+        };
+        self.engine.restarts.count_conflict();
+        self.engine.assert_learned(level, glue, number)?;
+        Ok(true)
+    }
+
+    /// Goes on where there is no conflict. Says whether there was something to do; if not, the model is read.
+    fn go_on(&mut self, graph: &Graph) -> Result<bool, AllocError>
+        requires { IsSound graph.now self.old.store }
+        ensures { IsSound graph.now self.new.store }
+    {
+        if !self.engine.go_on(graph)? {
+            self.engine.read_model(graph, &mut self.model)?;
+            return Ok(false);
+        }
+        'dropped: for _ in 0..u32::MAX {
+            let Some(number) = self.engine.learned.next_dropped() else {
+                return Ok(true);
+            };
+            self.store.give_up(number);
+        }
+        Ok(true)
+    }
+
+    /// Lets the store confirm that the assumptions can't be true together.
+    fn close(&mut self, graph: &Graph, assumptions: &[u32]) -> Result<Answer, AllocError>
+        requires { IsSound graph.now self.old.store }
+        ensures { IfOk result (λ answer. answer ≡ Answer.Refuted → IsRefuted graph.now assumptions.now) }
+    {
+        let hints = self.engine.analysis.hints.as_slice();
+        if self
+            .store
+            .refutes(graph, assumptions, hints, &mut self.marks)?
+        {
+            return Ok(Answer::Refuted);
+        }
+        Ok(Answer::GaveUp)
+    }
+}
