@@ -5,4 +5,5 @@ pub mod AndLemmas
 pub mod XorLemmas
 pub mod RuleLemmas
 pub mod TableLemmas
+pub mod FinderLemmas
 pub mod SweepLemmas

@@ -3,3 +3,4 @@ pub mod Gates
 pub mod Reducing
 pub mod Known
 pub mod Ordering
+pub mod Finding

@@ -2,8 +2,11 @@
 ghost use Rattle.std.specs.Prelude.{◌≡◌, ℕ, Bool, ◌&&◌, [], ◌∷◌, length, IfOk};
 ghost use Rattle.eqc_graph.specs.Graph.{differ, literal_value, node_value, IsWithin, IsBelow, Extends};
 ghost use Rattle.eqc_sweep.specs.Sweeping.{HasValue, HasValueOf};
+ghost use Rattle.eqc_sweep.specs.Finding.{IsRight};
 
+use crate::comparison::Comparison;
 use crate::effort::Effort;
+use crate::finder::Finder;
 use crate::order::ordered;
 use crate::reduced::Reduced;
 use crate::rules::reduced;
@@ -17,6 +20,7 @@ use std::marker::Model;
 pub struct Sweep {
     graph: Graph,
     table: Table,
+    finder: Finder,
 }
 
 impl Model for Sweep {
@@ -37,10 +41,10 @@ impl Sweep {
     pub fn new(alloc: Global, effort: Effort) -> Result<Sweep, AllocError>
         ensures { IfOk result (λ s. s ≡ Node.Constant ∷ []) }
     {
-        let _ = effort;
         Ok(Sweep {
             graph: Graph::new(alloc)?,
             table: Table::new(alloc),
+            finder: Finder::new(alloc, effort)?,
         })
     }
 
@@ -98,8 +102,8 @@ impl Sweep {
         }
     }
 
-    #[tactic(auto, using(crate::proofs::SweepLemmas::value_known, crate::proofs::SweepLemmas::value_new, crate::proofs::SweepLemmas::known_put, crate::proofs::SweepLemmas::extends_same, crate::proofs::TableLemmas::known_extended))]
-    /// The literal of a node, by the table, or else of a new one.
+    #[tactic(auto, using(crate::proofs::SweepLemmas::value_known, crate::proofs::SweepLemmas::known_put, crate::proofs::SweepLemmas::extends_same))]
+    /// The literal of a node, by the table, or else of an older node that is found equal, or else of a new one.
     fn enter(&mut self, node: Node) -> Result<u32, AllocError>
         requires { IsBelow (length self.old) node }
         ensures extends { Extends self.old self.new }
@@ -108,9 +112,38 @@ impl Sweep {
         if let Some(literal) = self.table.find(node) {
             return Ok(literal);
         }
-        let literal = self.graph.push(node)?;
+        let literal = self.make(node)?;
         let _ = self.graph.len();
         self.table.put(node, literal)?;
         Ok(literal)
+    }
+
+    #[tactic(auto, using(crate::proofs::SweepLemmas::value_new, crate::proofs::SweepLemmas::value_older, crate::proofs::SweepLemmas::taken_back, crate::proofs::SweepLemmas::extends_same, crate::proofs::TableLemmas::known_extended))]
+    /// The literal of an older node that is found equal, or else of a new one.
+    fn make(&mut self, node: Node) -> Result<u32, AllocError>
+        requires { IsBelow (length self.old) node }
+        ensures extends { Extends self.old self.new }
+        ensures value { IfOk result (HasValueOf self.old self.new node) }
+    {
+        let nodes = self.graph.len();
+        let literal = self.graph.push(node)?;
+        match self.finder.older_equal(&self.graph, literal)? {
+            None => Ok(literal),
+            Some(older) => {
+                self.graph.truncate(nodes);
+                Ok(older)
+            }
+        }
+    }
+
+    /// Whether two literals are equal, by simulation and by a search with so many conflicts, of which those are taken
+    /// away that there were. Fails where memory is refused.
+    pub fn equal(&mut self, x: u32, y: u32, conflicts: &mut u64) -> Result<Comparison, AllocError>
+        requires x { IsWithin self.old x }
+        requires y { IsWithin self.old y }
+        ensures unchanged { self.new ≡ self.old }
+        ensures right { IfOk result (IsRight self.old x y) }
+    {
+        self.finder.compare(&self.graph, x, y, conflicts)
     }
 }
