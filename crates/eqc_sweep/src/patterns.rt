@@ -156,12 +156,12 @@ impl Patterns {
             return Ok(());
         }
         let at = self.oldest;
-        self.oldest = if at + 1 < MOST { at + 1 } else { RANDOM };
+        self.oldest = if at < MOST - 1 { at + 1 } else { RANDOM };
+        self.discount(at);
         if at < self.rows.len() {
-            self.discount(at);
             self.rows[at] = row;
-            self.count(at);
         }
+        self.count(at);
         Ok(())
     }
 
