@@ -1,1 +1,9 @@
 pub mod ConstantLemmas
+pub mod BoolLemmas
+pub mod GateLemmas
+pub mod AndLemmas
+pub mod XorLemmas
+pub mod RuleLemmas
+pub mod TableLemmas
+pub mod FinderLemmas
+pub mod SweepLemmas

@@ -1,1 +1,6 @@
 pub mod Sweeping
+pub mod Gates
+pub mod Reducing
+pub mod Known
+pub mod Ordering
+pub mod Finding

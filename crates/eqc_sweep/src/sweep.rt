@@ -1,10 +1,17 @@
 //! The public type: a graph that grows by gates.
-ghost use Rattle.std.specs.Prelude.{◌≡◌, ℕ, Bool, ◌&&◌, [], ◌∷◌, IfOk};
-ghost use Rattle.eqc_graph.specs.Graph.{differ, literal_value, IsWithin, Extends};
-ghost use Rattle.eqc_sweep.specs.Sweeping.{HasValue};
+ghost use Rattle.std.specs.Prelude.{◌≡◌, ℕ, Bool, ◌&&◌, [], ◌∷◌, length, IfOk};
+ghost use Rattle.eqc_graph.specs.Graph.{differ, literal_value, node_value, IsWithin, IsBelow, Extends};
+ghost use Rattle.eqc_sweep.specs.Sweeping.{HasValue, HasValueOf};
+ghost use Rattle.eqc_sweep.specs.Finding.{IsRight};
 
+use crate::comparison::Comparison;
 use crate::effort::Effort;
-use eqc_graph::{Graph, Node};
+use crate::finder::Finder;
+use crate::order::ordered;
+use crate::reduced::Reduced;
+use crate::rules::reduced;
+use crate::table::Table;
+use eqc_graph::{Graph, Node, negated_if};
 use std::alloc::{AllocError, Global};
 use std::marker::Model;
 
@@ -12,25 +19,32 @@ use std::marker::Model;
 #[derive(Drop)]
 pub struct Sweep {
     graph: Graph,
+    table: Table,
+    finder: Finder,
 }
 
 impl Model for Sweep {
     ghost use Rattle.std.specs.Prelude.{List};
     ghost use Rattle.eqc_graph.specs.declared.node.Node.{Node};
+    ghost use Rattle.eqc_sweep.specs.Known.{AreKnown};
 
     ghost Value = { List Node };
 
     ghost view = { λ s. s.graph };
+
+    ghost invariant = { λ s. AreKnown s.graph s.table.entries.items };
 }
 
 impl Sweep {
+    #[tactic(auto, using(crate::proofs::TableLemmas::known_none))]
     /// The constant alone. Fails where memory is refused.
     pub fn new(alloc: Global, effort: Effort) -> Result<Sweep, AllocError>
         ensures { IfOk result (λ s. s ≡ Node.Constant ∷ []) }
     {
-        let _ = effort;
         Ok(Sweep {
             graph: Graph::new(alloc)?,
+            table: Table::new(alloc),
+            finder: Finder::new(alloc, effort)?,
         })
     }
 
@@ -43,12 +57,12 @@ impl Sweep {
         if value { 1 } else { 0 }
     }
 
-    /// The literal of a variable. Fails where memory is refused, or where there are 2^30 nodes.
+    /// The literal of a variable, each time the same. Fails where memory is refused, or where there are 2^30 nodes.
     pub fn input(&mut self, variable: u32) -> Result<u32, AllocError>
         ensures extends { Extends self.old self.new }
         ensures value { IfOk result (λ l. HasValue self.new l (λ a. a variable)) }
     {
-        self.graph.push(Node::Input(variable))
+        self.enter(Node::Input(variable))
     }
 
     /// The conjunction of two literals. Fails where memory is refused, or where there are 2^30 nodes.
@@ -58,7 +72,7 @@ impl Sweep {
         ensures extends { Extends self.old self.new }
         ensures value { IfOk result (λ l. HasValue self.new l (λ a. literal_value self.old a x && literal_value self.old a y)) }
     {
-        self.graph.push(Node::And(x, y))
+        self.gate(Node::And(x, y))
     }
 
     /// Whether just one of two literals is true. Fails where memory is refused, or where there are 2^30 nodes.
@@ -68,6 +82,68 @@ impl Sweep {
         ensures extends { Extends self.old self.new }
         ensures value { IfOk result (λ l. HasValue self.new l (λ a. differ (literal_value self.old a x) (literal_value self.old a y))) }
     {
-        self.graph.push(Node::Xor(x, y))
+        self.gate(Node::Xor(x, y))
+    }
+
+    #[tactic(auto, using(crate::proofs::SweepLemmas::value_there, crate::proofs::SweepLemmas::value_absent, crate::proofs::SweepLemmas::extends_same))]
+    /// The literal of a gate, by the rules, or else by its form.
+    fn gate(&mut self, node: Node) -> Result<u32, AllocError>
+        requires { IsBelow (length self.old) node }
+        ensures extends { Extends self.old self.new }
+        ensures value { IfOk result (HasValueOf self.old self.new node) }
+    {
+        match reduced(&self.graph, node) {
+            Reduced::There(literal) => Ok(literal),
+            Reduced::Absent(other) => {
+                let (form, complement) = ordered(other);
+                let literal = self.enter(form)?;
+                Ok(negated_if(literal, complement))
+            }
+        }
+    }
+
+    #[tactic(auto, using(crate::proofs::SweepLemmas::value_known, crate::proofs::SweepLemmas::known_put, crate::proofs::SweepLemmas::extends_same))]
+    /// The literal of a node, by the table, or else of an older node that is found equal, or else of a new one.
+    fn enter(&mut self, node: Node) -> Result<u32, AllocError>
+        requires { IsBelow (length self.old) node }
+        ensures extends { Extends self.old self.new }
+        ensures value { IfOk result (HasValueOf self.old self.new node) }
+    {
+        if let Some(literal) = self.table.find(node) {
+            return Ok(literal);
+        }
+        let literal = self.make(node)?;
+        let _ = self.graph.len();
+        self.table.put(node, literal)?;
+        Ok(literal)
+    }
+
+    #[tactic(auto, using(crate::proofs::SweepLemmas::value_new, crate::proofs::SweepLemmas::value_older, crate::proofs::SweepLemmas::taken_back, crate::proofs::SweepLemmas::extends_same, crate::proofs::TableLemmas::known_extended))]
+    /// The literal of an older node that is found equal, or else of a new one.
+    fn make(&mut self, node: Node) -> Result<u32, AllocError>
+        requires { IsBelow (length self.old) node }
+        ensures extends { Extends self.old self.new }
+        ensures value { IfOk result (HasValueOf self.old self.new node) }
+    {
+        let nodes = self.graph.len();
+        let literal = self.graph.push(node)?;
+        match self.finder.older_equal(&self.graph, literal)? {
+            None => Ok(literal),
+            Some(older) => {
+                self.graph.truncate(nodes);
+                Ok(older)
+            }
+        }
+    }
+
+    /// Whether two literals are equal, by simulation and by a search with so many conflicts, of which those are taken
+    /// away that there were. Fails where memory is refused.
+    pub fn equal(&mut self, x: u32, y: u32, conflicts: &mut u64) -> Result<Comparison, AllocError>
+        requires x { IsWithin self.old x }
+        requires y { IsWithin self.old y }
+        ensures unchanged { self.new ≡ self.old }
+        ensures right { IfOk result (IsRight self.old x y) }
+    {
+        self.finder.compare(&self.graph, x, y, conflicts)
     }
 }

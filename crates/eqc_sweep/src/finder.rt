@@ -1,0 +1,252 @@
+//! Older nodes that a new one equals: simulation says which may, and the search is asked.
+ghost use Rattle.std.specs.Prelude.{◌≡◌, ◌/◌, ◌<◌, IfOk, IfSome};
+ghost use Rattle.eqc_graph.specs.Graph.{IsWithin};
+ghost use Rattle.eqc_sweep.specs.Finding.{AreEqual, IsOlder, AreNever, IsRight};
+
+use crate::account::{Account, budget_of};
+use crate::classes::Classes;
+use crate::comparison::Comparison;
+use crate::counterexamples::{Counterexamples, ROOM};
+use crate::effort::Effort;
+use crate::patterns::Patterns;
+use eqc_graph::{Graph, Node, negated, negated_if, node_of};
+use eqc_search::{Answer, Budget, Search};
+use std::alloc::{AllocError, Global};
+
+/// How many older nodes a new one is asked against.
+const CANDIDATES: u32 = 3;
+
+/// What is known of the nodes by simulation, and the search.
+#[derive(Drop)]
+pub struct Finder {
+    alloc: Global,
+    effort: Effort,
+    patterns: Patterns,
+    classes: Classes,
+    counterexamples: Counterexamples,
+    account: Account,
+    search: Search,
+    /// The inputs' nodes and variables.
+    inputs: Vec<(u32, u32)>,
+}
+
+#[tactic(auto, using(crate::proofs::FinderLemmas::never_both, crate::proofs::FinderLemmas::never_first, crate::proofs::FinderLemmas::never_second, crate::proofs::FinderLemmas::never_zero, crate::proofs::FinderLemmas::never_with_zero))]
+/// Asks whether two literals can both be true.
+fn ask(
+    search: &mut Search,
+    graph: &Graph,
+    x: u32,
+    y: u32,
+    budget: &mut Budget,
+) -> Result<Answer, AllocError>
+    ensures { IfOk result (λ answer. answer ≡ Answer.Refuted → AreNever graph.now x y) }
+{
+    let _ = graph.len();
+    if x == 0 {
+        return Ok(Answer::Refuted);
+    }
+    if y == 0 {
+        return Ok(Answer::Refuted);
+    }
+    if x == 1 {
+        let answer = search.ask(graph, &[y], budget)?;
+        return Ok(answer);
+    }
+    if y == 1 {
+        let answer = search.ask(graph, &[x], budget)?;
+        return Ok(answer);
+    }
+    let answer = search.ask(graph, &[x, y], budget)?;
+    Ok(answer)
+}
+
+/// Asks whether two literals differ: either may be true where the other is false.
+fn ask_both(
+    search: &mut Search,
+    graph: &Graph,
+    x: u32,
+    y: u32,
+    budget: &mut Budget,
+) -> Result<Answer, AllocError>
+    ensures { IfOk result (λ answer. answer ≡ Answer.Refuted → AreEqual graph.now x y) }
+{
+    let not_x = negated(x);
+    let not_y = negated(y);
+    let first = ask(search, graph, x, not_y, budget)?;
+    match first {
+        Answer::Satisfied => return Ok(Answer::Satisfied),
+        Answer::GaveUp => return Ok(Answer::GaveUp),
+        Answer::Refuted => {}
+    }
+    let answer = ask(search, graph, not_x, y, budget)?;
+    Ok(answer)
+}
+
+impl Finder {
+    pub fn new(alloc: Global, effort: Effort) -> Result<Finder, AllocError> {
+        let mut finder = Finder {
+            alloc,
+            effort,
+            patterns: Patterns::new(alloc)?,
+            classes: Classes::new(alloc),
+            counterexamples: Counterexamples::new(alloc),
+            account: Account::new(),
+            search: Search::new(alloc),
+            inputs: Vec::new(alloc),
+        };
+        finder.enter(0, Node::Constant)?;
+        finder.classes.push(finder.patterns.signatures())?;
+        Ok(finder)
+    }
+
+    /// Simulates a new node.
+    fn enter(&mut self, k: u32, node: Node) -> Result<(), AllocError> {
+        self.patterns.push(node)?;
+        self.search.prefer(k, self.patterns.phase(k));
+        if let Node::Input(variable) = node {
+            self.inputs.push((k, variable))?;
+        }
+        Ok(())
+    }
+
+    /// The literal of a node that is older than the last one, and equal to it, if one is found.
+    pub fn older_equal(&mut self, graph: &Graph, new: u32) -> Result<Option<u32>, AllocError>
+        requires { IsWithin graph.now new }
+        ensures { IfOk result (λ found. IfSome found (IsOlder graph.now new)) }
+    {
+        if !self.effort.asks {
+            return Ok(None);
+        }
+        let k = node_of(new);
+        self.enter(k, graph.node(k))?;
+        let found = self.search_older(graph, new)?;
+        if found.is_some() {
+            self.patterns.pop();
+            self.counterexamples.truncate(k);
+        } else {
+            self.classes.push(self.patterns.signatures())?;
+        }
+        Ok(found)
+    }
+
+    /// The candidate of a node that wasn't tried, with the complement that simulation says.
+    fn candidate(&self, k: u32, tried: &[u32]) -> Option<u32>
+        ensures { IfSome result (λ l. l / 2 < k) }
+    {
+        let signature = self.patterns.signature(k);
+        let older = self
+            .classes
+            .first(self.patterns.signatures(), signature, tried)?;
+        if older >= k || older >= 1 << 30 {
+            return None;
+        }
+        Some(negated_if(
+            2 * older,
+            self.patterns.phase(k) != self.patterns.phase(older),
+        ))
+    }
+
+    /// Asks whether the last node equals one of the first candidates.
+    fn search_older(&mut self, graph: &Graph, new: u32) -> Result<Option<u32>, AllocError>
+        ensures { IfOk result (λ found. IfSome found (IsOlder graph.now new)) }
+    {
+        let mut tried = Vec::new(self.alloc);
+        for _ in 0..CANDIDATES {
+            if !self.account.has_room(graph.len()) {
+                return Ok(None);
+            }
+            let Some(older) = self.candidate(node_of(new), tried.as_slice()) else {
+                return Ok(None);
+            };
+            tried.push(node_of(older))?;
+            match self.try_pair(graph, new, older)? {
+                Answer::Refuted => return Ok(Some(older)),
+                Answer::Satisfied => self.simulate(graph)?,
+                Answer::GaveUp => {}
+            }
+        }
+        Ok(None)
+    }
+
+    /// Asks whether two literals differ, for what the account allows.
+    fn try_pair(&mut self, graph: &Graph, x: u32, y: u32) -> Result<Answer, AllocError>
+        ensures { IfOk result (λ answer. answer ≡ Answer.Refuted → AreEqual graph.now x y) }
+    {
+        let given = self.account.open();
+        let mut budget = given;
+        let answer = ask_both(&mut self.search, graph, x, y, &mut budget);
+        self.account.close(given, budget);
+        answer
+    }
+
+    /// Takes the counterexample of the last question in, and simulates where there are enough.
+    fn simulate(&mut self, graph: &Graph) -> Result<(), AllocError> {
+        let alloc = self.alloc;
+        self.counterexamples
+            .begin(alloc, graph, &mut self.patterns)?;
+        if self.account.is_alone() {
+            self.counterexamples
+                .add_with_neighbours(self.search.model(), &mut self.patterns);
+        } else {
+            self.counterexamples.add(self.search.model());
+        }
+        if self.counterexamples.count() < ROOM {
+            return Ok(());
+        }
+        let row = self.counterexamples.take(alloc);
+        if self.account.take_row(graph.len()) {
+            self.patterns.add_row(graph, row)?;
+            self.classes.rebuild(self.patterns.signatures())?;
+        }
+        Ok(())
+    }
+
+    /// Whether two literals are equal, by simulation and for so many conflicts, of which those are taken away that
+    /// there were.
+    pub fn compare(
+        &mut self,
+        graph: &Graph,
+        x: u32,
+        y: u32,
+        conflicts: &mut u64,
+    ) -> Result<Comparison, AllocError>
+        ensures { IfOk result (IsRight graph.now x y) }
+    {
+        if x == y {
+            return Ok(Comparison::Equal);
+        }
+        if let Some((row, place)) = self.patterns.difference(x, y) {
+            return Ok(Comparison::Differs(self.pattern(row, place)?));
+        }
+        let mut budget = budget_of(*conflicts);
+        let answer = ask_both(&mut self.search, graph, x, y, &mut budget);
+        *conflicts = budget.conflicts;
+        match answer? {
+            Answer::Refuted => Ok(Comparison::Equal),
+            Answer::Satisfied => Ok(Comparison::Differs(self.model(graph)?)),
+            Answer::GaveUp => Ok(Comparison::Unknown),
+        }
+    }
+
+    /// The values of the variables in a pattern.
+    fn pattern(&self, row: usize, place: u32) -> Result<Vec<(u32, bool)>, AllocError> {
+        let mut values = Vec::new(self.alloc);
+        for (k, variable) in self.inputs.as_slice() {
+            values.push((*variable, self.patterns.value(row, place, *k)))?;
+        }
+        Ok(values)
+    }
+
+    /// The values of the variables that answered the last question.
+    fn model(&self, graph: &Graph) -> Result<Vec<(u32, bool)>, AllocError> {
+        let mut values = Vec::new(self.alloc);
+        for (k, value) in self.search.model() {
+            if *k < graph.len() {
+                if let Node::Input(variable) = graph.node(*k) {
+                    values.push((variable, *value))?;
+                }
+            }
+        }
+        Ok(values)
+    }
+}
