@@ -10,10 +10,10 @@ ghost use Rattle.eqc_check.specs.Answer.{MainOf, one_text, two_texts, models_ans
 ghost use Rattle.eqc_check.specs.Telling.{IsToldRefusal, IsToldWith, Tells, WarnsOf};
 
 use crate::choice::{Main, ModelNames, choose, read_main};
+use crate::course::check_alike;
 use crate::options::Options;
 use crate::report::Report;
 use crate::warning::{Warnings, warnings_in_one, warnings_in_two};
-use crate::workers::check_alike;
 use eqc_blif::{Library, Refusal};
 use eqc_flat::{Fault, Flat, flatten};
 use eqc_pair::{Refused, Side, pair, recall_laws};

@@ -8,12 +8,13 @@
 //!   `explaining`, what is at fault in texts that are refused, told to `diagnostics`;
 //!   `choice`, which models are compared; `warning`, models that are contained in others
 //! - `options`, what is asked for
-//! - `checking`, a pair's report by one thread; `workers`, by several
+//! - `checking`, a pair's report by one thread; `workers`, by several; `course`, that of a run
 //! - `report`, reports and their bytes; `laws`, facts about the definitions, as functions without a body
 #![tactic(auto, using(eqc_tree::proofs::HoldingLemmas::counts_itself))]
 
 mod checking;
 mod choice;
+mod course;
 mod decide;
 mod diagnostics;
 mod explaining;

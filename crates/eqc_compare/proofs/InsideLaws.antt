@@ -1,0 +1,155 @@
+-- Steps of one literal are chosen for one another, and outputs whose two steps have one literal never differ.
+use Rattle.std.proofs.Common.{◌≡◌, ◌≢◌, ◌⊎◌, ℕ, ◌+◌, ◌-◌, ◌<◌, ◌≤◌, Bool, true, false, List, [], ◌∷◌, ◌++◌, length, get_or, set, min, refl, sym, ◌∙◌, ap, subst, arith, inl, inr, None}
+use Rattle.std.proofs.lemmas.List.{get_or_append_left, get_or-set_same, get_or-set_other, get_or_default, get_or_past, length-append}
+use Rattle.std.proofs.Math.ListN.{length-set}
+use Rattle.std.proofs.Math.Nat.{min-eq_left, min-eq_right}
+use Rattle.std.proofs.Math.Seq.{get_or-append_seam}
+use Rattle.std.proofs.lemmas.Bool.{cases_eq, cases_lt}
+use Rattle.eqc_flat.specs.Graph.{value_of}
+use Rattle.eqc_pair.specs.PairOf.{PairOf, first_variables, second_variables, second_signals}
+use Rattle.eqc_build.specs.Steps.{StepsOf, AreSteps, IsChoice, chosen_for, first_root, second_root, inputs_under, steps_in, value_at}
+use Rattle.eqc_build.specs.Turns.{is_marked}
+use Rattle.eqc_build.proofs.PairLaws.{pair_matched}
+use Rattle.eqc_build.proofs.StepLaws.{first_made, second_made, first_root_within, second_root_within}
+use Rattle.eqc_compare.specs.Comparing.{differs_at, difference_at}
+use Rattle.eqc_compare.specs.Alike.{AreEqual}
+use Rattle.eqc_compare.specs.Inside.{AreLiterals, TellEqual, literal_of}
+use Rattle.eqc_graph.specs.declared.node.Node.{Node}
+use Rattle.eqc_graph.specs.Graph.{literal_value, Extends}
+use Rattle.eqc_compare.proofs.AlikeLaws.{never}
+use Rattle.eqc_compare.proofs.DifferenceLaws.{none_is}
+
+-- ---- steps
+
+-- each literal below the table's length has none of the first n steps, or one of them
+abbrev pub AreNoted : List ℕ → List ℕ → ℕ → Type 0
+AreNoted literals firsts n = (l : ℕ) → l < length firsts → (get_or firsts l 0 ≡ 4294967295) ⊎ ((get_or firsts l 0 < n) × (literal_of literals (get_or firsts l 0) ≡ l))
+
+-- in place of the first n steps steps of their values are chosen
+pub record AreChosen (p : PairOf) (literals firsts more : List ℕ) (n : ℕ) : Type 0 where
+  pub few : length firsts ≤ 4294967295
+  pub size : length more ≡ n
+  pub noted : AreNoted literals firsts n
+  pub early : (k : ℕ) → k < n → chosen_for more k ≤ k
+  pub same : (k : ℕ) (a : ℕ → Bool) → k < n → value_at p a (chosen_for more k) ≡ value_at p a k
+
+pub chosen_none : (p : PairOf) (literals firsts : List ℕ) → length firsts ≤ 4294967295 → ((l : ℕ) → l < length firsts → get_or firsts l 0 ≡ 4294967295) → AreChosen p literals firsts [] 0
+chosen_none p literals firsts few none = record {
+  few = few;
+  size = refl;
+  noted = λ l lt. inl (none l lt);
+  early = λ k lt. absurd (omega arith);
+  same = λ k a lt. absurd (omega arith);
+}
+
+-- the first step of a literal is the one that came with it, or an earlier one of this literal, which is one
+pub record IsFirst (literals firsts : List ℕ) (n step first : ℕ) : Type 0 where
+  pub low : first ≤ step
+  pub within : literal_of literals step < length firsts → literal_of literals first ≡ literal_of literals step
+  pub by : (first ≡ step) ⊎ ((literal_of literals first ≢ 4294967295) × (literal_of literals first ≡ literal_of literals step))
+
+pub first_is : (literals firsts : List ℕ) (n step first : ℕ) → length firsts ≤ 4294967295 → AreNoted literals firsts n → step ≤ n → n < 4294967295 → first ≡ min (get_or firsts (literal_of literals step) step) step → IsFirst literals firsts n step first
+first_is literals firsts n step first few noted early low is = elim (cases_lt (literal_of literals step) (length firsts)) [
+  | inr past ↦
+      let itself : first ≡ step = is ∙ (ap (λ f. min f step) (get_or_past firsts (literal_of literals step) step past) ∙ min-eq_left (omega arith)) in
+      record { low = omega (arith, itself); within = λ lt. absurd (omega arith); by = inl itself }
+  | inl inside ↦
+      let read : get_or firsts (literal_of literals step) step ≡ get_or firsts (literal_of literals step) 0 = get_or_default firsts (literal_of literals step) step 0 inside in
+      at inside (is ∙ ap (λ f. min f step) read) (noted (literal_of literals step) inside)
+]
+  where
+    itself : first ≡ step → IsFirst literals firsts n step first
+    itself e = record { low = omega (arith, e); within = λ lt. ap (literal_of literals) e; by = inl e }
+
+    at : literal_of literals step < length firsts → first ≡ min (get_or firsts (literal_of literals step) 0) step → (get_or firsts (literal_of literals step) 0 ≡ 4294967295) ⊎ ((get_or firsts (literal_of literals step) 0 < n) × (literal_of literals (get_or firsts (literal_of literals step) 0) ≡ literal_of literals step)) → IsFirst literals firsts n step first
+    at inside e (inl none) = itself (e ∙ min-eq_right (omega (arith, none)))
+    at inside e (inr met) = elim (cases_lt (get_or firsts (literal_of literals step) 0) step) [
+      | inl lower ↦
+          let found : first ≡ get_or firsts (literal_of literals step) 0 = e ∙ min-eq_left (omega arith) in
+          let one : literal_of literals first ≡ literal_of literals step = ap (literal_of literals) found ∙ met.1 in
+          record { low = omega (arith, found); within = λ lt. one; by = inr (λ none. absurd (omega (arith, none, one)), one) }
+      | inr higher ↦ itself (e ∙ min-eq_right higher)
+    ]
+
+-- one step more
+pub chosen_more : (p : PairOf) (chosen literals firsts more : List ℕ) (n first : ℕ) → IsChoice p chosen → TellEqual p literals → n < steps_in p → n < 4294967295
+    → first ≡ min (get_or firsts (literal_of literals (chosen_for chosen n)) (chosen_for chosen n)) (chosen_for chosen n)
+    → AreChosen p literals firsts more n → AreChosen p literals (set firsts (literal_of literals (chosen_for chosen n)) first) (more ++ first ∷ []) (n + 1)
+chosen_more p chosen literals firsts more n first choice tell inside few is m = record {
+  few = omega (arith, m.few, length-set firsts (literal_of literals step) first);
+  size = omega (arith, m.size, length-append more (first ∷ []));
+  noted = λ l lt. noted l (omega (arith, lt, length-set firsts (literal_of literals step) first));
+  early = λ k lt. elim (cases_eq k n) [
+    | inl e ↦ omega (arith, ap (chosen_for (more ++ first ∷ [])) e, at_end, found.low, choice.early n inside, e)
+    | inr other ↦ omega (arith, old k (omega (arith, lt, other)), m.early k (omega (arith, lt, other)))
+  ];
+  same = λ k a lt. elim (cases_eq k n) [
+    | inl e ↦ ap (λ i. value_at p a (chosen_for (more ++ first ∷ []) i)) e ∙ (ap (value_at p a) at_end ∙ (value a ∙ sym (ap (value_at p a) e)))
+    | inr other ↦ ap (value_at p a) (old k (omega (arith, lt, other))) ∙ m.same k a (omega (arith, lt, other))
+  ];
+}
+  where
+    step : ℕ
+    step = chosen_for chosen n
+
+    found : IsFirst literals firsts n step first
+    found = first_is literals firsts n step first m.few m.noted (choice.early n inside) few is
+
+    at_end : chosen_for (more ++ first ∷ []) n ≡ first
+    at_end = ap (λ i. get_or (more ++ first ∷ []) i n) (sym m.size) ∙ get_or-append_seam more first [] n
+
+    old : (k : ℕ) → k < n → chosen_for (more ++ first ∷ []) k ≡ chosen_for more k
+    old k lt = get_or_append_left more (first ∷ []) k k (omega (arith, lt, m.size))
+
+    value : (a : ℕ → Bool) → value_at p a first ≡ value_at p a n
+    value a = by found.by
+      where
+        by : (first ≡ step) ⊎ ((literal_of literals first ≢ 4294967295) × (literal_of literals first ≡ literal_of literals step)) → value_at p a first ≡ value_at p a n
+        by (inl e) = ap (value_at p a) e ∙ choice.same n a inside
+        by (inr one) = tell.each first step a (omega (arith, found.low, choice.early n inside, inside)) (omega (arith, choice.early n inside, inside)) one.0 one.1 ∙ choice.same n a inside
+
+    noted : (l : ℕ) → l < length firsts → (get_or (set firsts (literal_of literals step) first) l 0 ≡ 4294967295) ⊎ ((get_or (set firsts (literal_of literals step) first) l 0 < n + 1) × (literal_of literals (get_or (set firsts (literal_of literals step) first) l 0) ≡ l))
+    noted l lt = elim (cases_eq l (literal_of literals step)) [
+      | inl e ↦
+          let here : literal_of literals step < length firsts = omega (arith, e, lt) in
+          let read : get_or (set firsts (literal_of literals step) first) l 0 ≡ first = ap (λ i. get_or (set firsts (literal_of literals step) first) i 0) e ∙ get_or-set_same firsts (literal_of literals step) first 0 here in
+          inr (omega (arith, read, found.low, choice.early n inside), ap (literal_of literals) read ∙ (found.within here ∙ sym e))
+      | inr other ↦
+          let read : get_or (set firsts (literal_of literals step) first) l 0 ≡ get_or firsts l 0 = get_or-set_other firsts (literal_of literals step) l first 0 other in
+          elim (m.noted l lt) [
+            | inl none ↦ inl (read ∙ none)
+            | inr met ↦ inr (omega (arith, read, met.0), ap (literal_of literals) read ∙ met.1)
+          ]
+    ]
+
+pub chosen_all : (p : PairOf) (literals firsts more : List ℕ) → AreChosen p literals firsts more (steps_in p) → IsChoice p more
+chosen_all p literals firsts more m = record { early = m.early; same = m.same }
+
+-- ---- outputs
+
+-- where the steps of an output's two signals have one value under all assignments, it never differs
+pub never_differs : (g : StepsOf) (o : ℕ) → AreSteps g → o < length g.pair.first.outputs → ((a : ℕ → Bool) → value_at g.pair a (first_root g o) ≡ value_at g.pair a (second_root g o)) → difference_at g.pair o ≡ None
+unfolding differs_at
+never_differs g o h inside same =
+    let p = g.pair in
+    let s = get_or p.first.output_signals o 0 in
+    let t = get_or (second_signals p) o 0 in
+    none_is p o (differs_at p o) h.lawful inside (record { each = λ a. refl })
+    (λ a. never (value_of p.first (inputs_under (first_variables p) a) s) (value_of p.second (inputs_under (second_variables p) a) t)
+    (sym (first_made g a s h (h.lawful.first_flat.outputs_within o inside)) ∙ (same a ∙ second_made g a t h ((pair_matched p h.lawful).within o inside))))
+
+-- ---- literals of a graph
+
+-- steps of one literal have the value of it
+pub tell_equal : (p : PairOf) (nodes : List Node) (literals : List ℕ) → AreLiterals p nodes literals → TellEqual p literals
+tell_equal p nodes literals are = record {
+  each = λ j k a hj hk some one.
+      sym (are.value j a hj some) ∙ (ap (literal_value nodes a) one ∙ are.value k a hk (λ none. some (one ∙ none)));
+}
+
+-- a graph that goes on has the literals
+pub still_literals : (p : PairOf) (old new : List Node) (literals : List ℕ) → Extends old new → AreLiterals p old literals → AreLiterals p new literals
+still_literals p old new literals extends are = record {
+  within = λ k lt some. omega (arith, are.within k lt some, extends.longer);
+  value = λ k a lt some. extends.same (literal_of literals k) a (are.within k lt some) ∙ are.value k a lt some;
+}
