@@ -1,0 +1,4 @@
+pub mod ClauseLemmas
+pub mod StoreLemmas
+pub mod CheckLemmas
+pub mod GateLemmas

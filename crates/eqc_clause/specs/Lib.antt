@@ -1,0 +1,2 @@
+pub mod Clauses
+pub mod Checking

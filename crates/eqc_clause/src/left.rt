@@ -1,0 +1,31 @@
+//! What is left of a clause.
+ghost use Rattle.std.specs.Prelude.{◌≡◌};
+ghost use Rattle.eqc_clause.specs.Checking.{IsLeft};
+
+use crate::falsified::Falsified;
+
+/// What is left of a clause without the literals that are taken to be false.
+pub(crate) enum Left {
+    Nothing,
+    One(u32),
+    More,
+}
+
+/// What is left of a clause.
+pub(crate) fn left_of(clause: &[u32], falsified: &Falsified) -> Left
+    ensures { IsLeft clause.now falsified.now result }
+{
+    let mut left: Option<u32> = None;
+    for l in clause {
+        if !falsified.is_false(*l) {
+            if left.is_some() {
+                return Left::More;
+            }
+            left = Some(*l);
+        }
+    }
+    match left {
+        None => Left::Nothing,
+        Some(l) => Left::One(l),
+    }
+}

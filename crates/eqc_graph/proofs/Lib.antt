@@ -1,0 +1,2 @@
+pub mod GraphLemmas
+pub mod LiteralLemmas

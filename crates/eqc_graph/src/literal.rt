@@ -1,0 +1,35 @@
+//! Literals: twice the number of a node, and one more for its complement. So 0 is false, and 1 is true.
+ghost use Rattle.std.specs.Prelude.{◌≡◌, ℕ, ◌/◌, ◌%◌, ◌==◌, Bool, not, List};
+ghost use Rattle.eqc_graph.specs.Graph.{differ, literal_value};
+
+use crate::Node;
+
+/// The complement of a literal.
+pub fn negated(l: u32) -> u32
+    ensures node { result / 2 ≡ l / 2 }
+    ensures value { (nodes : List Node) (a : ℕ → Bool) → literal_value nodes a result ≡ not (literal_value nodes a l) }
+{
+    if l % 2 == 0 { l + 1 } else { l - 1 }
+}
+
+/// The complement of a literal where `sign` says so, and else the literal.
+pub fn negated_if(l: u32, sign: bool) -> u32
+    ensures node { result / 2 ≡ l / 2 }
+    ensures value { (nodes : List Node) (a : ℕ → Bool) → literal_value nodes a result ≡ differ sign (literal_value nodes a l) }
+{
+    if sign { negated(l) } else { l }
+}
+
+/// The number of a literal's node.
+pub fn node_of(l: u32) -> u32
+    ensures { result ≡ l / 2 }
+{
+    l / 2
+}
+
+/// Whether a literal is the complement of its node.
+pub fn is_negated(l: u32) -> bool
+    ensures { result ≡ (l % 2 == 1) }
+{
+    l % 2 == 1
+}

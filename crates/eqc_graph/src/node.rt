@@ -1,0 +1,14 @@
+//! The kinds of nodes.
+
+/// A node of a graph. Operands are literals of earlier nodes.
+#[derive(Clone, Copy, PartialEq, Eq, Debug)]
+pub enum Node {
+    /// Always false.
+    Constant,
+    /// The value of a variable.
+    Input(u32),
+    /// Whether both literals are true.
+    And(u32, u32),
+    /// Whether just one of the literals is true.
+    Xor(u32, u32),
+}
