@@ -47,7 +47,15 @@ impl<'x> Course<'x> {
         let Ok(alike) = alike.clone() else {
             return Err(Stop::Memory);
         };
-        check_in(rt, self.alloc, self.pair, self.options, room, alike, &NoGate)
+        check_in(
+            rt,
+            self.alloc,
+            self.pair,
+            self.options,
+            room,
+            alike,
+            &NoGate,
+        )
     }
 
     /// The report by diagrams alone. A comparison that may have many nodes is tried with few first, since to lay out the whole

@@ -8,8 +8,8 @@ ghost use Rattle.clap.specs.Walk.{rows_of, rule_of};
 ghost use Rattle.eqc_command.specs.CommandLine.{eqc_app, number_rule, text_rule, flag_rule, path_rule, number_of, rows_asked, IsAsked};
 
 use crate::help::{
-    ABOUT, CELLS, CONFLICTS, EXPLAIN, FIRST, FIRST_MODEL, FORKS, NODES, ORDER, SECOND, SECOND_MODEL,
-    USAGE, WORKERS,
+    ABOUT, CELLS, CONFLICTS, EXPLAIN, FIRST, FIRST_MODEL, FORKS, NODES, ORDER, SECOND,
+    SECOND_MODEL, USAGE, WORKERS,
 };
 use crate::version::VERSION;
 use clap::{Arg, ArgAction, ArgMatches, Command, Error, value_parser};

@@ -7,13 +7,14 @@ use Rattle.std.proofs.Math.Seq.{get_or-append_seam}
 use Rattle.std.proofs.lemmas.Bool.{cases_eq, cases_lt}
 use Rattle.eqc_flat.specs.Graph.{value_of}
 use Rattle.eqc_pair.specs.PairOf.{PairOf, first_variables, second_variables, second_signals}
-use Rattle.eqc_build.specs.Steps.{StepsOf, AreSteps, IsChoice, chosen_for, first_root, second_root, inputs_under, steps_in, value_at}
+use Rattle.eqc_build.specs.Steps.{StepsOf, AreSteps, IsChoice, chosen_for, first_root, second_root, roots_of, inputs_under, steps_in, value_at}
 use Rattle.eqc_build.specs.Turns.{is_marked}
 use Rattle.eqc_build.proofs.PairLaws.{pair_matched}
-use Rattle.eqc_build.proofs.StepLaws.{first_made, second_made, first_root_within, second_root_within}
+use Rattle.eqc_build.proofs.StepLaws.{first_made, second_made, first_root_within, second_root_within, root_first, root_second}
 use Rattle.eqc_compare.specs.Comparing.{differs_at, difference_at}
 use Rattle.eqc_compare.specs.Alike.{AreEqual}
-use Rattle.eqc_compare.specs.Inside.{AreLiterals, TellEqual, literal_of}
+use Rattle.eqc_gates.specs.Literals.{AreLiterals, literal_of}
+use Rattle.eqc_compare.specs.Inside.{HaveOneLiteral, TellEqual}
 use Rattle.eqc_graph.specs.declared.node.Node.{Node}
 use Rattle.eqc_graph.specs.Graph.{literal_value, Extends}
 use Rattle.eqc_compare.proofs.AlikeLaws.{never}
@@ -46,7 +47,7 @@ chosen_none p literals firsts few none = record {
 pub record IsFirst (literals firsts : List ℕ) (n step first : ℕ) : Type 0 where
   pub low : first ≤ step
   pub within : literal_of literals step < length firsts → literal_of literals first ≡ literal_of literals step
-  pub by : (first ≡ step) ⊎ ((literal_of literals first ≢ 4294967295) × (literal_of literals first ≡ literal_of literals step))
+  pub by : (first ≡ step) ⊎ HaveOneLiteral literals first step
 
 pub first_is : (literals firsts : List ℕ) (n step first : ℕ) → length firsts ≤ 4294967295 → AreNoted literals firsts n → step ≤ n → n < 4294967295 → first ≡ min (get_or firsts (literal_of literals step) step) step → IsFirst literals firsts n step first
 first_is literals firsts n step first few noted early low is = elim (cases_lt (literal_of literals step) (length firsts)) [
@@ -67,7 +68,7 @@ first_is literals firsts n step first few noted early low is = elim (cases_lt (l
       | inl lower ↦
           let found : first ≡ get_or firsts (literal_of literals step) 0 = e ∙ min-eq_left (omega arith) in
           let one : literal_of literals first ≡ literal_of literals step = ap (literal_of literals) found ∙ met.1 in
-          record { low = omega (arith, found); within = λ lt. one; by = inr (λ none. absurd (omega (arith, none, one)), one) }
+          record { low = omega (arith, found); within = λ lt. one; by = inr (record { some = λ none. absurd (omega (arith, none, one)); one = one }) }
       | inr higher ↦ itself (e ∙ min-eq_right higher)
     ]
 
@@ -104,9 +105,9 @@ chosen_more p chosen literals firsts more n first choice tell inside few is m = 
     value : (a : ℕ → Bool) → value_at p a first ≡ value_at p a n
     value a = by found.by
       where
-        by : (first ≡ step) ⊎ ((literal_of literals first ≢ 4294967295) × (literal_of literals first ≡ literal_of literals step)) → value_at p a first ≡ value_at p a n
+        by : (first ≡ step) ⊎ HaveOneLiteral literals first step → value_at p a first ≡ value_at p a n
         by (inl e) = ap (value_at p a) e ∙ choice.same n a inside
-        by (inr one) = tell.each first step a (omega (arith, found.low, choice.early n inside, inside)) (omega (arith, choice.early n inside, inside)) one.0 one.1 ∙ choice.same n a inside
+        by (inr one) = tell.each first step a (omega (arith, found.low, choice.early n inside, inside)) (omega (arith, choice.early n inside, inside)) one ∙ choice.same n a inside
 
     noted : (l : ℕ) → l < length firsts → (get_or (set firsts (literal_of literals step) first) l 0 ≡ 4294967295) ⊎ ((get_or (set firsts (literal_of literals step) first) l 0 < n + 1) × (literal_of literals (get_or (set firsts (literal_of literals step) first) l 0) ≡ l))
     noted l lt = elim (cases_eq l (literal_of literals step)) [
@@ -138,13 +139,57 @@ never_differs g o h inside same =
     (λ a. never (value_of p.first (inputs_under (first_variables p) a) s) (value_of p.second (inputs_under (second_variables p) a) t)
     (sym (first_made g a s h (h.lawful.first_flat.outputs_within o inside)) ∙ (same a ∙ second_made g a t h ((pair_matched p h.lawful).within o inside))))
 
+-- the steps of an output's two signals, as `Steps::roots` gives them
+pub roots_never_differ : (g : StepsOf) (o : ℕ) (roots : List ℕ) → AreSteps g → o < length g.pair.first.outputs → roots ≡ roots_of g o
+    → ((a : ℕ → Bool) → value_at g.pair a (get_or roots 0 0) ≡ value_at g.pair a (get_or roots 1 0)) → difference_at g.pair o ≡ None
+roots_never_differ g o roots h inside is same =
+    let first : get_or roots 0 0 ≡ first_root g o = ap (λ r. get_or r 0 0) is ∙ root_first g o in
+    let second : get_or roots 1 0 ≡ second_root g o = ap (λ r. get_or r 1 0) is ∙ root_second g o in
+    never_differs g o h inside (λ a. ap (value_at g.pair a) (sym first) ∙ (same a ∙ ap (value_at g.pair a) second))
+
+-- each is a step
+pub roots_are_steps : (g : StepsOf) (o : ℕ) (roots : List ℕ) → AreSteps g → o < length g.pair.first.outputs → roots ≡ roots_of g o → (get_or roots 0 0 < steps_in g.pair) × (get_or roots 1 0 < steps_in g.pair)
+roots_are_steps g o roots h inside is =
+    let first : get_or roots 0 0 ≡ first_root g o = ap (λ r. get_or r 0 0) is ∙ root_first g o in
+    let second : get_or roots 1 0 ≡ second_root g o = ap (λ r. get_or r 1 0) is ∙ root_second g o in
+    (omega (arith, first, first_root_within g o h inside), omega (arith, second, second_root_within g o h inside))
+
+pub one_literal : (g : StepsOf) (o : ℕ) (roots literals : List ℕ) → AreSteps g → TellEqual g.pair literals → o < length g.pair.first.outputs → roots ≡ roots_of g o → HaveOneLiteral literals (get_or roots 0 0) (get_or roots 1 0) → difference_at g.pair o ≡ None
+one_literal g o roots literals h tell inside is have =
+    let are = roots_are_steps g o roots h inside is in
+    roots_never_differ g o roots h inside is (λ a. tell.each (get_or roots 0 0) (get_or roots 1 0) a are.0 are.1 have)
+
+-- the first n outputs never differ where they are marked
+abbrev pub AreEqualBelow : PairOf → List Bool → ℕ → Type 0
+AreEqualBelow p marks n = (o : ℕ) → o < n → is_marked marks o ≡ true → difference_at p o ≡ None
+
+-- one mark more
+pub equal_more : (p : PairOf) (marks : List Bool) (mark : Bool) (n : ℕ) → length marks ≡ n → AreEqualBelow p marks n → (mark ≡ true → difference_at p n ≡ None) → AreEqualBelow p (marks ++ mark ∷ []) (n + 1)
+equal_more p marks mark n size before here o less marked = by (cases_eq o n)
+  where
+    by : (o ≡ n) ⊎ (o ≡ n → ⊥) → difference_at p o ≡ None
+    by (inl e) =
+        let at : get_or (marks ++ mark ∷ []) o false ≡ mark = ap (λ k. get_or (marks ++ mark ∷ []) k false) (e ∙ sym size) ∙ get_or-append_seam marks mark [] false in
+        ap (difference_at p) e ∙ here (sym at ∙ marked)
+    by (inr other) =
+        let lower : o < n = omega (arith, less, other) in
+        before o lower (sym (get_or_append_left marks (mark ∷ []) false o (omega (arith, lower, size))) ∙ marked)
+
+-- an output that is equal is marked
+pub equal_set : (p : PairOf) (marks : List Bool) (o : ℕ) → AreEqual p marks → difference_at p o ≡ None → AreEqual p (set marks o true)
+equal_set p marks o equal here = record {
+  each = λ k inside marked. elim (cases_eq k o) [
+    | inl e ↦ ap (difference_at p) e ∙ here
+    | inr other ↦ equal.each k inside (sym (get_or-set_other marks o k true false other) ∙ marked)
+  ];
+}
+
 -- ---- literals of a graph
 
 -- steps of one literal have the value of it
 pub tell_equal : (p : PairOf) (nodes : List Node) (literals : List ℕ) → AreLiterals p nodes literals → TellEqual p literals
 tell_equal p nodes literals are = record {
-  each = λ j k a hj hk some one.
-      sym (are.value j a hj some) ∙ (ap (literal_value nodes a) one ∙ are.value k a hk (λ none. some (one ∙ none)));
+  each = λ j k a hj hk h. sym (are.value j a hj h.some) ∙ (ap (literal_value nodes a) h.one ∙ are.value k a hk (λ none. h.some (h.one ∙ none)));
 }
 
 -- a graph that goes on has the literals

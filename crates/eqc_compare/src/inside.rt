@@ -1,16 +1,17 @@
 //! What literals of a graph tell of a pair: steps of one literal have one value, so that one of them needs to be made, and
 //! outputs whose two steps have one literal are equal.
-ghost use Rattle.std.specs.Prelude.{◌≡◌, ◌≢◌, ◌<◌, IsTrue, None, length, min, slice_index_or, slice_set, IfOk};
-ghost use Rattle.eqc_build.specs.Steps.{IsChoice, chosen_for};
+ghost use Rattle.std.specs.Prelude.{◌≡◌, ◌<◌, IsTrue, None, length, min, slice_index, slice_index_or, slice_set, IfOk};
+ghost use Rattle.eqc_build.specs.Steps.{AreSteps, IsChoice, chosen_for};
 ghost use Rattle.eqc_compare.specs.Alike.{AreEqual, IsKnown};
 ghost use Rattle.eqc_compare.specs.Comparing.{difference_at};
-ghost use Rattle.eqc_compare.specs.Inside.{TellEqual, literal_of};
+ghost use Rattle.eqc_gates.specs.Literals.{literal_of};
+ghost use Rattle.eqc_compare.specs.Inside.{HaveOneLiteral, TellEqual};
 
 use crate::alike::Alike;
 use eqc_build::{Steps, is_marked};
 use eqc_gates::literals;
 use eqc_pair::Pair;
-use eqc_sweep::{Effort, Sweep};
+use eqc_sweep::{Comparison, Effort, Sweep};
 use std::alloc::{AllocError, Global};
 use std::marker::Model;
 
@@ -28,13 +29,13 @@ pub struct Inside<'a> {
 
 impl<'a> Model for Inside<'a> {
     ghost use Rattle.eqc_pair.specs.PairOf.{PairOf};
-    ghost use Rattle.eqc_compare.specs.Inside.{AreLiterals};
+    ghost use Rattle.eqc_compare.specs.Inside.{IsInside};
 
     ghost Value = { PairOf };
 
     ghost view = { λ a. a.steps.pair };
 
-    ghost invariant = { λ a. AreLiterals a.steps.pair a.sweep a.literals.items };
+    ghost invariant = { λ a. IsInside a.steps a.sweep a.literals.items };
 }
 
 /// The literal of a step, or none.
@@ -99,10 +100,24 @@ fn first_of_literal(
 
 /// Whether two steps have one literal.
 fn have_one_literal(literals: &[u32], steps: [u32; 2]) -> bool
-    ensures { IsTrue result → (literal_of literals.now (slice_index_or steps 0 0) ≢ 4294967295) × (literal_of literals.now (slice_index_or steps 0 0) ≡ literal_of literals.now (slice_index_or steps 1 0)) }
+    ensures { IsTrue result → HaveOneLiteral literals.now (slice_index steps.entry 0) (slice_index steps.entry 1) }
 {
     let literal = literal_of(literals, steps[0]);
     literal != NONE && literal == literal_of(literals, steps[1])
+}
+
+/// Whether an output is marked, or its two steps have one literal.
+fn is_known_equal(steps: &Steps<'_>, literals: &[u32], marks: &[bool], output: usize) -> bool
+    requires lawful { AreSteps steps.now }
+    requires tell { TellEqual steps.now.pair literals.now }
+    requires equal { AreEqual steps.now.pair marks.now }
+    requires output { output < length steps.now.pair.first.outputs }
+    ensures { IsTrue result → difference_at steps.now.pair output ≡ None }
+{
+    if is_marked(marks, output) {
+        return true;
+    }
+    have_one_literal(literals, steps.roots(output))
 }
 
 /// Marks the outputs whose two steps have one literal, and those that are marked already. Fails where memory is refused.
@@ -112,6 +127,7 @@ fn outputs_of_one_literal(
     literals: &[u32],
     marks: &[bool],
 ) -> Result<Vec<bool>, AllocError>
+    requires lawful { AreSteps steps.now }
     requires tell { TellEqual steps.now.pair literals.now }
     requires equal { AreEqual steps.now.pair marks.now }
     ensures { IfOk result (λ more. AreEqual steps.now.pair more.items) }
@@ -119,8 +135,7 @@ fn outputs_of_one_literal(
     let outputs = steps.pair().first().outputs().len();
     let mut more = Vec::with_capacity(alloc, outputs)?;
     for output in 0..outputs {
-        let marked = is_marked(marks, output);
-        more.push(marked || have_one_literal(literals, steps.roots(output)))?;
+        more.push(is_known_equal(steps, literals, marks, output))?;
     }
     Ok(more)
 }
@@ -133,11 +148,7 @@ fn want(wanted: &mut [bool], step: u32) {
 }
 
 /// Marks the steps that the outputs need which are not marked. Fails where memory is refused.
-fn wanted_steps(
-    alloc: Global,
-    steps: &Steps<'_>,
-    marks: &[bool],
-) -> Result<Vec<bool>, AllocError> {
+fn wanted_steps(alloc: Global, steps: &Steps<'_>, marks: &[bool]) -> Result<Vec<bool>, AllocError> {
     let mut wanted = vec![in alloc; false; steps.len() as usize]?;
     for output in 0..steps.pair().first().outputs().len() {
         if !is_marked(marks, output) {
@@ -161,11 +172,7 @@ impl<'a> Inside<'a> {
     /// Enters the steps of a pair that its outputs need which are not marked, where this is known of it: a step that is chosen
     /// in place of others is entered for them. It takes time and memory in proportion to the steps and their rows. Fails where
     /// memory is refused.
-    pub fn of(
-        alloc: Global,
-        pair: &'a Pair<'a>,
-        alike: &Alike,
-    ) -> Result<Inside<'a>, AllocError>
+    pub fn of(alloc: Global, pair: &'a Pair<'a>, alike: &Alike) -> Result<Inside<'a>, AllocError>
         requires { IsKnown pair.now alike.now }
         ensures { IfOk result (λ inside. inside ≡ pair.now) }
     {
@@ -202,8 +209,8 @@ impl<'a> Inside<'a> {
         if x == NONE || y == NONE {
             return false;
         }
-        // What is refused memory stays as it was.
-        self.sweep.equal(x, y, conflicts).unwrap_or(false)
+        // Where memory is refused nothing is known.
+        matches!(self.sweep.equal(x, y, conflicts), Ok(Comparison::Equal))
     }
 
     /// Searches for differences of the outputs that are not marked, with so many conflicts in all, and marks those for which
