@@ -59,9 +59,10 @@ fn first_with(firsts: &mut Vec<u32>, literal: usize, step: u32) -> u32
     ensures noted { firsts.new.items ≡ slice_set firsts.old.items literal result }
 {
     let first = firsts.get(literal).copied().unwrap_or(step).min(step);
-    if literal < firsts.len() {
-        firsts[literal] = first;
+    if literal >= firsts.len() {
+        return first;
     }
+    firsts[literal] = first;
     first
 }
 
@@ -100,7 +101,7 @@ fn first_of_literal(
 
 /// Whether two steps have one literal.
 fn have_one_literal(literals: &[u32], steps: [u32; 2]) -> bool
-    ensures { IsTrue result → HaveOneLiteral literals.now (slice_index steps.entry 0) (slice_index steps.entry 1) }
+    ensures { IsTrue result → HaveOneLiteral literals.now (slice_index steps 0) (slice_index steps 1) }
 {
     let literal = literal_of(literals, steps[0]);
     literal != NONE && literal == literal_of(literals, steps[1])
