@@ -14,9 +14,9 @@ use Rattle.eqc_build.proofs.StepLaws.{first_made, second_made, first_root_within
 use Rattle.eqc_compare.specs.Comparing.{differs_at, difference_at}
 use Rattle.eqc_compare.specs.Alike.{AreEqual}
 use Rattle.eqc_gates.specs.Literals.{AreLiterals, literal_of}
-use Rattle.eqc_compare.specs.Inside.{HaveOneLiteral, TellEqual}
+use Rattle.eqc_compare.specs.Inside.{HaveOneLiteral, IsInside, TellEqual}
 use Rattle.eqc_graph.specs.declared.node.Node.{Node}
-use Rattle.eqc_graph.specs.Graph.{literal_value, Extends}
+use Rattle.eqc_graph.specs.Graph.{literal_value, Extends, IsWithin}
 use Rattle.eqc_compare.proofs.AlikeLaws.{never}
 use Rattle.eqc_compare.proofs.DifferenceLaws.{none_is}
 
@@ -123,6 +123,15 @@ chosen_more p chosen literals firsts more n first choice tell inside few is m = 
           ]
     ]
 
+-- as the loop comes by its step and its literal
+pub chosen_by : (p : PairOf) (chosen literals firsts more : List ℕ) (n step literal first : ℕ) → IsChoice p chosen → TellEqual p literals → n < steps_in p → n < 4294967295
+    → step ≡ chosen_for chosen n → literal ≡ literal_of literals step → first ≡ min (get_or firsts literal step) step
+    → AreChosen p literals firsts more n → AreChosen p literals (set firsts literal first) (more ++ first ∷ []) (n + 1)
+chosen_by p chosen literals firsts more n step literal first choice tell inside few by at is m =
+    let e : literal ≡ literal_of literals (chosen_for chosen n) = at ∙ ap (literal_of literals) by in
+    let least : first ≡ min (get_or firsts (literal_of literals (chosen_for chosen n)) (chosen_for chosen n)) (chosen_for chosen n) = is ∙ (ap (λ s. min (get_or firsts literal s) s) by ∙ ap (λ l. min (get_or firsts l (chosen_for chosen n)) (chosen_for chosen n)) e) in
+    subst (λ l. AreChosen p literals (set firsts l first) (more ++ first ∷ []) (n + 1)) (sym e) (chosen_more p chosen literals firsts more n first choice tell inside few least m)
+
 pub chosen_all : (p : PairOf) (literals firsts more : List ℕ) → AreChosen p literals firsts more (steps_in p) → IsChoice p more
 chosen_all p literals firsts more m = record { early = m.early; same = m.same }
 
@@ -198,3 +207,17 @@ still_literals p old new literals extends are = record {
   within = λ k lt some. omega (arith, are.within k lt some, extends.longer);
   value = λ k a lt some. extends.same (literal_of literals k) a (are.within k lt some) ∙ are.value k a lt some;
 }
+
+-- the literal of a step that has one is the graph's
+pub literal_within : (g : StepsOf) (nodes : List Node) (literals : List ℕ) (j l : ℕ) → IsInside g nodes literals → j < steps_in g.pair → l ≡ literal_of literals j → l ≢ 4294967295 → IsWithin nodes l
+literal_within g nodes literals j l is inside e some = subst (IsWithin nodes) (sym e) (is.values.within j inside (λ none. some (e ∙ none)))
+
+-- an output never differs whose two literals have one value under all assignments
+pub asked_equal : (g : StepsOf) (nodes : List Node) (literals roots : List ℕ) (o x y : ℕ) → IsInside g nodes literals → o < length g.pair.first.outputs → roots ≡ roots_of g o
+    → x ≡ literal_of literals (get_or roots 0 0) → y ≡ literal_of literals (get_or roots 1 0) → x ≢ 4294967295 → y ≢ 4294967295
+    → ((a : ℕ → Bool) → literal_value nodes a x ≡ literal_value nodes a y) → difference_at g.pair o ≡ None
+asked_equal g nodes literals roots o x y is inside are ex ey some other same =
+    let steps = roots_are_steps g o roots is.lawful inside are in
+    roots_never_differ g o roots is.lawful inside are
+    (λ a. sym (is.values.value (get_or roots 0 0) a steps.0 (λ none. some (ex ∙ none)))
+    ∙ (ap (literal_value nodes a) (sym ex) ∙ (same a ∙ (ap (literal_value nodes a) ey ∙ is.values.value (get_or roots 1 0) a steps.1 (λ none. other (ey ∙ none))))))
