@@ -13,28 +13,32 @@ use Rattle.eqc_build.proofs.PairLaws.{pair_matched}
 use Rattle.eqc_build.proofs.StepLaws.{first_made, second_made, first_root_within, second_root_within, root_first, root_second}
 use Rattle.eqc_compare.specs.Comparing.{differs_at, difference_at}
 use Rattle.eqc_compare.specs.Alike.{AreEqual}
-use Rattle.eqc_gates.specs.Literals.{AreLiterals, literal_of}
-use Rattle.eqc_compare.specs.Inside.{HaveOneLiteral, IsInside, TellEqual}
+use Rattle.std.specs.Prelude.{Option, Some}
+use Rattle.std.specs.Option.{unwrap_or}
+use Rattle.eqc_build.specs.Building.{reference_of}
+use Rattle.eqc_sweep.specs.Sweeping.{HasValue}
+use Rattle.eqc_gates.specs.Entering.{AreLiterals}
+use Rattle.eqc_compare.specs.Inside.{HaveOneLiteral, IsInside, TellEqual, literal_of}
 use Rattle.eqc_graph.specs.declared.node.Node.{Node}
-use Rattle.eqc_graph.specs.Graph.{literal_value, Extends, IsWithin}
+use Rattle.eqc_graph.specs.Graph.{literal_value, IsWithin}
 use Rattle.eqc_compare.proofs.AlikeLaws.{never}
 use Rattle.eqc_compare.proofs.DifferenceLaws.{none_is}
 
 -- ---- steps
 
 -- each literal below the table's length has none of the first n steps, or one of them
-abbrev pub AreNoted : List ℕ → List ℕ → ℕ → Type 0
+abbrev pub AreNoted : List (Option ℕ) → List ℕ → ℕ → Type 0
 AreNoted literals firsts n = (l : ℕ) → l < length firsts → (get_or firsts l 0 ≡ 4294967295) ⊎ ((get_or firsts l 0 < n) × (literal_of literals (get_or firsts l 0) ≡ l))
 
 -- in place of the first n steps steps of their values are chosen
-pub record AreChosen (p : PairOf) (literals firsts more : List ℕ) (n : ℕ) : Type 0 where
+pub record AreChosen (p : PairOf) (literals : List (Option ℕ)) (firsts more : List ℕ) (n : ℕ) : Type 0 where
   pub few : length firsts ≤ 4294967295
   pub size : length more ≡ n
   pub noted : AreNoted literals firsts n
   pub early : (k : ℕ) → k < n → chosen_for more k ≤ k
   pub same : (k : ℕ) (a : ℕ → Bool) → k < n → value_at p a (chosen_for more k) ≡ value_at p a k
 
-pub chosen_none : (p : PairOf) (literals firsts : List ℕ) → length firsts ≤ 4294967295 → ((l : ℕ) → l < length firsts → get_or firsts l 0 ≡ 4294967295) → AreChosen p literals firsts [] 0
+pub chosen_none : (p : PairOf) (literals : List (Option ℕ)) (firsts : List ℕ) → length firsts ≤ 4294967295 → ((l : ℕ) → l < length firsts → get_or firsts l 0 ≡ 4294967295) → AreChosen p literals firsts [] 0
 chosen_none p literals firsts few none = record {
   few = few;
   size = refl;
@@ -44,12 +48,12 @@ chosen_none p literals firsts few none = record {
 }
 
 -- the first step of a literal is the one that came with it, or an earlier one of this literal, which is one
-pub record IsFirst (literals firsts : List ℕ) (n step first : ℕ) : Type 0 where
+pub record IsFirst (literals : List (Option ℕ)) (firsts : List ℕ) (n step first : ℕ) : Type 0 where
   pub low : first ≤ step
   pub within : literal_of literals step < length firsts → literal_of literals first ≡ literal_of literals step
   pub by : (first ≡ step) ⊎ HaveOneLiteral literals first step
 
-pub first_is : (literals firsts : List ℕ) (n step first : ℕ) → length firsts ≤ 4294967295 → AreNoted literals firsts n → step ≤ n → n < 4294967295 → first ≡ min (get_or firsts (literal_of literals step) step) step → IsFirst literals firsts n step first
+pub first_is : (literals : List (Option ℕ)) (firsts : List ℕ) (n step first : ℕ) → length firsts ≤ 4294967295 → AreNoted literals firsts n → step ≤ n → n < 4294967295 → first ≡ min (get_or firsts (literal_of literals step) step) step → IsFirst literals firsts n step first
 first_is literals firsts n step first few noted early low is = elim (cases_lt (literal_of literals step) (length firsts)) [
   | inr past ↦
       let itself : first ≡ step = is ∙ (ap (λ f. min f step) (get_or_past firsts (literal_of literals step) step past) ∙ min-eq_left (omega arith)) in
@@ -73,7 +77,7 @@ first_is literals firsts n step first few noted early low is = elim (cases_lt (l
     ]
 
 -- one step more
-pub chosen_more : (p : PairOf) (chosen literals firsts more : List ℕ) (n first : ℕ) → IsChoice p chosen → TellEqual p literals → n < steps_in p → n < 4294967295
+pub chosen_more : (p : PairOf) (chosen : List ℕ) (literals : List (Option ℕ)) (firsts more : List ℕ) (n first : ℕ) → IsChoice p chosen → TellEqual p literals → n < steps_in p → n < 4294967295
     → first ≡ min (get_or firsts (literal_of literals (chosen_for chosen n)) (chosen_for chosen n)) (chosen_for chosen n)
     → AreChosen p literals firsts more n → AreChosen p literals (set firsts (literal_of literals (chosen_for chosen n)) first) (more ++ first ∷ []) (n + 1)
 chosen_more p chosen literals firsts more n first choice tell inside few is m = record {
@@ -124,7 +128,7 @@ chosen_more p chosen literals firsts more n first choice tell inside few is m = 
     ]
 
 -- as the loop comes by its step and its literal
-pub chosen_by : (p : PairOf) (chosen literals firsts more : List ℕ) (n step literal first : ℕ) → IsChoice p chosen → TellEqual p literals → n < steps_in p → n < 4294967295
+pub chosen_by : (p : PairOf) (chosen : List ℕ) (literals : List (Option ℕ)) (firsts more : List ℕ) (n step literal first : ℕ) → IsChoice p chosen → TellEqual p literals → n < steps_in p → n < 4294967295
     → step ≡ chosen_for chosen n → literal ≡ literal_of literals step → first ≡ min (get_or firsts literal step) step
     → AreChosen p literals firsts more n → AreChosen p literals (set firsts literal first) (more ++ first ∷ []) (n + 1)
 chosen_by p chosen literals firsts more n step literal first choice tell inside few by at is m =
@@ -132,7 +136,7 @@ chosen_by p chosen literals firsts more n step literal first choice tell inside 
     let least : first ≡ min (get_or firsts (literal_of literals (chosen_for chosen n)) (chosen_for chosen n)) (chosen_for chosen n) = is ∙ (ap (λ s. min (get_or firsts literal s) s) by ∙ ap (λ l. min (get_or firsts l (chosen_for chosen n)) (chosen_for chosen n)) e) in
     subst (λ l. AreChosen p literals (set firsts l first) (more ++ first ∷ []) (n + 1)) (sym e) (chosen_more p chosen literals firsts more n first choice tell inside few least m)
 
-pub chosen_all : (p : PairOf) (literals firsts more : List ℕ) → AreChosen p literals firsts more (steps_in p) → IsChoice p more
+pub chosen_all : (p : PairOf) (literals : List (Option ℕ)) (firsts more : List ℕ) → AreChosen p literals firsts more (steps_in p) → IsChoice p more
 chosen_all p literals firsts more m = record { early = m.early; same = m.same }
 
 -- ---- outputs
@@ -163,7 +167,7 @@ roots_are_steps g o roots h inside is =
     let second : get_or roots 1 0 ≡ second_root g o = ap (λ r. get_or r 1 0) is ∙ root_second g o in
     (omega (arith, first, first_root_within g o h inside), omega (arith, second, second_root_within g o h inside))
 
-pub one_literal : (g : StepsOf) (o : ℕ) (roots literals : List ℕ) → AreSteps g → TellEqual g.pair literals → o < length g.pair.first.outputs → roots ≡ roots_of g o → HaveOneLiteral literals (get_or roots 0 0) (get_or roots 1 0) → difference_at g.pair o ≡ None
+pub one_literal : (g : StepsOf) (o : ℕ) (roots : List ℕ) (literals : List (Option ℕ)) → AreSteps g → TellEqual g.pair literals → o < length g.pair.first.outputs → roots ≡ roots_of g o → HaveOneLiteral literals (get_or roots 0 0) (get_or roots 1 0) → difference_at g.pair o ≡ None
 one_literal g o roots literals h tell inside is have =
     let are = roots_are_steps g o roots h inside is in
     roots_never_differ g o roots h inside is (λ a. tell.each (get_or roots 0 0) (get_or roots 1 0) a are.0 are.1 have)
@@ -195,29 +199,29 @@ equal_set p marks o equal here = record {
 
 -- ---- literals of a graph
 
--- steps of one literal have the value of it
-pub tell_equal : (p : PairOf) (nodes : List Node) (literals : List ℕ) → AreLiterals p nodes literals → TellEqual p literals
-tell_equal p nodes literals are = record {
-  each = λ j k a hj hk h. sym (are.value j a hj h.some) ∙ (ap (literal_value nodes a) h.one ∙ are.value k a hk (λ none. h.some (h.one ∙ none)));
-}
+-- the value of a step that has a literal is the literal's
+pub has_value : (p : PairOf) (nodes : List Node) (literals : List (Option ℕ)) (k : ℕ) → AreLiterals p nodes literals → literal_of literals k ≢ 4294967295 → HasValue nodes (literal_of literals k) (λ a. value_at p a k)
+has_value p nodes literals k are some = by (reference_of literals k) refl some
+  where
+    by : (r : Option ℕ) → reference_of literals k ≡ r → unwrap_or r 4294967295 ≢ 4294967295 → HasValue nodes (unwrap_or r 4294967295) (λ a. value_at p a k)
+    by None e has = absurd (has refl)
+    by (Some l) e has = are.each k l e
 
--- a graph that goes on has the literals
-pub still_literals : (p : PairOf) (old new : List Node) (literals : List ℕ) → Extends old new → AreLiterals p old literals → AreLiterals p new literals
-still_literals p old new literals extends are = record {
-  within = λ k lt some. omega (arith, are.within k lt some, extends.longer);
-  value = λ k a lt some. extends.same (literal_of literals k) a (are.within k lt some) ∙ are.value k a lt some;
+-- steps of one literal have the value of it
+pub tell_equal : (p : PairOf) (nodes : List Node) (literals : List (Option ℕ)) → AreLiterals p nodes literals → TellEqual p literals
+tell_equal p nodes literals are = record {
+  each = λ j k a hj hk h. sym ((has_value p nodes literals j are h.some).value a) ∙ (ap (literal_value nodes a) h.one ∙ (has_value p nodes literals k are (λ none. h.some (h.one ∙ none))).value a);
 }
 
 -- the literal of a step that has one is the graph's
-pub literal_within : (g : StepsOf) (nodes : List Node) (literals : List ℕ) (j l : ℕ) → IsInside g nodes literals → j < steps_in g.pair → l ≡ literal_of literals j → l ≢ 4294967295 → IsWithin nodes l
-literal_within g nodes literals j l is inside e some = subst (IsWithin nodes) (sym e) (is.values.within j inside (λ none. some (e ∙ none)))
+pub literal_within : (g : StepsOf) (nodes : List Node) (literals : List (Option ℕ)) (j l : ℕ) → IsInside g nodes literals → l ≡ literal_of literals j → l ≢ 4294967295 → IsWithin nodes l
+literal_within g nodes literals j l is e some = subst (IsWithin nodes) (sym e) (has_value g.pair nodes literals j is.values (λ none. some (e ∙ none))).within
 
 -- an output never differs whose two literals have one value under all assignments
-pub asked_equal : (g : StepsOf) (nodes : List Node) (literals roots : List ℕ) (o x y : ℕ) → IsInside g nodes literals → o < length g.pair.first.outputs → roots ≡ roots_of g o
+pub asked_equal : (g : StepsOf) (nodes : List Node) (literals : List (Option ℕ)) (roots : List ℕ) (o x y : ℕ) → IsInside g nodes literals → o < length g.pair.first.outputs → roots ≡ roots_of g o
     → x ≡ literal_of literals (get_or roots 0 0) → y ≡ literal_of literals (get_or roots 1 0) → x ≢ 4294967295 → y ≢ 4294967295
     → ((a : ℕ → Bool) → literal_value nodes a x ≡ literal_value nodes a y) → difference_at g.pair o ≡ None
 asked_equal g nodes literals roots o x y is inside are ex ey some other same =
-    let steps = roots_are_steps g o roots is.lawful inside are in
     roots_never_differ g o roots is.lawful inside are
-    (λ a. sym (is.values.value (get_or roots 0 0) a steps.0 (λ none. some (ex ∙ none)))
-    ∙ (ap (literal_value nodes a) (sym ex) ∙ (same a ∙ (ap (literal_value nodes a) ey ∙ is.values.value (get_or roots 1 0) a steps.1 (λ none. other (ey ∙ none))))))
+    (λ a. sym ((has_value g.pair nodes literals (get_or roots 0 0) is.values (λ none. some (ex ∙ none))).value a)
+    ∙ (ap (literal_value nodes a) (sym ex) ∙ (same a ∙ (ap (literal_value nodes a) ey ∙ (has_value g.pair nodes literals (get_or roots 1 0) is.values (λ none. other (ey ∙ none))).value a))))

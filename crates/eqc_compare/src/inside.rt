@@ -4,12 +4,11 @@ ghost use Rattle.std.specs.Prelude.{◌≡◌, ◌<◌, IsTrue, None, length, mi
 ghost use Rattle.eqc_build.specs.Steps.{AreSteps, IsChoice, chosen_for};
 ghost use Rattle.eqc_compare.specs.Alike.{AreEqual, IsKnown};
 ghost use Rattle.eqc_compare.specs.Comparing.{difference_at};
-ghost use Rattle.eqc_gates.specs.Literals.{literal_of};
-ghost use Rattle.eqc_compare.specs.Inside.{HaveOneLiteral, TellEqual};
+ghost use Rattle.eqc_compare.specs.Inside.{HaveOneLiteral, TellEqual, literal_of};
 
 use crate::alike::Alike;
 use eqc_build::{Steps, is_marked};
-use eqc_gates::literals;
+use eqc_gates::{literals, needed};
 use eqc_pair::Pair;
 use eqc_sweep::{Comparison, Effort, Sweep};
 use std::alloc::{AllocError, Global};
@@ -24,7 +23,7 @@ const NONE: u32 = 4_294_967_295;
 pub struct Inside<'a> {
     steps: Steps<'a>,
     sweep: Sweep,
-    literals: Vec<u32>,
+    literals: Vec<Option<u32>>,
 }
 
 impl<'a> Model for Inside<'a> {
@@ -39,10 +38,14 @@ impl<'a> Model for Inside<'a> {
 }
 
 /// The literal of a step, or none.
-fn literal_of(literals: &[u32], step: u32) -> u32
+fn literal_of(literals: &[Option<u32>], step: u32) -> u32
     ensures { result ≡ literal_of literals.now step }
 {
-    literals.get(step as usize).copied().unwrap_or(NONE)
+    literals
+        .get(step as usize)
+        .copied()
+        .flatten()
+        .unwrap_or(NONE)
 }
 
 /// The step that is chosen in place of one.
@@ -67,11 +70,12 @@ fn first_with(firsts: &mut Vec<u32>, literal: usize, step: u32) -> u32
 }
 
 /// A number above all literals of steps.
-fn above_all(literals: &[u32]) -> u32 {
+fn above_all(literals: &[Option<u32>]) -> u32 {
     let mut above = 0;
     for literal in literals {
-        if *literal != NONE && *literal >= above {
-            above = *literal + 1;
+        let literal = literal.unwrap_or(NONE);
+        if literal != NONE && literal >= above {
+            above = literal + 1;
         }
     }
     above
@@ -83,7 +87,7 @@ fn first_of_literal(
     alloc: Global,
     steps: &Steps<'_>,
     chosen: &[u32],
-    literals: &[u32],
+    literals: &[Option<u32>],
 ) -> Result<Vec<u32>, AllocError>
     requires choice { IsChoice steps.now.pair chosen.now }
     requires tell { TellEqual steps.now.pair literals.now }
@@ -100,7 +104,7 @@ fn first_of_literal(
 }
 
 /// Whether two steps have one literal.
-fn have_one_literal(literals: &[u32], steps: [u32; 2]) -> bool
+fn have_one_literal(literals: &[Option<u32>], steps: [u32; 2]) -> bool
     ensures { IsTrue result → HaveOneLiteral literals.now (slice_index steps 0) (slice_index steps 1) }
 {
     let literal = literal_of(literals, steps[0]);
@@ -108,7 +112,12 @@ fn have_one_literal(literals: &[u32], steps: [u32; 2]) -> bool
 }
 
 /// Whether an output is marked, or its two steps have one literal.
-fn is_known_equal(steps: &Steps<'_>, literals: &[u32], marks: &[bool], output: usize) -> bool
+fn is_known_equal(
+    steps: &Steps<'_>,
+    literals: &[Option<u32>],
+    marks: &[bool],
+    output: usize,
+) -> bool
     requires lawful { AreSteps steps.now }
     requires tell { TellEqual steps.now.pair literals.now }
     requires equal { AreEqual steps.now.pair marks.now }
@@ -125,7 +134,7 @@ fn is_known_equal(steps: &Steps<'_>, literals: &[u32], marks: &[bool], output: u
 fn outputs_of_one_literal(
     alloc: Global,
     steps: &Steps<'_>,
-    literals: &[u32],
+    literals: &[Option<u32>],
     marks: &[bool],
 ) -> Result<Vec<bool>, AllocError>
     requires lawful { AreSteps steps.now }
@@ -141,30 +150,13 @@ fn outputs_of_one_literal(
     Ok(more)
 }
 
-/// Marks a step.
-fn want(wanted: &mut [bool], step: u32) {
-    if let Some(mark) = wanted.get_mut(step as usize) {
-        *mark = true;
-    }
-}
-
-/// Marks the steps that the outputs need which are not marked. Fails where memory is refused.
-fn wanted_steps(alloc: Global, steps: &Steps<'_>, marks: &[bool]) -> Result<Vec<bool>, AllocError> {
-    let mut wanted = vec![in alloc; false; steps.len() as usize]?;
-    for output in 0..steps.pair().first().outputs().len() {
-        if !is_marked(marks, output) {
-            let roots = steps.roots(output);
-            want(&mut wanted, roots[0]);
-            want(&mut wanted, roots[1]);
-        }
-    }
-    for step in (0..steps.len()).rev() {
-        if is_marked(&wanted, step as usize) {
-            let uses = steps.uses(step);
-            for k in 0..uses.len() {
-                want(&mut wanted, uses.get(k));
-            }
-        }
+/// Marks the outputs that are not marked. Fails where memory is refused.
+fn unmarked(alloc: Global, outputs: usize, marks: &[bool]) -> Result<Vec<bool>, AllocError>
+    ensures size { IfOk result (λ wanted. length wanted.items ≡ outputs) }
+{
+    let mut wanted = Vec::with_capacity(alloc, outputs)?;
+    for output in 0..outputs {
+        wanted.push(!is_marked(marks, output))?;
     }
     Ok(wanted)
 }
@@ -178,9 +170,11 @@ impl<'a> Inside<'a> {
         ensures { IfOk result (λ inside. inside ≡ pair.now) }
     {
         let steps = Steps::of(pair, alike.chosen.clone()?);
-        let wanted = wanted_steps(alloc, &steps, &alike.equal)?;
+        let _steps = steps.len();
+        let outputs = unmarked(alloc, pair.first().outputs().len(), &alike.equal)?;
+        let marks = needed(alloc, &steps, &outputs)?;
         let mut sweep = Sweep::new(alloc, Effort::usual())?;
-        let literals = literals(alloc, &steps, &wanted, &mut sweep)?;
+        let literals = literals(alloc, &steps, &marks, &mut sweep)?;
         Ok(Inside {
             steps,
             sweep,
