@@ -10,10 +10,11 @@ ghost use Rattle.eqc_check.specs.Answer.{MainOf, one_text, two_texts, models_ans
 ghost use Rattle.eqc_check.specs.Telling.{IsToldRefusal, IsToldWith, Tells, WarnsOf};
 
 use crate::choice::{Main, ModelNames, choose, read_main};
+use crate::course::check_alike;
 use crate::options::Options;
 use crate::report::Report;
+use crate::undecided::Undecided;
 use crate::warning::{Warnings, warnings_in_one, warnings_in_two};
-use crate::workers::check_alike;
 use eqc_blif::{Library, Refusal};
 use eqc_flat::{Fault, Flat, flatten};
 use eqc_pair::{Refused, Side, pair, recall_laws};
@@ -41,13 +42,14 @@ fn flat_report<R: Threads + Wait + Sync>(
     second: &Flat<'_>,
     order: Option<&[u8]>,
     options: &Options,
+    left: &mut Undecided,
 ) -> Result<Report, Stop>
     requires options { options_code options.now ≡ None }
     ensures report { IfOk result (λ report. report_of report ≡ flat_answer first.now second.now (option_copied order.entry)) }
     ensures stop { IfErr result (MayStop (flat_answer first.now second.now (option_copied order.entry))) }
 {
     match pair(alloc, first, second, order) {
-        Ok(pair) => check_alike(rt, alloc, &pair, options),
+        Ok(pair) => check_alike(rt, alloc, &pair, options, left),
         Err(Refused { side, line, code }) => refused(side, Refusal { line, code }),
     }
 }
@@ -60,6 +62,7 @@ fn second_report<R: Threads + Wait + Sync>(
     second: (&Library, usize),
     order: Option<&[u8]>,
     options: &Options,
+    left: &mut Undecided,
 ) -> Result<Report, Stop>
     requires options { options_code options.now ≡ None }
     requires n { second.1 < length second.0.now }
@@ -70,7 +73,7 @@ fn second_report<R: Threads + Wait + Sync>(
     match flatten(alloc, second.0, second.1) {
         Ok(g) => {
             recall_laws(&g);
-            flat_report(alloc, rt, first, &g, order, options)
+            flat_report(alloc, rt, first, &g, order, options, left)
         }
         Err(Fault { code }) => refused(Side::Second, Refusal { line: 0, code }),
     }
@@ -84,6 +87,7 @@ fn models_report<R: Threads + Wait + Sync>(
     second: (&Library, usize),
     order: Option<&[u8]>,
     options: &Options,
+    left: &mut Undecided,
 ) -> Result<Report, Stop>
     requires options { options_code options.now ≡ None }
     requires m { first.1 < length first.0.now }
@@ -92,7 +96,7 @@ fn models_report<R: Threads + Wait + Sync>(
     ensures stop { IfErr result (MayStop (models_answer (first.entry.0.now, first.entry.1) (second.entry.0.now, second.entry.1) (option_copied order.entry))) }
 {
     match flatten(alloc, first.0, first.1) {
-        Ok(f) => second_report(alloc, rt, &f, second, order, options),
+        Ok(f) => second_report(alloc, rt, &f, second, order, options, left),
         Err(Fault { code }) => refused(Side::First, Refusal { line: 0, code }),
     }
 }
@@ -145,6 +149,7 @@ fn one_report<R: Threads + Wait + Sync>(
     names: &ModelNames<'_>,
     order: Option<&[u8]>,
     options: &Options,
+    left: &mut Undecided,
 ) -> Result<Told, Stop>
     requires options { options_code options.now ≡ None }
     ensures { Tells (one_text names.now text.now) (option_copied order.entry) result }
@@ -165,6 +170,7 @@ fn one_report<R: Threads + Wait + Sync>(
             (&library, other),
             order,
             options,
+            left,
         ),
         warnings_in_one(alloc, &library, model, other),
     )
@@ -179,6 +185,7 @@ fn two_report<R: Threads + Wait + Sync>(
     names: &ModelNames<'_>,
     order: Option<&[u8]>,
     options: &Options,
+    left: &mut Undecided,
 ) -> Result<Told, Stop>
     requires options { options_code options.now ≡ None }
     ensures { Tells (two_texts names.now first.now second.now) (option_copied order.entry) result }
@@ -196,7 +203,7 @@ fn two_report<R: Threads + Wait + Sync>(
         (&second.library, second.model),
     );
     with_warnings(
-        models_report(alloc, rt, f, g, order, options),
+        models_report(alloc, rt, f, g, order, options, left),
         warnings_in_two(alloc, f, g),
     )
 }
@@ -220,13 +227,16 @@ pub(crate) fn texts_report<R: Threads + Wait + Sync>(
     names: &ModelNames<'_>,
     order: Option<&[u8]>,
     options: &Options,
+    left: &mut Undecided,
 ) -> Told
     requires options { options_code options.now ≡ None }
     ensures report { Answers (texts_answer (read_texts names.now first.now (option_copied second.entry)) (option_copied order.entry)) (report_of result.report) }
     ensures warned { WarnsOf (read_texts names.now first.now (option_copied second.entry)) (report_of result.report) result.warnings }
 {
     match second {
-        None => or_stopped(one_report(alloc, rt, first, names, order, options)),
-        Some(second) => or_stopped(two_report(alloc, rt, first, second, names, order, options)),
+        None => or_stopped(one_report(alloc, rt, first, names, order, options, left)),
+        Some(second) => or_stopped(two_report(
+            alloc, rt, first, second, names, order, options, left,
+        )),
     }
 }

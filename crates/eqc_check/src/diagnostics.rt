@@ -1,5 +1,6 @@
 //! What is told of a run that gave no verdict, beside its report.
 
+use crate::undecided::Undecided;
 use eqc_blif::Library;
 use eqc_pair::{Finding, Side};
 use eqc_tree::Stop;
@@ -25,6 +26,9 @@ pub trait Diagnostics {
     /// The run was stopped.
     fn stopped(&mut self, stop: Stop);
 
+    /// The outputs that a run which was stopped left undecided; none where it came to no comparison.
+    fn undecided(&mut self, left: &Undecided);
+
     /// The text of this side could not be read.
     fn unread(&mut self, side: Side, error: &io::Error);
 
@@ -48,6 +52,8 @@ impl Diagnostics for NoDiagnostics {
     fn option(&mut self, _code: u8) {}
 
     fn stopped(&mut self, _stop: Stop) {}
+
+    fn undecided(&mut self, _left: &Undecided) {}
 
     fn unread(&mut self, _side: Side, _error: &io::Error) {}
 

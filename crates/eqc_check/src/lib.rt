@@ -5,15 +5,17 @@
 //! the data:
 //!
 //! - `running`, texts in and a report out, over `io`, readers and writers; `decide`, which refusal or comparison it is;
-//!   `explaining`, what is at fault in texts that are refused, told to `diagnostics`;
+//!   `explaining`, what is at fault in texts that are refused, and `undecided`, the outputs that a stop leaves, told to
+//!   `diagnostics`;
 //!   `choice`, which models are compared; `warning`, models that are contained in others
 //! - `options`, what is asked for
-//! - `checking`, a pair's report by one thread; `workers`, by several
+//! - `checking`, a pair's report by one thread; `workers`, by several; `course`, that of a run
 //! - `report`, reports and their bytes; `laws`, facts about the definitions, as functions without a body
 #![tactic(auto, using(eqc_tree::proofs::HoldingLemmas::counts_itself))]
 
 mod checking;
 mod choice;
+mod course;
 mod decide;
 mod diagnostics;
 mod explaining;
@@ -22,6 +24,7 @@ mod laws;
 mod options;
 mod report;
 mod running;
+mod undecided;
 mod warning;
 mod workers;
 
@@ -47,5 +50,6 @@ pub use options::{Options, options_fault};
 pub use report::text::write_report;
 pub use report::{Report, Status};
 pub use running::{Finished, Texts, run, run_explained, run_models};
+pub use undecided::Undecided;
 pub use warning::{Contained, Warnings};
 pub use workers::{check, check_with};

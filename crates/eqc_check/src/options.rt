@@ -1,4 +1,4 @@
-//! What a comparison may use: workers, nodes, cells and levels that are shared, each within its range.
+//! What a comparison may use: workers, nodes, cells and levels that are shared, each within its range, and conflicts.
 ghost use Rattle.std.specs.Prelude.{◌≡◌};
 ghost use Rattle.eqc_check.specs.Options.{options_code, is_cell_count};
 
@@ -23,6 +23,8 @@ pub struct Options {
     pub cells: u32,
     /// Levels of an operation that are shared among workers, 0 to 16.
     pub forks: u32,
+    /// Conflicts of a search for each output that diagrams leave, 0 for diagrams alone.
+    pub conflicts: u32,
 }
 
 /// The code of the first option that is out of its range: 81 workers, 82 nodes, 83 cells, 84 forks.
@@ -34,6 +36,7 @@ pub fn options_fault(options: &Options) -> Option<u8>
         nodes,
         cells,
         forks,
+        ..
     } = *options;
     if !(1..=MAX_WORKERS).contains(&workers) {
         return Some(Rule::Workers.code());

@@ -20,6 +20,7 @@ use crate::io::writing::write_whole;
 use crate::options::{Options, options_fault};
 use crate::report::text::{put_report, stopped_text};
 use crate::report::{Report, Status};
+use crate::undecided::Undecided;
 use crate::warning::Warnings;
 use eqc_pair::{Refused, Side};
 use eqc_tree::Stop;
@@ -119,6 +120,8 @@ struct FailedRead {
 #[derive(Drop)]
 struct Reported {
     told: Told,
+    /// The outputs that are left, where it is a stop.
+    left: Undecided,
     sources: Option<Sources>,
 }
 
@@ -146,15 +149,27 @@ fn read_report<RT: Threads + Wait + Sync, R: Read + Drop>(
         Err(_) => {
             return Ok(Reported {
                 told: Told::alone(Report::Stopped(Stop::Memory)),
+                left: Undecided::none(alloc),
                 sources: None,
             });
         }
     };
     let second = bytes_of(&sources.second);
     let order = bytes_of(&sources.order);
-    let told = texts_report(alloc, rt, &sources.first, second, names, order, options);
+    let mut left = Undecided::none(alloc);
+    let told = texts_report(
+        alloc,
+        rt,
+        &sources.first,
+        second,
+        names,
+        order,
+        options,
+        &mut left,
+    );
     Ok(Reported {
         told,
+        left,
         sources: Some(sources),
     })
 }
@@ -200,6 +215,7 @@ fn report_for<RT: Threads + Wait + Sync, R: Read + Drop>(
                 line: 0,
                 code,
             })),
+            left: Undecided::none(alloc),
             sources: None,
         }),
         None => read_report(alloc, rt, texts, names, order, options),
@@ -217,13 +233,17 @@ pub struct Finished {
 fn tell<T: Diagnostics>(
     alloc: Global,
     report: &Report,
+    left: &Undecided,
     sources: Option<Sources>,
     names: &ModelNames<'_>,
     told: &mut T,
 ) {
     match report {
         Report::Equivalent | Report::Differs { .. } => {}
-        Report::Stopped(stop) => told.stopped(*stop),
+        Report::Stopped(stop) => {
+            told.stopped(*stop);
+            told.undecided(left);
+        }
         Report::Refused(refused) => match sources {
             None => told.option(refused.code),
             Some(sources) => {
@@ -279,6 +299,7 @@ pub fn run_explained<RT: Threads + Wait + Sync, R: Read + Drop, W: Write, T: Dia
     };
     let Reported {
         told: Told { report, warnings },
+        left,
         sources,
     } = reported;
     let status = match write_or_stop(alloc, &report, out) {
@@ -286,7 +307,7 @@ pub fn run_explained<RT: Threads + Wait + Sync, R: Read + Drop, W: Write, T: Dia
         Err(error) => return Err(tell_unwritten(&error, told)),
     };
     if let Some(told) = told {
-        tell(alloc, &report, sources, names, told);
+        tell(alloc, &report, &left, sources, names, told);
     }
     Ok(Finished {
         status,

@@ -12,9 +12,7 @@ use crate::checking::found_report;
 use crate::options::Options;
 use crate::report::Report;
 use eqc_apply::{Applier, brief_team, team};
-use eqc_compare::{
-    Alike, Gate, NoGate, Patience, alike_or_nothing, are_all_marked, first_difference,
-};
+use eqc_compare::{Alike, Gate, Patience, first_difference};
 use eqc_pair::Pair;
 use eqc_tree::{Diagrams, References, Stop};
 use std::alloc::Global;
@@ -72,24 +70,24 @@ pub fn check_with<R: Threads + Wait + Sync, D: Diagrams<R> + Send + Drop, G: Gat
 
 /// The nodes of the forest in which a comparison begins that may have more, and the cells of its cache: so many are laid out in
 /// a few milliseconds, which most comparisons take less than.
-const FIRST_NODES: u32 = 65_536;
+pub(crate) const FIRST_NODES: u32 = 65_536;
 
 const FIRST_CELLS: u32 = 65_536;
 
 /// The most workers that begin in it. More of them fill it with nodes of their own, and take longer to leave it.
-const FIRST_WORKERS: u32 = 2;
+pub(crate) const FIRST_WORKERS: u32 = 2;
 
 /// In which forest a comparison is made.
 #[derive(Clone, Copy)]
-enum Room {
-    /// A small one, which is left as soon as it is full.
+pub(crate) enum Room {
+    /// A small one for few workers without forks, which is left as soon as it is full.
     First,
     /// The one that the options ask for.
     Whole,
 }
 
-/// The team of workers that the options ask for, with a variable for each input of a pair: they share one forest, and as
-/// many levels of an operation as there are forks.
+/// The team of workers for a room, with a variable for each input of a pair: they share one forest, and in all the room that
+/// the options ask for as many levels of an operation as there are forks.
 fn team_for(
     alloc: Global,
     pair: &Pair<'_>,
@@ -107,19 +105,20 @@ fn team_for(
         nodes,
         cells,
         forks,
+        ..
     } = *options;
     let inputs = pair.first().inputs().len() as u16;
     match room {
         Room::First => {
             let (nodes, cells) = (nodes.min(FIRST_NODES), cells.min(FIRST_CELLS));
-            brief_team(alloc, inputs, nodes, cells, workers, forks)
+            brief_team(alloc, inputs, nodes, cells, workers.min(FIRST_WORKERS), 0)
         }
         Room::Whole => team(alloc, inputs, nodes, cells, workers, forks),
     }
 }
 
-/// The report by the team that the options ask for, where this is known of the pair, or why it stopped.
-fn check_in<R: Threads + Wait + Sync, G: Gate<R> + Sync>(
+/// The report by the team for a room, where this is known of the pair, or why it stopped.
+pub(crate) fn check_in<R: Threads + Wait + Sync, G: Gate<R> + Sync>(
     rt: &R,
     alloc: Global,
     pair: &Pair<'_>,
@@ -134,7 +133,7 @@ fn check_in<R: Threads + Wait + Sync, G: Gate<R> + Sync>(
 {
     let members = team_for(alloc, pair, options, room)?;
     let patience = match room {
-        Room::First => Patience::brief(options.forks),
+        Room::First => Patience::brief(0),
         Room::Whole => Patience::of_forks(options.forks),
     };
     check_known(rt, alloc, pair, members, alike, patience, gate)
@@ -166,36 +165,4 @@ pub fn check<R: Threads + Wait + Sync, G: Gate<R> + Sync>(
         Alike::nothing(alloc),
         gate,
     )
-}
-
-/// Compares a pair as `check` does, but compares no output whose two signals have one structure: it is equal, and where all
-/// outputs are so, no forest and no thread is made. For the others a diagram is built once for all signals of one structure, of
-/// both netlists. Where memory for structures is refused, every output is compared, and every signal built.
-///
-/// A comparison that may have many nodes is tried with few first, since to lay out the whole forest takes longer than most
-/// comparisons do. Not so where there are many workers or forks: who asks for them has much to compare.
-pub(crate) fn check_alike<R: Threads + Wait + Sync>(
-    rt: &R,
-    alloc: Global,
-    pair: &Pair<'_>,
-    options: &Options,
-) -> Result<Report, Stop>
-    requires { options_code options.now ≡ None }
-    ensures report { IfOk result (λ report. report_of report ≡ comparison (netlist_of pair.now.first) (netlist_of pair.now.second)) }
-{
-    let alike = alike_or_nothing(alloc, pair);
-    if are_all_marked(pair, &alike.equal) {
-        return found_report(alloc, pair, None);
-    }
-    let few = options.workers <= FIRST_WORKERS && options.forks == 0;
-    if options.nodes <= FIRST_NODES || !few {
-        return check_in(rt, alloc, pair, options, Room::Whole, alike, &NoGate);
-    }
-    match check_in(rt, alloc, pair, options, Room::First, alike, &NoGate) {
-        Err(Stop::NodeLimit) => {
-            let alike = alike_or_nothing(alloc, pair);
-            check_in(rt, alloc, pair, options, Room::Whole, alike, &NoGate)
-        }
-        report => report,
-    }
 }

@@ -37,13 +37,14 @@ IsFlag (Some t) given = (t ≡ codes "true" → given ≡ true) × (t ≡ codes 
 abbrev pub with_version : App → App
 with_version a = on_top (λ s. record s { has_version = true }) a
 
--- four numbers, the order text's path, the names of two models, whether to explain, and at most two paths
+-- five numbers, the order text's path, the names of two models, whether to explain, and at most two paths
 abbrev pub eqc_app : App
-eqc_app = with_rule (with_rule (with_rule (with_rule (with_rule (with_rule (with_rule (with_rule (with_rule (with_rule (with_version (new_app (codes "eqc")))
+eqc_app = with_rule (with_rule (with_rule (with_rule (with_rule (with_rule (with_rule (with_rule (with_rule (with_rule (with_rule (with_version (new_app (codes "eqc")))
     (number_rule (codes "workers") (codes "2")))
     (number_rule (codes "nodes") (codes "65536")))
     (number_rule (codes "cells") (codes "8192")))
     (number_rule (codes "forks") (codes "0")))
+    (number_rule (codes "conflicts") (codes "200000")))
     (text_rule (codes "order")))
     (text_rule (codes "first-model")))
     (text_rule (codes "second-model")))
@@ -65,6 +66,7 @@ pub record IsAsked (rows : List Row) (request : Request) : Type 0 where
   pub nodes : number_of (codes "nodes") rows ≡ Some request.options.nodes
   pub cells : number_of (codes "cells") rows ≡ Some request.options.cells
   pub forks : number_of (codes "forks") rows ≡ Some request.options.forks
+  pub conflicts : number_of (codes "conflicts") rows ≡ Some request.options.conflicts
   pub explain : IsFlag (one_of (codes "explain") rows) request.explain
   pub order : option_map (λ s. s.now) request.order ≡ first_of (codes "order") rows
   pub first_model : option_map (λ s. s.now) request.first_model ≡ first_of (codes "first-model") rows

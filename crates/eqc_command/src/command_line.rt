@@ -8,8 +8,8 @@ ghost use Rattle.clap.specs.Walk.{rows_of, rule_of};
 ghost use Rattle.eqc_command.specs.CommandLine.{eqc_app, number_rule, text_rule, flag_rule, path_rule, number_of, rows_asked, IsAsked};
 
 use crate::help::{
-    ABOUT, CELLS, EXPLAIN, FIRST, FIRST_MODEL, FORKS, NODES, ORDER, SECOND, SECOND_MODEL, USAGE,
-    WORKERS,
+    ABOUT, CELLS, CONFLICTS, EXPLAIN, FIRST, FIRST_MODEL, FORKS, NODES, ORDER, SECOND,
+    SECOND_MODEL, USAGE, WORKERS,
 };
 use crate::version::VERSION;
 use clap::{Arg, ArgAction, ArgMatches, Command, Error, value_parser};
@@ -90,6 +90,7 @@ fn command<'a>(alloc: Global, answers: &'a str) -> Result<Command<'a>, AllocErro
         .arg(number(alloc, "nodes", "65536", NODES))?
         .arg(number(alloc, "cells", "8192", CELLS))?
         .arg(number(alloc, "forks", "0", FORKS))?
+        .arg(number(alloc, "conflicts", "200000", CONFLICTS))?
         .arg(text(alloc, "order", "FILE", ORDER))?
         .arg(text(alloc, "first-model", "NAME", FIRST_MODEL))?
         .arg(text(alloc, "second-model", "NAME", SECOND_MODEL))?
@@ -115,6 +116,7 @@ fn request_of<'a>(matches: &ArgMatches<'a>) -> Option<Request<'a>>
             nodes: number_given(matches, "nodes")?,
             cells: number_given(matches, "cells")?,
             forks: number_given(matches, "forks")?,
+            conflicts: number_given(matches, "conflicts")?,
         },
         explain: matches.get_flag("explain"),
         order: matches.get_str("order"),

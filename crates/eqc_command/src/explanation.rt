@@ -6,7 +6,9 @@
 use crate::command_line::Request;
 use crate::warning::{first_source, second_source};
 use eqc_blif::{Finding as TextFinding, Library};
-use eqc_check::{Diagnostics, Finding as PairFinding, Options, RunFault, Side, Unmatched};
+use eqc_check::{
+    Diagnostics, Finding as PairFinding, Options, RunFault, Side, Undecided, Unmatched,
+};
 use eqc_flat::{Circle, Finding, FoundFormal, FoundInstance, HierarchicalName};
 use eqc_tree::Stop;
 use std::alloc::{AllocError, Global};
@@ -25,6 +27,9 @@ const LISTED: usize = 10;
 
 /// The most nodes that may be asked for.
 const MOST_NODES: u32 = 1_048_574;
+
+/// The fewest nodes with which equal signals are looked for inside the netlists.
+const SWEPT_NODES: u32 = 1_024;
 
 /// What to do about a signal without a driver.
 const UNDRIVEN_HINT: &str =
@@ -384,6 +389,17 @@ fn way_on(options: Options) -> &'static str {
     }
 }
 
+/// What to try where equal signals were not looked for inside the netlists, or not found.
+fn inside_hint(options: Options) -> &'static str {
+    if options.conflicts == 0 {
+        "without --conflicts 0 equal signals are looked for inside the netlists"
+    } else if options.nodes < SWEPT_NODES {
+        "with --nodes 1024 and more equal signals are looked for inside the netlists"
+    } else {
+        "a larger --conflicts gives the search for equal outputs more time"
+    }
+}
+
 /// What is said of a comparison that was given up.
 fn stop_said(alloc: Global, options: Options, stop: Stop) -> Result<String, AllocError> {
     if stop == Stop::NodeLimit {
@@ -394,6 +410,21 @@ fn stop_said(alloc: Global, options: Options, stop: Stop) -> Result<String, Allo
         );
     }
     format!(in alloc; "{stop} ({})", stop.code())
+}
+
+/// What is said of the outputs that are left undecided.
+fn undecided_said(alloc: Global, left: &Undecided) -> Result<String, AllocError> {
+    let mut said = format!(in alloc; "outputs that are left undecided, {}", left.count())?;
+    let mut cut = ":";
+    for name in left.names() {
+        let output = format!(in alloc; "{cut} '{}'", Shown(name))?;
+        said.push_str(&output)?;
+        cut = "";
+    }
+    if left.count() > left.names().len() {
+        said.push_str(" ..")?;
+    }
+    Ok(said)
 }
 
 /// No explanation yet, of what is asked for.
@@ -520,6 +551,15 @@ impl<'a> Diagnostics for Explanation<'a> {
 
     fn stopped(&mut self, stop: Stop) {
         let _ = self.tell(stop_said(self.alloc, self.options, stop));
+        if stop == Stop::NodeLimit {
+            let _ = self.hint(inside_hint(self.options));
+        }
+    }
+
+    fn undecided(&mut self, left: &Undecided) {
+        if left.count() > 0 {
+            let _ = self.tell(undecided_said(self.alloc, left));
+        }
     }
 
     fn unread(&mut self, side: Side, error: &io::Error) {

@@ -8,8 +8,9 @@ pub const ABOUT: &str =
     "Decides whether two combinational netlists in BLIF compute the same outputs.";
 
 pub const USAGE: &str = "\
-eqc [--workers N] [--nodes N] [--cells N] [--forks N] [--order FILE]
-           [--first-model NAME] [--second-model NAME] [--explain] [FILE [FILE]]";
+eqc [--workers N] [--nodes N] [--cells N] [--forks N] [--conflicts N]
+           [--order FILE] [--first-model NAME] [--second-model NAME] [--explain]
+           [FILE [FILE]]";
 
 pub const WORKERS: &str = "Compares outputs on this many threads, 1 to 64";
 
@@ -21,6 +22,9 @@ pub const CELLS: &str =
 
 pub const FORKS: &str =
     "Offers one half of an operation to idle workers in this many levels, 0 to 16";
+
+pub const CONFLICTS: &str =
+    "Gives up a search for outputs that diagrams leave after this many conflicts; 0 for diagrams alone";
 
 pub const ORDER: &str =
     "Takes the variables in this file's order, a word for each input of the first netlist";
@@ -45,6 +49,9 @@ verdict. `--` ends the options. Numbers go from 0 to 4294967295.
 Each worker has a thread. All build in one store of --nodes nodes with one operation cache of --cells cells; nodes
 that are no longer needed are given back. With --forks N one half of an operation is offered in its first N
 levels to workers that have nothing left to compare.
+Where a small store is full, signals inside the netlists are compared first, and those that are proved equal are
+built once; outputs that neither this nor the whole store decides are asked for by a search of --conflicts
+conflicts in all. Neither comes with --conflicts 0, or where --nodes is below 1024.
 
 Statuses and reports:
   0  equivalent              each output has equal values under every assignment of the inputs

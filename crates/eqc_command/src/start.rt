@@ -159,9 +159,9 @@ fn perform<RT: Files + AllocGlobal + Threads + Wait + Sync, R: Read + Drop, W: W
 /// Does all that the program does, and answers its exit status.
 ///
 /// The words are those of the command line, the program's name first; `input`, `out` and `err` are standard input,
-/// output and error. The options are `--workers N`, `--nodes N`, `--cells N`, `--forks N` and `--order FILE`,
-/// `--first-model NAME`, `--second-model NAME` and `--explain`, and up to two files are compared. All files are opened
-/// before one is read. The report is written to `out`. Where it is a verdict on a model that a model of its text contains
+/// output and error. The options are `--workers N`, `--nodes N`, `--cells N`, `--forks N`, `--conflicts N` and
+/// `--order FILE`, `--first-model NAME`, `--second-model NAME` and `--explain`, and up to two files are compared. All files
+/// are opened before one is read. The report is written to `out`. Where it is a verdict on a model that a model of its text contains
 /// which isn't compared, `err` gets a warning on it. Where there is no verdict and `--explain` is given, `err` gets lines
 /// on what is at fault.
 ///

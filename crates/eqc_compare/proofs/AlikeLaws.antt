@@ -67,7 +67,7 @@ marked_more p c marks o h classes less size before =
     (long, told_more p marks (mark_at p c o) o size before mark)
 
 -- equal values are not different
-never : (x y : Bool) → x ≡ y → is_different x y ≡ false
+pub never : (x y : Bool) → x ≡ y → is_different x y ≡ false
 never true true e = refl
 never true false e = e
 never false true e = sym e

@@ -9,3 +9,4 @@ pub mod TicketSteps
 pub mod ShareLemmas
 pub mod VerdictPlaces
 pub mod AlikeLaws
+pub mod InsideLaws

@@ -5,3 +5,4 @@ pub mod Comparing
 pub mod Ticket
 pub mod Verdicts
 pub mod Alike
+pub mod Inside

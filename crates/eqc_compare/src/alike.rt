@@ -11,8 +11,8 @@ use eqc_class::{SignalClasses, classes};
 use eqc_pair::{Pair, recall_laws};
 use std::alloc::{AllocError, Global};
 
-/// What is known of a pair by its structures.
-#[derive(Drop)]
+/// What is known of a pair.
+#[derive(Clone, Drop)]
 pub struct Alike {
     /// The outputs that are marked are equal.
     pub equal: Vec<bool>,

@@ -10,7 +10,8 @@
 //!   a seat; `verdict`, all of it put in order
 //! - `ticket`, the word from which outputs are drawn; `member`, what a member compares with; `gate`, what is told of it; `help`,
 //!   what a member does for others, and `patience`, for how long
-//! - `task`, what members do; `alike`, what structures tell of a pair, so that members need not do it
+//! - `task`, what members do; `alike`, what structures tell of a pair, and `inside`, what the literals of a graph do, so that
+//!   members need not do it
 #![tactic(auto, using(eqc_tree::proofs::HoldingLemmas::counts_itself))]
 
 mod alike;
@@ -18,6 +19,7 @@ mod compare;
 mod gate;
 mod group;
 mod help;
+mod inside;
 mod laws;
 mod least;
 mod member;
@@ -31,6 +33,7 @@ mod verdict;
 pub use alike::{Alike, alike_or_nothing, are_all_marked};
 pub use compare::{compare_output, compare_outputs};
 pub use gate::{Gate, NoGate};
+pub use inside::Inside;
 pub use laws::{
     difference_is_of_values, first_difference_is_first, first_difference_is_none_where_equal,
     inputs_are_matched_by_name, least_difference_is_least, least_difference_is_none_where_equal,

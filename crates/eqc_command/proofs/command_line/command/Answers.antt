@@ -12,9 +12,10 @@ returns c =
     let nodes = arg_added _ _ _ _ _ c.in_ok-arg-2.ensures c.number-2.ensures.own workers c.number-2.ensures.rule in
     let cells = arg_added _ _ _ _ _ c.in_ok-arg-3.ensures c.number-3.ensures.own nodes c.number-3.ensures.rule in
     let forks = arg_added _ _ _ _ _ c.in_ok-arg-4.ensures c.number-4.ensures.own cells c.number-4.ensures.rule in
-    let order = arg_added _ _ _ _ _ c.in_ok-arg-5.ensures c.text.ensures.own forks c.text.ensures.rule in
-    let first_model = arg_added _ _ _ _ _ c.in_ok-arg-6.ensures c.text-2.ensures.own order c.text-2.ensures.rule in
-    let second_model = arg_added _ _ _ _ _ c.in_ok-arg-7.ensures c.text-3.ensures.own first_model c.text-3.ensures.rule in
-    let explain = arg_added _ _ _ _ _ c.in_ok-arg-8.ensures c.flag.ensures.own second_model c.flag.ensures.rule in
-    let first = arg_added _ _ _ _ _ c.in_ok-arg-9.ensures c.path.ensures.own explain c.path.ensures.rule in
-    IfOk-weaker c.arg-10.result _ _ (λ r adds. arg_added _ _ _ _ _ adds c.path-2.ensures.own first c.path-2.ensures.rule) c.arg-10.ensures
+    let conflicts = arg_added _ _ _ _ _ c.in_ok-arg-5.ensures c.number-5.ensures.own forks c.number-5.ensures.rule in
+    let order = arg_added _ _ _ _ _ c.in_ok-arg-6.ensures c.text.ensures.own conflicts c.text.ensures.rule in
+    let first_model = arg_added _ _ _ _ _ c.in_ok-arg-7.ensures c.text-2.ensures.own order c.text-2.ensures.rule in
+    let second_model = arg_added _ _ _ _ _ c.in_ok-arg-8.ensures c.text-3.ensures.own first_model c.text-3.ensures.rule in
+    let explain = arg_added _ _ _ _ _ c.in_ok-arg-9.ensures c.flag.ensures.own second_model c.flag.ensures.rule in
+    let first = arg_added _ _ _ _ _ c.in_ok-arg-10.ensures c.path.ensures.own explain c.path.ensures.rule in
+    IfOk-weaker c.arg-11.result _ _ (λ r adds. arg_added _ _ _ _ _ adds c.path-2.ensures.own first c.path-2.ensures.rule) c.arg-11.ensures

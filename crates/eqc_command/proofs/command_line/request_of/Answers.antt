@@ -10,6 +10,7 @@ returns c = record {
   nodes = c.in_ok-number_given-2.ensures;
   cells = c.in_ok-number_given-3.ensures;
   forks = c.in_ok-number_given-4.ensures;
+  conflicts = c.in_ok-number_given-5.ensures;
   explain = flag_read (found_of c.args.matches.now) (codes "explain") c.get_flag.result c.get_flag.ensures.none c.get_flag.ensures.value c.get_flag.ensures.other;
   order = c.get_str.ensures ∙ first_value-rows (found_of c.args.matches.now) (codes "order");
   first_model = c.get_str-2.ensures ∙ first_value-rows (found_of c.args.matches.now) (codes "first-model");

@@ -1,0 +1,55 @@
+//! The outputs that are left where a comparison is given up.
+
+use eqc_pair::Pair;
+use std::alloc::Global;
+
+/// So many names are kept.
+const KEPT: usize = 10;
+
+/// The outputs that a comparison left undecided: the names of the first of them, and how many there are.
+#[derive(Drop)]
+pub struct Undecided {
+    alloc: Global,
+    names: Vec<Vec<u8>>,
+    count: usize,
+}
+
+impl Undecided {
+    /// No output is left.
+    pub(crate) fn none(alloc: Global) -> Undecided {
+        Undecided {
+            alloc,
+            names: Vec::new(alloc),
+            count: 0,
+        }
+    }
+
+    /// Takes one more name. Where memory is refused for it, it is only counted.
+    fn add(&mut self, name: &[u8]) {
+        self.count = self.count.saturating_add(1);
+        if self.names.len() < KEPT
+            && let Ok(name) = name.to_vec(self.alloc)
+        {
+            let _ = self.names.push(name);
+        }
+    }
+
+    /// Takes the names of the outputs of a pair that are not marked.
+    pub(crate) fn add_unmarked(&mut self, pair: &Pair<'_>, marks: &[bool]) {
+        for (output, name) in pair.first().outputs().iter().enumerate() {
+            if !marks.get(output).copied().unwrap_or(false) {
+                self.add(name.as_bytes());
+            }
+        }
+    }
+
+    /// The names of the first, at most ten.
+    pub fn names(&self) -> &[Vec<u8>] {
+        self.names.as_slice()
+    }
+
+    /// How many there are, with those that `names` leaves out.
+    pub fn count(&self) -> usize {
+        self.count
+    }
+}
