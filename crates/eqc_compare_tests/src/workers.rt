@@ -118,6 +118,7 @@ fn compared<R: Threads + Wait + Sync, G: Gate<R> + Sync>(
         nodes,
         cells: 1,
         forks: 0,
+        conflicts: 0,
     };
     match options_fault(&options) {
         None => check(rt, alloc, pair, &options, gate),
@@ -293,6 +294,7 @@ fn is_second<R: AllocGlobal + Threads + Wait + Sync>(rt: &R, text: &[u8]) -> boo
         nodes: 65_536,
         cells: 8_192,
         forks: 0,
+        conflicts: 200_000,
     };
     let mut out = Vec::new(rt.alloc());
     let done = run(rt, rt.alloc(), Texts::One(text), None, &options, &mut out);

@@ -2,7 +2,7 @@
 //!
 //! - `running`, what makes runs and looks at what they write
 //! - `runs`, options, readers and writers; `reports`, their bytes; `messages`, what stops and faults say
-//! - `compared_hierarchies` and `structures`, what is reported of netlists; `costs`, of texts that would like to be dear
+//! - `compared_hierarchies`, `structures` and `inside`, what is reported of netlists; `costs`, of texts that would like to be dear
 #![tactic(auto)]
 
 #[cfg(test)]
@@ -11,6 +11,8 @@ mod compared_hierarchies;
 mod costs;
 #[cfg(test)]
 mod ends;
+#[cfg(test)]
+mod inside;
 #[cfg(test)]
 mod messages;
 #[cfg(test)]

@@ -8,6 +8,9 @@ use std::process::Abort;
 use std::sync::Wait;
 use std::thread::Threads;
 
+/// As many conflicts as the program has where nothing is said.
+pub const CONFLICTS: u32 = 200_000;
+
 /// Numbers of workers, nodes, cells and forks.
 pub type Numbers = (u32, u32, u32, u32);
 
@@ -31,6 +34,7 @@ pub fn options(numbers: Numbers) -> Options {
         nodes,
         cells,
         forks,
+        conflicts: CONFLICTS,
     }
 }
 

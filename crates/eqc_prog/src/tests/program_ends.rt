@@ -97,6 +97,7 @@ static OPTIONS: &[&str] = &[
     "--nodes <N>",
     "--cells <N>",
     "--forks <N>",
+    "--conflicts <N>",
     "--order <FILE>",
     "--first-model <NAME>",
     "--second-model <NAME>",
