@@ -7,5 +7,9 @@ team-requires c = options_in_range c.args.options.now c.requires
 
 pub brief_team-requires : goal.brief_team-requires
 brief_team-requires c =
-    let h = options_in_range c.args.options.now c.requires in
-    ((omega (arith, h.0.0, c.min-nodes.ensures), omega (arith, h.0.1, c.min-nodes.ensures)), (omega (arith, h.1.0, c.min-cells.ensures), omega (arith, h.1.1, c.min-cells.ensures)), h.2, h.3)
+    let h = options_in_range c.args.options.now c.requires in (
+      (omega (arith, h.0.0, c.min-nodes.ensures), omega (arith, h.0.1, c.min-nodes.ensures)),
+      (omega (arith, h.1.0, c.min-cells.ensures), omega (arith, h.1.1, c.min-cells.ensures)),
+      (omega (arith, h.2.0, c.min.ensures), omega (arith, h.2.1, c.min.ensures)),
+      omega arith,
+    )

@@ -1,4 +1,5 @@
 use Rattle.std.proofs.Common.{◌≡◌, ◌<◌, ◌∙◌, ap, get_or, length, subst, None}
+use Rattle.eqc_sweep.specs.Finding.{AreEqual, IsRight}
 use Rattle.eqc_compare.specs.Inside.{literal_of}
 use Rattle.eqc_compare.specs.Comparing.{difference_at}
 use Rattle.eqc_compare.proofs.InsideLaws.{asked_equal, literal_within}
@@ -23,7 +24,8 @@ returns-in-Ok-Equal-clause-equal c found =
     let g = c.self.inside.steps in
     let roots = c.roots-roots.result in
     let inside : c.args.output < length g.pair.first.outputs = rw c.self.view_is c.requires in
+    let right : AreEqual c.self.inside.sweep c.literal_of-x.result c.literal_of-y.result = rw c.in-Ok-Equal.field-0-is at c.in-Ok-Equal.ensures.right in
     subst (λ p. difference_at p c.args.output ≡ None) c.self.view_is
     (asked_equal g c.self.inside.sweep c.self.inside.literals.items roots c.args.output c.literal_of-x.result c.literal_of-y.result c.self.invariant inside c.roots-roots.ensures
     (c.literal_of-x.ensures ∙ ap (λ ls. literal_of ls (get_or roots 0 0)) c.deref.ensures.value) (c.literal_of-y.ensures ∙ ap (λ ls. literal_of ls (get_or roots 1 0)) c.deref-2.ensures.value) c.if-x.false c.if-y.false
-    (rw c.in-Ok-Equal.field-0-is at c.in-Ok-Equal.ensures.right))
+    right.value)
