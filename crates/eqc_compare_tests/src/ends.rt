@@ -1,8 +1,7 @@
 //! The ends of tests, which alone have the branches and the words of a row that doesn't hold: a test that has them itself is proved
 //! at each of its branches, with all that it holds there.
 
-use eqc_testing::{Row, first_wrong};
-use std::alloc::{AllocError, Global};
+use std::alloc::AllocError;
 use std::fmt::{Debug, Display};
 use std::process::Abort;
 
@@ -23,31 +22,4 @@ pub(crate) fn same<T: PartialEq + Debug + Copy>(
     row: impl Display + Copy,
 ) {
     assert_eq!(rt; found, wanted, "{row}");
-}
-
-/// Ends the test at the first row whose text isn't as it is wanted, and names it and the turn.
-pub(crate) fn check_rows_at<W, F: Fn(Global, &[u8], &W) -> Result<bool, AllocError>>(
-    rt: &(impl Abort + AllocGlobal),
-    turn: impl Debug + Copy,
-    rows: &[Row<W>],
-    is_wanted: F,
-)
-    requires { F.IsAlwaysCallable is_wanted }
-{
-    match first_wrong(rt.alloc(), rows, is_wanted) {
-        Ok(None) => {}
-        Ok(Some(row)) => panic!(rt; "{row} {turn:?}"),
-        Err(_) => panic!(rt; "no memory: {turn:?}"),
-    }
-}
-
-/// Ends the test at the first row whose text isn't as it is wanted, and names it.
-pub(crate) fn check_rows<W, F: Fn(Global, &[u8], &W) -> Result<bool, AllocError>>(
-    rt: &(impl Abort + AllocGlobal),
-    rows: &[Row<W>],
-    is_wanted: F,
-)
-    requires { F.IsAlwaysCallable is_wanted }
-{
-    check_rows_at(rt, (), rows, is_wanted);
 }

@@ -5,7 +5,7 @@
 ghost use Rattle.std.specs.Prelude.{◌<◌, ◌≤◌, IsTrue, length};
 ghost use Rattle.eqc_tree.specs.Holding.{Keeps};
 
-use crate::ends::{check_rows, same};
+use crate::ends::{holds, same};
 use eqc_blif::{Library, read};
 use eqc_check::{Pair, Report, check_plain, compare_output, least_assignment, pair, write_report};
 use eqc_flat::Flat;
@@ -260,20 +260,21 @@ fn is_answer<R>(
     }
 }
 
-/// The same, with an order text where it isn't empty, in which `;` stands for LF.
+/// The same of a text and an order text, where this isn't empty, in which `;` stands for LF.
 fn is_ordered_answer<R>(
     rt: &R,
     alloc: Global,
-    text: &[u8],
+    text: &str,
     order: &str,
     ask: Ask,
     wanted: &str,
 ) -> Result<bool, AllocError> {
+    let text = lines(alloc, text)?;
     if order.is_empty() {
-        return is_answer(rt, alloc, text, None, ask, wanted);
+        return is_answer(rt, alloc, &text, None, ask, wanted);
     }
     let order = lines(alloc, order)?;
-    is_answer(rt, alloc, text, Some(&order), ask, wanted)
+    is_answer(rt, alloc, &text, Some(&order), ask, wanted)
 }
 
 /// An order text, what is asked, and the answer.
@@ -281,10 +282,13 @@ type Asked = (&'static str, Ask, &'static str);
 
 /// In each text the pair of its models gives the answer.
 fn check_asked(rt: &(impl Abort + AllocGlobal), rows: &[Row<Asked>]) {
-    check_rows(rt, rows, |alloc, text, asked| {
-        let (order, ask, wanted) = *asked;
-        is_ordered_answer(rt, alloc, text, order, ask, wanted)
-    });
+    for (name, text, (order, ask, wanted)) in rows {
+        holds(
+            rt,
+            is_ordered_answer(rt, rt.alloc(), text, order, *ask, wanted),
+            name,
+        );
+    }
 }
 
 /// Which output is compared, on a store of how many nodes, and the least assignment under which it differs.
@@ -365,9 +369,8 @@ fn is_least_of_many<R>(
     order: &str,
     nodes: u32,
 ) -> Result<bool, AllocError> {
-    let text = lines(alloc, text)?;
     let answer = repeated(alloc, "10")?;
-    is_ordered_answer(rt, alloc, &text, order, Ask::Output(0, nodes), &answer)
+    is_ordered_answer(rt, alloc, text, order, Ask::Output(0, nodes), &answer)
 }
 
 /// Whether it is in the order of the inputs, and in the opposite one.

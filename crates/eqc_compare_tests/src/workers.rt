@@ -3,7 +3,7 @@
 ghost use Rattle.std.specs.Prelude.{◌≤◌, vec_len, IfOk};
 ghost use Rattle.std.specs.List.{All};
 
-use crate::ends::{check_rows_at, holds};
+use crate::ends::holds;
 use crate::pairs::report_word;
 use eqc_blif::{Library, read};
 use eqc_check::{
@@ -217,9 +217,13 @@ static ROWS: &[Row<&str>] = &[
 #[test]
 fn pairs_are_compared_by_workers(rt: HostRuntime) {
     for way in WAYS {
-        check_rows_at(&rt, *way, ROWS, |alloc, text, report| {
-            is_word_of(&rt, alloc, text, *way, &NoGate, report)
-        });
+        for (name, text, report) in ROWS {
+            holds(
+                &rt,
+                gives(&rt, rt.alloc(), text, *way, &NoGate, report),
+                name,
+            );
+        }
     }
 }
 

@@ -1,6 +1,6 @@
 //! Runs with several options, and what they write.
 
-use crate::ends::check_rows_at;
+use crate::ends::holds_at;
 use eqc_check::{Options, RunFault, Status, Texts, run};
 use eqc_testing::{Feed, Row, is_text};
 use std::io::{Read, Write};
@@ -90,8 +90,13 @@ pub fn check_runs(
     rows: &[Row<&str>],
 ) {
     for numbers in teams {
-        check_rows_at(rt, *numbers, rows, |_alloc, text, report| {
-            Ok(reports(rt, Texts::One(text), None, *numbers, report))
-        });
+        for (name, text, report) in rows {
+            holds_at(
+                rt,
+                Ok(reports_on(rt, text, *numbers, report)),
+                name,
+                *numbers,
+            );
+        }
     }
 }

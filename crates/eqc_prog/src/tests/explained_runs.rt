@@ -1,11 +1,11 @@
 //! What `--explain` tells behind the report of a run without a verdict, for each code, worked out by hand from the texts.
 
-use super::ends::{check_rows, holds, same};
+use super::ends::{holds, same};
 use super::program::{LEAF_FIRST, words_of, writes, written_by};
 use eqc_check::{Diagnostics, Options};
 use eqc_command::{Request, explanation_for, program};
 use eqc_testing::{
-    Drain, Endless, Feed, NEVER, PERMUTED, Row, UNEQUAL, doubling, input_names, is_text,
+    Drain, Endless, Feed, NEVER, PERMUTED, Row, UNEQUAL, doubling, input_names, is_text, lines,
 };
 use eqc_tree::Stop;
 use std::alloc::{AllocError, Global};
@@ -123,21 +123,24 @@ fn explained_status(
     status_of(rt, &line, text, report, &said)
 }
 
-/// Whether a text ends with one status, with its explanation and without.
+/// Whether a text, in which `;` stands for LF, ends with one status, with its explanation and without.
 fn is_told(
     rt: &(impl AllocGlobal + Threads + Wait + Sync),
-    text: &[u8],
+    text: &str,
     told: &Told,
 ) -> Result<bool, AllocError> {
-    let plain = plain_status(rt, text, told.0, told.1)?;
-    let explained = explained_status(rt, text, told)?;
+    let text = lines(rt.alloc(), text)?;
+    let plain = plain_status(rt, &text, told.0, told.1)?;
+    let explained = explained_status(rt, &text, told)?;
     Ok(plain.is_some() && explained == plain)
 }
 
 /// Each text is reported as ever, with the lines of its explanation where `--explain` asks for them, and with none where it
 /// doesn't.
 fn check_told(rt: &(impl Abort + AllocGlobal + Threads + Wait + Sync), rows: &[Row<Told>]) {
-    check_rows(rt, rows, |_alloc, text, told| is_told(rt, text, told));
+    for (name, text, told) in rows {
+        holds(rt, is_told(rt, text, told), name);
+    }
 }
 
 #[test]

@@ -1,6 +1,6 @@
 //! Which models are compared, by their names or their places, and the warnings on models that others contain.
 
-use super::ends::{check_rows, holds};
+use super::ends::holds;
 use super::program::{LEAF_FIRST, Line, words_of, writes, written_by};
 use eqc_command::program;
 use eqc_testing::{Drain, Feed, Row, is_text};
@@ -57,20 +57,18 @@ static CONTAINED: &[Row<&str>] = &[
 /// Whether a text is compared, and these are the warnings on it.
 fn is_warned_of(
     rt: &(impl AllocGlobal + Threads + Wait + Sync),
-    text: &[u8],
+    text: &str,
     warnings: &str,
 ) -> Result<bool, AllocError> {
-    let written = written_by(rt, "eqc", Feed::of_bytes(text))?;
+    let written = written_by(rt, "eqc", Feed::whole(text))?;
     Ok(written.status < 2 && is_text(&written.err, warnings))
 }
 
 #[test]
 fn containers_are_named(rt: HostRuntime) {
-    check_rows(
-        &rt,
-        CONTAINED,
-        |_alloc, text, warnings| is_warned_of(&rt, text, warnings),
-    );
+    for (name, text, warnings) in CONTAINED {
+        holds(&rt, is_warned_of(&rt, text, warnings), name);
+    }
 }
 
 /// Whether these leaves are equivalent, with as much of a warning as standard error takes.

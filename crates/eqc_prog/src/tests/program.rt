@@ -1,7 +1,7 @@
 //! The program's command lines, texts and files with their reports and statuses. They are small enough to be worked out by
 //! hand from the rules of the format and of the command line.
 
-use super::ends::{check_rows_at, holds};
+use super::ends::{holds, holds_at};
 use eqc_command::program;
 use eqc_testing::{DIFFERENCE, Disk, EQUAL, Feed, NEVER, PERMUTED, Row, UNEQUAL, XOR, is_text};
 use std::alloc::{AllocError, Global};
@@ -106,9 +106,14 @@ type Reported = (&'static str, u8);
 /// Each text on standard input gives its report and status, whatever the number of workers and of forks.
 fn check_texts(rt: &(impl Abort + AllocGlobal + Threads + Wait + Sync), rows: &[Row<Reported>]) {
     for line in BY_WORKERS {
-        check_rows_at(rt, *line, rows, |_alloc, text, (report, status)| {
-            reports(rt, line, Feed::of_bytes(text), report, *status)
-        });
+        for (name, text, (report, status)) in rows {
+            holds_at(
+                rt,
+                reports(rt, line, Feed::whole(text), report, *status),
+                name,
+                *line,
+            );
+        }
     }
 }
 
