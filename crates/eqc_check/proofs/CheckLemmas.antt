@@ -3,7 +3,7 @@ use Rattle.std.proofs.Common.{◌≡◌, ◌⊎◌, inl, inr, ℕ, zero, suc, �
 use Rattle.std.proofs.lemmas.Option.{none-some}
 use Rattle.std.proofs.lemmas.List.{get_or_past}
 use Rattle.eqc_blif.specs.Names.{has_twice}
-use Rattle.eqc_flat.specs.Codes.{flat_code}
+use Rattle.eqc_hierarchy.specs.Codes.{flat_code}
 use Rattle.eqc_check.specs.declared.options.Options.{Options}
 use Rattle.eqc_pair.specs.declared.refused.Refused.{Refused}
 use Rattle.eqc_pair.specs.declared.refused.Side.TheVariants as side

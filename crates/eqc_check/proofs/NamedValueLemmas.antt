@@ -8,8 +8,8 @@ use Rattle.eqc_blif.specs.Names.{is_named, has_twice}
 use Rattle.eqc_blif.specs.Reading.{Outcome, outcome}
 use Rattle.eqc_blif.specs.Laws.{lists_are_distinct}
 use Rattle.eqc_blif.proofs.TwiceLaws.{libraries_have_no_name_twice}
-use Rattle.eqc_flat.specs.Hierarchy.{model}
-use Rattle.eqc_flat.specs.Signals.{signals, output_value}
+use Rattle.eqc_hierarchy.specs.Hierarchy.{model}
+use Rattle.eqc_hierarchy.specs.Signals.{signals, output_value}
 use Rattle.eqc_flat.proofs.InputLaws.{values_depend_on_inputs_alone}
 use Rattle.eqc_pair.specs.Matched.{position_of}
 use Rattle.eqc_compare.specs.Verdict.{is_different, values_for, first_value, second_value}

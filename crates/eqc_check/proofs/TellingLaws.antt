@@ -18,7 +18,7 @@ use Rattle.eqc_blif.specs.Names.{is_named}
 use Rattle.eqc_flat.proofs.NameSetLaws.{any_mapped}
 use Rattle.std.specs.Option.{option_copied}
 use Rattle.eqc_blif.specs.Netlist.{ModelOf}
-use Rattle.eqc_flat.specs.Hierarchy.{model_number}
+use Rattle.eqc_hierarchy.specs.Hierarchy.{model_number}
 use Rattle.eqc_check.specs.Answer.{NamesOf, MainOf, TextsOf, one_text, two_texts, read_texts, chosen_number, first_found, second_found, models_answer, found_answer, texts_answer, IsComparison, MayStop, Answers, as_wanted, was_stopped}
 use Rattle.eqc_check.specs.Telling.{IsToldRefusal, IsToldWith, WarnsOf, Tells}
 use Rattle.eqc_check.specs.Warning.{contains, is_container, warnings_in_one, warnings_in_two, warnings_on}

@@ -4,9 +4,9 @@
 use Rattle.std.specs.Prelude.{ℕ, not, nat_lt, List, length, Option, Some, None, Result, Ok, Err, if◌then◌else◌}
 use Rattle.eqc_blif.specs.Netlist.{ModelOf}
 use Rattle.eqc_blif.specs.Reading.{Outcome, outcome}
-use Rattle.eqc_flat.specs.Hierarchy.{model, model_number}
-use Rattle.eqc_flat.specs.Signals.{output_value}
-use Rattle.eqc_flat.specs.Codes.{flat_code}
+use Rattle.eqc_hierarchy.specs.Hierarchy.{model, model_number}
+use Rattle.eqc_hierarchy.specs.Signals.{output_value}
+use Rattle.eqc_hierarchy.specs.Codes.{flat_code}
 use Rattle.eqc_check.specs.declared.options.Options.{Options}
 use Rattle.eqc_pair.specs.declared.refused.Side.{Side}
 use Rattle.eqc_pair.specs.declared.refused.Side.TheVariants as side

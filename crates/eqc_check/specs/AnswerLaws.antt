@@ -3,8 +3,8 @@
 use Rattle.std.specs.Prelude.{◌≡◌, ◌≢◌, ◌↔◌, ℕ, ◌^◌, ◌≤◌, ◌<◌, Bool, false, not, List, [], ◌∷◌, ◌++◌, length, map, nat_lt, slice_index_or, Option, Some, None, IfSome, Result, Ok, Err, if◌then◌else◌}
 use Rattle.std.specs.List.{All}
 use Rattle.eqc_blif.specs.Names.{is_named, has_twice}
-use Rattle.eqc_flat.specs.Signals.{output_value}
-use Rattle.eqc_flat.specs.Codes.{flat_code}
+use Rattle.eqc_hierarchy.specs.Signals.{output_value}
+use Rattle.eqc_hierarchy.specs.Codes.{flat_code}
 use Rattle.eqc_check.specs.declared.options.Options.{Options}
 use Rattle.eqc_pair.specs.declared.refused.Refused.{Refused}
 use Rattle.eqc_pair.specs.declared.refused.Side.{Side}
@@ -15,7 +15,7 @@ use Rattle.eqc_compare.specs.VerdictLaws.{IsBelow}
 use Rattle.eqc_check.specs.Report.{ReportOf, equivalent, differs, refused, stopped}
 use Rattle.eqc_blif.specs.Netlist.{ModelOf}
 use Rattle.eqc_blif.specs.Reading.{outcome}
-use Rattle.eqc_flat.specs.Hierarchy.{model}
+use Rattle.eqc_hierarchy.specs.Hierarchy.{model}
 use Rattle.eqc_check.specs.Answer.{NamesOf, TextsOf, main_of, first_found, second_found, MainOf, inputs_of, outputs_of, answer, IsComparison, Answers}
 use Rattle.eqc_check.specs.Running.{known_texts, known_order, IsReportFor}
 use Rattle.eqc_check.specs.declared.running.Texts.{Texts}

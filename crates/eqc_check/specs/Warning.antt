@@ -5,7 +5,7 @@ use Rattle.std.specs.List.{list_any}
 use Rattle.std.specs.Str.{bytes_eq}
 use Rattle.eqc_blif.specs.Names.{is_named}
 use Rattle.eqc_blif.specs.Netlist.{ModelOf, InstanceOf}
-use Rattle.eqc_flat.specs.Hierarchy.{model}
+use Rattle.eqc_hierarchy.specs.Hierarchy.{model}
 use Rattle.eqc_check.specs.declared.report.Status.{Status}
 use Rattle.eqc_check.specs.declared.report.Status.TheVariants.{Equivalent, Differs, Refused, Stopped}
 use Rattle.eqc_check.specs.declared.running.Texts.{Texts}

@@ -1,5 +1,5 @@
-//! The course of a run's comparison: equal structure, diagrams in little room, equal signals inside the netlists, diagrams in
-//! all the room that there is, and at last a search for the outputs that are left.
+//! The course of a run's comparison: equal structure, diagrams in little room, equal signals inside the netlists, a search for the
+//! first output that differs, diagrams in all the room that there is, and at last a longer search for the outputs that are left.
 ghost use Rattle.std.specs.Prelude.{◌≡◌, None, IfOk};
 ghost use Rattle.eqc_compare.specs.Alike.{IsKnown};
 ghost use Rattle.eqc_compare.specs.Comparing.{netlist_of};
@@ -12,7 +12,7 @@ use crate::options::Options;
 use crate::report::Report;
 use crate::undecided::Undecided;
 use crate::workers::{FIRST_NODES, FIRST_WORKERS, Room, check_in};
-use eqc_compare::{Alike, Inside, NoGate, alike_or_nothing, are_all_marked};
+use eqc_compare::{Alike, Inside, NoGate, Searched, alike_or_nothing, are_all_marked};
 use eqc_pair::Pair;
 use eqc_tree::Stop;
 use std::alloc::Global;
@@ -24,6 +24,9 @@ const SWEPT_NODES: u32 = 1_024;
 
 /// The conflicts that the outputs left by sweeping are given at first.
 const FEW_CONFLICTS: u64 = 5_000;
+
+/// The conflicts with which the first output that differs is searched for at first.
+const SEARCH_CONFLICTS: u64 = 20_000;
 
 /// A pair that is compared, and what that may use.
 #[derive(Clone, Copy)]
@@ -80,9 +83,30 @@ impl<'x> Course<'x> {
         self.in_room(rt, Room::Whole, alike)
     }
 
-    /// The report over what sweeping finds equal, which becomes known: by diagrams in all the room that there is, and then by a
-    /// search for differences of the outputs that are left. Where that finds some equal, diagrams are tried for the others once
-    /// more.
+    /// The report by a search for the first output that differs, with so many conflicts in all, or 71 where these don't do. The
+    /// outputs found equal on the way become known.
+    fn by_search(
+        &self,
+        inside: &mut Inside<'_>,
+        alike: &mut Alike,
+        conflicts: u64,
+    ) -> Result<Report, Stop>
+        requires inside { inside.old ≡ self.now.pair.now }
+        requires known { IsKnown self.now.pair.now alike.old }
+        ensures inside { inside.new ≡ inside.old }
+        ensures known { IsKnown self.now.pair.now alike.new }
+        ensures report { IfOk result (λ report. report_of report ≡ comparison (netlist_of self.now.pair.now.first) (netlist_of self.now.pair.now.second)) }
+    {
+        match inside.search_outputs(self.alloc, alike, conflicts) {
+            Ok(Searched::First(found)) => found_report(self.alloc, self.pair, found),
+            // Where memory is refused nothing was learned, and the run goes on without it.
+            Ok(Searched::Open(_, _)) | Err(_) => Err(Stop::NodeLimit),
+        }
+    }
+
+    /// The report over what sweeping finds equal, which becomes known: by a short search for the first output that differs, by
+    /// diagrams in all the room that there is, and then by a longer search. Where that finds some outputs equal, diagrams are
+    /// tried for the others once more.
     fn by_sweeping<R: Threads + Wait + Sync>(
         &self,
         rt: &R,
@@ -99,14 +123,20 @@ impl<'x> Course<'x> {
             *alike = more;
         }
         inside.ask_outputs(alike, FEW_CONFLICTS);
+        match self.by_search(&mut inside, alike, SEARCH_CONFLICTS) {
+            Err(Stop::NodeLimit) => {}
+            report => return report,
+        }
         match self.in_room(rt, Room::Whole, alike) {
             Err(Stop::NodeLimit) => {}
             report => return report,
         }
-        if !inside.ask_outputs(alike, self.options.conflicts as u64) {
-            return Err(Stop::NodeLimit);
+        let conflicts = self.options.conflicts as u64;
+        let more = inside.ask_outputs(alike, conflicts);
+        match self.by_search(&mut inside, alike, conflicts) {
+            Err(Stop::NodeLimit) if more => self.in_room(rt, Room::Whole, alike),
+            report => report,
         }
-        self.in_room(rt, Room::Whole, alike)
     }
 
     /// The report by all that there is. Most comparisons end in little room.

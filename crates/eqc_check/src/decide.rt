@@ -1,7 +1,7 @@
 //! Which report the texts of a run get: the refusal by the first check that fails, or the comparison of two models.
 ghost use Rattle.std.specs.Prelude.{◌≡◌, ◌<◌, ◌⊎◌, length, None, IfOk, IfErr, Ok, MatchResult};
 ghost use Rattle.std.specs.Option.{option_copied};
-ghost use Rattle.eqc_flat.specs.Codes.{flat_code};
+ghost use Rattle.eqc_hierarchy.specs.Codes.{flat_code};
 ghost use Rattle.eqc_flat.specs.Flattened.{IsFlatOf};
 ghost use Rattle.eqc_check.specs.Refusing.{IsRefused, flat_answer};
 ghost use Rattle.eqc_check.specs.ReportView.{report_of};

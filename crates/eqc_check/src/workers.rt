@@ -11,7 +11,7 @@ ghost use Rattle.eqc_check.specs.Options.{options_code};
 use crate::checking::found_report;
 use crate::options::Options;
 use crate::report::Report;
-use eqc_apply::{Applier, brief_team, team};
+use eqc_apply::{Allowance, Applier, team, team_with};
 use eqc_compare::{Alike, Gate, Patience, first_difference};
 use eqc_pair::Pair;
 use eqc_tree::{Diagrams, References, Stop};
@@ -77,13 +77,26 @@ const FIRST_CELLS: u32 = 65_536;
 /// The most workers that begin in it. More of them fill it with nodes of their own, and take longer to leave it.
 pub(crate) const FIRST_WORKERS: u32 = 2;
 
-/// In which forest a comparison is made.
+/// How many turns the operations of a worker in it may take beyond the free ones: what isn't decided by then is better tried in
+/// other ways first.
+const FIRST_TURNS: u64 = 524_288;
+
+/// How many they may take in the forest that the options ask for, and how many more for each of its nodes: an operation on two
+/// large diagrams may take as many as the product of their sizes, also where its result is small and the forest never full. A
+/// run that can't be decided ends then all the same.
+const TURNS: u64 = 8_388_608;
+
+const TURNS_PER_NODE: u64 = 8;
+
+/// In which forest a comparison is made, and how long its operations may go on.
 #[derive(Clone, Copy)]
 pub(crate) enum Room {
-    /// A small one for few workers without forks, which is left as soon as it is full.
+    /// A small one for few workers without forks, which is left as soon as it is full, or as its workers' turns are spent.
     First,
-    /// The one that the options ask for.
+    /// The one that the options ask for, which is left when its workers' turns are spent.
     Whole,
+    /// The same, in which operations take as many turns as they need.
+    Endless,
 }
 
 /// The team of workers for a room, with a variable for each input of a pair: they share one forest, and in all the room that
@@ -110,10 +123,22 @@ fn team_for(
     let inputs = pair.first().inputs().len() as u16;
     match room {
         Room::First => {
+            let brief = Allowance {
+                anew: false,
+                turns: Some(FIRST_TURNS),
+            };
             let (nodes, cells) = (nodes.min(FIRST_NODES), cells.min(FIRST_CELLS));
-            brief_team(alloc, inputs, nodes, cells, workers.min(FIRST_WORKERS), 0)
+            let workers = workers.min(FIRST_WORKERS);
+            team_with(alloc, inputs, nodes, cells, workers, 0, brief)
         }
-        Room::Whole => team(alloc, inputs, nodes, cells, workers, forks),
+        Room::Whole => {
+            let long = Allowance {
+                anew: true,
+                turns: Some(TURNS + TURNS_PER_NODE * u64::from(nodes)),
+            };
+            team_with(alloc, inputs, nodes, cells, workers, forks, long)
+        }
+        Room::Endless => team(alloc, inputs, nodes, cells, workers, forks),
     }
 }
 
@@ -134,7 +159,7 @@ pub(crate) fn check_in<R: Threads + Wait + Sync, G: Gate<R> + Sync>(
     let members = team_for(alloc, pair, options, room)?;
     let patience = match room {
         Room::First => Patience::brief(0),
-        Room::Whole => Patience::of_forks(options.forks),
+        Room::Whole | Room::Endless => Patience::of_forks(options.forks),
     };
     check_known(rt, alloc, pair, members, alike, patience, gate)
 }
@@ -145,7 +170,7 @@ pub(crate) fn check_in<R: Threads + Wait + Sync, G: Gate<R> + Sync>(
 ///
 /// The options are in their ranges. The gate is told of each comparison before it begins. The call may wait, as `check_with`
 /// may. The errors are the node limit 71, want of memory 72, the limit of references 73, and 74 where a thread could not be
-/// started.
+/// started. It takes as long as it needs: only a run is given up where its operations take too many turns.
 pub fn check<R: Threads + Wait + Sync, G: Gate<R> + Sync>(
     rt: &R,
     alloc: Global,
@@ -161,7 +186,7 @@ pub fn check<R: Threads + Wait + Sync, G: Gate<R> + Sync>(
         alloc,
         pair,
         options,
-        Room::Whole,
+        Room::Endless,
         Alike::nothing(alloc),
         gate,
     )

@@ -44,7 +44,7 @@ eqc_app = with_rule (with_rule (with_rule (with_rule (with_rule (with_rule (with
     (number_rule (codes "nodes") (codes "65536")))
     (number_rule (codes "cells") (codes "8192")))
     (number_rule (codes "forks") (codes "0")))
-    (number_rule (codes "conflicts") (codes "200000")))
+    (number_rule (codes "conflicts") (codes "100000")))
     (text_rule (codes "order")))
     (text_rule (codes "first-model")))
     (text_rule (codes "second-model")))

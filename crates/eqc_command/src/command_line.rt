@@ -90,7 +90,7 @@ fn command<'a>(alloc: Global, answers: &'a str) -> Result<Command<'a>, AllocErro
         .arg(number(alloc, "nodes", "65536", NODES))?
         .arg(number(alloc, "cells", "8192", CELLS))?
         .arg(number(alloc, "forks", "0", FORKS))?
-        .arg(number(alloc, "conflicts", "200000", CONFLICTS))?
+        .arg(number(alloc, "conflicts", "100000", CONFLICTS))?
         .arg(text(alloc, "order", "FILE", ORDER))?
         .arg(text(alloc, "first-model", "NAME", FIRST_MODEL))?
         .arg(text(alloc, "second-model", "NAME", SECOND_MODEL))?

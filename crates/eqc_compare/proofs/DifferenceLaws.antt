@@ -52,7 +52,7 @@ second_value_is p o a h inside =
     (λ i within. rw (m.same i within) (sym (assigned_value (first_variables p) p.first.inputs p.second.inputs a i m.distinct (omega (arith, m.first.size, m.inputs i within))))) (m.within o inside))
 
 -- where the signals of an output differ is where the output does
-differs_is : (p : PairOf) (o : ℕ) (f : (ℕ → Bool) → Bool) → IsPair p → o < length p.first.outputs → SaysDifference p o f → IsDifference (netlist_of p.first) (netlist_of p.second) (get_or p.first.outputs o []) (first_variables p) f
+pub differs_is : (p : PairOf) (o : ℕ) (f : (ℕ → Bool) → Bool) → IsPair p → o < length p.first.outputs → SaysDifference p o f → IsDifference (netlist_of p.first) (netlist_of p.second) (get_or p.first.outputs o []) (first_variables p) f
 unfolding differs_at
 differs_is p o f h inside s = record {
   size = (pair_matched p h).first.size;

@@ -10,3 +10,4 @@ pub mod ShareLemmas
 pub mod VerdictPlaces
 pub mod AlikeLaws
 pub mod InsideLaws
+pub mod SearchingLaws

@@ -6,3 +6,4 @@ pub mod Ticket
 pub mod Verdicts
 pub mod Alike
 pub mod Inside
+pub mod Searching

@@ -15,15 +15,15 @@ use std::alloc::{AllocError, Global};
 use std::marker::Model;
 
 /// The literal of a step that has none.
-const NONE: u32 = 4_294_967_295;
+pub(crate) const NONE: u32 = 4_294_967_295;
 
 /// A graph of the steps of a pair in which nodes that were found equal are one, and the literal of each step that was entered.
 /// Contracts see the pair.
 #[derive(Drop)]
 pub struct Inside<'a> {
-    steps: Steps<'a>,
-    sweep: Sweep,
-    literals: Vec<Option<u32>>,
+    pub(crate) steps: Steps<'a>,
+    pub(crate) sweep: Sweep,
+    pub(crate) literals: Vec<Option<u32>>,
 }
 
 impl<'a> Model for Inside<'a> {
@@ -38,7 +38,7 @@ impl<'a> Model for Inside<'a> {
 }
 
 /// The literal of a step, or none.
-fn literal_of(literals: &[Option<u32>], step: u32) -> u32
+pub(crate) fn literal_of(literals: &[Option<u32>], step: u32) -> u32
     ensures { result ≡ literal_of literals.now step }
 {
     literals

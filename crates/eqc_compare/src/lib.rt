@@ -11,7 +11,7 @@
 //! - `ticket`, the word from which outputs are drawn; `member`, what a member compares with; `gate`, what is told of it; `help`,
 //!   what a member does for others, and `patience`, for how long
 //! - `task`, what members do; `alike`, what structures tell of a pair, and `inside`, what the literals of a graph do, so that
-//!   members need not do it
+//!   members need not do it; `searching`, outputs that differ, found in that graph without a diagram
 #![tactic(auto, using(eqc_tree::proofs::HoldingLemmas::counts_itself))]
 
 mod alike;
@@ -25,6 +25,7 @@ mod least;
 mod member;
 mod members;
 mod patience;
+mod searching;
 mod share;
 mod task;
 mod ticket;
@@ -42,3 +43,4 @@ pub use laws::{
 pub use least::least_assignment;
 pub use members::first_difference;
 pub use patience::Patience;
+pub use searching::Searched;

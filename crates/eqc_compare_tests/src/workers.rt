@@ -298,7 +298,7 @@ fn is_second<R: AllocGlobal + Threads + Wait + Sync>(rt: &R, text: &[u8]) -> boo
         nodes: 65_536,
         cells: 8_192,
         forks: 0,
-        conflicts: 200_000,
+        conflicts: 100_000,
     };
     let mut out = Vec::new(rt.alloc());
     let done = run(rt, rt.alloc(), Texts::One(text), None, &options, &mut out);

@@ -4,7 +4,7 @@ ghost use Rattle.eqc_blif.specs.Names.{has_twice};
 ghost use Rattle.eqc_blif.specs.Finding.{StandsTwice};
 ghost use Rattle.eqc_pair.specs.Matched.{ArePlaces};
 
-use eqc_blif::Name;
+use eqc_blif::{Key, Name};
 use eqc_flat::NameSet;
 use std::alloc::{AllocError, Global};
 
@@ -13,7 +13,7 @@ pub(crate) fn set_of<'a>(alloc: Global, names: &[&'a [u8]]) -> Result<NameSet<'a
     requires once { has_twice (map (λ name. name.now) names.now) ≡ false }
     ensures { IfOk result (λ set. set ≡ map (λ name. name.now) names.now) }
 {
-    let mut set = NameSet::new(alloc);
+    let mut set = NameSet::new(alloc, Key::of_names(names));
     'names: for name in names {
         set.insert_bytes(name)?;
     }
@@ -30,7 +30,7 @@ pub(crate) fn first_twice<'a>(
         (has_twice (map (λ name. name.now) names.now) ≡ false)
         (λ name. (has_twice (map (λ name. name.now) names.now) ≡ true) × StandsTwice (map (λ name. name.now) names.now) name.now)) }
 {
-    let mut set = NameSet::new(alloc);
+    let mut set = NameSet::new(alloc, Key::of_names(names));
     'names: for name in names {
         if !set.insert_bytes(name)? {
             return Ok(Some(*name));

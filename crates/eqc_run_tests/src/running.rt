@@ -9,7 +9,7 @@ use std::sync::Wait;
 use std::thread::Threads;
 
 /// As many conflicts as the program has where nothing is said.
-pub const CONFLICTS: u32 = 200_000;
+pub const CONFLICTS: u32 = 100_000;
 
 /// Numbers of workers, nodes, cells and forks.
 pub type Numbers = (u32, u32, u32, u32);
@@ -81,6 +81,19 @@ pub fn reports_on(
     report: &str,
 ) -> bool {
     reports(rt, Texts::One(Feed::whole(text)), None, numbers, report)
+}
+
+/// Whether a run on one text with these options does.
+pub fn reports_by(
+    rt: &(impl AllocGlobal + Threads + Wait + Sync),
+    text: &str,
+    options: &Options,
+    report: &str,
+) -> bool {
+    let mut out = Vec::new(rt.alloc());
+    let texts = Texts::One(Feed::whole(text));
+    let done = run(rt, rt.alloc(), texts, None, options, &mut out);
+    done.ok() == status_of(report) && is_text(&out, report)
 }
 
 /// Each row's text gives its report with each of these numbers.

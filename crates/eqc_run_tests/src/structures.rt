@@ -3,7 +3,8 @@
 ghost use Rattle.std.specs.Prelude.{◌+◌, ◌<◌, ◌^◌};
 
 use crate::ends::{holds, holds_at, same};
-use crate::running::{Numbers, TWO, check_runs, reports_on};
+use crate::running::{Numbers, TWO, check_runs, options, reports_by, reports_on};
+use eqc_check::Options;
 use eqc_testing::Row;
 use std::alloc::{AllocError, Global};
 use std::sync::Wait;
@@ -173,18 +174,27 @@ fn outputs_before_a_changed_one_need_no_node(rt: HostRuntime) -> Result<(), Allo
     Ok(())
 }
 
-/// By how many workers a pair is compared that needs more nodes than the forest in which a comparison begins has.
-static LARGE: &[Numbers] = &[(1, 1_048_574, 8_192, 0), (2, 1_048_574, 8_192, 0)];
+/// Numbers of workers and nodes, and whether diagrams alone decide a pair with them that needs more nodes than the forest has in
+/// which a comparison begins.
+static ROOMS: &[(u32, u32, bool)] = &[
+    (2, 65_536, false),
+    (1, 1_048_574, true),
+    (2, 1_048_574, true),
+];
 
 #[test]
 fn a_comparison_goes_on_in_the_whole_forest(rt: HostRuntime) -> Result<(), AllocError> {
     let text = changed_units(rt.alloc(), 16)?;
     let report = last_bit(rt.alloc(), 16)?;
-    let found = reports_on(&rt, &text, TWO, "stopped 71;");
-    same(&rt, found, true, "few nodes");
-    for numbers in LARGE {
-        let found = reports_on(&rt, &text, *numbers, &report);
-        holds_at(&rt, Ok(found), "many nodes", *numbers);
+    for (workers, nodes, decides) in ROOMS {
+        let diagrams = Options {
+            conflicts: 0,
+            ..options((*workers, *nodes, 8_192, 0))
+        };
+        let wanted = if *decides { &*report } else { "stopped 71;" };
+        let found = reports_by(&rt, &text, &diagrams, wanted);
+        same(&rt, found, true, *nodes);
     }
+    same(&rt, reports_on(&rt, &text, TWO, &report), true, "a search");
     Ok(())
 }

@@ -293,7 +293,7 @@ fn is_said_of(alloc: Global, stop: Stop, said: &str) -> bool {
             nodes: 1,
             cells: 1,
             forks: 0,
-            conflicts: 200_000,
+            conflicts: 100_000,
         },
         explain: true,
         order: None,
