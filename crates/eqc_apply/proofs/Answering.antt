@@ -20,8 +20,10 @@ use Rattle.eqc_apply.specs.declared.reference.Ref.{Ref}
 use Rattle.eqc_apply.specs.Extending.{Stays, Extends, entry_in, holding_of, holding_in}
 use Rattle.eqc_apply.specs.Referring.{entry_of}
 use Rattle.eqc_apply.specs.Before.{IsWorker}
+use Rattle.eqc_apply.specs.Spending.{Spends}
 use Rattle.eqc_apply.specs.Answering.{IsReferenced, IsAnswer}
 use Rattle.eqc_apply.proofs.Once.{counted_held, seat_trans, seat_refl}
+use Rattle.eqc_apply.proofs.Spending.{spends_as, spends_trans}
 use Rattle.eqc_arena.proofs.Asking.{held_is_named}
 use Rattle.eqc_apply.proofs.Holdings.{IsReferred, referred, keeps, counted_of}
 
@@ -49,6 +51,7 @@ extends_stays old new e = record {
   variables = e.variables;
   references = e.references;
   tree = λ x two. e.before.tree x (counted_held old.once x (inr (omega arith)));
+  turns = e.turns;
 }
 
 pub stays_keeps : (old new : Held) → Stays old new → Keeps (holding_in old) (holding_in new)
@@ -152,6 +155,7 @@ stays_trans a b c s t = record {
   variables = t.variables ∙ s.variables;
   references = λ x. t.references x ∙ s.references x;
   tree = λ x two. t.tree x (omega (arith, s.references x)) ∙ s.tree x two;
+  turns = spends_trans s.turns t.turns;
 }
 
 -- the same worker
@@ -163,6 +167,10 @@ worker_stays old new s = record { forest = s.forest; seat = s.seat }
 
 pub worker_stays_on : (old mid new : Held) → Stays old mid → new.worker ≡ mid.worker → IsWorker old.worker new.worker
 worker_stays_on old mid new s is = subst (IsWorker old.worker) (sym is) (worker_stays old mid s)
+
+-- no turn came back
+pub turns_stay_on : (old mid new : Held) → Stays old mid → new.turns ≡ mid.turns → Spends old.turns new.turns
+turns_stay_on old mid new s is = spends_trans s.turns (spends_as mid.turns new.turns is)
 
 pub worker_trans : {r s t : Standing} → IsWorker r s → IsWorker s t → IsWorker r t
 worker_trans p q = record { forest = q.forest ∙ p.forest; seat = seat_trans p.seat q.seat }

@@ -12,10 +12,8 @@ use Rattle.eqc_guard.proofs.Learning.{held_named}
 use Rattle.eqc_arena.specs.Changing.{Exchanges}
 use Rattle.eqc_arena.proofs.Changing.{ready_now, quiet_now, hand_now, draft_now, names_now}
 use Rattle.eqc_arena.proofs.References.{gives}
-use Rattle.eqc_apply.specs.declared.held.Held.{Held}
-use Rattle.eqc_apply.specs.Names.{Has, Drops, SameReferences}
-use Rattle.eqc_apply.specs.Extending.{Stays}
-use Rattle.eqc_apply.proofs.Once.{counted_held, seat_of, seat_refl, seat_trans}
+use Rattle.eqc_apply.specs.Names.{Has, Drops}
+use Rattle.eqc_apply.proofs.Once.{counted_held, seat_of}
 
 module _ (x n m : ℕ) (counts : List ℕ) (old : Standing) (within : x < length counts) (read : m ≡ get_or counts x m) (one : m ≡ 1) (h : Has [] n old counts) where
   is_one : get_or counts x 0 ≡ 1
@@ -62,19 +60,6 @@ module _ (x n m : ℕ) (counts : List ℕ) (old : Standing) (within : x < length
         once y two (yes e) = subst (λ (z : ℕ). times z new.known.core.held ≡ min 1 (get_or (set counts x 0) z 0) + times z []) e
             (omega (arith, get_or-set_same counts x 0 0 within, h.once x is_slot, is_one, names_now gone x, times-slots_of x (x ∷ []) is_slot, times-same x x [] refl, times-nil x))
         once y two (no d) = omega (arith, get_or-set_other counts x y 0 0 (λ e. d (sym e)), h.once y two, names_now gone y, times-slots_of y (x ∷ []) two, times-other y x [] d, times-nil y)
-
--- nothing changed
-pub stays_refl : (a : Held) → Stays a a
-stays_refl a = record { forest = refl; seat = seat_refl a.worker.known.core; variables = refl; references = λ x. refl; tree = λ x two. refl }
-
-pub stays_drops : (a b c : Held) → Stays a b → Drops b.counts.items b.worker c.worker → SameReferences b.counts.items c.counts.items → c.variables ≡ b.variables → Stays a c
-stays_drops a b c s d r v = record {
-  forest = d.forest ∙ s.forest;
-  seat = seat_trans s.seat d.seat;
-  variables = v ∙ s.variables;
-  references = λ x. r x ∙ s.references x;
-  tree = λ x two. d.tree x (omega (arith, s.references x)) ∙ s.tree x two;
-}
 
 -- what was done for each place, was done for all
 pub none_left : (n : ℕ) (counts : List ℕ) → length counts ≤ n → ((y : ℕ) → y < n → get_or counts y 0 ≢ 1) → (x : ℕ) → get_or counts x 0 ≢ 1

@@ -24,7 +24,7 @@ use Rattle.eqc_arena.specs.Changing.{Exchanges}
 use Rattle.eqc_arena.specs.Unboxing.{HoldsParcel, KeepsMarks, NotesStop}
 use Rattle.eqc_arena.proofs.Changing.{here, on, still_there, and, ready_now, names_now, lengths_now, same_tree}
 use Rattle.eqc_apply.specs.Handing.{IsOwn, HasCome}
-use Rattle.eqc_apply.specs.Stopping.{HasStopped}
+use Rattle.eqc_apply.specs.Stopping.{HasMet}
 
 slots_few : (names : List ℕ) → length (slots_of names) ≤ length names
 slots_few [] = omega arith
@@ -83,18 +83,18 @@ pub marks_trans : {u v w : View} → KeepsMarks u v → KeepsMarks v w → Keeps
 marks_trans p q = record { sizes = q.sizes ∙ p.sizes; turn = q.turn ∙ p.turn; stops = λ x. omega (arith, p.stops x, q.stops x) }
 
 -- why an operation stopped is known still
-pub stopped_stays : (s : Stop) (u v : View) → KeepsMarks u v → HasStopped s u → HasStopped s v
-stopped_stays NodeLimit u v k (inl all) = inl (λ x two few. subst (λ (l : List ℕ). 0 < times x l) (sym k.turn) (all x two (subst (λ (z : Sizes). x < z.names) k.sizes few)))
-stopped_stays NodeLimit u v k (inr taken) = inr (let e = k.stops 14 in omega arith)
-stopped_stays Memory u v k h = tt
-stopped_stays References u v k h = let e = k.stops 13 in omega arith
-stopped_stays Threads u v k h = h
+pub met_stays : (s : Stop) (u v : View) → KeepsMarks u v → HasMet s u → HasMet s v
+met_stays NodeLimit u v k (inl all) = inl (λ x two few. subst (λ (l : List ℕ). 0 < times x l) (sym k.turn) (all x two (subst (λ (z : Sizes). x < z.names) k.sizes few)))
+met_stays NodeLimit u v k (inr taken) = inr (let e = k.stops 14 in omega arith)
+met_stays Memory u v k h = tt
+met_stays References u v k h = let e = k.stops 13 in omega arith
+met_stays Threads u v k h = h
 
-pub noted_stopped : (s : Stop) (f g : Ref) (v : View) → s ≢ Threads → NotesStop (Stopped s f g) v → HasStopped s v
-noted_stopped NodeLimit f g v other noted = inr (let e = noted 14 in omega (arith, times-same 14 14 [] refl))
-noted_stopped Memory f g v other noted = tt
-noted_stopped References f g v other noted = let e = noted 13 in omega (arith, times-same 13 13 [] refl)
-noted_stopped Threads f g v other noted = absurd (other refl)
+pub noted_met : (s : Stop) (f g : Ref) (v : View) → s ≢ Threads → NotesStop (Stopped s f g) v → HasMet s v
+noted_met NodeLimit f g v other noted = inr (let e = noted 14 in omega (arith, times-same 14 14 [] refl))
+noted_met Memory f g v other noted = tt
+noted_met References f g v other noted = let e = noted 13 in omega (arith, times-same 13 13 [] refl)
+noted_met Threads f g v other noted = absurd (other refl)
 
 -- the operands of a result are held
 pub operands_held : (v : View) (op : Op) (e : Filled) → HoldsParcel v (Done e) → HoldsParcel v (Task op e.f e.g)

@@ -2,6 +2,7 @@ pub mod Helping
 pub mod Receiving
 pub mod Withdrawing
 pub mod Handing
+pub mod Spending
 pub mod Once
 pub mod Reading
 pub mod Asked

@@ -1,6 +1,6 @@
 -- What names mean to an operation, and that they keep it.
 use native.Mathlib.Decide.{dec_le}
-use Rattle.std.proofs.Common.{ℕ, ◌<◌, ◌≤◌, refl, ◌∙◌, ap, arith, inl, inr}
+use Rattle.std.proofs.Common.{ℕ, ◌<◌, ◌≤◌, Option, refl, ◌∙◌, ap, arith, inl, inr}
 use Rattle.eqc_tree.specs.Tree.{Tree, False, True, Node, value, StartsAbove}
 use Rattle.eqc_tree.specs.declared.operation.Op.{Op}
 use Rattle.eqc_plain.specs.Store.{root}
@@ -10,13 +10,15 @@ use Rattle.eqc_core.specs.Words.{times}
 use Rattle.eqc_guard.specs.Known.{Known, IsHeld, tree_of}
 use Rattle.eqc_apply.specs.declared.held.Held.{Held}
 use Rattle.eqc_apply.specs.Extending.{Extends}
+use Rattle.eqc_apply.specs.Spending.{Spends}
 use Rattle.eqc_apply.specs.Combining.{IsNode, AreCofactors, IsResult}
 use Rattle.eqc_apply.specs.Meaning.{meaning_of, meaning_in, kept_of}
 use Rattle.eqc_apply.proofs.Once.{before_refl, before_trans, seat_refl, seat_trans, held_some}
+use Rattle.eqc_apply.proofs.Spending.{spends_refl, spends_trans}
 use Rattle.eqc_apply.proofs.Reading.{root_constant, starts_root}
 
 pub extends_refl : (n : Held) → Extends n n
-extends_refl n = record { forest = refl; seat = seat_refl n.worker.known.core; variables = refl; references = λ x. refl; before = before_refl n.worker.known }
+extends_refl n = record { forest = refl; seat = seat_refl n.worker.known.core; variables = refl; references = λ x. refl; before = before_refl n.worker.known; turns = spends_refl n.turns }
 
 pub extends_trans : (a b c : Held) → Extends a b → Extends b c → Extends a c
 extends_trans a b c p q =
@@ -26,7 +28,12 @@ extends_trans a b c p q =
       variables = q.variables ∙ p.variables;
       references = λ x. q.references x ∙ p.references x;
       before = before_trans p.before q.before;
+      turns = spends_trans p.turns q.turns;
     }
+
+-- a turn was taken
+pub taken : (a b : Held) (t : Option ℕ) → Extends a b → Spends b.turns t → Extends a (record b { turns = t })
+taken a b t e s = record { forest = e.forest; seat = e.seat; variables = e.variables; references = e.references; before = e.before; turns = spends_trans e.turns s }
 
 -- names keep their meaning
 pub names_stay : (old new : Held) → Extends old new → Stays (meaning_in old) (meaning_in new)

@@ -5,6 +5,7 @@ use Rattle.eqc_guard.specs.Known.{Known, tree_of}
 use Rattle.eqc_apply.specs.declared.held.Held.{Held}
 use Rattle.eqc_apply.specs.Names.{refs_of}
 use Rattle.eqc_apply.specs.Before.{IsBefore, IsSeat}
+use Rattle.eqc_apply.specs.Spending.{Spends}
 
 -- a name, with its tree
 abbrev pub entry_in : Known → ℕ → Entry
@@ -31,6 +32,7 @@ pub record Stays (old new : Held) : Type 0 where
   pub variables : new.variables ≡ old.variables
   pub references : (x : ℕ) → refs_of new.counts.items x ≡ refs_of old.counts.items x
   pub tree : (x : ℕ) → 2 ≤ get_or old.counts.items x 0 → tree_of new.worker.known x ≡ tree_of old.worker.known x
+  pub turns : Spends old.turns new.turns
 
 -- and what was held is held, with its tree
 pub record Extends (old new : Held) : Type 0 where
@@ -39,3 +41,4 @@ pub record Extends (old new : Held) : Type 0 where
   pub variables : new.variables ≡ old.variables
   pub references : (x : ℕ) → refs_of new.counts.items x ≡ refs_of old.counts.items x
   pub before : IsBefore old.worker.known new.worker.known
+  pub turns : Spends old.turns new.turns

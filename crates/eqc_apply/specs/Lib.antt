@@ -1,5 +1,6 @@
 pub mod Names
 pub mod Before
+pub mod Spending
 pub mod Meaning
 pub mod Combining
 pub mod Extending

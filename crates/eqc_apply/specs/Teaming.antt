@@ -1,5 +1,5 @@
 -- The members of a team: a worker each, of one forest.
-use Rattle.std.specs.Prelude.{◌≡◌, ℕ, ◌≤◌, List, map}
+use Rattle.std.specs.Prelude.{◌≡◌, ℕ, ◌≤◌, List, map, Option}
 use Rattle.std.specs.List.{All}
 use Rattle.atomic_table.specs.Seated.{TableId}
 use Rattle.eqc_tree.specs.Holding.{IsNew}
@@ -18,6 +18,10 @@ forest_of a = a.names.worker.forest
 
 abbrev pub sizes_in : Applier → Sizes
 sizes_in a = a.names.worker.known.core.sizes
+
+-- how many more turns its operations may take, where that is limited
+abbrev pub turns_in : Applier → Option ℕ
+turns_in a = a.names.turns
 
 -- the numbers that a team may be made with: the room for nodes, the cells of the cache, the members, and the levels in
 -- which an operation is shared

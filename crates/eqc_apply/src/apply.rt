@@ -1,6 +1,7 @@
 //! The loop that applies an operation to two names.
 ghost use Rattle.std.specs.Prelude.{◌≡◌, ℕ, ◌<◌, ◌⊎◌, [], IfSome, IfNone, IfOk, IfErr};
 
+use crate::allowance::{FREE_TURNS, count_turn};
 use crate::applier::Applier;
 use crate::expansion::expand;
 use eqc_plain::task::{Task, Turn};
@@ -29,14 +30,14 @@ impl Applier {
 
     /// The name of an operation's result (Bryant 1986, section 4.3). In the first levels of the
     /// operation one half is offered to other workers, and nothing is offered in the end. The call
-    /// may wait. The errors are 71, where every slot was seen taken, 72, and those of workers that
-    /// did a half.
+    /// may wait. The errors are 71, where every slot was seen taken or the turns that are allowed are
+    /// spent, 72, and those of workers that did a half.
     pub(crate) fn combine<R: Wait>(&mut self, rt: &R, op: Op, f: u32, g: u32) -> Result<u32, Stop>
         requires f { IsHeld self.old.names.worker.known.core f }
         requires g { IsHeld self.old.names.worker.known.core g }
         ensures names { Extends self.old.names self.new.names }
         ensures ok { IfOk result (λ x. IsResult self.new.names.variables op self.new.names.worker.known f g x) }
-        ensures stop { IfErr result (λ s. HasStopped s self.new.names.worker.known.core) }
+        ensures stop { IfErr result (λ s. HasStopped s self.new.names) }
         ensures withdrawn { self.new.offers.items ≡ [] }
     {
         self.take_late();
@@ -45,18 +46,21 @@ impl Applier {
         made
     }
 
-    /// The loop of an operation, with a stack of tasks in place of the recursion.
+    /// The loop of an operation, with a stack of tasks in place of the recursion. Its turns are counted: two large operands have
+    /// as many pairs of nodes as the product of their sizes, and where their result is small the forest is never full.
     pub(crate) fn go<R: Wait>(&mut self, rt: &R, op: Op, f: u32, g: u32) -> Result<u32, Stop>
         requires f { IsHeld self.old.names.worker.known.core f }
         requires g { IsHeld self.old.names.worker.known.core g }
         ensures names { Extends self.old.names self.new.names }
         ensures ok { IfOk result (λ x. IsResult self.new.names.variables op self.new.names.worker.known f g x) }
-        ensures stop { IfErr result (λ s. HasStopped s self.new.names.worker.known.core) }
+        ensures stop { IfErr result (λ s. HasStopped s self.new.names) }
     {
         let whole = Snapshot::of(&(f, g));
         self.tasks.clear();
         let mut next = (f, g);
+        let mut free = FREE_TURNS;
         'turns: loop {
+            count_turn(&mut self.names.turns, &mut free)?;
             let (f, g) = next;
             match self.turn(rt, op, f, g, &whole)? {
                 Turn::Done(x) => return Ok(x),
@@ -81,7 +85,7 @@ impl Applier {
         requires leads { Leads (meaning_in self.old.names) op self.old.tasks.items whole.now.value.0 whole.now.value.1 f g }
         ensures names { Extends self.old.names self.new.names }
         ensures turn { IfOk result (ComesTo (meaning_in self.old.names) (meaning_in self.new.names) op self.old.tasks.items self.new.tasks.items whole.now.value.0 whole.now.value.1 f g) }
-        ensures stop { IfErr result (λ s. HasStopped s self.new.names.worker.known.core) }
+        ensures stop { IfErr result (λ s. HasStopped s self.new.names) }
     {
         match self.known(op, f, g) {
             Some(x) => self.resume(rt, op, x, whole),
@@ -228,7 +232,7 @@ impl Applier {
         requires { LeadsTo (meaning_in self.old.names) op self.old.tasks.items whole.now.value.0 whole.now.value.1 x }
         ensures names { Extends self.old.names self.new.names }
         ensures turn { IfOk result (TurnsTo (meaning_in self.new.names) op self.old.tasks.items self.new.tasks.items whole.now.value.0 whole.now.value.1) }
-        ensures stop { IfErr result (λ s. HasStopped s self.new.names.worker.known.core) }
+        ensures stop { IfErr result (λ s. HasStopped s self.new.names) }
     {
         let mut x = x;
         while let Some(task) = self.tasks.pop() {

@@ -8,7 +8,7 @@ ghost use Rattle.eqc_core.specs.Moves.{IsReady};
 ghost use Rattle.eqc_guard.specs.Known.{IsHeld, tree_of};
 ghost use Rattle.eqc_guard.specs.declared.parcel.Parcel.TheVariants.{Empty, Done, Stopped};
 ghost use Rattle.eqc_arena.specs.Changing.{Exchanges};
-ghost use Rattle.eqc_apply.specs.Stopping.{HasStopped};
+ghost use Rattle.eqc_apply.specs.Stopping.{HasMet, HasStopped};
 ghost use Rattle.eqc_apply.specs.Handing.{ComesOut, IsOwn, HasCome};
 ghost use Rattle.eqc_apply.specs.Combining.{IsResult};
 ghost use Rattle.eqc_apply.specs.Extending.{Extends};
@@ -145,7 +145,7 @@ fn own_stop(
     requires noted { NotesStop (Stopped stop first second) worker.old.known.core }
     requires other { stop ≢ Stop.Threads }
     ensures gone { Exchanges (parcel_names (Stopped stop first second)) [] worker.old worker.new }
-    ensures stop { IfErr result (λ s. HasStopped s worker.new.known.core) }
+    ensures stop { IfErr result (λ s. HasMet s worker.new.known.core) }
     ensures marks { KeepsMarks worker.old.known.core worker.new.known.core }
 {
     let own = first.number() == f && second.number() == g;
@@ -185,7 +185,7 @@ fn take_out<R: Wait>(
     requires few { length worker.old.known.core.held ≤ 2 ^ 30 }
     ensures done { IfOk result (λ found. IfSome found (λ r. HasCome op f g r.number worker.old worker.new)) }
     ensures undone { result ≡ Ok None → Exchanges [] [] worker.old worker.new }
-    ensures stop { IfErr result (λ s. Exchanges [] [] worker.old worker.new × HasStopped s worker.new.known.core) }
+    ensures stop { IfErr result (λ s. Exchanges [] [] worker.old worker.new × HasMet s worker.new.known.core) }
     ensures marks { KeepsMarks worker.old.known.core worker.new.known.core }
 {
     match wait_for(worker, rt, b) {
@@ -278,7 +278,7 @@ impl Held {
         requires g { IsHeld self.old.worker.known.core g }
         ensures names { Extends self.old self.new }
         ensures ok { IfOk result (λ found. IfSome found (IsResult self.new.variables op self.new.worker.known f g)) }
-        ensures stop { IfErr result (λ s. HasStopped s self.new.worker.known.core) }
+        ensures stop { IfErr result (λ s. HasStopped s self.new) }
     {
         self.worker.recall_laws();
         let Some(b) = self.own_box(level) else {

@@ -53,6 +53,7 @@ impl Held {
             variables: _,
             counts: _,
             referred: _,
+            turns: _,
         } = names;
         finish(worker, rt)
     }

@@ -6,7 +6,8 @@ ghost use Rattle.eqc_guard.specs.Searching.{HasSeenAll};
 ghost use Rattle.eqc_apply.specs.Before.{IsWorker};
 ghost use Rattle.eqc_apply.specs.Extending.{Stays, holding_in};
 ghost use Rattle.eqc_apply.specs.Referring.{entry_of};
-ghost use Rattle.eqc_apply.specs.Stopping.{IsFull, HasTaken};
+ghost use Rattle.eqc_apply.specs.Stopping.{IsFull, HasTaken, HasSpent};
+ghost use Rattle.eqc_apply.specs.Spending.{Spends};
 
 use crate::applier::Applier;
 use crate::reference::Ref;
@@ -38,17 +39,17 @@ impl Applier {
     }
 
     /// The name of an operation's result. Where every slot is taken, names without references are
-    /// given up, and the operation begins anew, if it is to.
+    /// given up, and the operation begins anew, if it is to and there are turns left for it.
     fn answer<R: Wait>(&mut self, rt: &R, op: Op, f: u32, g: u32) -> Result<u32, Stop>
         requires f { IsReferenced self.old.names f }
         requires g { IsReferenced self.old.names g }
         ensures names { Stays self.old.names self.new.names }
         ensures ok { IfOk result (IsAnswer op self.old.names f g self.new.names) }
-        ensures stop { IfErr result (λ s. HasStopped s self.new.names.worker.known.core) }
+        ensures stop { IfErr result (λ s. HasStopped s self.new.names) }
     {
         self.make_way();
         match self.combine(rt, op, f, g) {
-            Err(Stop::NodeLimit) if self.anew => {
+            Err(Stop::NodeLimit) if self.anew && !self.names.is_spent() => {
                 self.give_up();
                 self.combine(rt, op, f, g)
             }
@@ -83,18 +84,21 @@ impl Applier {
     /// `serve` may do it.
     ///
     /// The call may wait. The errors are 71, where every slot was seen taken, by this worker after
-    /// dead nodes were taken back and, but in a brief team, names without references given up, or by one that did a half;
-    /// 72; and 73 at 2^32 - 1 references to one node, here or at a worker that did a half. After an
-    /// error what is held is as before, and nothing is offered.
+    /// dead nodes were taken back and, where an operation may begin anew, names without references given up, where the turns
+    /// that this worker is allowed are spent, or where one that did a half stopped so; 72; and 73 at 2^32 - 1 references to one
+    /// node, here or at a worker that did a half. After an error what is held is as before, and nothing is offered.
+    ///
+    /// No call gives turns back, and the members of `team`, whose turns have no limit, never come to one.
     pub fn apply_forked<R: Wait>(&mut self, rt: &R, op: Op, f: &Ref, g: &Ref) -> Result<Ref, Stop>
         requires f { IsHeld (holding_in self.old.names) (entry_of f.now) }
         requires g { IsHeld (holding_in self.old.names) (entry_of g.now) }
         ensures ok { IfOk result (λ r. Gains (holding_in self.old.names) (holding_in self.new.names) (entry_of r) (λ a. operate op (says (entry_of f.now) a) (says (entry_of g.now) a))) }
         ensures stop { OnErr result (Keeps (holding_in self.old.names) (holding_in self.new.names)) }
         ensures only { IfErr result (λ s. s ≢ Stop.Threads) }
-        ensures nodes { result ≡ Err Stop.NodeLimit → IsFull self.new.names.worker.known.core }
+        ensures nodes { result ≡ Err Stop.NodeLimit → IsFull self.new.names.worker.known.core ⊎ HasSpent self.new.names }
         ensures references { result ≡ Err Stop.References → HasTaken Stop.References self.new.names.worker.known.core ⊎ ((e : Entry) × (2 ^ 32 - 1 ≤ copies (holding_in self.old.names) e)) }
         ensures worker { IsWorker self.old.names.worker self.new.names.worker }
+        ensures turns { Spends self.old.names.turns self.new.names.turns }
     {
         let x = self.answer(rt, op, f.name, g.name)?;
         self.names.refer(x)
@@ -114,6 +118,7 @@ impl References for Applier {
         ensures stop { OnErr result (Keeps (holding_in self.old.names) (holding_in self.new.names)) }
         ensures never { IsOk result }
         ensures worker { IsWorker self.old.names.worker self.new.names.worker }
+        ensures turns { Spends self.old.names.turns self.new.names.turns }
     {
         self.names.refer(b as u32)
     }
@@ -126,6 +131,7 @@ impl References for Applier {
         ensures only { IfErr result (λ s. s ≡ Stop.References) }
         ensures full { OnErr result (2 ^ 32 - 1 ≤ copies (holding_in self.old.names) (entry_of f.now)) }
         ensures worker { IsWorker self.old.names.worker self.new.names.worker }
+        ensures turns { Spends self.old.names.turns self.new.names.turns }
     {
         self.names.refer(f.name)
     }
@@ -135,6 +141,7 @@ impl References for Applier {
         requires { IsHeld (holding_in self.old.names) (entry_of f) }
         ensures loses { Loses (holding_in self.old.names) (holding_in self.new.names) (entry_of f) }
         ensures worker { IsWorker self.old.names.worker self.new.names.worker }
+        ensures turns { Spends self.old.names.turns self.new.names.turns }
         ensures still { self.new.names.worker ≡ self.old.names.worker }
     {
         self.names.release(f);
@@ -159,8 +166,8 @@ impl<R: Wait> Diagrams<R> for Applier {
     ghost use Rattle.std.specs.List.{All, find};
     ghost use Rattle.eqc_tree.specs.Assigned.{assigned, assignments, AreDistinct, DependsOnlyOn, IsSatisfiable};
 
-    /// Stops for nodes only where every slot was seen taken, after dead nodes were taken back and, but in a brief team, names
-    /// without references given up, and for references only at 2^32 - 1 to one node.
+    /// Stops for nodes only where every slot was seen taken, after dead nodes were taken back and, where an operation may begin
+    /// anew, names without references given up, and for references only at 2^32 - 1 to one node.
     fn literal(&mut self, rt: &R, var: u16) -> Result<Ref, Stop>
         requires { var < (holding_in self.old.names).variables }
         ensures ok { IfOk result (λ r. Gains (holding_in self.old.names) (holding_in self.new.names) (entry_of r) (λ a. a var)) }
@@ -169,6 +176,7 @@ impl<R: Wait> Diagrams<R> for Applier {
         ensures nodes { result ≡ Err Stop.NodeLimit → HasSeenAll self.new.names.worker.known.core }
         ensures references { result ≡ Err Stop.References → (e : Entry) × (2 ^ 32 - 1 ≤ copies (holding_in self.old.names) e) }
         ensures worker { IsWorker self.old.names.worker self.new.names.worker }
+        ensures turns { Spends self.old.names.turns self.new.names.turns }
     {
         let x = self.variable_node(rt, var)?;
         self.names.refer(x)
@@ -181,9 +189,10 @@ impl<R: Wait> Diagrams<R> for Applier {
         ensures ok { IfOk result (λ r. Gains (holding_in self.old.names) (holding_in self.new.names) (entry_of r) (λ a. operate op (says (entry_of f.now) a) (says (entry_of g.now) a))) }
         ensures stop { OnErr result (Keeps (holding_in self.old.names) (holding_in self.new.names)) }
         ensures only { IfErr result (λ s. s ≢ Stop.Threads) }
-        ensures nodes { result ≡ Err Stop.NodeLimit → IsFull self.new.names.worker.known.core }
+        ensures nodes { result ≡ Err Stop.NodeLimit → IsFull self.new.names.worker.known.core ⊎ HasSpent self.new.names }
         ensures references { result ≡ Err Stop.References → HasTaken Stop.References self.new.names.worker.known.core ⊎ ((e : Entry) × (2 ^ 32 - 1 ≤ copies (holding_in self.old.names) e)) }
         ensures worker { IsWorker self.old.names.worker self.new.names.worker }
+        ensures turns { Spends self.old.names.turns self.new.names.turns }
     {
         self.apply_forked(rt, op, f, g)
     }
@@ -192,6 +201,7 @@ impl<R: Wait> Diagrams<R> for Applier {
     fn help(&mut self, rt: &R) -> bool
         ensures kept { Keeps (holding_in self.old.names) (holding_in self.new.names) }
         ensures worker { IsWorker self.old.names.worker self.new.names.worker }
+        ensures turns { Spends self.old.names.turns self.new.names.turns }
     {
         self.serve(rt)
     }
@@ -206,9 +216,10 @@ impl<R: Wait> Diagrams<R> for Applier {
         ensures ok { IfOk result (λ r. Gains (holding_in self.old.names) (holding_in self.new.names) (entry_of r) (λ a. if says (entry_of f.now) a then says (entry_of g.now) a else says (entry_of h.now) a)) }
         ensures stop { OnErr result (Keeps (holding_in self.old.names) (holding_in self.new.names)) }
         ensures only { IfErr result (λ s. s ≢ Stop.Threads) }
-        ensures nodes { result ≡ Err Stop.NodeLimit → IsFull self.new.names.worker.known.core }
+        ensures nodes { result ≡ Err Stop.NodeLimit → IsFull self.new.names.worker.known.core ⊎ HasSpent self.new.names }
         ensures references { result ≡ Err Stop.References → HasTaken Stop.References self.new.names.worker.known.core ⊎ ((e : Entry) × (2 ^ 32 - 3 ≤ copies (holding_in self.old.names) e)) }
         ensures worker { IsWorker self.old.names.worker self.new.names.worker }
+        ensures turns { Spends self.old.names.turns self.new.names.turns }
     {
         let both = self.apply(rt, Op::And, f, g)?;
         let other = match self.apply(rt, Op::AndNot, h, f) {
@@ -243,6 +254,7 @@ impl<R: Wait> Diagrams<R> for Applier {
         ensures kept { Keeps (holding_in self.old.names) (holding_in self.new.names) }
         ensures only { IfErr result (λ s. s ≡ Stop.Memory) }
         ensures worker { IsWorker self.old.names.worker self.new.names.worker }
+        ensures turns { Spends self.old.names.turns self.new.names.turns }
     {
         match self.names.least(alloc, variables, f.name) {
             Ok(values) => Ok(Some(values)),

@@ -61,7 +61,7 @@ impl Applier {
         requires g { IsHeld self.old.names.worker.known.core g }
         ensures names { Extends self.old.names self.new.names }
         ensures ok { IfOk result (λ found. IfSome found (IsResult self.new.names.variables op self.new.names.worker.known f g)) }
-        ensures stop { IfErr result (λ s. HasStopped s self.new.names.worker.known.core) }
+        ensures stop { IfErr result (λ s. HasStopped s self.new.names) }
         ensures tasks { self.new.tasks ≡ self.old.tasks }
     {
         let level = match self.offers.last() {

@@ -31,6 +31,8 @@ pub struct Held {
     pub(crate) counts: Vec<u64>,
     // How many names have references. Nothing that is promised depends on it.
     pub(crate) referred: u64,
+    // How many more turns its operations may take beyond their first ones, where that is limited.
+    pub(crate) turns: Option<u64>,
     ghost once: { Has [] variables worker counts.items } by { Prim.hlevel (quiet_prop, props) },
 }
 
@@ -256,6 +258,7 @@ impl Held {
         ensures only { IfErr result (λ s. s ≡ Stop.References) }
         ensures worker { self.new.worker ≡ self.old.worker }
         ensures variables { self.new.variables ≡ self.old.variables }
+        ensures turns { self.new.turns ≡ self.old.turns }
     {
         let at = Snapshot::of(&self.worker);
         if x < 2 {
@@ -278,6 +281,7 @@ impl Held {
         ensures loses { Loses (holding_in self.old) (holding_in self.new) (entry_of r) }
         ensures worker { self.new.worker ≡ self.old.worker }
         ensures variables { self.new.variables ≡ self.old.variables }
+        ensures turns { self.new.turns ≡ self.old.turns }
     {
         let Ref { name, at } = r;
         drop(at);
@@ -289,6 +293,11 @@ impl Held {
             self.referred = self.referred.saturating_sub(1);
         }
         self.counts[name as usize] = count - 1;
+    }
+
+    /// Whether the turns that its operations were allowed are spent.
+    pub(crate) fn is_spent(&self) -> bool {
+        matches!(self.turns, Some(0))
     }
 
     /// How many names are held that no references stand on.

@@ -2,6 +2,7 @@
 ghost use Rattle.std.specs.Prelude.{◌≡◌, ℕ, ◌+◌, ◌<◌, ◌≤◌, ◌^◌, [], get_or, length};
 ghost use Rattle.eqc_apply.specs.Names.{Has};
 ghost use Rattle.eqc_apply.specs.Joining.{HasTwo, Merges, AreOrdered, IsMerged, HasTakenIn, both_refs};
+ghost use Rattle.eqc_apply.specs.Spending.{Spends};
 
 use crate::applier::Applier;
 use crate::held::Held;
@@ -88,6 +89,7 @@ impl Held {
         requires few { (e : Entry) → copies (holding_in self.old) e + copies (holding_in other) e ≤ 2 ^ 38 }
         ensures joins { Joins (holding_in self.old) (holding_in other) (holding_in self.new) }
         ensures takes { TakesIn self.old.worker other.worker self.new.worker }
+        ensures turns { Spends self.old.turns self.new.turns }
     {
         let mut other = other;
         self.give_up();
@@ -97,6 +99,7 @@ impl Held {
             variables: _,
             counts,
             referred: _,
+            turns: _,
         } = other;
         take_in(&mut self.worker, &mut self.counts, worker, counts);
         // Both gave up what had no references, so each name that is held has some.
@@ -120,6 +123,7 @@ impl Applier {
         requires few { (e : Entry) → copies (holding_in self.old.names) e + copies (holding_in other.names) e ≤ 2 ^ 38 }
         ensures joins { Joins (holding_in self.old.names) (holding_in other.names) (holding_in self.new.names) }
         ensures takes { TakesIn self.old.names.worker other.names.worker self.new.names.worker }
+        ensures turns { Spends self.old.names.turns self.new.names.turns }
     {
         self.cells.clear();
         self.names.absorb(other.into_names());

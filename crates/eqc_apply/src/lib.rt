@@ -7,7 +7,7 @@
 //! - `held`, what a worker holds: its counts, cofactors and nodes; `reference`, what is handed out
 //! - `applier`, with the results that a worker keeps for itself; `expansion` and `apply`, the loop; `parts`, with which
 //!   part of an operation a worker begins
-//! - `shared`, the operation cache that all workers share
+//! - `allowance`, how long operations may go on; `shared`, the operation cache that all workers share
 //! - `boxes` and `forking`, in which one half of an operation is offered to other workers; `serving`, which
 //!   do it
 //! - `least`, the least assignment, found on a `plain_copy` of a diagram
@@ -15,6 +15,7 @@
 //! - `joining`, one applier takes another one in; `closing`, the last one closes the forest
 #![tactic(auto)]
 
+mod allowance;
 mod applier;
 mod apply;
 mod boxes;
@@ -32,6 +33,7 @@ mod reference;
 mod serving;
 mod shared;
 
+pub use allowance::Allowance;
 pub use applier::Applier;
-pub use members::{brief_team, team};
+pub use members::{team, team_with};
 pub use reference::Ref;

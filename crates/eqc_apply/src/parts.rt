@@ -27,7 +27,7 @@ impl Applier {
         requires g { IsHeld self.old.names.worker.known.core g }
         ensures names { Extends self.old.names self.new.names }
         ensures ok { IfOk result (λ x. IsResult self.new.names.variables op self.new.names.worker.known f g x) }
-        ensures stop { IfErr result (λ s. HasStopped s self.new.names.worker.known.core) }
+        ensures stop { IfErr result (λ s. HasStopped s self.new.names) }
     {
         self.do_parts(rt, op, f, g)?;
         self.go(rt, op, f, g)
@@ -39,7 +39,7 @@ impl Applier {
         requires f { IsHeld self.old.names.worker.known.core f }
         requires g { IsHeld self.old.names.worker.known.core g }
         ensures names { Extends self.old.names self.new.names }
-        ensures stop { IfErr result (λ s. HasStopped s self.new.names.worker.known.core) }
+        ensures stop { IfErr result (λ s. HasStopped s self.new.names) }
     {
         let number = self.names.worker.number();
         for level in (0..BITS).rev() {
@@ -56,7 +56,7 @@ impl Applier {
         requires g { IsHeld self.old.names.worker.known.core g }
         requires levels { levels ≤ 6 }
         ensures names { Extends self.old.names self.new.names }
-        ensures stop { IfErr result (λ s. HasStopped s self.new.names.worker.known.core) }
+        ensures stop { IfErr result (λ s. HasStopped s self.new.names) }
     {
         let number = self.names.worker.number();
         let mut next = (f, g);

@@ -5,6 +5,7 @@ ghost use Rattle.eqc_guard.specs.Known.{IsHeld as IsName};
 ghost use Rattle.eqc_apply.specs.Before.{IsWorker};
 ghost use Rattle.eqc_apply.specs.Extending.{Stays, holding_in};
 ghost use Rattle.eqc_apply.specs.Referring.{entry_of};
+ghost use Rattle.eqc_apply.specs.Spending.{Spends};
 
 use crate::applier::Applier;
 use crate::reference::Ref;
@@ -32,6 +33,7 @@ impl Applier {
         requires g { IsHeld (holding_in self.old.names) (entry_of g.now) }
         ensures kept { Keeps (holding_in self.old.names) (holding_in self.new.names) }
         ensures worker { IsWorker self.old.names.worker self.new.names.worker }
+        ensures turns { Spends self.old.names.turns self.new.names.turns }
     {
         match self.apply_forked(rt, op, f, g) {
             Ok(r) => {
@@ -49,6 +51,7 @@ impl Applier {
         requires g { IsName self.old.names.worker.known.core g }
         ensures kept { Keeps (holding_in self.old.names) (holding_in self.new.names) }
         ensures worker { IsWorker self.old.names.worker self.new.names.worker }
+        ensures turns { Spends self.old.names.turns self.new.names.turns }
     {
         match self.names.refer(g) {
             Ok(second) => {
@@ -65,6 +68,7 @@ impl Applier {
         requires there { b < 16 * self.old.names.worker.known.core.sizes.workers }
         ensures kept { Keeps (holding_in self.old.names) (holding_in self.new.names) }
         ensures worker { IsWorker self.old.names.worker self.new.names.worker }
+        ensures turns { Spends self.old.names.turns self.new.names.turns }
     {
         let Some((op, f, g)) = self.names.take_task(b) else {
             return false;
@@ -83,6 +87,7 @@ impl Applier {
     fn serve_nth<R: Wait>(&mut self, rt: &R, nth: u32) -> bool
         ensures kept { Keeps (holding_in self.old.names) (holding_in self.new.names) }
         ensures worker { IsWorker self.old.names.worker self.new.names.worker }
+        ensures turns { Spends self.old.names.turns self.new.names.turns }
     {
         let Some(b) = self.names.other_box(nth) else {
             return false;
@@ -94,6 +99,7 @@ impl Applier {
     fn serve_boxes<R: Wait>(&mut self, rt: &R, boxes: u32) -> bool
         ensures kept { Keeps (holding_in self.old.names) (holding_in self.new.names) }
         ensures worker { IsWorker self.old.names.worker self.new.names.worker }
+        ensures turns { Spends self.old.names.turns self.new.names.turns }
     {
         for nth in 0..boxes {
             if self.serve_nth(rt, nth) {
@@ -103,12 +109,14 @@ impl Applier {
         false
     }
 
-    /// Looks through the boxes of so many levels a few times, with pauses between.
+    /// Looks through the boxes of so many levels a few times, with pauses between. Who has no turns left would only stop what
+    /// others offer.
     fn look_through<R: Wait>(&mut self, rt: &R, levels: u32) -> bool
         ensures kept { Keeps (holding_in self.old.names) (holding_in self.new.names) }
         ensures worker { IsWorker self.old.names.worker self.new.names.worker }
+        ensures turns { Spends self.old.names.turns self.new.names.turns }
     {
-        if levels == 0 {
+        if levels == 0 || self.names.is_spent() {
             return false;
         }
         let boxes = levels.saturating_mul(self.names.worker.announcement_words());
@@ -147,6 +155,7 @@ impl Applier {
     pub fn serve<R: Wait>(&mut self, rt: &R) -> bool
         ensures kept { Keeps (holding_in self.old.names) (holding_in self.new.names) }
         ensures worker { IsWorker self.old.names.worker self.new.names.worker }
+        ensures turns { Spends self.old.names.turns self.new.names.turns }
     {
         // What a late answer names, others may need room for.
         self.take_late();

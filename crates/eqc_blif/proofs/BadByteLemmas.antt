@@ -1,5 +1,37 @@
 -- The first byte that is no part of a text is found, and a text that is refused for one has one.
-use Rattle.std.proofs.Common.{◌≡◌, ℕ, suc, zero, ◌+◌, ◌-◌, ◌<◌, ◌≤◌, Bool, true, false, cond, ◌||◌, List, [], ◌∷◌, ◌++◌, length, take, get_or, map, Option, Some, None, refl, sym, ◌∙◌, ap, arith, inl, inr}
+use Rattle.std.proofs.Common.{
+  ◌≡◌,
+  ℕ,
+  suc,
+  zero,
+  ◌+◌,
+  ◌-◌,
+  ◌<◌,
+  ◌≤◌,
+  Bool,
+  true,
+  false,
+  cond,
+  ◌||◌,
+  List,
+  [],
+  ◌∷◌,
+  ◌++◌,
+  length,
+  take,
+  get_or,
+  map,
+  Option,
+  Some,
+  None,
+  refl,
+  sym,
+  ◌∙◌,
+  ap,
+  arith,
+  inl,
+  inr,
+}
 use Rattle.std.specs.List.{list_any, enumerate_from, filter, position, position_or_len}
 use Rattle.std.proofs.lemmas.Option.{slice_get-get_or}
 use Rattle.std.proofs.lemmas.List.Quantifiers.{position-Some}
@@ -43,13 +75,15 @@ none_before p (suc i) (x ∷ xs) d none within =
     rw here (none_before p i xs d (λ k below. none (suc k) (omega arith)) (omega arith))
 
 -- a line of some number is the first from that number on
-stands_first : (n m : ℕ) (piece line : List ℕ) (pieces : List (List ℕ)) → n ≡ m → piece ≡ line → (n ≤ m) × (get_or (piece ∷ pieces) (m - n) [] ≡ line) × (list_any (list_any is_bad_byte) (take (m - n) (piece ∷ pieces)) ≡ false)
+stands_first : (n m : ℕ) (piece line : List ℕ) (pieces : List (List ℕ)) → n ≡ m → piece ≡ line
+    → (n ≤ m) × (get_or (piece ∷ pieces) (m - n) [] ≡ line) × (list_any (list_any is_bad_byte) (take (m - n) (piece ∷ pieces)) ≡ false)
 stands_first n m piece line pieces same bytes =
     let none : m - n ≡ 0 = omega arith in
     (omega arith, rw none bytes, rw none refl)
 
 -- the first of numbered lines that has a bad byte stands at its number
-stands_at : (n m : ℕ) (line : List ℕ) (pieces : List (List ℕ)) → first_bad (enumerate_from n pieces) ≡ Some (m, line) → (n ≤ m) × (get_or pieces (m - n) [] ≡ line) × (list_any (list_any is_bad_byte) (take (m - n) pieces) ≡ false)
+stands_at : (n m : ℕ) (line : List ℕ) (pieces : List (List ℕ)) → first_bad (enumerate_from n pieces) ≡ Some (m, line)
+    → (n ≤ m) × (get_or pieces (m - n) [] ≡ line) × (list_any (list_any is_bad_byte) (take (m - n) pieces) ≡ false)
 stands_at n m line [] is = cc
 stands_at n m line (piece ∷ pieces) is = elim (cases_Bool (list_any is_bad_byte piece)) [
   | inl bad ↦
@@ -63,7 +97,9 @@ stands_at n m line (piece ∷ pieces) is = elim (cases_Bool (list_any is_bad_byt
 ]
 
 -- the byte that is found first in a text is bad, and none before it
-pub found_bad : (text line : List ℕ) (lines rest : List (ℕ × List ℕ)) (n p byte : ℕ) → first_bad lines ≡ first_bad (numbered 1 text) → lines ≡ (n, line) ∷ rest → position is_bad_byte line ≡ Some p → byte ≡ get_or line p 0 → IsBadByte text byte n (p + 1)
+pub found_bad : (text line : List ℕ) (lines rest : List (ℕ × List ℕ)) (n p byte : ℕ)
+    → first_bad lines ≡ first_bad (numbered 1 text) → lines ≡ (n, line) ∷ rest → position is_bad_byte line ≡ Some p
+    → byte ≡ get_or line p 0 → IsBadByte text byte n (p + 1)
 found_bad text line lines rest n p byte same are at is =
     let known = position-Some is_bad_byte line p 0 at in
     let has : list_any is_bad_byte line ≡ true = has_one line p known.0 known.1 in
@@ -84,7 +120,9 @@ found_bad text line lines rest n p byte same are at is =
     has_one (x ∷ xs) (suc k) within bad = rw (has_one xs k (omega (arith, within)) bad) (or-true (is_bad_byte x))
 
 -- a line without a bad byte is passed over
-pub passed_over : (n : ℕ) (line : List ℕ) (lines rest : List (ℕ × List ℕ)) (all : Option (ℕ × List ℕ)) → lines ≡ (n, line) ∷ rest → ((k : ℕ) → position is_bad_byte line ≡ Some k → ⊥) → list_any (λ l. list_any is_bad_byte l.1) lines ≡ true → first_bad lines ≡ all → (list_any (λ l. list_any is_bad_byte l.1) rest ≡ true) × (first_bad rest ≡ all)
+pub passed_over : (n : ℕ) (line : List ℕ) (lines rest : List (ℕ × List ℕ)) (all : Option (ℕ × List ℕ)) → lines ≡ (n, line) ∷ rest
+    → ((k : ℕ) → position is_bad_byte line ≡ Some k → ⊥) → list_any (λ l. list_any is_bad_byte l.1) lines ≡ true
+    → first_bad lines ≡ all → (list_any (λ l. list_any is_bad_byte l.1) rest ≡ true) × (first_bad rest ≡ all)
 passed_over n line lines rest all are none some same =
     let good : list_any is_bad_byte line ≡ false = none_found is_bad_byte line none in
     (rw good at (rw are at some), rw good at (rw are at same))

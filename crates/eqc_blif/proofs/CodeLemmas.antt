@@ -4,7 +4,7 @@ use Rattle.std.specs.List.{list_any}
 use Rattle.std.proofs.lemmas.Bool.{eq-eqb, true≢false}
 use Rattle.std.proofs.Math.Bool.{or-true, or-false}
 use Rattle.eqc_blif.specs.Reading.{After, first_code, statement_conditions, statement_code}
-use Rattle.eqc_blif.specs.declared.kind.Kind.{Kind}
+use Rattle.eqc_blif.specs.declared.reader.kind.Kind.{Kind}
 
 -- one condition holds, or it is passed over
 one_holds : (n k : ℕ) (b : Bool) (rest : Option ℕ) (found : Bool) → cond b (Some n) rest ≡ Some k → (rest ≡ Some k → found ≡ true) → ((eqb n k && b) || found) ≡ true
@@ -19,7 +19,8 @@ holds k [] is = cc
 holds k (c ∷ more) is = one_holds c.0 k c.1 (first_code more) (list_any (λ d. eqb d.0 k && d.1) more) is (holds k more)
 
 -- the condition of a statement's code holds
-pub condition_holds : (st : After) (kind : Kind) (ws : List (List ℕ)) (row : List ℕ) (k : ℕ) → statement_code st kind ws row ≡ Some k → list_any (λ c. eqb c.0 k && c.1) (statement_conditions st kind ws row) ≡ true
+pub condition_holds : (st : After) (kind : Kind) (ws : List (List ℕ)) (row : List ℕ) (k : ℕ)
+    → statement_code st kind ws row ≡ Some k → list_any (λ c. eqb c.0 k && c.1) (statement_conditions st kind ws row) ≡ true
 condition_holds st kind ws row k is = holds k (statement_conditions st kind ws row) is
 
 -- a condition beside none

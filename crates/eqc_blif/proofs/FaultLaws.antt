@@ -25,7 +25,9 @@ or_behind_else n (Some code) a b = refl
 fault_append : (st : After) (xs ys : List (ℕ × List ℕ)) → first_fault st (xs ++ ys) ≡ or_else (first_fault st xs) (first_fault (after st xs) ys)
 unfolding or_else
 fault_append st [] ys = refl
-fault_append st (x ∷ xs) ys = ap (or_behind x.0 (line_code st x.1)) (fault_append (then_line x.1 st) xs ys) ∙ or_behind_else x.0 (line_code st x.1) (first_fault (then_line x.1 st) xs) (first_fault (after (then_line x.1 st) xs) ys)
+fault_append st (x ∷ xs) ys =
+    ap (or_behind x.0 (line_code st x.1)) (fault_append (then_line x.1 st) xs ys)
+    ∙ or_behind_else x.0 (line_code st x.1) (first_fault (then_line x.1 st) xs) (first_fault (after (then_line x.1 st) xs) ys)
 
 pub first_fault_stays : FirstFaultStays
 unfolding or_else
@@ -47,7 +49,9 @@ record Found (st : After) (lines : List (ℕ × List ℕ)) (fault : ℕ × ℕ) 
   pub faultless : first_fault st before ≡ None
   pub faulty : line_code (after st before) line ≡ Some fault.1
 
-found_step : (st : After) (x : ℕ × List ℕ) (xs : List (ℕ × List ℕ)) (fault : ℕ × ℕ) (code : Option ℕ) → line_code st x.1 ≡ code → first_fault st (x ∷ xs) ≡ Some fault → (first_fault (then_line x.1 st) xs ≡ Some fault → Found (then_line x.1 st) xs fault) → Found st (x ∷ xs) fault
+found_step : (st : After) (x : ℕ × List ℕ) (xs : List (ℕ × List ℕ)) (fault : ℕ × ℕ) (code : Option ℕ) → line_code st x.1 ≡ code
+    → first_fault st (x ∷ xs) ≡ Some fault → (first_fault (then_line x.1 st) xs ≡ Some fault → Found (then_line x.1 st) xs fault)
+    → Found st (x ∷ xs) fault
 found_step st x xs fault None is found later =
     let more = later (sym (ap (λ code. or_behind x.0 code (first_fault (then_line x.1 st) xs)) is) ∙ found) in
     record {
@@ -82,15 +86,18 @@ found_is_first lines fault found =
 pub first_is_found : FirstIsFound
 unfolding or_else
 first_is_found lines fault first =
-    let here : first_fault (after start first.before) ((fault.0, first.line) ∷ first.behind) ≡ Some fault = by_some (first_fault (then_line first.line (after start first.before)) first.behind) first.faulty in
+    let here : first_fault (after start first.before) ((fault.0, first.line) ∷ first.behind) ≡ Some fault =
+    by_some (first_fault (then_line first.line (after start first.before)) first.behind) first.faulty in
     ap (first_fault start) first.cut ∙ (fault_append start first.before ((fault.0, first.line) ∷ first.behind) ∙ rw (first.faultless, here) refl)
 
-alike_behind : (n m : ℕ) (code : Option ℕ) (a b : Option (ℕ × ℕ)) → option_map (λ f. f.1) a ≡ option_map (λ f. f.1) b → option_map (λ f. f.1) (or_behind n code a) ≡ option_map (λ f. f.1) (or_behind m code b)
+alike_behind : (n m : ℕ) (code : Option ℕ) (a b : Option (ℕ × ℕ)) → option_map (λ f. f.1) a ≡ option_map (λ f. f.1) b
+    → option_map (λ f. f.1) (or_behind n code a) ≡ option_map (λ f. f.1) (or_behind m code b)
 alike_behind n m None a b alike = alike
 alike_behind n m (Some code) a b alike = refl
 
 -- the code of a fault, and what stands after all lines
-code_alike : (st : After) (xs ys : List (ℕ × List ℕ)) → contents xs ≡ contents ys → (option_map (λ f. f.1) (first_fault st xs) ≡ option_map (λ f. f.1) (first_fault st ys)) × (after st xs ≡ after st ys)
+code_alike : (st : After) (xs ys : List (ℕ × List ℕ)) → contents xs ≡ contents ys
+    → (option_map (λ f. f.1) (first_fault st xs) ≡ option_map (λ f. f.1) (first_fault st ys)) × (after st xs ≡ after st ys)
 code_alike st [] [] same = (refl, refl)
 code_alike st [] (y ∷ ys) same = cc
 code_alike st (x ∷ xs) [] same = cc
@@ -99,7 +106,10 @@ code_alike st (x ∷ xs) (y ∷ ys) same =
     let rest : contents xs ≡ contents ys = cc in
     let more = code_alike (then_line x.1 st) xs ys rest in
     let moved : after (then_line x.1 st) ys ≡ after (then_line y.1 st) ys = ap (λ line. after (then_line line st) ys) bytes in
-    let faults : option_map (λ f. f.1) (or_behind y.0 (line_code st x.1) (first_fault (then_line x.1 st) ys)) ≡ option_map (λ f. f.1) (or_behind y.0 (line_code st y.1) (first_fault (then_line y.1 st) ys)) = ap (λ line. option_map (λ f. f.1) (or_behind y.0 (line_code st line) (first_fault (then_line line st) ys))) bytes in
+    let faults :
+    option_map (λ f. f.1) (or_behind y.0 (line_code st x.1) (first_fault (then_line x.1 st) ys))
+    ≡ option_map (λ f. f.1) (or_behind y.0 (line_code st y.1) (first_fault (then_line y.1 st) ys)) =
+    ap (λ line. option_map (λ f. f.1) (or_behind y.0 (line_code st line) (first_fault (then_line line st) ys))) bytes in
     (alike_behind x.0 y.0 (line_code st x.1) (first_fault (then_line x.1 st) xs) (first_fault (then_line x.1 st) ys) more.0 ∙ faults, more.1 ∙ moved)
 
 -- an outcome without the line depends on the code of the fault alone
@@ -112,7 +122,10 @@ outcome_alike (Some f) (Some g) ms same = let codes : f.1 ≡ g.1 = cc in ap Err
 pub numbers_play_no_part : NumbersPlayNoPart
 numbers_play_no_part text other short other_short same =
     let alike = code_alike start (logical_lines text) (logical_lines other) same in
-    rw (short, other_short) (outcome_alike (first_fault start (logical_lines text)) (first_fault start (logical_lines other)) (models (after start (logical_lines text))) alike.0 ∙ ap (λ st. unnumbered (outcome_by (first_fault start (logical_lines other)) (models st))) alike.1)
+    rw (short, other_short)
+    (outcome_alike (first_fault start (logical_lines text)) (first_fault start (logical_lines other))
+    (models (after start (logical_lines text))) alike.0
+    ∙ ap (λ st. unnumbered (outcome_by (first_fault start (logical_lines other)) (models st))) alike.1)
 
 pub skipped_lines_change_nothing : SkippedLinesChangeNothing
 unfolding or_else
@@ -121,7 +134,10 @@ skipped_lines_change_nothing before behind n line skipped good =
     let no_code : line_code st line ≡ None = rw (good, skipped) refl in
     let stays : then_line line st ≡ st = rw skipped refl in
     let fault : first_fault start (before ++ (n, line) ∷ behind) ≡ first_fault start (before ++ behind) =
-    fault_append start before ((n, line) ∷ behind) ∙ (ap (or_else (first_fault start before)) (ap (λ code. or_behind n code (first_fault (then_line line st) behind)) no_code ∙ ap (λ s. first_fault s behind) stays) ∙ sym (fault_append start before behind)) in
+    fault_append start before ((n, line) ∷ behind)
+    ∙ (ap (or_else (first_fault start before))
+    (ap (λ code. or_behind n code (first_fault (then_line line st) behind)) no_code ∙ ap (λ s. first_fault s behind) stays)
+    ∙ sym (fault_append start before behind)) in
     let left : after start (before ++ (n, line) ∷ behind) ≡ after start (before ++ behind) =
     after_append start before ((n, line) ∷ behind) ∙ (ap (λ s. after s behind) stays ∙ sym (after_append start before behind)) in
     ap (λ f. outcome_by f (models (after start (before ++ (n, line) ∷ behind)))) fault ∙ ap (λ s. outcome_by (first_fault start (before ++ behind)) (models s)) left

@@ -11,9 +11,23 @@ use Rattle.eqc_blif.proofs.CodeLemmas.{not_two, not_thirteen}
 use Rattle.eqc_blif.specs.Reading.{After, start, opened, models, is_bad_byte, line_code, then_line, after, or_behind, first_fault, statement_code, is_too_long, outcome_by}
 use Rattle.eqc_blif.specs.Laws.{rises}
 use Rattle.eqc_blif.specs.Finding.{refused, line_at, code_of, finding_code, HoldsOfLine, HoldsOfRefusedLine, IsExplained, IsLineExplained}
-use Rattle.eqc_blif.specs.declared.kind.Kind.{Kind}
+use Rattle.eqc_blif.specs.declared.reader.kind.Kind.{Kind}
 use Rattle.eqc_blif.specs.declared.finding.Finding.{Finding}
-use Rattle.eqc_blif.specs.declared.finding.Finding.TheVariants.{ControlByte, TextTooLong, UnknownCommand, BehindEnd, RowOutsideCover, RowShape, RowOutput, NoPair, NoWord, ModelTwice, InputTwice, OutputTwice, NoStatement}
+use Rattle.eqc_blif.specs.declared.finding.Finding.TheVariants.{
+  ControlByte,
+  TextTooLong,
+  UnknownCommand,
+  BehindEnd,
+  RowOutsideCover,
+  RowShape,
+  RowOutput,
+  NoPair,
+  NoWord,
+  ModelTwice,
+  InputTwice,
+  OutputTwice,
+  NoStatement,
+}
 
 pub of_some : {A : Type 0} (x y : A) → Some x ≡ Some y → x ≡ y
 of_some x y is = cc
@@ -34,7 +48,8 @@ not_below least n code st (x ∷ xs) up is = elim (at_line x.0 n code (line_code
 ]
 
 -- the line of the number of a fault has its code
-pub has_code : (least n code : ℕ) (st now : After) (line : List ℕ) (lines : List (ℕ × List ℕ)) → rises least lines → first_fault st lines ≡ Some (n, code) → line_at n st lines ≡ Some (now, line) → line_code now line ≡ Some code
+pub has_code : (least n code : ℕ) (st now : After) (line : List ℕ) (lines : List (ℕ × List ℕ)) → rises least lines
+    → first_fault st lines ≡ Some (n, code) → line_at n st lines ≡ Some (now, line) → line_code now line ≡ Some code
 has_code least n code st now line [] up is there = cc
 has_code least n code st now line (x ∷ xs) up is there = elim (at_line x.0 n code (line_code st x.1) (first_fault (then_line x.1 st) xs) is) [
   | inl here ↦
@@ -50,7 +65,9 @@ pub record IsRefused (text : List ℕ) (n code : ℕ) : Type 0 where
   pub short : is_too_long text ≡ false
   pub fault : first_fault start (logical_lines text) ≡ Some (n, code)
 
-pub why : (text : List ℕ) (n code : ℕ) → refused text ≡ Some (n, code) → ((n ≡ 0) × (code ≡ 2) × (is_too_long text ≡ true)) ⊎ (IsRefused text n code ⊎ ((n ≡ 0) × (code ≡ 13) × (models (after start (logical_lines text)) ≡ [])))
+pub why : (text : List ℕ) (n code : ℕ) → refused text ≡ Some (n, code)
+    → ((n ≡ 0) × (code ≡ 2) × (is_too_long text ≡ true))
+    ⊎ (IsRefused text n code ⊎ ((n ≡ 0) × (code ≡ 13) × (models (after start (logical_lines text)) ≡ [])))
 why text n code is = elim (cases_Bool (is_too_long text)) [
   | inl long ↦
       let given : Some (0, 2) ≡ Some (n, code) = rw long at is in
@@ -61,7 +78,9 @@ why text n code is = elim (cases_Bool (is_too_long text)) [
       inr (by_lines short (first_fault start (logical_lines text)) refl (models (after start (logical_lines text))) refl given)
 ]
   where
-    by_lines : is_too_long text ≡ false → (fault : Option (ℕ × ℕ)) → first_fault start (logical_lines text) ≡ fault → (ms : List ModelOf) → models (after start (logical_lines text)) ≡ ms → result_err (outcome_by fault ms) ≡ Some (n, code) → IsRefused text n code ⊎ ((n ≡ 0) × (code ≡ 13) × (models (after start (logical_lines text)) ≡ []))
+    by_lines : is_too_long text ≡ false → (fault : Option (ℕ × ℕ)) → first_fault start (logical_lines text) ≡ fault
+        → (ms : List ModelOf) → models (after start (logical_lines text)) ≡ ms → result_err (outcome_by fault ms) ≡ Some (n, code)
+        → IsRefused text n code ⊎ ((n ≡ 0) × (code ≡ 13) × (models (after start (logical_lines text)) ≡ []))
     by_lines short (Some fault) first ms all given = inl (record { short = short; fault = first ∙ given })
     by_lines short None first [] all given =
         let pair = of_some (0, 13) (n, code) given in
@@ -69,7 +88,9 @@ why text n code is = elim (cases_Bool (is_too_long text)) [
     by_lines short None first (m ∷ ms) all given = cc
 
 -- no line has a code that no statement has, and that isn't 1
-no_line : (n code : ℕ) → (code ≡ 1 → ⊥) → ((st : After) (kind : Kind) (ws : List (List ℕ)) (row : List ℕ) → statement_code st kind ws row ≡ Some code → ⊥) → (st : After) (lines : List (ℕ × List ℕ)) → first_fault st lines ≡ Some (n, code) → ⊥
+no_line : (n code : ℕ) → (code ≡ 1 → ⊥)
+    → ((st : After) (kind : Kind) (ws : List (List ℕ)) (row : List ℕ) → statement_code st kind ws row ≡ Some code → ⊥)
+    → (st : After) (lines : List (ℕ × List ℕ)) → first_fault st lines ≡ Some (n, code) → ⊥
 no_line n code other none st [] is = cc
 no_line n code other none st (x ∷ xs) is = elim (at_line x.0 n code (line_code st x.1) (first_fault (then_line x.1 st) xs) is) [
   | inl here ↦ by (list_any is_bad_byte x.1) here.1
@@ -108,11 +129,15 @@ told_line text n code is long empty = elim (why text n code is) [
 ]
 
 -- a finding that holds of the line of a refusal
-on_line : (text : List ℕ) (n code : ℕ) (st : After) (line : List ℕ) (finding : Finding) → refused text ≡ Some (n, code) → line_at n start (logical_lines text) ≡ Some (st, line) → finding_code finding ≡ code → HoldsOfLine (opened (kind_of_line line) st) line finding → HoldsOfRefusedLine text finding
+on_line : (text : List ℕ) (n code : ℕ) (st : After) (line : List ℕ) (finding : Finding) → refused text ≡ Some (n, code)
+    → line_at n start (logical_lines text) ≡ Some (st, line) → finding_code finding ≡ code
+    → HoldsOfLine (opened (kind_of_line line) st) line finding → HoldsOfRefusedLine text finding
 on_line text n code st line finding is there same holds = (n, st, line, is ∙ ap (λ (k : ℕ). Some (n, k)) (sym same), there, holds)
 
 -- what is named of the line of a refusal is at fault
-at_fault : (text : List ℕ) (n code : ℕ) (st : After) (line : List ℕ) (found : Option Finding) → refused text ≡ Some (n, code) → line_at n start (logical_lines text) ≡ Some (st, line) → IsLineExplained (opened (kind_of_line line) st) line code found → IsExplained text found
+at_fault : (text : List ℕ) (n code : ℕ) (st : After) (line : List ℕ) (found : Option Finding) → refused text ≡ Some (n, code)
+    → line_at n start (logical_lines text) ≡ Some (st, line) → IsLineExplained (opened (kind_of_line line) st) line code found
+    → IsExplained text found
 at_fault text n code st line None is there four = rw (is, four) refl
 at_fault text n code st line (Some (ControlByte b l k)) is there holds = absurd holds.1
 at_fault text n code st line (Some (TextTooLong b l)) is there holds = absurd holds.1
@@ -129,7 +154,11 @@ at_fault text n code st line (Some (OutputTwice w)) is there holds = on_line tex
 at_fault text n code st line (Some NoStatement) is there holds = absurd holds.1
 
 -- the same, where the line and what stands before it were computed
-pub explained : (text : List ℕ) (n code : ℕ) (st now : After) (line bytes : List ℕ) (kind : Kind) (found : Option Finding) → refused text ≡ Some (n, code) → line_at n start (logical_lines text) ≡ Some (st, line) → bytes ≡ line → kind ≡ kind_of_line line → now ≡ opened kind st → IsLineExplained now bytes code found → IsExplained text found
+pub explained : (text : List ℕ) (n code : ℕ) (st now : After) (line bytes : List ℕ) (kind : Kind) (found : Option Finding)
+    → refused text ≡ Some (n, code) → line_at n start (logical_lines text) ≡ Some (st, line) → bytes ≡ line
+    → kind ≡ kind_of_line line → now ≡ opened kind st → IsLineExplained now bytes code found → IsExplained text found
 explained text n code st now line bytes kind found is there same of opens holds =
-    let known : IsLineExplained (opened (kind_of_line line) st) line code found = subst (λ (b : List ℕ). IsLineExplained (opened (kind_of_line line) st) b code found) same (subst (λ (s : After). IsLineExplained s bytes code found) (opens ∙ ap (λ (k : Kind). opened k st) of) holds) in
+    let known : IsLineExplained (opened (kind_of_line line) st) line code found =
+    subst (λ (b : List ℕ). IsLineExplained (opened (kind_of_line line) st) b code found) same
+    (subst (λ (s : After). IsLineExplained s bytes code found) (opens ∙ ap (λ (k : Kind). opened k st) of) holds) in
     at_fault text n code st line found is there known

@@ -8,7 +8,7 @@ use Rattle.eqc_blif.specs.Words.{first_of}
 use Rattle.eqc_blif.specs.Reading.{begun, models_of, is_column_value, is_output_value, row_output, has_row_shape, differs_from_first, first_code, last_cover, row_added}
 use Rattle.eqc_blif.specs.Steps.{cover_with_row}
 use Rattle.eqc_blif.specs.Laws.{has_places, ends_alike, rows_fit, RowsFitTheirCovers}
-use Rattle.eqc_blif.specs.declared.kind.Kind.TheVariants.{Model, Inputs, Outputs, Names, Subckt, End, Latch, Skipped, Unknown, Row}
+use Rattle.eqc_blif.specs.declared.reader.kind.Kind.TheVariants.{Model, Inputs, Outputs, Names, Subckt, End, Latch, Skipped, Unknown, Row}
 use Rattle.eqc_blif.proofs.KeptLaws.{IsKept, library_has}
 
 -- a test that holds of all items and of another holds after the other is put in a place
@@ -47,7 +47,9 @@ either false false (inl a) = a
 either false false (inr b) = b
 
 -- a row that ends as the first of the rows before it, or is the first and ends in `0` or `1`
-alike_pushed : (rows : List (List ℕ)) (row : List ℕ) → is_output_value (row_output row) ≡ true → differs_from_first rows row ≡ false → (ends_in 48 rows || ends_in 49 rows) ≡ true → (ends_in 48 (rows ++ row ∷ []) || ends_in 49 (rows ++ row ∷ [])) ≡ true
+alike_pushed : (rows : List (List ℕ)) (row : List ℕ) → is_output_value (row_output row) ≡ true
+    → differs_from_first rows row ≡ false → (ends_in 48 rows || ends_in 49 rows) ≡ true
+    → (ends_in 48 (rows ++ row ∷ []) || ends_in 49 (rows ++ row ∷ [])) ≡ true
 unfolding ends_in
 alike_pushed [] row value same alike = elim (one_holds (eqb (row_output row) 48) (eqb (row_output row) 49) value) [
   | inl low ↦ rw low refl
@@ -75,7 +77,8 @@ cover_fits : CoverOf → Bool
 cover_fits cover = has_places cover && ends_alike cover
 
 -- a row of the right shape that ends as the first
-fits_with_row : (cover : CoverOf) (row : List ℕ) → has_row_shape (length cover.columns) row ≡ true → differs_from_first cover.rows row ≡ false → cover_fits cover ≡ true → cover_fits (cover_with_row row cover) ≡ true
+fits_with_row : (cover : CoverOf) (row : List ℕ) → has_row_shape (length cover.columns) row ≡ true
+    → differs_from_first cover.rows row ≡ false → cover_fits cover ≡ true → cover_fits (cover_with_row row cover) ≡ true
 unfolding cover_fits ends_in
 fits_with_row cover row shape same fits =
     let n = length cover.columns in
@@ -87,7 +90,9 @@ fits_with_row cover row shape same fits =
     rw (all_pushed (λ r. eqb (length r) (n + 1)) cover.rows row parts.0 shapes.0, alike_pushed cover.rows row value same parts.1) refl
 
 -- a row without a code, added to the last cover
-rows_added : (covers : List CoverOf) (row : List ℕ) → list_all cover_fits covers ≡ true → has_row_shape (length (last_cover covers).columns) row ≡ true → differs_from_first (last_cover covers).rows row ≡ false → list_all cover_fits (row_added row covers) ≡ true
+rows_added : (covers : List CoverOf) (row : List ℕ) → list_all cover_fits covers ≡ true
+    → has_row_shape (length (last_cover covers).columns) row ≡ true → differs_from_first (last_cover covers).rows row ≡ false
+    → list_all cover_fits (row_added row covers) ≡ true
 unfolding cover_fits
 rows_added covers row fit shape same =
     let last = all_get cover_fits covers (length covers - 1) no_cover fit refl in

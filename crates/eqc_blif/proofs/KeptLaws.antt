@@ -5,12 +5,36 @@ use Rattle.eqc_blif.specs.Netlist.{ModelOf}
 use Rattle.eqc_blif.specs.Lines.{logical_lines}
 use Rattle.eqc_blif.specs.Words.{arguments, without_blanks}
 use Rattle.eqc_blif.specs.Kind.{kind_of_line}
-use Rattle.eqc_blif.specs.Reading.{After, OpenModel, Outcome, outcome, outcome_of_lines, begun, models_of, models, opened, is_bad_byte, statement_code, then_statement, line_code, then_line, after, first_fault, start, outcome_by, is_too_long, or_behind}
-use Rattle.eqc_blif.specs.declared.kind.Kind.{Kind}
+use Rattle.eqc_blif.specs.Reading.{
+  After,
+  OpenModel,
+  Outcome,
+  outcome,
+  outcome_of_lines,
+  begun,
+  models_of,
+  models,
+  opened,
+  is_bad_byte,
+  statement_code,
+  then_statement,
+  line_code,
+  then_line,
+  after,
+  first_fault,
+  start,
+  outcome_by,
+  is_too_long,
+  or_behind,
+}
+use Rattle.eqc_blif.specs.declared.reader.kind.Kind.{Kind}
 
 -- a fact on all models so far that stays at each statement without a code
 abbrev pub IsKept : (List ModelOf → Type 0) → Type 0
-IsKept P = (kind : Kind) (ws : List (List ℕ)) (row : List ℕ) (closed : List ModelOf) (o : Option OpenModel) → statement_code (record { closed = closed; open_model = o }) kind ws row ≡ None → P (models_of closed o) → P (models (then_statement kind ws row (record { closed = closed; open_model = o })))
+IsKept P =
+    (kind : Kind) (ws : List (List ℕ)) (row : List ℕ) (closed : List ModelOf) (o : Option OpenModel)
+    → statement_code (record { closed = closed; open_model = o }) kind ws row ≡ None → P (models_of closed o)
+    → P (models (then_statement kind ws row (record { closed = closed; open_model = o })))
 
 -- what has no code does not meet its condition
 pub unmet : (b : Bool) (code : ℕ) → cond b (Some code) None ≡ None → b ≡ false

@@ -1,5 +1,36 @@
 -- Names in a list, and a name that stands twice.
-use Rattle.std.proofs.Common.{◌≡◌, Bool, true, false, not, cond, ◌||◌, List, [], ◌∷◌, ◌++◌, nat_eq, ℕ, ◌+◌, suc, ◌<◌, length, take, drop, get_or, Option, Some, None, refl, sym, ◌∙◌, ap, arith, inl, inr}
+use Rattle.std.proofs.Common.{
+  ◌≡◌,
+  Bool,
+  true,
+  false,
+  not,
+  cond,
+  ◌||◌,
+  List,
+  [],
+  ◌∷◌,
+  ◌++◌,
+  nat_eq,
+  ℕ,
+  ◌+◌,
+  suc,
+  ◌<◌,
+  length,
+  take,
+  drop,
+  get_or,
+  Option,
+  Some,
+  None,
+  refl,
+  sym,
+  ◌∙◌,
+  ap,
+  arith,
+  inl,
+  inr,
+}
 use Rattle.std.specs.Str.{bytes_eq}
 use Rattle.std.specs.Option.{option_map}
 use Rattle.std.proofs.lemmas.List.{take_more, drop_more, take-append-drop, length-append, append-nil, get_or_append_left}
@@ -59,7 +90,8 @@ inserted_once names name once = elim (cases_Bool (is_named names name)) [
 ]
 
 -- nor have names to which one was added that was new
-pub added_once : (names new : List (List ℕ)) (name : List ℕ) (fresh : Bool) → has_twice names ≡ false → fresh ≡ not (is_named names name) → new ≡ cond fresh (names ++ name ∷ []) names → has_twice new ≡ false
+pub added_once : (names new : List (List ℕ)) (name : List ℕ) (fresh : Bool) → has_twice names ≡ false
+    → fresh ≡ not (is_named names name) → new ≡ cond fresh (names ++ name ∷ []) names → has_twice new ≡ false
 added_once names new name true once is added = rw added (once_more names name once (not-true _ (sym is)))
 added_once names new name false once is added = rw added once
 
@@ -79,13 +111,19 @@ pub few_once : {A : Type 0} (f : A → List (List ℕ)) (o : Option A) (few : Li
 few_once f o few other once = rw (none_mapped f o other) at once
 
 -- a new name behind the few
-pub few_pushed : {A : Type 0} (f : A → List (List ℕ)) (o : Option A) (few new : List (List ℕ)) (name : List ℕ) → ((x : A) → o ≡ Some x → ⊥) → has_twice (few_or_many few (option_map f o)) ≡ false → is_named few name ≡ false → new ≡ few ++ name ∷ [] → has_twice (few_or_many new (option_map f o)) ≡ false
+pub few_pushed : {A : Type 0} (f : A → List (List ℕ)) (o : Option A) (few new : List (List ℕ)) (name : List ℕ)
+    → ((x : A) → o ≡ Some x → ⊥) → has_twice (few_or_many few (option_map f o)) ≡ false → is_named few name ≡ false
+    → new ≡ few ++ name ∷ [] → has_twice (few_or_many new (option_map f o)) ≡ false
 few_pushed f o few new name other once fresh is = rw (none_mapped f o other, is) (once_more few name (few_once f o few other once) fresh)
 
 -- a set of the first names takes the next
-pub set_more : (names : List (List ℕ)) (i : ℕ) (keys new : List (List ℕ)) (copy : List ℕ) → has_twice names ≡ false → i < length names → keys ≡ take i names → copy ≡ get_or names i copy → new ≡ insert_key bytes_eq keys copy → new ≡ take (i + 1) names
+pub set_more : (names : List (List ℕ)) (i : ℕ) (keys new : List (List ℕ)) (copy : List ℕ) → has_twice names ≡ false
+    → i < length names → keys ≡ take i names → copy ≡ get_or names i copy → new ≡ insert_key bytes_eq keys copy
+    → new ≡ take (i + 1) names
 set_more names i keys new copy once within so_far is inserted =
-    let cut : names ≡ take i names ++ copy ∷ drop (i + 1) names = sym (take-append-drop i names) ∙ ap (λ rest. take i names ++ rest) (drop_more names i copy within ∙ ap (λ name. name ∷ drop (i + 1) names) (sym is)) in
+    let cut : names ≡ take i names ++ copy ∷ drop (i + 1) names =
+    sym (take-append-drop i names)
+    ∙ ap (λ rest. take i names ++ rest) (drop_more names i copy within ∙ ap (λ name. name ∷ drop (i + 1) names) (sym is)) in
     let next : take (i + 1) names ≡ take i names ++ copy ∷ [] = take_more names i copy within ∙ ap (λ name. take i names ++ name ∷ []) (sym is) in
     elim (cases_Bool (is_named (take i names) copy)) [
       | inl there ↦ absurd (true≢false (sym (twice_there (take i names) (drop (i + 1) names) copy there) ∙ (ap has_twice (sym cut) ∙ once)))

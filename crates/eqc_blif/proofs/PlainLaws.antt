@@ -113,7 +113,9 @@ line_bytes [] all = refl
 line_bytes (word ∷ []) all = all_follow is_word_byte is_line_byte word_in_line word (word_bytes word (and_parts _ _ all).0)
 line_bytes (word ∷ (next ∷ more)) all =
     let parts = and_parts (is_plain_word word) _ all in
-    list_all-append is_line_byte word (32 ∷ with_blanks (next ∷ more)) ∙ rw (all_follow is_word_byte is_line_byte word_in_line word (word_bytes word parts.0), line_bytes (next ∷ more) parts.1) (unfold is_line_byte in refl)
+    list_all-append is_line_byte word (32 ∷ with_blanks (next ∷ more))
+    ∙ rw (all_follow is_word_byte is_line_byte word_in_line word (word_bytes word parts.0), line_bytes (next ∷ more) parts.1)
+    (unfold is_line_byte in refl)
 
 some_length : (word : List ℕ) → ltb 0 (length word) ≡ true → eqb (length word) 0 ≡ false
 some_length [] some = cc
@@ -141,7 +143,9 @@ word_without_blanks word plain = filter_all (λ b. not (is_blank b)) word (all_f
 
 -- the words of a plain line
 pub plain_words : (ws : List (List ℕ)) → is_plain_line ws ≡ true → list_all is_plain_word ws ≡ true
-plain_words ws plain = (and_parts (list_all is_plain_word ws) (not (continues (with_blanks ws))) (and_parts (ltb 0 (length ws)) (list_all is_plain_word ws && not (continues (with_blanks ws))) plain).1).0
+plain_words ws plain =
+    (and_parts (list_all is_plain_word ws) (not (continues (with_blanks ws)))
+    (and_parts (ltb 0 (length ws)) (list_all is_plain_word ws && not (continues (with_blanks ws))) plain).1).0
 
 -- the words of a line are read back
 pub words_back : (ws : List (List ℕ)) → list_all is_plain_word ws ≡ true → words (with_blanks ws) ≡ ws
@@ -186,7 +190,8 @@ line_ends word (next ∷ more) all =
 -- a line that ends in a word has nothing to trim
 trimmed_word : (xs : List ℕ) → EndsInWord xs → trimmed xs ≡ xs
 trimmed_word xs ends =
-    let turned : suffix_len is_trailing (ends.front ++ ends.last ∷ []) ≡ 0 = ap (prefix_len is_trailing) (reverse-append ends.front (ends.last ∷ [])) ∙ rw (word_no_trailing ends.last ends.word) refl in
+    let turned : suffix_len is_trailing (ends.front ++ ends.last ∷ []) ≡ 0 =
+    ap (prefix_len is_trailing) (reverse-append ends.front (ends.last ∷ [])) ∙ rw (word_no_trailing ends.last ends.word) refl in
     let none : suffix_len is_trailing xs ≡ 0 = ap (suffix_len is_trailing) ends.is ∙ turned in
     take_all (length xs - suffix_len is_trailing xs) xs (omega (arith, none))
 
@@ -199,7 +204,10 @@ record IsWhole (ws : List (List ℕ)) : Type 0 where
 
 -- a line that ends in a word is more than blanks
 seen_word : (xs : List ℕ) → EndsInWord xs → list_all is_blank xs ≡ false
-seen_word xs ends = rw ends.is (list_all-append is_blank ends.front (ends.last ∷ []) ∙ rw (not-true (is_blank ends.last) (word_no_blank ends.last ends.word)) (and-false (list_all is_blank ends.front)))
+seen_word xs ends =
+    rw ends.is
+    (list_all-append is_blank ends.front (ends.last ∷ [])
+    ∙ rw (not-true (is_blank ends.last) (word_no_blank ends.last ends.word)) (and-false (list_all is_blank ends.front)))
   where
     and-false : (b : Bool) → (b && false) ≡ false
     and-false true = refl
@@ -214,7 +222,11 @@ line_is_whole (word ∷ ws) plain =
     let ends = line_ends word ws parts.0 in
     record {
       no_lf = all_follow is_line_byte (λ b. not (is_lf b)) line_no_lf (with_blanks (word ∷ ws)) bytes;
-      cleaned = ap trimmed (before_none is_hash (with_blanks (word ∷ ws)) (all_follow is_line_byte (λ b. not (is_hash b)) line_no_hash (with_blanks (word ∷ ws)) bytes)) ∙ trimmed_word (with_blanks (word ∷ ws)) ends;
+      cleaned =
+          ap trimmed
+          (before_none is_hash (with_blanks (word ∷ ws))
+          (all_follow is_line_byte (λ b. not (is_hash b)) line_no_hash (with_blanks (word ∷ ws)) bytes))
+          ∙ trimmed_word (with_blanks (word ∷ ws)) ends;
       last = not-true _ parts.1;
       seen = seen_word (with_blanks (word ∷ ws)) ends;
     }

@@ -1,5 +1,39 @@
 -- A plain library is read back from its plain text.
-use Rattle.std.proofs.Common.{◌≡◌, ℕ, zero, suc, ◌+◌, ◌-◌, Bool, true, false, ◌&&◌, not, List, [], ◌∷◌, ◌++◌, length, take, map, get_or, eqb, ltb, Some, None, Ok, refl, sym, ◌∙◌, ap, subst, arith, append_assoc, inl, inr}
+use Rattle.std.proofs.Common.{
+  ◌≡◌,
+  ℕ,
+  zero,
+  suc,
+  ◌+◌,
+  ◌-◌,
+  Bool,
+  true,
+  false,
+  ◌&&◌,
+  not,
+  List,
+  [],
+  ◌∷◌,
+  ◌++◌,
+  length,
+  take,
+  map,
+  get_or,
+  eqb,
+  ltb,
+  Some,
+  None,
+  Ok,
+  refl,
+  sym,
+  ◌∙◌,
+  ap,
+  subst,
+  arith,
+  append_assoc,
+  inl,
+  inr,
+}
 use Rattle.std.specs.Prelude.{codes}
 use Rattle.std.specs.List.{list_all, list_any, flat_map, position_or_len, before_first, after_first, enumerate_from}
 use Rattle.std.proofs.lemmas.List.{length_push, get_or_push, take_at, append-nil, map-append}
@@ -9,12 +43,48 @@ use Rattle.eqc_blif.specs.Netlist.{CoverOf, InstanceOf, ModelOf}
 use Rattle.eqc_blif.specs.Words.{first_of, behind_first, without_blanks, is_equals_sign, pair_of, is_pair, cover_of}
 use Rattle.eqc_blif.specs.Names.{is_named, has_twice}
 use Rattle.eqc_blif.specs.Kind.{kind_of}
-use Rattle.eqc_blif.specs.Reading.{After, start, opened, models, is_column_value, is_output_value, row_output, has_row_shape, differs_from_first, last_cover, row_added, first_code, statement_code, then_statement, line_code, then_line, or_behind, first_fault, after, outcome_by, outcome_of_lines, library_or_none}
+use Rattle.eqc_blif.specs.Reading.{
+  After,
+  start,
+  opened,
+  models,
+  is_column_value,
+  is_output_value,
+  row_output,
+  has_row_shape,
+  differs_from_first,
+  last_cover,
+  row_added,
+  first_code,
+  statement_code,
+  then_statement,
+  line_code,
+  then_line,
+  or_behind,
+  first_fault,
+  after,
+  outcome_by,
+  outcome_of_lines,
+  library_or_none,
+}
 use Rattle.eqc_blif.specs.Steps.{cover_with_row, row_code}
 use Rattle.eqc_blif.specs.Laws.{lists_are_distinct, ends_alike}
-use Rattle.eqc_blif.specs.PlainText.{with_blanks, is_plain_word, is_plain_line, cover_lines, pair_word, instance_line, model_lines, library_lines, is_plain_cover, is_plain_pair, is_plain_model, LibrariesAreReadBack}
-use Rattle.eqc_blif.specs.declared.kind.Kind.{Kind}
-use Rattle.eqc_blif.specs.declared.kind.Kind.TheVariants.{Model, Inputs, Outputs, Names, Subckt, End, Row}
+use Rattle.eqc_blif.specs.PlainText.{
+  with_blanks,
+  is_plain_word,
+  is_plain_line,
+  cover_lines,
+  pair_word,
+  instance_line,
+  model_lines,
+  library_lines,
+  is_plain_cover,
+  is_plain_pair,
+  is_plain_model,
+  LibrariesAreReadBack,
+}
+use Rattle.eqc_blif.specs.declared.reader.kind.Kind.{Kind}
+use Rattle.eqc_blif.specs.declared.reader.kind.Kind.TheVariants.{Model, Inputs, Outputs, Names, Subckt, End, Row}
 use Rattle.eqc_blif.proofs.CleanLaws.{before_cut}
 use Rattle.eqc_blif.proofs.NameLemmas.{twice_there}
 use Rattle.eqc_blif.proofs.RowLemmas.{last_pushed, row_pushed}
@@ -26,14 +96,19 @@ abbrev Reads : After → List (List (List ℕ)) → After → Type 0
 Reads st [] end = st ≡ end
 Reads st (ws ∷ more) end = (line_code st (with_blanks ws) ≡ None) × Reads (then_line (with_blanks ws) st) more end
 
-reads_all : (n : ℕ) (st end : After) (lines : List (List (List ℕ))) → Reads st lines end → (first_fault st (enumerate_from n (map with_blanks lines)) ≡ None) × (after st (enumerate_from n (map with_blanks lines)) ≡ end)
+reads_all : (n : ℕ) (st end : After) (lines : List (List (List ℕ))) → Reads st lines end
+    → (first_fault st (enumerate_from n (map with_blanks lines)) ≡ None) × (after st (enumerate_from n (map with_blanks lines)) ≡ end)
 reads_all n st end [] reads = (refl, reads)
 reads_all n st end (ws ∷ more) reads =
     let behind = reads_all (n + 1) (then_line (with_blanks ws) st) end more reads.1 in
     (ap (λ code. or_behind n code (first_fault (then_line (with_blanks ws) st) (enumerate_from (n + 1) (map with_blanks more)))) reads.0 ∙ behind.0, behind.1)
 
 -- a plain line of some kind
-read_line : (kind : Kind) (st end : After) (ws : List (List ℕ)) (more : List (List (List ℕ))) → is_plain_line ws ≡ true → kind_of (first_of ws) ≡ kind → statement_code (opened kind st) kind (behind_first ws) (without_blanks (with_blanks ws)) ≡ None → Reads (then_statement kind (behind_first ws) (without_blanks (with_blanks ws)) (opened kind st)) more end → Reads st (ws ∷ more) end
+read_line : (kind : Kind) (st end : After) (ws : List (List ℕ)) (more : List (List (List ℕ))) → is_plain_line ws ≡ true
+    → kind_of (first_of ws) ≡ kind
+    → statement_code (opened kind st) kind (behind_first ws) (without_blanks (with_blanks ws)) ≡ None
+    → Reads (then_statement kind (behind_first ws) (without_blanks (with_blanks ws)) (opened kind st)) more end
+    → Reads st (ws ∷ more) end
 read_line kind st end ws more plain is none rest =
     let each = plain_words ws plain in
     let back = words_back ws each in
@@ -99,11 +174,18 @@ row_kind (suc n) (byte ∷ row) shape =
     let columns = and_parts (list_all is_column_value (byte ∷ take n row)) (is_output_value (get_or row n 0)) values.1 in
     rw (column_no_dot byte (and_parts (is_column_value byte) (list_all is_column_value (take n row)) columns.0).0) refl
 
-row_none : (covers : List CoverOf) (cover : CoverOf) (row bytes : List ℕ) → last_cover covers ≡ cover → bytes ≡ row → has_row_shape (length cover.columns) row ≡ true → differs_from_first cover.rows row ≡ false → row_code (last_cover covers) bytes ≡ None
+row_none : (covers : List CoverOf) (cover : CoverOf) (row bytes : List ℕ) → last_cover covers ≡ cover → bytes ≡ row
+    → has_row_shape (length cover.columns) row ≡ true → differs_from_first cover.rows row ≡ false
+    → row_code (last_cover covers) bytes ≡ None
 row_none covers cover row bytes last is shape same = ap (λ c. row_code c bytes) last ∙ (ap (row_code cover) is ∙ rw (shape, same) refl)
 
 -- the rows of a cover, which end in the same byte
-read_rows : (closed : List ModelOf) (m : ModelOf) (covers : List CoverOf) (cover : CoverOf) (v : ℕ) (rows : List (List ℕ)) (more : List (List (List ℕ))) (end : After) → list_all (has_row_shape (length cover.columns)) rows ≡ true → list_all (λ r. eqb (row_output r) v) cover.rows ≡ true → list_all (λ r. eqb (row_output r) v) rows ≡ true → list_all is_plain_line (map (λ row. row ∷ []) rows) ≡ true → Reads (in_model closed (with_covers m (covers ++ with_rows cover (cover.rows ++ rows) ∷ [])) true) more end → Reads (in_model closed (with_covers m (covers ++ cover ∷ [])) true) (map (λ row. row ∷ []) rows ++ more) end
+read_rows : (closed : List ModelOf) (m : ModelOf) (covers : List CoverOf) (cover : CoverOf) (v : ℕ) (rows : List (List ℕ))
+    (more : List (List (List ℕ))) (end : After) → list_all (has_row_shape (length cover.columns)) rows ≡ true
+    → list_all (λ r. eqb (row_output r) v) cover.rows ≡ true → list_all (λ r. eqb (row_output r) v) rows ≡ true
+    → list_all is_plain_line (map (λ row. row ∷ []) rows) ≡ true
+    → Reads (in_model closed (with_covers m (covers ++ with_rows cover (cover.rows ++ rows) ∷ [])) true) more end
+    → Reads (in_model closed (with_covers m (covers ++ cover ∷ [])) true) (map (λ row. row ∷ []) rows ++ more) end
 read_rows closed m covers cover v [] more end shapes before ends plain rest =
     subst (λ rows. Reads (in_model closed (with_covers m (covers ++ with_rows cover rows ∷ [])) true) more end) (append-nil cover.rows) rest
 read_rows closed m covers cover v (row ∷ rows) more end shapes before ends plain rest =
@@ -116,7 +198,8 @@ read_rows closed m covers cover v (row ∷ rows) more end shapes before ends pla
     let more_rows : list_all (λ r. eqb (row_output r) v) (cover.rows ++ row ∷ []) ≡ true = list_all-append (λ r. eqb (row_output r) v) cover.rows (row ∷ []) ∙ rw (before, last.0) refl in
     let rest_is = subst (λ rows. Reads (in_model closed (with_covers m (covers ++ with_rows cover rows ∷ [])) true) more end) (sym (append_assoc cover.rows (row ∷ []) rows)) rest in
     let behind = read_rows closed m covers (cover_with_row row cover) v rows more end shape.1 more_rows last.1 lines.1 rest_is in
-    let added : covers ++ cover_with_row row cover ∷ [] ≡ row_added (without_blanks row) (covers ++ cover ∷ []) = sym (ap (λ bytes. row_added bytes (covers ++ cover ∷ [])) clean ∙ row_pushed covers cover row) in
+    let added : covers ++ cover_with_row row cover ∷ [] ≡ row_added (without_blanks row) (covers ++ cover ∷ []) =
+    sym (ap (λ bytes. row_added bytes (covers ++ cover ∷ [])) clean ∙ row_pushed covers cover row) in
     read_line Row (in_model closed (with_covers m (covers ++ cover ∷ [])) true) end (row ∷ []) (map (λ row. row ∷ []) rows ++ more) lines.0 (row_kind (length cover.columns) row shape.0) none
     (subst (λ covers. Reads (in_model closed (with_covers m covers) true) (map (λ row. row ∷ []) rows ++ more) end) added behind)
 
@@ -126,25 +209,41 @@ cover_back columns output =
     let last : length (columns ++ output ∷ []) - 1 ≡ length columns = omega (arith, length_push columns output) in
     rw (last, take_at columns (output ∷ []) (length columns) refl, get_or_push columns output [] (length columns) refl) refl
 
-read_cover : (closed : List ModelOf) (m : ModelOf) (covers : List CoverOf) (in_cover : Bool) (cover : CoverOf) (more : List (List (List ℕ))) (end : After) → is_plain_cover cover ≡ true → list_all is_plain_line (cover_lines cover) ≡ true → Reads (in_model closed (with_covers m (covers ++ cover ∷ [])) true) more end → Reads (in_model closed (with_covers m covers) in_cover) (cover_lines cover ++ more) end
+read_cover : (closed : List ModelOf) (m : ModelOf) (covers : List CoverOf) (in_cover : Bool) (cover : CoverOf) (more : List (List (List ℕ)))
+    (end : After) → is_plain_cover cover ≡ true → list_all is_plain_line (cover_lines cover) ≡ true
+    → Reads (in_model closed (with_covers m (covers ++ cover ∷ [])) true) more end
+    → Reads (in_model closed (with_covers m covers) in_cover) (cover_lines cover ++ more) end
 read_cover closed m covers in_cover cover more end plain lines rest =
     let ws = cover.columns ++ cover.output ∷ [] in
     let fits = and_parts (list_all (has_row_shape (length cover.columns)) cover.rows) (ends_alike cover) plain in
     let parts = and_parts (is_plain_line (codes ".names" ∷ ws)) (list_all is_plain_line (map (λ row. row ∷ []) cover.rows)) lines in
     let some : eqb (length ws) 0 ≡ false = ne_eqb (length ws) 0 (λ e. absurd (omega (arith, e, length_push cover.columns cover.output))) in
-    let behind = elim (one_holds (list_all (λ r. eqb (row_output r) 48) cover.rows) (list_all (λ r. eqb (row_output r) 49) cover.rows) fits.1) as (λ _. Reads (in_model closed (with_covers m (covers ++ with_rows cover [] ∷ [])) true) (map (λ row. row ∷ []) cover.rows ++ more) end) [
+    let behind =
+    elim (one_holds (list_all (λ r. eqb (row_output r) 48) cover.rows) (list_all (λ r. eqb (row_output r) 49) cover.rows) fits.1) as
+    (λ _.
+    Reads (in_model closed (with_covers m (covers ++ with_rows cover [] ∷ [])) true) (map (λ row. row ∷ []) cover.rows ++ more)
+    end) [
       | inl low ↦ read_rows closed m covers (with_rows cover []) 48 cover.rows more end fits.0 refl low parts.1 rest
       | inr high ↦ read_rows closed m covers (with_rows cover []) 49 cover.rows more end fits.0 refl high parts.1 rest
     ] in
     read_line Names (in_model closed (with_covers m covers) in_cover) end (codes ".names" ∷ ws) (map (λ row. row ∷ []) cover.rows ++ more) parts.0 refl (no_condition 10 (eqb (length ws) 0) some)
     (subst (λ c. Reads (in_model closed (with_covers m (covers ++ c ∷ [])) true) (map (λ row. row ∷ []) cover.rows ++ more) end) (sym (cover_back cover.columns cover.output)) behind)
 
-read_covers : (closed : List ModelOf) (m : ModelOf) (covers before : List CoverOf) (in_cover : Bool) (more : List (List (List ℕ))) (end : After) → list_all is_plain_cover covers ≡ true → list_all is_plain_line (flat_map cover_lines covers) ≡ true → ((b : Bool) → Reads (in_model closed (with_covers m (before ++ covers)) b) more end) → Reads (in_model closed (with_covers m before) in_cover) (flat_map cover_lines covers ++ more) end
+read_covers : (closed : List ModelOf) (m : ModelOf) (covers before : List CoverOf) (in_cover : Bool) (more : List (List (List ℕ)))
+    (end : After) → list_all is_plain_cover covers ≡ true → list_all is_plain_line (flat_map cover_lines covers) ≡ true
+    → ((b : Bool) → Reads (in_model closed (with_covers m (before ++ covers)) b) more end)
+    → Reads (in_model closed (with_covers m before) in_cover) (flat_map cover_lines covers ++ more) end
 read_covers closed m [] before in_cover more end plain lines rest = subst (λ covers. Reads (in_model closed (with_covers m covers) in_cover) more end) (append-nil before) (rest in_cover)
 read_covers closed m (cover ∷ covers) before in_cover more end plain lines rest =
     let each = and_parts (is_plain_cover cover) (list_all is_plain_cover covers) plain in
-    let parts = and_parts (list_all is_plain_line (cover_lines cover)) (list_all is_plain_line (flat_map cover_lines covers)) (sym (list_all-append is_plain_line (cover_lines cover) (flat_map cover_lines covers)) ∙ lines) in
-    let behind = read_covers closed m covers (before ++ cover ∷ []) true more end each.1 parts.1 (λ b. subst (λ all. Reads (in_model closed (with_covers m all) b) more end) (sym (append_assoc before (cover ∷ []) covers)) (rest b)) in
+    let parts =
+    and_parts (list_all is_plain_line (cover_lines cover)) (list_all is_plain_line (flat_map cover_lines covers))
+    (sym (list_all-append is_plain_line (cover_lines cover) (flat_map cover_lines covers)) ∙ lines) in
+    let behind =
+    read_covers closed m covers (before ++ cover ∷ []) true more end each.1 parts.1
+    (λ b.
+    subst (λ all. Reads (in_model closed (with_covers m all) b) more end) (sym (append_assoc before (cover ∷ []) covers))
+    (rest b)) in
     subst (λ ls. Reads (in_model closed (with_covers m before) in_cover) ls end) (sym (append_assoc (cover_lines cover) (flat_map cover_lines covers) more))
     (read_cover closed m before in_cover cover (flat_map cover_lines covers ++ more) end each.0 parts.0 behind)
 
@@ -182,7 +281,11 @@ pairs_back (pair ∷ pairs) plain =
     let here : is_pair (pair_word pair) ≡ true = ap (λ p. ltb 0 (length p.0) && ltb 0 (length p.1)) back ∙ rw (some.0, both.0) refl in
     (rw (here, more.0) refl, ap (λ p. p ∷ map pair_of (map pair_word pairs)) back ∙ ap (λ rest. pair ∷ rest) more.1)
 
-read_instances : (closed : List ModelOf) (m : ModelOf) (instances before : List InstanceOf) (in_cover : Bool) (more : List (List (List ℕ))) (end : After) → list_all (λ i. list_all is_plain_pair i.pairs) instances ≡ true → list_all is_plain_line (map instance_line instances) ≡ true → ((b : Bool) → Reads (in_model closed (with_instances m (before ++ instances)) b) more end) → Reads (in_model closed (with_instances m before) in_cover) (map instance_line instances ++ more) end
+read_instances : (closed : List ModelOf) (m : ModelOf) (instances before : List InstanceOf) (in_cover : Bool) (more : List (List (List ℕ)))
+    (end : After) → list_all (λ i. list_all is_plain_pair i.pairs) instances ≡ true
+    → list_all is_plain_line (map instance_line instances) ≡ true
+    → ((b : Bool) → Reads (in_model closed (with_instances m (before ++ instances)) b) more end)
+    → Reads (in_model closed (with_instances m before) in_cover) (map instance_line instances ++ more) end
 read_instances closed m [] before in_cover more end plain lines rest = subst (λ instances. Reads (in_model closed (with_instances m instances) in_cover) more end) (append-nil before) (rest in_cover)
 read_instances closed m (i ∷ instances) before in_cover more end plain lines rest =
     let each = and_parts (list_all is_plain_pair i.pairs) (list_all (λ i. list_all is_plain_pair i.pairs) instances) plain in
@@ -191,11 +294,19 @@ read_instances closed m (i ∷ instances) before in_cover more end plain lines r
     let ws = i.model ∷ map pair_word i.pairs in
     let good : not (list_all is_pair (map pair_word i.pairs)) ≡ false = rw pairs.0 refl in
     let some : eqb (length ws) 0 ≡ false = ne_eqb (length ws) 0 (omega arith) in
-    let behind = read_instances closed m instances (before ++ i ∷ []) false more end each.1 parts.1 (λ b. subst (λ all. Reads (in_model closed (with_instances m all) b) more end) (sym (append_assoc before (i ∷ []) instances)) (rest b)) in
-    read_line Subckt (in_model closed (with_instances m before) in_cover) end (instance_line i) (map instance_line instances ++ more) parts.0 refl (no_conditions 9 10 (not (list_all is_pair (map pair_word i.pairs))) (eqb (length ws) 0) good some)
+    let behind =
+    read_instances closed m instances (before ++ i ∷ []) false more end each.1 parts.1
+    (λ b.
+    subst (λ all. Reads (in_model closed (with_instances m all) b) more end) (sym (append_assoc before (i ∷ []) instances))
+    (rest b)) in
+    read_line Subckt (in_model closed (with_instances m before) in_cover) end (instance_line i) (map instance_line instances ++ more)
+    parts.0 refl (no_conditions 9 10 (not (list_all is_pair (map pair_word i.pairs))) (eqb (length ws) 0) good some)
     (subst (λ pairs. Reads (in_model closed (with_instances m (before ++ record { model = i.model; pairs = pairs } ∷ [])) false) (map instance_line instances ++ more) end) (sym pairs.1) behind)
 
-read_model : (closed : List ModelOf) (m : ModelOf) (more : List (List (List ℕ))) (end : After) → is_named (map (λ m. m.name) closed) m.name ≡ false → has_twice m.inputs ≡ false → has_twice m.outputs ≡ false → is_plain_model m ≡ true → list_all is_plain_line (model_lines m) ≡ true → Reads (between (closed ++ m ∷ [])) more end → Reads (between closed) (model_lines m ++ more) end
+read_model : (closed : List ModelOf) (m : ModelOf) (more : List (List (List ℕ))) (end : After)
+    → is_named (map (λ m. m.name) closed) m.name ≡ false → has_twice m.inputs ≡ false → has_twice m.outputs ≡ false
+    → is_plain_model m ≡ true → list_all is_plain_line (model_lines m) ≡ true → Reads (between (closed ++ m ∷ [])) more end
+    → Reads (between closed) (model_lines m ++ more) end
 read_model closed m more end new inputs outputs plain lines rest =
     let covers = flat_map cover_lines m.covers in
     let instances = map instance_line m.instances in
@@ -217,7 +328,9 @@ read_model closed m more end new inputs outputs plain lines rest =
     read_instances closed (with_covers bare m.covers) m.instances [] b (ending ∷ more) end each.1 five.0 (λ b.
     read_line End (in_model closed m b) end ending more six.0 refl refl rest)) in
     let in_body = subst (λ ls. Reads (in_model closed bare false) ls end) (sym together) inner in
-    read_line Model (between closed) end (codes ".model" ∷ m.name ∷ []) ((codes ".inputs" ∷ m.inputs) ∷ (codes ".outputs" ∷ m.outputs) ∷ (body ++ more)) one.0 refl (no_condition 11 (is_named (map (λ m. m.name) closed) m.name) new)
+    read_line Model (between closed) end (codes ".model" ∷ m.name ∷ [])
+    ((codes ".inputs" ∷ m.inputs) ∷ (codes ".outputs" ∷ m.outputs) ∷ (body ++ more)) one.0 refl
+    (no_condition 11 (is_named (map (λ m. m.name) closed) m.name) new)
     (read_line Inputs (in_model closed named false) end (codes ".inputs" ∷ m.inputs) ((codes ".outputs" ∷ m.outputs) ∷ (body ++ more)) two.0 refl (no_condition 12 (has_twice m.inputs) inputs)
     (read_line Outputs (in_model closed fed false) end (codes ".outputs" ∷ m.outputs) (body ++ more) three.0 refl (no_condition 12 (has_twice m.outputs) outputs) in_body))
 
@@ -228,7 +341,9 @@ new_name before m behind once = elim (cases_Bool (is_named (map (λ m. m.name) b
   | inr other ↦ other
 ]
 
-read_models : (ms before : List ModelOf) → has_twice (map (λ m. m.name) (before ++ ms)) ≡ false → lists_are_distinct ms ≡ true → list_all is_plain_model ms ≡ true → list_all is_plain_line (library_lines ms) ≡ true → Reads (between before) (library_lines ms) (between (before ++ ms))
+read_models : (ms before : List ModelOf) → has_twice (map (λ m. m.name) (before ++ ms)) ≡ false → lists_are_distinct ms ≡ true
+    → list_all is_plain_model ms ≡ true → list_all is_plain_line (library_lines ms) ≡ true
+    → Reads (between before) (library_lines ms) (between (before ++ ms))
 read_models [] before once lists plain lines = ap between (sym (append-nil before))
 read_models (m ∷ ms) before once lists plain lines =
     let distinct = and_parts (not (has_twice m.inputs) && not (has_twice m.outputs)) (lists_are_distinct ms) lists in

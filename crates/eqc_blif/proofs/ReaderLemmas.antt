@@ -11,7 +11,7 @@ use Rattle.eqc_blif.specs.Names.{is_named, has_twice}
 use Rattle.eqc_blif.specs.Words.{first_of}
 use Rattle.eqc_blif.specs.Reading.{After, OpenModel, begun, models}
 use Rattle.eqc_blif.specs.Steps.{Takes, DeclarationsOf, model_of, is_new_name}
-use Rattle.eqc_blif.specs.declared.kind.Kind.TheVariants.{Model}
+use Rattle.eqc_blif.specs.declared.reader.kind.Kind.TheVariants.{Model}
 
 abbrev pub Entries : Type 0
 Entries = List (List ℕ × DeclarationsOf)
@@ -28,7 +28,9 @@ found_named (e ∷ es) name = elim (cases_Bool (bytes_eq name e.0)) [
 ]
 
 -- a name that is no model's goes last
-inserted_last : (entries : Entries) (name : List ℕ) (d : DeclarationsOf) → is_named (map (λ m. m.name) (models_in entries)) name ≡ false → insert_entry bytes_eq entries name d ≡ entries ++ (name, d) ∷ []
+inserted_last : (entries : Entries) (name : List ℕ) (d : DeclarationsOf)
+    → is_named (map (λ m. m.name) (models_in entries)) name ≡ false
+    → insert_entry bytes_eq entries name d ≡ entries ++ (name, d) ∷ []
 inserted_last [] name d new = refl
 inserted_last (e ∷ es) name d new =
     let parts = or_parts (bytes_eq name e.0) (is_named (map (λ m. m.name) (models_in es)) name) new in
@@ -50,34 +52,47 @@ found_at entries name =
     ∙ ap (place_within (position_or_len (λ m. bytes_eq name m.name) (models_in entries))) as_long
 
 -- a new name's entry is a model behind the others
-pub model_added : (entries new : Entries) (all : List ModelOf) (name : List ℕ) (d : DeclarationsOf) → models_in entries ≡ all → is_named (map (λ m. m.name) all) name ≡ false → new ≡ insert_entry bytes_eq entries name d → models_in new ≡ all ++ model_of name d ∷ []
+pub model_added : (entries new : Entries) (all : List ModelOf) (name : List ℕ) (d : DeclarationsOf) → models_in entries ≡ all
+    → is_named (map (λ m. m.name) all) name ≡ false → new ≡ insert_entry bytes_eq entries name d
+    → models_in new ≡ all ++ model_of name d ∷ []
 model_added entries new all name d are fresh inserted =
     let absent : is_named (map (λ m. m.name) (models_in entries)) name ≡ false = ap (λ ms. is_named (map (λ m. m.name) ms) name) are ∙ fresh in
     ap models_in (inserted ∙ inserted_last entries name d absent) ∙ (map_push (λ e. model_of e.0 e.1) entries (name, d) ∙ ap (λ ms. ms ++ model_of name d ∷ []) are)
 
 -- the open model has another name than the closed ones
-pub open_is_new : (closed : List ModelOf) (before : Option OpenModel) (m : OpenModel) (name : List ℕ) → before ≡ Some m → is_new_name closed before ≡ true → name ≡ m.model.name → is_named (map (λ c. c.name) closed) name ≡ false
+pub open_is_new : (closed : List ModelOf) (before : Option OpenModel) (m : OpenModel) (name : List ℕ) → before ≡ Some m
+    → is_new_name closed before ≡ true → name ≡ m.model.name → is_named (map (λ c. c.name) closed) name ≡ false
 open_is_new closed before m name is unused named =
     let fresh : not (is_named (map (λ c. c.name) closed) m.model.name) ≡ true = rw is at unused in
     ap (is_named (map (λ c. c.name) closed)) named ∙ not-true _ fresh
 
 -- the open model is put behind the closed ones
-pub model_closed : (closed new : List ModelOf) (before : Option OpenModel) (old : After) (m last : OpenModel) (name : List ℕ) (d : DeclarationsOf) → ◌≡◌ {A = After} (record { closed = closed; open_model = before }) old → before ≡ Some m → ◌≡◌ {A = OpenModel} last (record { model = m.model; in_cover = false }) → (last.in_cover ≡ false → model_of name d ≡ last.model) → new ≡ closed ++ model_of name d ∷ [] → ◌≡◌ {A = After} (record { closed = new; open_model = None }) (record { closed = models old; open_model = None })
+pub model_closed : (closed new : List ModelOf) (before : Option OpenModel) (old : After) (m last : OpenModel) (name : List ℕ)
+    (d : DeclarationsOf) → ◌≡◌ {A = After} (record { closed = closed; open_model = before }) old → before ≡ Some m
+    → ◌≡◌ {A = OpenModel} last (record { model = m.model; in_cover = false })
+    → (last.in_cover ≡ false → model_of name d ≡ last.model) → new ≡ closed ++ model_of name d ∷ []
+    → ◌≡◌ {A = After} (record { closed = new; open_model = None }) (record { closed = models old; open_model = None })
 model_closed closed new before old m last name d view is ended made added =
     let model_is : model_of name d ≡ m.model = made (ap (λ c. c.in_cover) ended) ∙ ap (λ c. c.model) ended in
     let all : models old ≡ closed ++ m.model ∷ [] = ap models (sym view) ∙ rw is refl in
     ap (λ ms. record { closed = ms; open_model = None }) (added ∙ (ap (λ model. closed ++ model ∷ []) model_is ∙ sym all))
 
 -- whether the first of some words names a model
-asked : (closed : List ModelOf) (old : After) (ws : List (List ℕ)) (name : List ℕ) (there : Bool) → closed ≡ models old → name ≡ first_of ws → there ≡ is_named (map (λ m. m.name) closed) name → is_named (map (λ m. m.name) (models old)) (first_of ws) ≡ there
+asked : (closed : List ModelOf) (old : After) (ws : List (List ℕ)) (name : List ℕ) (there : Bool) → closed ≡ models old
+    → name ≡ first_of ws → there ≡ is_named (map (λ m. m.name) closed) name
+    → is_named (map (λ m. m.name) (models old)) (first_of ws) ≡ there
 asked closed old ws name there are first answer = rw (← are, ← first) (sym answer)
 
 -- the name was used before
-pub model_again : (closed : List ModelOf) (old new : After) (ws : List (List ℕ)) (name : List ℕ) (there : Bool) → closed ≡ models old → name ≡ first_of ws → there ≡ is_named (map (λ m. m.name) closed) name → there ≡ true → Takes old Model ws [] (Some 11) new
+pub model_again : (closed : List ModelOf) (old new : After) (ws : List (List ℕ)) (name : List ℕ) (there : Bool)
+    → closed ≡ models old → name ≡ first_of ws → there ≡ is_named (map (λ m. m.name) closed) name → there ≡ true
+    → Takes old Model ws [] (Some 11) new
 model_again closed old new ws name there are first answer used = (rw (asked closed old ws name there are first answer ∙ used) refl, λ none. cc)
 
 -- the name is new
-pub model_opened : (closed : List ModelOf) (old new : After) (ws : List (List ℕ)) (name : List ℕ) (there : Bool) → closed ≡ models old → name ≡ first_of ws → there ≡ is_named (map (λ m. m.name) closed) name → there ≡ false → new ≡ record { closed = closed; open_model = Some (begun name) } → Takes old Model ws [] None new
+pub model_opened : (closed : List ModelOf) (old new : After) (ws : List (List ℕ)) (name : List ℕ) (there : Bool)
+    → closed ≡ models old → name ≡ first_of ws → there ≡ is_named (map (λ m. m.name) closed) name → there ≡ false
+    → new ≡ record { closed = closed; open_model = Some (begun name) } → Takes old Model ws [] None new
 model_opened closed old new ws name there are first answer fresh opened = (rw (asked closed old ws name there are first answer ∙ fresh) refl, λ _. opened ∙ rw (are, first) refl)
 
 -- keys of which none equals a later one have none twice

@@ -11,7 +11,8 @@ use Rattle.eqc_blif.specs.Reading.{has_row_shape, is_column_value, is_output_val
 use Rattle.eqc_blif.specs.Steps.{TakesRow, MayChange, code_behind, row_code, row_code_in, with_open_cover, cover_with_row}
 
 -- the shape of a row that is cut before its last byte
-pub row_shape_is : (n : ℕ) (row values : List ℕ) (output : ℕ) → row ≡ values ++ output ∷ [] → has_row_shape n row ≡ (eqb (length values) n && (list_all is_column_value values && is_output_value output))
+pub row_shape_is : (n : ℕ) (row values : List ℕ) (output : ℕ) → row ≡ values ++ output ∷ []
+    → has_row_shape n row ≡ (eqb (length values) n && (list_all is_column_value values && is_output_value output))
 row_shape_is n row values output is = elim (cases_eq (length values) n) [
   | inl same ↦
       let long : length (values ++ output ∷ []) ≡ n + 1 = omega (arith, length_push values output) in
@@ -40,7 +41,10 @@ pub row_matches-past : (i : ℕ) (row : List ℕ) (vs : List Bool) → length ro
 row_matches-past i row vs past = rw (drop_all i row past) (sym (row_over vs))
 
 -- a row of the cover that is being read is a row of the model's last cover
-pub row_taken : (m : ModelOf) (cover new : CoverOf) (row : List ℕ) (code : Option ℕ) → TakesRow cover row code new → MayChange (row_code_in row (record { model = with_open_cover (Some cover) m; in_cover = true })) (with_new_row row (record { model = with_open_cover (Some cover) m; in_cover = true })) code (record { model = with_open_cover (Some new) m; in_cover = true })
+pub row_taken : (m : ModelOf) (cover new : CoverOf) (row : List ℕ) (code : Option ℕ) → TakesRow cover row code new
+    → MayChange (row_code_in row (record { model = with_open_cover (Some cover) m; in_cover = true }))
+    (with_new_row row (record { model = with_open_cover (Some cover) m; in_cover = true })) code
+    (record { model = with_open_cover (Some new) m; in_cover = true })
 row_taken m cover new row code taken = (
   taken.0 ∙ ap (λ c. row_code c row) (sym (last_pushed m.covers cover)),
   λ none. ap (λ c. record { model = with_open_cover (Some c) m; in_cover = true }) (taken.1 none)
@@ -57,7 +61,8 @@ row_fits columns rows row none = elim (cases_Bool (has_row_shape columns row)) [
 -- a row that was put behind the bytes of the others
 pub row_put_behind : (columns : List (List ℕ)) (output bytes new row : List ℕ) (code : Option ℕ) → AreWhole (length columns + 1) bytes → new ≡ bytes ++ row
     → code ≡ code_behind (length columns) (rows_in (length columns + 1) bytes) row
-    → TakesRow (record { columns = columns; output = output; rows = rows_in (length columns + 1) bytes }) row code (record { columns = columns; output = output; rows = rows_in (length columns + 1) new })
+    → TakesRow (record { columns = columns; output = output; rows = rows_in (length columns + 1) bytes }) row code
+    (record { columns = columns; output = output; rows = rows_in (length columns + 1) new })
 row_put_behind columns output bytes new row code are put is = (
   is,
   λ none. ap (λ rows. record { columns = columns; output = output; rows = rows })
@@ -69,7 +74,8 @@ pub row_put_whole : (columns : ℕ) (rows : List (List ℕ)) (bytes new row : Li
 row_put_whole columns rows bytes new row are put none = subst (λ all. AreWhole (columns + 1) all) (sym put) (pushed_are_whole (columns + 1) bytes row are (row_fits columns rows row none))
 
 -- the code of a row that was cut off from the bytes before it
-pub cut_code : (n columns end : ℕ) (bytes row all before behind : List ℕ) (rows : List (List ℕ)) → n ≡ columns → end ≡ length bytes → all ≡ bytes ++ row → before ≡ take end all → behind ≡ drop end all → rows ≡ rows_in (n + 1) before
+pub cut_code : (n columns end : ℕ) (bytes row all before behind : List ℕ) (rows : List (List ℕ)) → n ≡ columns
+    → end ≡ length bytes → all ≡ bytes ++ row → before ≡ take end all → behind ≡ drop end all → rows ≡ rows_in (n + 1) before
     → code_behind n rows behind ≡ code_behind columns (rows_in (columns + 1) bytes) row
 cut_code n columns end bytes row all before behind rows same long put front back are =
     let before_is : before ≡ bytes = front ∙ (ap (take end) put ∙ take_at bytes row end (sym long)) in

@@ -15,7 +15,8 @@ pub found_first : (test : ℕ → Bool) (bytes : List ℕ) (i : ℕ) → IsFirst
 found_first test bytes i is = position_or_len_is test bytes i 0 (omega (arith, is.0.high)) (λ k h. false_from_ne_true _ (is.0.before k (omega arith) h)) (λ _. is.1)
 
 -- where the first bytes fail the test, the search goes on behind them
-pub found_behind : (test : ℕ → Bool) (n : ℕ) (bytes : List ℕ) → n ≤ length bytes → ((k : ℕ) → k < n → test (get_or bytes k 0) ≡ false) → position_or_len test bytes ≡ n + position_or_len test (drop n bytes)
+pub found_behind : (test : ℕ → Bool) (n : ℕ) (bytes : List ℕ) → n ≤ length bytes
+    → ((k : ℕ) → k < n → test (get_or bytes k 0) ≡ false) → position_or_len test bytes ≡ n + position_or_len test (drop n bytes)
 found_behind test zero bytes within none = omega arith
 found_behind test (suc n) [] within none = absurd (omega arith)
 found_behind test (suc n) (byte ∷ bytes) within none =
@@ -28,5 +29,7 @@ pub found_near : (test : ℕ → Bool) (i : ℕ) (bytes : List ℕ) → i < leng
 found_near test i bytes within none here = sym (position_or_len_is test bytes i 0 (omega arith) none (λ _. here))
 
 -- where the search behind the first bytes ended
-pub found_far : (test : ℕ → Bool) (n end : ℕ) (bytes : List ℕ) → n ≤ length bytes → ((k : ℕ) → k < n → test (get_or bytes k 0) ≡ false) → end ≡ position_or_len test (take (length bytes - n) (drop n bytes)) → n + end ≡ position_or_len test bytes
+pub found_far : (test : ℕ → Bool) (n end : ℕ) (bytes : List ℕ) → n ≤ length bytes
+    → ((k : ℕ) → k < n → test (get_or bytes k 0) ≡ false) → end ≡ position_or_len test (take (length bytes - n) (drop n bytes))
+    → n + end ≡ position_or_len test bytes
 found_far test n end bytes within none is = rw (is, take_rest bytes n) (sym (found_behind test n bytes within none))

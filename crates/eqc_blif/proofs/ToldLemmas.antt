@@ -5,9 +5,28 @@ use Rattle.std.specs.List.{list_all}
 use Rattle.std.proofs.lemmas.Bool.{not-true, not-false, and_parts}
 use Rattle.eqc_blif.specs.Words.{first_of, behind_first, is_pair}
 use Rattle.eqc_blif.specs.Names.{is_named}
-use Rattle.eqc_blif.specs.Reading.{After, models, current, is_in_cover, stands_in_model, last_cover, has_row_shape, differs_from_first, is_unknown, is_outside, is_row_outside, is_misshapen, is_mixed, has_bad_pair, lacks_words, is_model_again, is_name_again, statement_code}
-use Rattle.eqc_blif.specs.declared.kind.Kind.{Kind}
-use Rattle.eqc_blif.specs.declared.kind.Kind.TheVariants.{Model, Inputs, Outputs, Names, Subckt, End, Latch, Skipped, Unknown, Row}
+use Rattle.eqc_blif.specs.Reading.{
+  After,
+  models,
+  current,
+  is_in_cover,
+  stands_in_model,
+  last_cover,
+  has_row_shape,
+  differs_from_first,
+  is_unknown,
+  is_outside,
+  is_row_outside,
+  is_misshapen,
+  is_mixed,
+  has_bad_pair,
+  lacks_words,
+  is_model_again,
+  is_name_again,
+  statement_code,
+}
+use Rattle.eqc_blif.specs.declared.reader.kind.Kind.{Kind}
+use Rattle.eqc_blif.specs.declared.reader.kind.Kind.TheVariants.{Model, Inputs, Outputs, Names, Subckt, End, Latch, Skipped, Unknown, Row}
 use Rattle.eqc_blif.proofs.CodeLemmas.{condition_holds, alone}
 
 -- only an unknown command is one
@@ -116,7 +135,8 @@ told_outside st kind ws row is =
     (at, not-true (is_in_cover st.open_model) (subst (λ k. is_row_outside st k ≡ true) at holds))
 
 -- 7
-pub told_misshapen : (st : After) (kind : Kind) (ws : List (List ℕ)) (row : List ℕ) → statement_code st kind ws row ≡ Some 7 → (is_in_cover st.open_model ≡ true) × (kind ≡ Row) × (has_row_shape (length (last_cover (current st).covers).columns) row ≡ false)
+pub told_misshapen : (st : After) (kind : Kind) (ws : List (List ℕ)) (row : List ℕ) → statement_code st kind ws row ≡ Some 7
+    → (is_in_cover st.open_model ≡ true) × (kind ≡ Row) × (has_row_shape (length (last_cover (current st).covers).columns) row ≡ false)
 told_misshapen st kind ws row is =
     let holds = alone (is_misshapen st kind row) (condition_holds st kind ws row 7 is) in
     let at = at_misshapen st kind row holds in (
@@ -126,7 +146,8 @@ told_misshapen st kind ws row is =
     )
 
 -- 8
-pub told_mixed : (st : After) (kind : Kind) (ws : List (List ℕ)) (row : List ℕ) → statement_code st kind ws row ≡ Some 8 → (is_in_cover st.open_model ≡ true) × (kind ≡ Row) × (differs_from_first (last_cover (current st).covers).rows row ≡ true)
+pub told_mixed : (st : After) (kind : Kind) (ws : List (List ℕ)) (row : List ℕ) → statement_code st kind ws row ≡ Some 8
+    → (is_in_cover st.open_model ≡ true) × (kind ≡ Row) × (differs_from_first (last_cover (current st).covers).rows row ≡ true)
 told_mixed st kind ws row is =
     let holds = alone (is_mixed st kind row) (condition_holds st kind ws row 8 is) in
     let at = at_mixed st kind row holds in (
@@ -147,7 +168,8 @@ pub told_word : (st : After) (kind : Kind) (ws : List (List ℕ)) (row : List �
 told_word st kind ws row is = alone (lacks_words kind ws) (condition_holds st kind ws row 10 is)
 
 -- 11
-pub told_model : (st : After) (kind : Kind) (ws : List (List ℕ)) (row : List ℕ) → statement_code st kind ws row ≡ Some 11 → (kind ≡ Model) × (is_named (map (λ m. m.name) (models st)) (first_of ws) ≡ true)
+pub told_model : (st : After) (kind : Kind) (ws : List (List ℕ)) (row : List ℕ) → statement_code st kind ws row ≡ Some 11
+    → (kind ≡ Model) × (is_named (map (λ m. m.name) (models st)) (first_of ws) ≡ true)
 told_model st kind ws row is =
     let holds = alone (is_model_again st kind ws) (condition_holds st kind ws row 11 is) in
     let at = at_model st kind ws holds in
@@ -187,7 +209,9 @@ pub record IsNoOther (code : ℕ) : Type 0 where
   pub model : code ≢ 11
 
 -- 12, where it is no other code
-pub told_twice : (st : After) (kind : Kind) (ws : List (List ℕ)) (row : List ℕ) (code : ℕ) → statement_code st kind ws row ≡ Some code → IsNoOther code → (is_some st.open_model ≡ true) × (is_name_again st kind ws ≡ true) × (code ≡ 12)
+pub told_twice : (st : After) (kind : Kind) (ws : List (List ℕ)) (row : List ℕ) (code : ℕ)
+    → statement_code st kind ws row ≡ Some code → IsNoOther code
+    → (is_some st.open_model ≡ true) × (is_name_again st kind ws ≡ true) × (code ≡ 12)
 told_twice st kind ws row code is none =
     let from_4 = (passed 3 (is_unknown kind) _ code is none.unknown).1 in
     let from_5 = (passed 4 _ _ code from_4 none.latch).1 in

@@ -8,7 +8,7 @@ use Rattle.eqc_blif.specs.Words.{first_of}
 use Rattle.eqc_blif.specs.Names.{is_named, has_twice}
 use Rattle.eqc_blif.specs.Reading.{begun, models_of}
 use Rattle.eqc_blif.specs.Laws.{lists_are_distinct, LibrariesHaveNoNameTwice}
-use Rattle.eqc_blif.specs.declared.kind.Kind.TheVariants.{Model, Inputs, Outputs, Names, Subckt, End, Latch, Skipped, Unknown, Row}
+use Rattle.eqc_blif.specs.declared.reader.kind.Kind.TheVariants.{Model, Inputs, Outputs, Names, Subckt, End, Latch, Skipped, Unknown, Row}
 use Rattle.eqc_blif.proofs.NameLemmas.{once_more}
 use Rattle.eqc_blif.proofs.KeptLaws.{IsKept, library_has, unmet}
 
@@ -50,7 +50,9 @@ last_lists ms m sound =
     (not-true (has_twice m.inputs) both.0, not-true (has_twice m.outputs) both.1)
 
 sound_statement : IsKept Sound
-sound_statement Model ws row closed o none sound = sound_pushed (models_of closed o) (begun (first_of ws)).model sound (unmet (is_named (map (λ m. m.name) (models_of closed o)) (first_of ws)) 11 none) refl refl
+sound_statement Model ws row closed o none sound =
+    sound_pushed (models_of closed o) (begun (first_of ws)).model sound
+    (unmet (is_named (map (λ m. m.name) (models_of closed o)) (first_of ws)) 11 none) refl refl
 sound_statement Inputs ws row closed None none sound = sound
 sound_statement Inputs ws row closed (Some m) none sound = sound_changed closed m.model _ sound refl (unmet (has_twice (m.model.inputs ++ ws)) 12 none) (last_lists closed m.model sound).1
 sound_statement Outputs ws row closed None none sound = sound

@@ -10,7 +10,8 @@ use Rattle.eqc_blif.specs.Lines.{is_blank}
 use Rattle.eqc_blif.specs.Words.{words, without_blanks}
 
 -- the first word of a line, where a blank stands behind it
-pub first_word : (line : List ℕ) (end : ℕ) → end ≡ position_or_len is_blank line → end < length line → 0 < end → words line ≡ take end line ∷ words (take (length line - (end + 1)) (drop (end + 1) line))
+pub first_word : (line : List ℕ) (end : ℕ) → end ≡ position_or_len is_blank line → end < length line → 0 < end
+    → words line ≡ take end line ∷ words (take (length line - (end + 1)) (drop (end + 1) line))
 first_word line end is inside some =
     let within : position_or_len is_blank line < length line = omega arith in
     let long : eqb (length (take (position_or_len is_blank line) line)) 0 ≡ false = rw (length-take-le (position_or_len is_blank line) line (omega arith)) (ne_eqb _ 0 (omega arith)) in

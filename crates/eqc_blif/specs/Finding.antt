@@ -6,10 +6,41 @@ use Rattle.eqc_blif.specs.Lines.{physical, clean, logical_lines}
 use Rattle.eqc_blif.specs.Words.{words, first_of, behind_first, arguments, without_blanks, is_pair}
 use Rattle.eqc_blif.specs.Names.{is_named}
 use Rattle.eqc_blif.specs.Kind.{kind_of, kind_of_line}
-use Rattle.eqc_blif.specs.Reading.{After, start, models, current, opened, is_in_cover, stands_in_model, last_cover, is_bad_byte, row_output, has_row_shape, lacks_words, statement_code, then_line, after, outcome}
-use Rattle.eqc_blif.specs.declared.kind.Kind.TheVariants.{Model, Inputs, Outputs, Subckt, Unknown, Row}
+use Rattle.eqc_blif.specs.Reading.{
+  After,
+  start,
+  models,
+  current,
+  opened,
+  is_in_cover,
+  stands_in_model,
+  last_cover,
+  is_bad_byte,
+  row_output,
+  has_row_shape,
+  lacks_words,
+  statement_code,
+  then_line,
+  after,
+  outcome,
+}
+use Rattle.eqc_blif.specs.declared.reader.kind.Kind.TheVariants.{Model, Inputs, Outputs, Subckt, Unknown, Row}
 use Rattle.eqc_blif.specs.declared.finding.Finding.{Finding}
-use Rattle.eqc_blif.specs.declared.finding.Finding.TheVariants.{ControlByte, TextTooLong, UnknownCommand, BehindEnd, RowOutsideCover, RowShape, RowOutput, NoPair, NoWord, ModelTwice, InputTwice, OutputTwice, NoStatement}
+use Rattle.eqc_blif.specs.declared.finding.Finding.TheVariants.{
+  ControlByte,
+  TextTooLong,
+  UnknownCommand,
+  BehindEnd,
+  RowOutsideCover,
+  RowShape,
+  RowOutput,
+  NoPair,
+  NoWord,
+  ModelTwice,
+  InputTwice,
+  OutputTwice,
+  NoStatement,
+}
 
 -- the line and the code by which a text is refused, where it is
 abbrev pub refused : List ℕ → Option (ℕ × ℕ)

@@ -7,7 +7,7 @@ use Rattle.eqc_blif.specs.Lines.{is_blank, is_trailing, physical, clean, continu
 use Rattle.eqc_blif.specs.Names.{has_twice}
 use Rattle.eqc_blif.specs.Kind.{kind_of_line}
 use Rattle.eqc_blif.specs.Reading.{Outcome, start, is_bad_byte, row_output, line_code, after, first_fault, outcome_of_lines, is_too_long, outcome}
-use Rattle.eqc_blif.specs.declared.kind.Kind.TheVariants.{Skipped}
+use Rattle.eqc_blif.specs.declared.reader.kind.Kind.TheVariants.{Skipped}
 
 -- whether the last of some lines ends in a backslash
 abbrev pub ends_open : List (ℕ × List ℕ) → Bool
@@ -25,7 +25,9 @@ TextsFollow = (text more : List ℕ) → is_continued text ≡ false → logical
 
 -- the first faulty line of a text stays the first, whatever text follows it
 abbrev pub FirstFaultStays : Type 0
-FirstFaultStays = (text more : List ℕ) (fault : ℕ × ℕ) → is_continued text ≡ false → is_too_long (text ++ 10 ∷ more) ≡ false → first_fault start (logical_lines text) ≡ Some fault → outcome (text ++ 10 ∷ more) ≡ Err fault
+FirstFaultStays =
+    (text more : List ℕ) (fault : ℕ × ℕ) → is_continued text ≡ false → is_too_long (text ++ 10 ∷ more) ≡ false
+    → first_fault start (logical_lines text) ≡ Some fault → outcome (text ++ 10 ∷ more) ≡ Err fault
 
 -- a line with a code, and no line with a code before it
 pub record IsFirstFault (lines : List (ℕ × List ℕ)) (fault : ℕ × ℕ) : Type 0 where
@@ -58,7 +60,10 @@ contents lines = map (λ line. line.1) lines
 
 -- an inserted line of blanks and comment only renumbers
 abbrev pub BlankLinesOnlyRenumber : Type 0
-BlankLinesOnlyRenumber = (text line more : List ℕ) → is_continued text ≡ false → list_any (λ byte. byte == 10) line ≡ false → list_all is_blank (clean line) ≡ true → contents (logical_lines (text ++ 10 ∷ (line ++ 10 ∷ more))) ≡ contents (logical_lines (text ++ 10 ∷ more))
+BlankLinesOnlyRenumber =
+    (text line more : List ℕ) → is_continued text ≡ false → list_any (λ byte. byte == 10) line ≡ false
+    → list_all is_blank (clean line) ≡ true
+    → contents (logical_lines (text ++ 10 ∷ (line ++ 10 ∷ more))) ≡ contents (logical_lines (text ++ 10 ∷ more))
 
 -- the library or the code, without the line
 abbrev pub unnumbered : Outcome → Result (List ModelOf) ℕ
@@ -67,11 +72,15 @@ unnumbered (Err fault) = Err fault.1
 
 -- texts whose lines have the same bytes give the same library or code
 abbrev pub NumbersPlayNoPart : Type 0
-NumbersPlayNoPart = (text other : List ℕ) → is_too_long text ≡ false → is_too_long other ≡ false → contents (logical_lines text) ≡ contents (logical_lines other) → unnumbered (outcome text) ≡ unnumbered (outcome other)
+NumbersPlayNoPart =
+    (text other : List ℕ) → is_too_long text ≡ false → is_too_long other ≡ false
+    → contents (logical_lines text) ≡ contents (logical_lines other) → unnumbered (outcome text) ≡ unnumbered (outcome other)
 
 -- a skipped line without a bad byte changes nothing
 abbrev pub SkippedLinesChangeNothing : Type 0
-SkippedLinesChangeNothing = (before behind : List (ℕ × List ℕ)) (n : ℕ) (line : List ℕ) → kind_of_line line ≡ Skipped → list_any is_bad_byte line ≡ false → outcome_of_lines (before ++ (n, line) ∷ behind) ≡ outcome_of_lines (before ++ behind)
+SkippedLinesChangeNothing =
+    (before behind : List (ℕ × List ℕ)) (n : ℕ) (line : List ℕ) → kind_of_line line ≡ Skipped → list_any is_bad_byte line ≡ false
+    → outcome_of_lines (before ++ (n, line) ∷ behind) ≡ outcome_of_lines (before ++ behind)
 
 -- the numbers of lines rise from least on
 abbrev pub rises : ℕ → List (ℕ × List ℕ) → Type 0

@@ -4,6 +4,7 @@ pub mod Rows
 pub mod Lines
 pub mod Words
 pub mod Names
+pub mod Pieces
 pub mod Kind
 pub mod Reading
 pub mod Steps

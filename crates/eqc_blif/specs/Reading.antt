@@ -1,6 +1,36 @@
 -- What a text means (BLIF 1992; the codes are this project's): what stands after its first lines, the code of a line
 -- against that, the first fault, and the library of a text without a fault.
-use Rattle.std.specs.Prelude.{ℕ, ◌+◌, ◌-◌, Bool, true, false, ◌||◌, ◌&&◌, not, List, [], ◌∷◌, ◌++◌, length, take, map, slice_set, slice_index, slice_index_or, nat_lt, if◌then◌else◌, ◌==◌, Option, Some, None, is_some, Result, Ok, Err}
+use Rattle.std.specs.Prelude.{
+  ℕ,
+  ◌+◌,
+  ◌-◌,
+  Bool,
+  true,
+  false,
+  ◌||◌,
+  ◌&&◌,
+  not,
+  List,
+  [],
+  ◌∷◌,
+  ◌++◌,
+  length,
+  take,
+  map,
+  slice_set,
+  slice_index,
+  slice_index_or,
+  nat_lt,
+  if◌then◌else◌,
+  ◌==◌,
+  Option,
+  Some,
+  None,
+  is_some,
+  Result,
+  Ok,
+  Err,
+}
 use Rattle.std.specs.List.{list_all, list_any}
 use Rattle.std.specs.Option.{option_map}
 use Rattle.eqc_blif.specs.Netlist.{CoverOf, ModelOf, no_model, no_cover}
@@ -8,8 +38,8 @@ use Rattle.eqc_blif.specs.Lines.{logical_lines}
 use Rattle.eqc_blif.specs.Words.{first_of, behind_first, arguments, without_blanks, is_pair, cover_of, instance_of}
 use Rattle.eqc_blif.specs.Names.{is_named, has_twice}
 use Rattle.eqc_blif.specs.Kind.{kind_of_line}
-use Rattle.eqc_blif.specs.declared.kind.Kind.{Kind}
-use Rattle.eqc_blif.specs.declared.kind.Kind.TheVariants.{Model, Inputs, Outputs, Names, Subckt, End, Latch, Skipped, Unknown, Row}
+use Rattle.eqc_blif.specs.declared.reader.kind.Kind.{Kind}
+use Rattle.eqc_blif.specs.declared.reader.kind.Kind.TheVariants.{Model, Inputs, Outputs, Names, Subckt, End, Latch, Skipped, Unknown, Row}
 
 -- The open model, and whether the last line that is no row is `.names` of it.
 pub record OpenModel : Type 0 where

@@ -1,7 +1,22 @@
 -- The codes of the rules of reading.
 use Rattle.std.specs.Prelude.{ℕ}
 use Rattle.eqc_blif.specs.declared.rule.Rule.{Rule}
-use Rattle.eqc_blif.specs.declared.rule.Rule.TheVariants.{ControlByte, TextTooLong, UnknownCommand, Latch, BehindEnd, RowOutsideCover, RowShape, RowOutput, NoPair, NoWord, ModelTwice, NameTwice, NoModel, Memory}
+use Rattle.eqc_blif.specs.declared.rule.Rule.TheVariants.{
+  ControlByte,
+  TextTooLong,
+  UnknownCommand,
+  Latch,
+  BehindEnd,
+  RowOutsideCover,
+  RowShape,
+  RowOutput,
+  NoPair,
+  NoWord,
+  ModelTwice,
+  NameTwice,
+  NoModel,
+  Memory,
+}
 
 abbrev pub rule_code : Rule → ℕ
 rule_code ControlByte = 1

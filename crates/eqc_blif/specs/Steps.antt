@@ -6,9 +6,26 @@ use Rattle.eqc_blif.specs.Netlist.{CoverOf, InstanceOf, ModelOf}
 use Rattle.eqc_blif.specs.Lines.{numbered}
 use Rattle.eqc_blif.specs.Words.{is_pair, pair_of, behind_first}
 use Rattle.eqc_blif.specs.Names.{is_named, has_twice}
-use Rattle.eqc_blif.specs.Reading.{After, OpenModel, first_code, last_cover, has_row_shape, differs_from_first, statement_code, then_statement, line_code, then_line, declared, with_inputs, with_outputs, with_new_cover, with_instance, with_new_row}
-use Rattle.eqc_blif.specs.declared.kind.Kind.{Kind}
-use Rattle.eqc_blif.specs.declared.kind.Kind.TheVariants.{Inputs, Outputs, Names, Subckt, Row}
+use Rattle.eqc_blif.specs.Reading.{
+  After,
+  OpenModel,
+  first_code,
+  last_cover,
+  has_row_shape,
+  differs_from_first,
+  statement_code,
+  then_statement,
+  line_code,
+  then_line,
+  declared,
+  with_inputs,
+  with_outputs,
+  with_new_cover,
+  with_instance,
+  with_new_row,
+}
+use Rattle.eqc_blif.specs.declared.reader.kind.Kind.{Kind}
+use Rattle.eqc_blif.specs.declared.reader.kind.Kind.TheVariants.{Inputs, Outputs, Names, Subckt, Row}
 
 -- one of two bytes
 abbrev pub is_either : ℕ → ℕ → ℕ → Bool

@@ -4,16 +4,17 @@ ghost use Rattle.std.specs.Option.{option_map};
 ghost use Rattle.eqc_blif.specs.Reading.{start};
 ghost use Rattle.eqc_blif.specs.Finding.{refused, IsExplained};
 
-use crate::bad_byte::bad_byte;
 use crate::finding::Finding;
-use crate::kind::kind_of;
-use crate::line_findings::line_finding;
+use crate::finding::bad_byte::bad_byte;
+use crate::finding::line_findings::line_finding;
+use crate::finding::refused_line::go_to_line;
+use crate::key::Key;
 use crate::reader::Reader;
+use crate::reader::kind::kind_of;
 use crate::reading::{MAX_BYTES, read};
 use crate::refusal::Refusal;
-use crate::refused_line::go_to_line;
 use crate::rule::Rule;
-use crate::words::split_first;
+use crate::text::words::split_first;
 use std::alloc::{AllocError, Global};
 
 /// Why a text is refused, if it is. Fails where memory is refused.
@@ -61,7 +62,7 @@ fn finding_in_line(
     requires line { (refusal.code ≢ 1) × (refusal.code ≢ 2) × (refusal.code ≢ 13) }
     ensures { IfOk result (λ found. IsExplained text.now found) }
 {
-    let mut reader = Reader::new(alloc);
+    let mut reader = Reader::new(alloc, Key::of(text));
     let mut line = Vec::new(alloc);
     finding_by(alloc, text, refusal, &mut reader, &mut line)
 }

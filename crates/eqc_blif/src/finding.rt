@@ -1,4 +1,7 @@
 //! What a refusal of a text is about: the byte, word, row, name or number at fault, by the rule that it breaks.
+pub(crate) mod bad_byte;
+pub(crate) mod line_findings;
+pub(crate) mod refused_line;
 
 use crate::name::Name;
 

@@ -4,9 +4,10 @@ ghost use Rattle.eqc_blif.specs.Names.{is_named, has_twice};
 ghost use Rattle.eqc_blif.specs.Netlist.{no_model};
 ghost use Rattle.eqc_blif.specs.Steps.{model_of};
 
-use crate::cover::Cover;
-use crate::declarations::Declarations;
-use crate::instance::Instance;
+use crate::key::Key;
+use crate::model::cover::Cover;
+use crate::model::declarations::Declarations;
+use crate::model::instance::Instance;
 use crate::name::Name;
 use indexmap::IndexMap;
 use std::alloc::{AllocError, Global};
@@ -15,7 +16,8 @@ use std::marker::Model;
 /// The models of a text, in order.
 #[derive(Drop)]
 pub struct Library {
-    models: IndexMap<Name, Declarations>,
+    key: Key,
+    models: IndexMap<Name, Declarations, Key>,
 }
 
 impl Model for Library {
@@ -29,12 +31,18 @@ impl Model for Library {
 }
 
 impl Library {
-    pub(crate) fn new(alloc: Global) -> Library
+    pub(crate) fn new(alloc: Global, key: Key) -> Library
         ensures { result ≡ [] }
     {
         Library {
-            models: IndexMap::new(alloc),
+            key,
+            models: IndexMap::with_hasher(alloc, key),
         }
+    }
+
+    /// The key of the text, for other tables of its names. Nothing but their time depends on it.
+    pub fn key(&self) -> Key {
+        self.key
     }
 
     /// Whether there are no models.

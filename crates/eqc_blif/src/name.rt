@@ -1,9 +1,11 @@
 //! Names in a netlist, as bytes: a short one is kept in place, without an allocation.
-ghost use Rattle.std.specs.Prelude.{◌≡◌, IfOk, bytes_eq, [], ◌∷◌};
+ghost use Rattle.std.specs.Prelude.{◌≡◌, IfOk, bytes_eq};
 ghost use Rattle.std.specs.Cmp.{partial_equiv_from_equiv};
 ghost use Rattle.std.specs.Cmp.Lexicographic.{nat_list_eq_equiv, bytes_decides};
 ghost use Rattle.std.specs.Hash.{same_Alike};
+ghost use Rattle.eqc_blif.specs.Pieces.{pieces};
 
+use crate::pieces::write_pieces;
 use smallvec::SmallVec;
 use std::alloc::{AllocError, Global};
 use std::hash::{Hash, Hasher};
@@ -66,11 +68,11 @@ impl Eq for Name {
 }
 
 impl Hash for Name {
-    ghost hash_input = { λ a. a ∷ [] };
+    ghost hash_input = { λ a. pieces a };
 
-    ghost respects_eq = { (same_Alike {E = bytes_eq} (λ a. a ∷ []) bytes_decides).fed };
+    ghost respects_eq = { (same_Alike {E = bytes_eq} (λ a. pieces a) bytes_decides).fed };
 
     fn hash<H: Hasher>(&self, state: &mut H) {
-        state.write(self.as_bytes());
+        write_pieces(self.as_bytes(), state);
     }
 }

@@ -4,14 +4,19 @@ ghost use Rattle.eqc_blif.specs.Words.{words};
 ghost use Rattle.eqc_blif.specs.Names.{has_twice};
 ghost use Rattle.eqc_blif.specs.Finding.{StandsTwice};
 
+pub(crate) mod list;
+pub(crate) mod many;
+
+use crate::key::Key;
 use crate::name::Name;
-use crate::name_list::NameList;
+use crate::names::list::NameList;
 use std::alloc::{AllocError, Global};
 use std::marker::Model;
 
 /// Names in order, none of them twice. No memory is taken before the first.
 #[derive(Drop)]
 pub(crate) struct Names {
+    key: Key,
     list: Option<Box<NameList>>,
 }
 
@@ -26,10 +31,10 @@ impl Model for Names {
 }
 
 impl Names {
-    pub(crate) fn new() -> Names
+    pub(crate) fn new(key: Key) -> Names
         ensures { result ≡ [] }
     {
-        Names { list: None }
+        Names { key, list: None }
     }
 
     /// Adds the words of a line, and answers whether no name then stands twice. Where one does, or where memory is
@@ -40,7 +45,7 @@ impl Names {
     {
         let mut list = match self.list.take() {
             Some(list) => list,
-            None => Box::new(alloc, NameList::new(alloc))?,
+            None => Box::new(alloc, NameList::new(alloc, self.key))?,
         };
         let once = list.add_words(alloc, line)?;
         self.list = Some(list);
@@ -55,7 +60,7 @@ impl Names {
     {
         let mut list = match self.list.take() {
             Some(list) => list,
-            None => Box::new(alloc, NameList::new(alloc))?,
+            None => Box::new(alloc, NameList::new(alloc, self.key))?,
         };
         list.first_twice(alloc, line)
     }

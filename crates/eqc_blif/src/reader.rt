@@ -7,13 +7,17 @@ ghost use Rattle.eqc_blif.specs.Names.{is_named, has_twice};
 ghost use Rattle.eqc_blif.specs.Finding.{StandsTwice};
 ghost use Rattle.eqc_blif.specs.Steps.{Takes, TakesLine, declares};
 
-use crate::cover::Cover;
-use crate::kind::{Kind, begins_row, kind_of};
+pub(crate) mod kind;
+pub(crate) mod open_model;
+
+use crate::key::Key;
 use crate::library::Library;
+use crate::model::cover::Cover;
 use crate::name::Name;
-use crate::open_model::OpenModel;
+use crate::reader::kind::{Kind, begins_row, kind_of};
+use crate::reader::open_model::OpenModel;
 use crate::rule::Rule;
-use crate::words::split_first;
+use crate::text::words::split_first;
 use std::alloc::{AllocError, Global};
 use std::marker::Model;
 
@@ -63,11 +67,11 @@ fn stands_in_model(kind: Kind) -> bool
 }
 
 impl Reader {
-    pub(crate) fn new(alloc: Global) -> Reader
+    pub(crate) fn new(alloc: Global, key: Key) -> Reader
         ensures { result ≡ start }
     {
         Reader {
-            closed: Library::new(alloc),
+            closed: Library::new(alloc, key),
             open_model: None,
         }
     }
@@ -77,7 +81,7 @@ impl Reader {
         requires { is_named (map (λ m. m.name) self.old.closed) name ≡ false }
         ensures { self.new ≡ record { closed = self.old.closed; open_model = Some (begun name) } }
     {
-        self.open_model = Some(OpenModel::new(alloc, name));
+        self.open_model = Some(OpenModel::new(alloc, self.closed.key(), name));
     }
 
     /// Opens a model without a name before a first statement of another kind than `.model`.

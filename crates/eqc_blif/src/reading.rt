@@ -3,11 +3,12 @@ ghost use Rattle.std.specs.Prelude.{◌≡◌, ◌<◌, ◌^◌, ◌⊎◌, leng
 ghost use Rattle.eqc_blif.specs.Lines.{logical_lines};
 ghost use Rattle.eqc_blif.specs.Reading.{start, after, models, first_fault, outcome};
 
+use crate::key::Key;
 use crate::library::Library;
-use crate::lines::Lines;
 use crate::reader::Reader;
 use crate::refusal::Refusal;
 use crate::rule::Rule;
+use crate::text::lines::Lines;
 use std::alloc::Global;
 
 /// How many bytes a text may have.
@@ -51,7 +52,7 @@ fn models_in(alloc: Global, text: &[u8]) -> Result<Library, Refusal>
     ensures models { IfOk result (λ library. (first_fault start (logical_lines text.now) ≡ None) × (library ≡ models (after start (logical_lines text.now)))) }
     ensures fault { IfErr result (λ refusal. (refusal ≡ record { line = 0; code = 72 }) ⊎ (first_fault start (logical_lines text.now) ≡ Some (refusal.line, refusal.code))) }
 {
-    let mut reader = Reader::new(alloc);
+    let mut reader = Reader::new(alloc, Key::of(text));
     match take_text(alloc, text, &mut reader) {
         Ok(()) => Ok(reader.into_closed()),
         Err(refusal) => Err(refusal),

@@ -8,7 +8,7 @@ use Rattle.eqc_blif.specs.Names.{has_twice}
 use Rattle.eqc_blif.specs.Netlist.{ModelOf, no_model}
 use Rattle.eqc_blif.specs.Reading.{outcome}
 use Rattle.eqc_blif.proofs.TwiceLaws.{libraries_have_no_name_twice}
-use Rattle.eqc_flat.specs.Hierarchy.{model, model_number}
+use Rattle.eqc_hierarchy.specs.Hierarchy.{model, model_number}
 use Rattle.eqc_pair.specs.Matched.{position_of}
 use Rattle.eqc_check.specs.Answer.{MainOf, chosen_number, chosen, main_of}
 use Rattle.eqc_check.specs.AnswerLaws.{main_or_none, IsChoice, ModelIsChosen}

@@ -34,10 +34,10 @@ impl Undecided {
         }
     }
 
-    /// Takes the names of the outputs of a pair that are not marked.
+    /// Takes the names of the chosen outputs of a pair that are not marked.
     pub(crate) fn add_unmarked(&mut self, pair: &Pair<'_>, marks: &[bool]) {
         for (output, name) in pair.first().outputs().iter().enumerate() {
-            if !marks.get(output).copied().unwrap_or(false) {
+            if pair.is_chosen(output) && !marks.get(output).copied().unwrap_or(false) {
                 self.add(name.as_bytes());
             }
         }

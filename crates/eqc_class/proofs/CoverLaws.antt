@@ -14,7 +14,9 @@ not_zero n h = by (n == 0) refl
     by false e = refl
 
 -- the classes of columns are there
-pub columns_known : (numbers signals columns : List ℕ) (n : ℕ) → columns ≡ map (λ s. get_or numbers s 0) signals → ((k : ℕ) → k < length signals → get_or numbers (get_or signals k 0) 0 < n) → (k : ℕ) → k < length columns → get_or columns k 0 < n
+pub columns_known : (numbers signals columns : List ℕ) (n : ℕ) → columns ≡ map (λ s. get_or numbers s 0) signals
+    → ((k : ℕ) → k < length signals → get_or numbers (get_or signals k 0) 0 < n) → (k : ℕ) → k < length columns
+    → get_or columns k 0 < n
 columns_known numbers signals columns n e known k less =
     let inside : k < length signals = omega (arith, less, ap length e, length-map signals (λ s. get_or numbers s 0)) in
     let is : get_or columns k 0 ≡ get_or numbers (get_or signals k 0) 0 = ap (λ l. get_or l k 0) e ∙ get_or-map (λ s. get_or numbers s 0) signals k 0 0 inside in
@@ -31,7 +33,11 @@ gate_cover rows xs some any other =
     rw (neither, other) refl
 
 -- a gate over the classes of columns
-pub gate_made : (all : List (List (List ℕ))) (structures : List Structure) (rows : List (List ℕ)) (r : ℕ) (numbers signals columns : List ℕ) → get_or all r [] ≡ rows → columns ≡ map (λ s. get_or numbers s 0) signals → (length rows == 0) ≡ false → (length signals ≡ 0 → ⊥) → passes_on rows (length signals) ≡ false → gate (get_or all r []) (in_row (map (structure_at structures) columns)) ≡ cover_structure rows (map (said_by structures numbers) signals)
+pub gate_made : (all : List (List (List ℕ))) (structures : List Structure) (rows : List (List ℕ)) (r : ℕ) (numbers signals columns : List ℕ)
+    → get_or all r [] ≡ rows → columns ≡ map (λ s. get_or numbers s 0) signals → (length rows == 0) ≡ false
+    → (length signals ≡ 0 → ⊥) → passes_on rows (length signals) ≡ false
+    → gate (get_or all r []) (in_row (map (structure_at structures) columns))
+    ≡ cover_structure rows (map (said_by structures numbers) signals)
 gate_made all structures rows r numbers signals columns at e some any other =
     let size : length (map (said_by structures numbers) signals) ≡ length signals = length-map signals (said_by structures numbers) in
     ap (λ l. gate l (in_row (map (structure_at structures) columns))) at

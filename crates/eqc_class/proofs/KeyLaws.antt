@@ -47,7 +47,8 @@ apart_more d xs x h absent = record { apart = λ i j less below same. by i j les
     last : (i : ℕ) → i ≡ length xs → get_or (xs ++ x ∷ []) i d ≡ x
     last i e = ap (λ k. get_or (xs ++ x ∷ []) k d) e ∙ get_or-append_seam xs x [] d
 
-    by : (i j : ℕ) → i < length (xs ++ x ∷ []) → j < length (xs ++ x ∷ []) → get_or (xs ++ x ∷ []) i d ≡ get_or (xs ++ x ∷ []) j d → (i ≡ length xs) ⊎ (i ≡ length xs → ⊥) → (j ≡ length xs) ⊎ (j ≡ length xs → ⊥) → i ≡ j
+    by : (i j : ℕ) → i < length (xs ++ x ∷ []) → j < length (xs ++ x ∷ []) → get_or (xs ++ x ∷ []) i d ≡ get_or (xs ++ x ∷ []) j d
+        → (i ≡ length xs) ⊎ (i ≡ length xs → ⊥) → (j ≡ length xs) ⊎ (j ≡ length xs → ⊥) → i ≡ j
     by i j less below same (inl e) (inl f) = e ∙ sym f
     by i j less below same (inl e) (inr other) = absurd (absent j (within j below other) (sym (there j below other) ∙ (sym same ∙ last i e)))
     by i j less below same (inr other) (inl f) = absurd (absent i (within i less other) (sym (there i less other) ∙ (same ∙ last j f)))
@@ -95,7 +96,8 @@ module _ {X : Type 0} (E : X → X → Bool) (decides : (x y : X) → Decides (E
       by : (b : Bool) → list_any (E k) keys ≡ b → Stands d new i k
       by true h =
           let less = first_there (E k) keys h in
-          let here : Stands d keys (position_or_len (E k) keys) k = record { within = less; at = sym ((decides k (get_or keys (position_or_len (E k) keys) d)).0 (passes_at_first (E k) keys d less)) } in
+          let here : Stands d keys (position_or_len (E k) keys) k = record
+          { within = less; at = sym ((decides k (get_or keys (position_or_len (E k) keys) d)).0 (passes_at_first (E k) keys d less)) } in
           let there : Stands d keys i k = subst (λ j. Stands d keys j k) (sym at) here in
           subst (λ l. Stands d l i k) (sym (new_keys keys new k true e h)) there
       by false h =

@@ -15,16 +15,26 @@ use Rattle.eqc_class.proofs.StructureLaws.{driver_structure_alike, structure_fol
 use Rattle.eqc_class.proofs.ValueLaws.{equal_values}
 
 -- what a step's signal depends on has its number
-dep_known : (f : FlatOf) (variables : List ℕ) (structures : List Structure) (numbers : List ℕ) (k c : ℕ) → IsFlat f → k < length f.steps → AreNumbered f variables structures numbers k → c < length (dependencies (driver_at f (get_or f.steps k 0))) → Stands (constant false) structures (get_or numbers (get_or (dependencies (driver_at f (get_or f.steps k 0))) c 0) 0) (structure_of f variables (get_or (dependencies (driver_at f (get_or f.steps k 0))) c 0))
+dep_known : (f : FlatOf) (variables : List ℕ) (structures : List Structure) (numbers : List ℕ) (k c : ℕ) → IsFlat f
+    → k < length f.steps → AreNumbered f variables structures numbers k
+    → c < length (dependencies (driver_at f (get_or f.steps k 0)))
+    → Stands (constant false) structures (get_or numbers (get_or (dependencies (driver_at f (get_or f.steps k 0))) c 0) 0)
+    (structure_of f variables (get_or (dependencies (driver_at f (get_or f.steps k 0))) c 0))
 dep_known f variables structures numbers k c h inside known within =
     let w = dep_before f k c h inside within in
     subst (λ d. Stands (constant false) structures (get_or numbers d 0) (structure_of f variables d)) w.2 (known.each w.0 w.1)
 
-pub deps_known : (f : FlatOf) (variables : List ℕ) (structures : List Structure) (numbers : List ℕ) (k : ℕ) → IsFlat f → k < length f.steps → AreNumbered f variables structures numbers k → (c : ℕ) → c < length (dependencies (driver_at f (get_or f.steps k 0))) → get_or numbers (get_or (dependencies (driver_at f (get_or f.steps k 0))) c 0) 0 < length structures
+pub deps_known : (f : FlatOf) (variables : List ℕ) (structures : List Structure) (numbers : List ℕ) (k : ℕ) → IsFlat f
+    → k < length f.steps → AreNumbered f variables structures numbers k → (c : ℕ)
+    → c < length (dependencies (driver_at f (get_or f.steps k 0)))
+    → get_or numbers (get_or (dependencies (driver_at f (get_or f.steps k 0))) c 0) 0 < length structures
 deps_known f variables structures numbers k h inside known c within = (dep_known f variables structures numbers k c h inside known within).within
 
 -- one signal more
-pub numbered_more : (f : FlatOf) (variables : List ℕ) (structures new : List Structure) (numbers : List ℕ) (k n class : ℕ) → IsFlat f → k < length f.steps → AreNumbered f variables structures numbers k → Grows (constant false) structures new n → Stands (constant false) new class (driver_structure f.rows variables (said_by structures numbers) (driver_at f (get_or f.steps k 0))) → AreNumbered f variables new (set numbers (get_or f.steps k 0) class) (k + 1)
+pub numbered_more : (f : FlatOf) (variables : List ℕ) (structures new : List Structure) (numbers : List ℕ) (k n class : ℕ)
+    → IsFlat f → k < length f.steps → AreNumbered f variables structures numbers k → Grows (constant false) structures new n
+    → Stands (constant false) new class (driver_structure f.rows variables (said_by structures numbers) (driver_at f (get_or f.steps k 0)))
+    → AreNumbered f variables new (set numbers (get_or f.steps k 0) class) (k + 1)
 numbered_more f variables structures new numbers k n class h inside known g stands = record {
   size = length-set numbers s class ∙ known.size;
   each = λ i less. by i less (cases_eq i k);
@@ -37,7 +47,8 @@ numbered_more f variables structures new numbers k n class h inside known g stan
     now = record {
       within = stands.within;
       at = stands.at
-          ∙ (driver_structure_alike f.rows variables (said_by structures numbers) (structure_of f variables) (driver_at f s) (λ c within. (dep_known f variables structures numbers k c h inside known within).at)
+          ∙ (driver_structure_alike f.rows variables (said_by structures numbers) (structure_of f variables) (driver_at f s)
+          (λ c within. (dep_known f variables structures numbers k c h inside known within).at)
           ∙ sym (structure_follows f variables s h (h.steps_within k inside)));
     }
 
@@ -46,7 +57,8 @@ numbered_more f variables structures new numbers k n class h inside known g stan
 
     by : (i : ℕ) → i < k + 1 → (i ≡ k) ⊎ (i ≡ k → ⊥) → Stands (constant false) new (get_or (set numbers s class) (get_or f.steps i 0) 0) (structure_of f variables (get_or f.steps i 0))
     by i less (inl e) =
-        let there : Stands (constant false) new (get_or (set numbers s class) s 0) (structure_of f variables s) = subst (λ c. Stands (constant false) new c (structure_of f variables s)) (sym here) now in
+        let there : Stands (constant false) new (get_or (set numbers s class) s 0) (structure_of f variables s) =
+        subst (λ c. Stands (constant false) new c (structure_of f variables s)) (sym here) now in
         subst (λ j. Stands (constant false) new (get_or (set numbers s class) (get_or f.steps j 0) 0) (structure_of f variables (get_or f.steps j 0))) (sym e) there
     by i less (inr other) =
         let before : i < k = omega (arith, less, other) in
@@ -55,7 +67,8 @@ numbered_more f variables structures new numbers k n class h inside known g stan
         subst (λ c. Stands (constant false) new c (structure_of f variables (get_or f.steps i 0))) (sym (get_or-set_other numbers s (get_or f.steps i 0) class 0 apart)) old
 
 -- all signals
-pub numbered_all : (f : FlatOf) (variables : List ℕ) (structures : List Structure) (numbers : List ℕ) (k : ℕ) → IsFlat f → k ≡ length f.steps → AreNumbered f variables structures numbers k → AreNumbers f variables structures numbers
+pub numbered_all : (f : FlatOf) (variables : List ℕ) (structures : List Structure) (numbers : List ℕ) (k : ℕ) → IsFlat f
+    → k ≡ length f.steps → AreNumbered f variables structures numbers k → AreNumbers f variables structures numbers
 numbered_all f variables structures numbers k h all known = record {
   size = known.size;
   each = λ s inside.
@@ -63,7 +76,8 @@ numbered_all f variables structures numbers k h all known = record {
       subst (λ t. Stands (constant false) structures (get_or numbers t 0) (structure_of f variables t)) w.2 (known.each w.0 (omega (arith, w.1, all)));
 }
 
-pub numbers_still : (f : FlatOf) (variables : List ℕ) (structures new : List Structure) (numbers : List ℕ) (n : ℕ) → Grows (constant false) structures new n → AreNumbers f variables structures numbers → AreNumbers f variables new numbers
+pub numbers_still : (f : FlatOf) (variables : List ℕ) (structures new : List Structure) (numbers : List ℕ) (n : ℕ)
+    → Grows (constant false) structures new n → AreNumbers f variables structures numbers → AreNumbers f variables new numbers
 numbers_still f variables structures new numbers n g h = record {
   size = h.size;
   each = λ s inside. stands_still (constant false) structures new n (get_or numbers s 0) (structure_of f variables s) g (h.each s inside);
@@ -71,7 +85,9 @@ numbers_still f variables structures new numbers n g h = record {
 
 -- ---- two netlists
 
-tell : (f g : FlatOf) (variables others : List ℕ) (structures : List Structure) (numbers more : List ℕ) → AreApart (constant false) structures → AreNumbers f variables structures numbers → AreNumbers g others structures more → TellStructures (structure_of f variables) (structure_of g others) numbers more
+tell : (f g : FlatOf) (variables others : List ℕ) (structures : List Structure) (numbers more : List ℕ)
+    → AreApart (constant false) structures → AreNumbers f variables structures numbers → AreNumbers g others structures more
+    → TellStructures (structure_of f variables) (structure_of g others) numbers more
 tell f g variables others structures numbers more apart h i = record {
   no_other = λ s t inside within same.
       let here = h.each s (omega (arith, inside, h.size)) in
@@ -83,7 +99,10 @@ tell f g variables others structures numbers more apart h i = record {
       apart.apart (get_or numbers s 0) (get_or more t 0) here.within there.within (here.at ∙ (same ∙ sym there.at));
 }
 
-pub are_classes : (f g : FlatOf) (variables others : List ℕ) (structures : List Structure) (numbers more : List ℕ) (count : ℕ) → AreApart (constant false) structures → count ≡ length structures → length structures ≤ length f.drivers + length g.drivers → AreNumbers f variables structures numbers → AreNumbers g others structures more → AreClasses f g variables others (record { first = numbers; second = more; count = count })
+pub are_classes : (f g : FlatOf) (variables others : List ℕ) (structures : List Structure) (numbers more : List ℕ) (count : ℕ)
+    → AreApart (constant false) structures → count ≡ length structures → length structures ≤ length f.drivers + length g.drivers
+    → AreNumbers f variables structures numbers → AreNumbers g others structures more
+    → AreClasses f g variables others (record { first = numbers; second = more; count = count })
 are_classes f g variables others structures numbers more count apart counted few h i = record {
   first_size = h.size;
   second_size = i.size;
@@ -95,11 +114,15 @@ are_classes f g variables others structures numbers more count apart counted few
   across = tell f g variables others structures numbers more apart h i;
 }
 
-one_value : (f g : FlatOf) (variables others numbers more : List ℕ) (a : ℕ → Bool) → IsFlat f → FollowsDrivers f → IsFlat g → FollowsDrivers g → length numbers ≡ length f.drivers → length more ≡ length g.drivers → TellStructures (structure_of f variables) (structure_of g others) numbers more → HaveOneValue f g (inputs_under variables a) (inputs_under others a) numbers more
+one_value : (f g : FlatOf) (variables others numbers more : List ℕ) (a : ℕ → Bool) → IsFlat f → FollowsDrivers f → IsFlat g
+    → FollowsDrivers g → length numbers ≡ length f.drivers → length more ≡ length g.drivers
+    → TellStructures (structure_of f variables) (structure_of g others) numbers more
+    → HaveOneValue f g (inputs_under variables a) (inputs_under others a) numbers more
 one_value f g variables others numbers more a h follows i leads size other_size told = λ s t inside within same.
     equal_values f g variables others s t a h follows i leads inside within (told.no_other s t (omega (arith, inside, size)) (omega (arith, within, other_size)) same)
 
-pub have_one_value : (f g : FlatOf) (variables others : List ℕ) (c : ClassesOf) → IsFlat f → FollowsDrivers f → IsFlat g → FollowsDrivers g → AreClasses f g variables others c → HaveOneValueEach f g variables others c
+pub have_one_value : (f g : FlatOf) (variables others : List ℕ) (c : ClassesOf) → IsFlat f → FollowsDrivers f → IsFlat g
+    → FollowsDrivers g → AreClasses f g variables others c → HaveOneValueEach f g variables others c
 have_one_value f g variables others c h follows i leads classes = record {
   in_first = λ a. one_value f f variables variables c.first c.first a h follows h follows classes.first_size classes.first_size classes.in_first;
   in_second = λ a. one_value g g others others c.second c.second a i leads i leads classes.second_size classes.second_size classes.in_second;

@@ -17,7 +17,8 @@ pub rows_within : (f : FlatOf) (s : ℕ) → IsFlat f → s < length f.drivers �
 rows_within f s h inside = until_within (length f.inputs) (length f.drivers) (length f.rows) (driver_at f s) (h.drivers_within s inside)
 
 -- one signal more
-pub named_more : (f : FlatOf) (s count next : ℕ) → ((t : ℕ) → t < s → rows_until (driver_at f t) ≤ count) → count ≤ next → rows_until (driver_at f s) ≤ next → (t : ℕ) → t < s + 1 → rows_until (driver_at f t) ≤ next
+pub named_more : (f : FlatOf) (s count next : ℕ) → ((t : ℕ) → t < s → rows_until (driver_at f t) ≤ count) → count ≤ next
+    → rows_until (driver_at f s) ≤ next → (t : ℕ) → t < s + 1 → rows_until (driver_at f t) ≤ next
 named_more f s count next h more here t less = by (cases_eq t s)
   where
     by : (t ≡ s) ⊎ (t ≡ s → ⊥) → rows_until (driver_at f t) ≤ next
@@ -25,7 +26,10 @@ named_more f s count next h more here t less = by (cases_eq t s)
     by (inr other) = let before = h t (omega (arith, less, other)) in omega (arith, before, more)
 
 -- one place more
-pub places_more : (rows old new : List (List (List ℕ))) (places now : List ℕ) (r n place : ℕ) (what : List (List ℕ)) → length places ≡ r → ((j : ℕ) → j < r → Stands [] old (get_or places j 0) (get_or rows j [])) → Grows [] old new n → Stands [] new place what → what ≡ get_or rows r [] → now ≡ places ++ place ∷ [] → (j : ℕ) → j < r + 1 → Stands [] new (get_or now j 0) (get_or rows j [])
+pub places_more : (rows old new : List (List (List ℕ))) (places now : List ℕ) (r n place : ℕ) (what : List (List ℕ))
+    → length places ≡ r → ((j : ℕ) → j < r → Stands [] old (get_or places j 0) (get_or rows j [])) → Grows [] old new n
+    → Stands [] new place what → what ≡ get_or rows r [] → now ≡ places ++ place ∷ [] → (j : ℕ) → j < r + 1
+    → Stands [] new (get_or now j 0) (get_or rows j [])
 places_more rows old new places now r n place what size h g here is e j less = subst (λ l. Stands [] new (get_or l j 0) (get_or rows j [])) (sym e) (by (cases_eq j r))
   where
     last : Stands [] new (get_or (places ++ place ∷ []) r 0) (get_or rows r [])
@@ -37,9 +41,12 @@ places_more rows old new places now r n place what size h g here is e j less = s
     by (inl same) = subst (λ k. Stands [] new (get_or (places ++ place ∷ []) k 0) (get_or rows k [])) (sym same) last
     by (inr other) =
         let before : j < r = omega (arith, less, other) in
-        subst (λ p. Stands [] new p (get_or rows j [])) (sym (get_or-append places (place ∷ []) 0 j (omega (arith, before, size)))) (stands_still [] old new n (get_or places j 0) (get_or rows j []) g (h j before))
+        subst (λ p. Stands [] new p (get_or rows j [])) (sym (get_or-append places (place ∷ []) 0 j (omega (arith, before, size))))
+        (stands_still [] old new n (get_or places j 0) (get_or rows j []) g (h j before))
 
-pub are_row_classes : (f : FlatOf) (rows : List (List (List ℕ))) (places : List ℕ) (count r : ℕ) → length places ≡ r → count ≤ r → ((s : ℕ) → s < length f.drivers → rows_until (driver_at f s) ≤ count) → ((j : ℕ) → j < r → Stands [] rows (get_or places j 0) (get_or f.rows j [])) → AreRowClasses f rows places
+pub are_row_classes : (f : FlatOf) (rows : List (List (List ℕ))) (places : List ℕ) (count r : ℕ) → length places ≡ r → count ≤ r
+    → ((s : ℕ) → s < length f.drivers → rows_until (driver_at f s) ≤ count)
+    → ((j : ℕ) → j < r → Stands [] rows (get_or places j 0) (get_or f.rows j [])) → AreRowClasses f rows places
 are_row_classes f rows places count r size all named each = record {
   named = λ s inside. let few = named s inside in omega (arith, few, all, size);
   each = λ j less. each j (omega (arith, less, size));

@@ -38,7 +38,9 @@ row_alike xs ys e = (bytes_decides xs ys).0 (by (bytes_eq xs ys) e)
     by true h = refl
     by false h = absurd (true≢false (sym h))
 
-pub rows_more : (xs ys : List (List ℕ)) (k : ℕ) (row other : List ℕ) → ((j : ℕ) → j < k → get_or xs j [] ≡ get_or ys j []) → row ≡ get_or xs k [] → other ≡ get_or ys k [] → false ≡ not (bytes_eq row other) → (j : ℕ) → j < k + 1 → get_or xs j [] ≡ get_or ys j []
+pub rows_more : (xs ys : List (List ℕ)) (k : ℕ) (row other : List ℕ) → ((j : ℕ) → j < k → get_or xs j [] ≡ get_or ys j [])
+    → row ≡ get_or xs k [] → other ≡ get_or ys k [] → false ≡ not (bytes_eq row other) → (j : ℕ) → j < k + 1
+    → get_or xs j [] ≡ get_or ys j []
 rows_more xs ys k row other h is there e j less = by (cases_eq j k)
   where
     by : (j ≡ k) ⊎ (j ≡ k → ⊥) → get_or xs j [] ≡ get_or ys j []

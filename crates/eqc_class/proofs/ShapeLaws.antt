@@ -31,7 +31,10 @@ in_row_same (x ∷ xs) (y ∷ ys) e =
     let others = in_row_same xs ys tails in
     cc
 
-columns_same : (structures : List Structure) (xs ys : List ℕ) → AreApart (constant false) structures → ((k : ℕ) → k < length xs → get_or xs k 0 < length structures) → ((k : ℕ) → k < length ys → get_or ys k 0 < length structures) → map (structure_at structures) xs ≡ map (structure_at structures) ys → xs ≡ ys
+columns_same : (structures : List Structure) (xs ys : List ℕ) → AreApart (constant false) structures
+    → ((k : ℕ) → k < length xs → get_or xs k 0 < length structures)
+    → ((k : ℕ) → k < length ys → get_or ys k 0 < length structures)
+    → map (structure_at structures) xs ≡ map (structure_at structures) ys → xs ≡ ys
 columns_same structures [] [] h below less e = refl
 columns_same structures [] (y ∷ ys) h below less e = cc
 columns_same structures (x ∷ xs) [] h below less e = cc
@@ -42,7 +45,9 @@ columns_same structures (x ∷ xs) (y ∷ ys) h below less e =
     let others = columns_same structures xs ys h (λ k inside. below (suc k) (omega arith)) (λ k inside. less (suc k) (omega arith)) tails in
     cc
 
-grown_apart : (rows : List (List (List ℕ))) (structures : List Structure) (x y : Shape) → AreApart [] rows → AreApart (constant false) structures → IsShapeWithin (length rows) (length structures) x → IsShapeWithin (length rows) (length structures) y → grown rows structures x ≡ grown rows structures y → x ≡ y
+grown_apart : (rows : List (List (List ℕ))) (structures : List Structure) (x y : Shape) → AreApart [] rows
+    → AreApart (constant false) structures → IsShapeWithin (length rows) (length structures) x
+    → IsShapeWithin (length rows) (length structures) y → grown rows structures x ≡ grown rows structures y → x ≡ y
 grown_apart rows structures (Variable v) (Variable w) r h i j e = let same : v ≡ w = cc in ap Variable same
 grown_apart rows structures (Variable v) (Constant c) r h i j e = cc
 grown_apart rows structures (Variable v) (Gate q others) r h i j e = cc
@@ -59,15 +64,21 @@ grown_apart rows structures (Gate p columns) (Gate q others) r h i j e =
     cc
 
 -- a shape over classes that are there is what it was
-grown_still : (rows : List (List (List ℕ))) (structures new : List Structure) (n m : ℕ) (x : Shape) → Grows (constant false) structures new m → n ≤ length structures → IsShapeWithin (length rows) n x → grown rows new x ≡ grown rows structures x
+grown_still : (rows : List (List (List ℕ))) (structures new : List Structure) (n m : ℕ) (x : Shape)
+    → Grows (constant false) structures new m → n ≤ length structures → IsShapeWithin (length rows) n x
+    → grown rows new x ≡ grown rows structures x
 grown_still rows structures new n m (Variable v) g few h = refl
 grown_still rows structures new n m (Constant b) g few h = refl
 grown_still rows structures new n m (Gate r columns) g few h =
-    ap (λ l. gate (get_or rows r []) (in_row l)) (map_alike (structure_at new) (structure_at structures) columns (λ k inside. g.kept (get_or columns k 0) (let less = h.1 k inside in omega (arith, less, few))))
+    ap (λ l. gate (get_or rows r []) (in_row l))
+    (map_alike (structure_at new) (structure_at structures) columns
+    (λ k inside. g.kept (get_or columns k 0) (let less = h.1 k inside in omega (arith, less, few))))
 
 -- ---- one shape more
 
-grown_push : (rows : List (List (List ℕ))) (structures : List Structure) (shapes : List Shape) (x : Shape) → grown_all rows structures (shapes ++ x ∷ []) ≡ grown_all rows structures shapes ++ grown rows (grown_all rows structures shapes) x ∷ []
+grown_push : (rows : List (List (List ℕ))) (structures : List Structure) (shapes : List Shape) (x : Shape)
+    → grown_all rows structures (shapes ++ x ∷ [])
+    ≡ grown_all rows structures shapes ++ grown rows (grown_all rows structures shapes) x ∷ []
 grown_push rows structures [] x = refl
 grown_push rows structures (shape ∷ shapes) x = grown_push rows (structures ++ grown rows structures shape ∷ []) shapes x
 
@@ -88,7 +99,9 @@ no_classes rows apart = subst (λ l. IsClassTable rows [] l) (sym (structures_no
   apart = record { apart = λ i j h k e. absurd (omega (arith, h)) };
 })
 
-one_class_more : (rows : List (List (List ℕ))) (shapes : List Shape) (structures : List Structure) (x : Shape) → IsClassTable rows shapes structures → IsShapeWithin (length rows) (length structures) x → list_any (same_shape x) shapes ≡ false → IsClassTable rows (shapes ++ x ∷ []) (structures ++ grown rows structures x ∷ [])
+one_class_more : (rows : List (List (List ℕ))) (shapes : List Shape) (structures : List Structure) (x : Shape)
+    → IsClassTable rows shapes structures → IsShapeWithin (length rows) (length structures) x
+    → list_any (same_shape x) shapes ≡ false → IsClassTable rows (shapes ++ x ∷ []) (structures ++ grown rows structures x ∷ [])
 one_class_more rows shapes structures x h inside absent = record {
   rows_apart = h.rows_apart;
   size = omega (arith, length-append structures (now ∷ []), length-append shapes (x ∷ []), h.size);
@@ -115,7 +128,8 @@ one_class_more rows shapes structures x h inside absent = record {
     still : (n : ℕ) (y : Shape) → n ≤ length structures → IsShapeWithin (length rows) n y → grown rows (structures ++ now ∷ []) y ≡ grown rows structures y
     still n y few there = grown_still rows structures (structures ++ now ∷ []) n 1 y (grows_one (constant false) structures now) few there
 
-    said : (i : ℕ) → i < length (shapes ++ x ∷ []) → (i ≡ length shapes) ⊎ (i ≡ length shapes → ⊥) → structure_at (structures ++ now ∷ []) i ≡ grown rows (structures ++ now ∷ []) (get_or (shapes ++ x ∷ []) i none)
+    said : (i : ℕ) → i < length (shapes ++ x ∷ []) → (i ≡ length shapes) ⊎ (i ≡ length shapes → ⊥)
+        → structure_at (structures ++ now ∷ []) i ≡ grown rows (structures ++ now ∷ []) (get_or (shapes ++ x ∷ []) i none)
     said i less (inl e) =
         let at_end : i ≡ length structures = e ∙ sym h.size in
         ap (structure_at (structures ++ now ∷ [])) at_end
@@ -149,7 +163,9 @@ one_class_more rows shapes structures x h inside absent = record {
         (grown_apart rows structures (get_or shapes i none) x h.rows_apart h.apart (wider i (length structures) (get_or shapes i none) few (h.before i there)) inside (sym (h.said i there) ∙ same))
 
 -- a shape is put into a table
-module _ (rows : List (List (List ℕ))) (shapes new : List Shape) (x : Shape) (h : IsClassTable rows shapes (structures_of rows shapes)) (inside : IsShapeWithin (length rows) (length (structures_of rows shapes)) x) (e : new ≡ cond (list_any (same_shape x) shapes) shapes (shapes ++ x ∷ [])) where
+module _ (rows : List (List (List ℕ))) (shapes new : List Shape) (x : Shape) (h : IsClassTable rows shapes (structures_of rows shapes))
+    (inside : IsShapeWithin (length rows) (length (structures_of rows shapes)) x)
+    (e : new ≡ cond (list_any (same_shape x) shapes) shapes (shapes ++ x ∷ [])) where
   now_there : list_any (same_shape x) shapes ≡ true → new ≡ shapes
   now_there there = e ∙ ap (λ b. cond b shapes (shapes ++ x ∷ [])) there
 
@@ -162,7 +178,9 @@ module _ (rows : List (List (List ℕ))) (shapes new : List Shape) (x : Shape) (
       by : (b : Bool) → list_any (same_shape x) shapes ≡ b → IsClassTable rows new (structures_of rows new)
       by true there = subst (λ l. IsClassTable rows l (structures_of rows l)) (sym (now_there there)) h
       by false absent =
-          let more : IsClassTable rows (shapes ++ x ∷ []) (structures_of rows (shapes ++ x ∷ [])) = subst (λ l. IsClassTable rows (shapes ++ x ∷ []) l) (sym (structures_push rows shapes x)) (one_class_more rows shapes (structures_of rows shapes) x h inside absent) in
+          let more : IsClassTable rows (shapes ++ x ∷ []) (structures_of rows (shapes ++ x ∷ [])) =
+          subst (λ l. IsClassTable rows (shapes ++ x ∷ []) l) (sym (structures_push rows shapes x))
+          (one_class_more rows shapes (structures_of rows shapes) x h inside absent) in
           subst (λ l. IsClassTable rows l (structures_of rows l)) (sym (now_last absent)) more
 
   pub class_grows : Grows (constant false) (structures_of rows shapes) (structures_of rows new) 1
@@ -170,7 +188,10 @@ module _ (rows : List (List (List ℕ))) (shapes new : List Shape) (x : Shape) (
     where
       by : (b : Bool) → list_any (same_shape x) shapes ≡ b → Grows (constant false) (structures_of rows shapes) (structures_of rows new) 1
       by true there = subst (λ l. Grows (constant false) (structures_of rows shapes) (structures_of rows l) 1) (sym (now_there there)) (grows_not (constant false) (structures_of rows shapes) 1)
-      by false absent = subst (λ l. Grows (constant false) (structures_of rows shapes) l 1) (sym (ap (structures_of rows) (now_last absent) ∙ structures_push rows shapes x)) (grows_one (constant false) (structures_of rows shapes) (grown rows (structures_of rows shapes) x))
+      by false absent =
+          subst (λ l. Grows (constant false) (structures_of rows shapes) l 1)
+          (sym (ap (structures_of rows) (now_last absent) ∙ structures_push rows shapes x))
+          (grows_one (constant false) (structures_of rows shapes) (grown rows (structures_of rows shapes) x))
 
   pub class_stands : (i : ℕ) → i ≡ position_or_len (same_shape x) shapes → Stands (constant false) (structures_of rows new) i (grown rows (structures_of rows shapes) x)
   class_stands i at =
@@ -185,7 +206,10 @@ module _ (rows : List (List (List ℕ))) (shapes new : List Shape) (x : Shape) (
       }
 
 -- the same in the terms of what contracts see of a table
-module _ (rows : List (List (List ℕ))) (shapes new : List Shape) (x : Shape) (table : List (List (List ℕ)) × List Shape) (seen : (rows, shapes) ≡ table) (h : IsClassTable rows shapes (structures_of rows shapes)) (inside : IsShapeWithin (length table.0) (length (structures_in table)) x) (e : new ≡ cond (list_any (same_shape x) shapes) shapes (shapes ++ x ∷ [])) where
+module _ (rows : List (List (List ℕ))) (shapes new : List Shape) (x : Shape) (table : List (List (List ℕ)) × List Shape)
+    (seen : (rows, shapes) ≡ table) (h : IsClassTable rows shapes (structures_of rows shapes))
+    (inside : IsShapeWithin (length table.0) (length (structures_in table)) x)
+    (e : new ≡ cond (list_any (same_shape x) shapes) shapes (shapes ++ x ∷ [])) where
   here : IsShapeWithin (length rows) (length (structures_of rows shapes)) x
   here = let P : (List (List (List ℕ)) × List Shape) → Type 0 = λ t. IsShapeWithin (length t.0) (length (structures_in t)) x in subst P (sym seen) inside
 
@@ -196,4 +220,7 @@ module _ (rows : List (List (List ℕ))) (shapes new : List Shape) (x : Shape) (
   table_grows = let P : (List (List (List ℕ)) × List Shape) → Type 0 = λ t. Grows (constant false) (structures_in t) (structures_of rows new) 1 in subst P seen (class_grows rows shapes new x h here e)
 
   pub table_stands : (i : ℕ) → i ≡ position_or_len (same_shape x) shapes → Stands (constant false) (structures_of rows new) i (grown table.0 (structures_in table) x)
-  table_stands i at = let P : (List (List (List ℕ)) × List Shape) → Type 0 = λ t. Stands (constant false) (structures_of rows new) i (grown t.0 (structures_in t) x) in subst P seen (class_stands rows shapes new x h here e i at)
+  table_stands i at =
+      let P : (List (List (List ℕ)) × List Shape) → Type 0 = λ t.
+      Stands (constant false) (structures_of rows new) i (grown t.0 (structures_in t) x) in
+      subst P seen (class_stands rows shapes new x h here e i at)

@@ -6,13 +6,16 @@ use Rattle.eqc_class.specs.Structure.{Structure, driver_structure, cover_structu
 use Rattle.eqc_class.proofs.ShapeLaws.{map_alike}
 
 -- a driver makes the same of structures that agree on what it depends on
-pub driver_structure_alike : (rows : List (List (List ℕ))) (variables : List ℕ) (t u : ℕ → Structure) (driver : DriverOf) → ((c : ℕ) → c < length (dependencies driver) → t (get_or (dependencies driver) c 0) ≡ u (get_or (dependencies driver) c 0)) → driver_structure rows variables t driver ≡ driver_structure rows variables u driver
+pub driver_structure_alike : (rows : List (List (List ℕ))) (variables : List ℕ) (t u : ℕ → Structure) (driver : DriverOf)
+    → ((c : ℕ) → c < length (dependencies driver) → t (get_or (dependencies driver) c 0) ≡ u (get_or (dependencies driver) c 0))
+    → driver_structure rows variables t driver ≡ driver_structure rows variables u driver
 driver_structure_alike rows variables t u (input position) same = refl
 driver_structure_alike rows variables t u (tie other) same = same 0 (omega arith)
 driver_structure_alike rows variables t u (cover columns r) same = ap (cover_structure (get_or rows r [])) (map_alike t u columns same)
 
 -- after more rounds than there are steps up to a signal its structure stays
-followed_still : (f : FlatOf) (variables : List ℕ) (m k n l : ℕ) → IsFlat f → k < m → k < length f.steps → k < n → k < l → followed f variables n (get_or f.steps k 0) ≡ followed f variables l (get_or f.steps k 0)
+followed_still : (f : FlatOf) (variables : List ℕ) (m k n l : ℕ) → IsFlat f → k < m → k < length f.steps → k < n → k < l
+    → followed f variables n (get_or f.steps k 0) ≡ followed f variables l (get_or f.steps k 0)
 unfolding followed
 followed_still f variables zero k n l h below inside first second = absurd (omega (arith, below))
 followed_still f variables (suc m) k zero l h below inside first second = absurd (omega (arith, first))
@@ -27,7 +30,8 @@ one_round : (f : FlatOf) (variables : List ℕ) (s : ℕ) → followed f variabl
 unfolding followed structure_of
 one_round f variables s = refl
 
-pub structure_follows : (f : FlatOf) (variables : List ℕ) (s : ℕ) → IsFlat f → s < length f.drivers → structure_of f variables s ≡ driver_structure f.rows variables (structure_of f variables) (driver_at f s)
+pub structure_follows : (f : FlatOf) (variables : List ℕ) (s : ℕ) → IsFlat f → s < length f.drivers
+    → structure_of f variables s ≡ driver_structure f.rows variables (structure_of f variables) (driver_at f s)
 unfolding structure_of
 structure_follows f variables s h inside =
     let w = step_of f s h inside in

@@ -67,7 +67,8 @@ repeated row v e = by (bytes_eq row (49 ∷ 49 ∷ [])) refl
         let other : bytes_eq row (48 ∷ 48 ∷ []) ≡ true = sym (ap (λ b. b || bytes_eq row (48 ∷ 48 ∷ [])) h) ∙ e in
         subst (λ r. cover_value (r ∷ []) (v ∷ []) ≡ v) (sym (bytes_same row (48 ∷ 48 ∷ []) other)) (low v)
 
-passing_cover : (a : ℕ → Bool) (rows : List (List ℕ)) (xs : List Structure) → passes_on rows (length xs) ≡ true → cover_value rows (map (structure_value a) xs) ≡ structure_value a (get_or xs 0 (constant false))
+passing_cover : (a : ℕ → Bool) (rows : List (List ℕ)) (xs : List Structure) → passes_on rows (length xs) ≡ true
+    → cover_value rows (map (structure_value a) xs) ≡ structure_value a (get_or xs 0 (constant false))
 passing_cover a rows [] e = absurd (true≢false (sym e))
 passing_cover a [] (x ∷ []) e = absurd (true≢false (sym e))
 passing_cover a (row ∷ []) (x ∷ []) e = repeated row (structure_value a x) e
@@ -92,14 +93,19 @@ map_map : (a : ℕ → Bool) (t : ℕ → Structure) (xs : List ℕ) → map (λ
 map_map a t [] = refl
 map_map a t (x ∷ xs) = ap (λ l. structure_value a (t x) ∷ l) (map_map a t xs)
 
-driven_same : (rows : List (List (List ℕ))) (variables : List ℕ) (a v : ℕ → Bool) (t : ℕ → Structure) (driver : DriverOf) → ((c : ℕ) → c < length (dependencies driver) → v (get_or (dependencies driver) c 0) ≡ structure_value a (t (get_or (dependencies driver) c 0))) → driven rows (inputs_under variables a) v driver ≡ structure_value a (driver_structure rows variables t driver)
+driven_same : (rows : List (List (List ℕ))) (variables : List ℕ) (a v : ℕ → Bool) (t : ℕ → Structure) (driver : DriverOf)
+    → ((c : ℕ) → c < length (dependencies driver)
+    → v (get_or (dependencies driver) c 0) ≡ structure_value a (t (get_or (dependencies driver) c 0)))
+    → driven rows (inputs_under variables a) v driver ≡ structure_value a (driver_structure rows variables t driver)
 driven_same rows variables a v t (input position) same = refl
 driven_same rows variables a v t (tie other) same = same 0 (omega arith)
 driven_same rows variables a v t (cover columns r) same =
     ap (cover_value (get_or rows r [])) (map_alike v (λ x. structure_value a (t x)) columns same ∙ map_map a t columns)
     ∙ cover_same a (get_or rows r []) (map t columns)
 
-value_below : (f : FlatOf) (variables : List ℕ) (a : ℕ → Bool) (m k : ℕ) → IsFlat f → FollowsDrivers f → k < m → k < length f.steps → value_of f (inputs_under variables a) (get_or f.steps k 0) ≡ structure_value a (structure_of f variables (get_or f.steps k 0))
+value_below : (f : FlatOf) (variables : List ℕ) (a : ℕ → Bool) (m k : ℕ) → IsFlat f → FollowsDrivers f → k < m
+    → k < length f.steps
+    → value_of f (inputs_under variables a) (get_or f.steps k 0) ≡ structure_value a (structure_of f variables (get_or f.steps k 0))
 value_below f variables a zero k h follows below inside = absurd (omega (arith, below))
 value_below f variables a (suc m) k h follows below inside =
     let s = get_or f.steps k 0 in
@@ -111,11 +117,14 @@ value_below f variables a (suc m) k h follows below inside =
     subst (λ d. value_of f (inputs_under variables a) d ≡ structure_value a (structure_of f variables d)) w.2 earlier)
     ∙ ap (structure_value a) (sym (structure_follows f variables s h within)))
 
-value_is : (f : FlatOf) (variables : List ℕ) (a : ℕ → Bool) (s : ℕ) → IsFlat f → FollowsDrivers f → s < length f.drivers → value_of f (inputs_under variables a) s ≡ structure_value a (structure_of f variables s)
+value_is : (f : FlatOf) (variables : List ℕ) (a : ℕ → Bool) (s : ℕ) → IsFlat f → FollowsDrivers f → s < length f.drivers
+    → value_of f (inputs_under variables a) s ≡ structure_value a (structure_of f variables s)
 value_is f variables a s h follows inside =
     let w = step_of f s h inside in
     subst (λ t. value_of f (inputs_under variables a) t ≡ structure_value a (structure_of f variables t)) w.2 (value_below f variables a (suc w.0) w.0 h follows (omega arith) w.1)
 
-pub equal_values : (f g : FlatOf) (variables others : List ℕ) (s t : ℕ) (a : ℕ → Bool) → IsFlat f → FollowsDrivers f → IsFlat g → FollowsDrivers g → s < length f.drivers → t < length g.drivers → structure_of f variables s ≡ structure_of g others t → value_of f (inputs_under variables a) s ≡ value_of g (inputs_under others a) t
+pub equal_values : (f g : FlatOf) (variables others : List ℕ) (s t : ℕ) (a : ℕ → Bool) → IsFlat f → FollowsDrivers f → IsFlat g
+    → FollowsDrivers g → s < length f.drivers → t < length g.drivers → structure_of f variables s ≡ structure_of g others t
+    → value_of f (inputs_under variables a) s ≡ value_of g (inputs_under others a) t
 equal_values f g variables others s t a h follows i leads inside within same =
     value_is f variables a s h follows inside ∙ (ap (structure_value a) same ∙ sym (value_is g others a t i leads within))

@@ -6,6 +6,7 @@ ghost use Rattle.eqc_class.specs.Tables.{AreApart, Grows, Stands, structures_in}
 
 use crate::row_set::RowSet;
 use crate::shape::Shape;
+use eqc_blif::Key;
 use indexmap::IndexSet;
 use std::alloc::{AllocError, Global};
 use std::marker::Model;
@@ -19,7 +20,7 @@ const MOST_COLUMNS: usize = 16_777_216;
 #[derive(Drop)]
 pub(crate) struct ClassTable<'r, 'a> {
     rows: &'r RowSet<'a>,
-    shapes: IndexSet<Shape>,
+    shapes: IndexSet<Shape, Key>,
     /// How many columns the shapes have.
     columns: usize,
 }
@@ -42,16 +43,17 @@ fn added(fresh: bool, width: usize) -> usize {
 }
 
 impl<'r, 'a> ClassTable<'r, 'a> {
-    /// No classes, over these rows, with room for so many. Fails where memory is refused.
+    /// No classes, over these rows, with room for so many, which are looked up by the key. Fails where memory is refused.
     pub(crate) fn new(
         alloc: Global,
+        key: Key,
         rows: &'r RowSet<'a>,
         room: usize,
     ) -> Result<ClassTable<'r, 'a>, AllocError>
         ensures { IfOk result (λ table. table ≡ (rows.now, [])) }
     {
         rows.recall_apart();
-        let shapes = IndexSet::with_capacity(alloc, room)?;
+        let shapes = IndexSet::with_capacity_and_hasher(alloc, room, key)?;
         Ok(ClassTable {
             rows,
             shapes,

@@ -6,7 +6,7 @@ ghost use Rattle.eqc_class.specs.Tables.{AreApart, Grows, Stands};
 ghost use Rattle.eqc_class.specs.Numbering.{rows_until, AreRowClasses};
 
 use crate::rows_key::RowsKey;
-use eqc_blif::Rows;
+use eqc_blif::{Key, Rows};
 use eqc_flat::{Driver, Flat};
 use indexmap::IndexSet;
 use std::alloc::{AllocError, Global};
@@ -15,7 +15,7 @@ use std::marker::Model;
 /// Rows of covers, all of them different. Contracts see their list.
 #[derive(Drop)]
 pub(crate) struct RowSet<'a> {
-    keys: IndexSet<RowsKey<'a>>,
+    keys: IndexSet<RowsKey<'a>, Key>,
 }
 
 impl<'a> Model for RowSet<'a> {
@@ -55,12 +55,12 @@ fn rows_named(flat: &Flat<'_>) -> usize
 }
 
 impl<'a> RowSet<'a> {
-    /// A set without rows.
-    pub(crate) fn new(alloc: Global) -> RowSet<'a>
+    /// A set without rows, which are looked up by this key.
+    pub(crate) fn new(alloc: Global, key: Key) -> RowSet<'a>
         ensures { result ≡ [] }
     {
         RowSet {
-            keys: IndexSet::new(alloc),
+            keys: IndexSet::with_hasher(alloc, key),
         }
     }
 

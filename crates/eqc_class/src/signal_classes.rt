@@ -7,6 +7,7 @@ ghost use Rattle.eqc_class.specs.Numbering.{AreRowClasses};
 use crate::class_table::ClassTable;
 use crate::numbering::numbers_of;
 use crate::row_set::RowSet;
+use eqc_blif::Key;
 use eqc_flat::Flat;
 use std::alloc::{AllocError, Global};
 use std::marker::Model;
@@ -59,6 +60,11 @@ fn recall_laws(flat: &Flat<'_>)
     let _steps = flat.steps();
 }
 
+/// The key of what two netlists are told by: that of both texts.
+fn key_of(first: &Flat<'_>, second: &Flat<'_>) -> Key {
+    first.key().with(second.key())
+}
+
 /// The classes of the signals of two netlists whose rows have these places among others. Fails where memory is refused.
 #[allow(clippy::too_many_arguments)]
 fn classes_over(
@@ -77,7 +83,7 @@ fn classes_over(
     requires second_rows { AreRowClasses second.now rows.now second_rows.now }
     ensures { IfOk result (λ c. AreClasses first.now second.now variables.now others.now c) }
 {
-    let mut table = ClassTable::new(alloc, rows, first.steps().len())?;
+    let mut table = ClassTable::new(alloc, key_of(first, second), rows, first.steps().len())?;
     let first = numbers_of(alloc, &mut table, first, variables, first_rows)?;
     let second = numbers_of(alloc, &mut table, second, others, second_rows)?;
     let count = table.len();
@@ -108,7 +114,7 @@ pub fn classes<'a>(
 {
     recall_laws(first);
     recall_laws(second);
-    let mut rows = RowSet::new(alloc);
+    let mut rows = RowSet::new(alloc, key_of(first, second));
     let first_rows = rows.places(alloc, first)?;
     let second_rows = rows.places(alloc, second)?;
     let found = classes_over(

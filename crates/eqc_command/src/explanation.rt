@@ -31,6 +31,9 @@ const MOST_NODES: u32 = 1_048_574;
 /// The fewest nodes with which equal signals are looked for inside the netlists.
 const SWEPT_NODES: u32 = 1_024;
 
+/// What is said where nothing was compared.
+const VACUOUS: &str = "no assignment of the inputs meets the assumption, so nothing was compared";
+
 /// What to do about a signal without a driver.
 const UNDRIVEN_HINT: &str =
     "yosys leaves such nets open; 'setundef -undriven -zero' before 'techmap' ties them to 0";
@@ -43,6 +46,8 @@ pub struct Explanation<'a> {
     second: &'a str,
     /// Empty where there is no order text.
     order: &'a str,
+    /// Empty where there is no assumption.
+    assume: &'a str,
     options: Options,
     lines: String,
 }
@@ -331,6 +336,10 @@ fn pair_said(alloc: Global, finding: &PairFinding<'_>) -> Result<String, AllocEr
             Names(first),
             Names(second)
         ),
+        PairFinding::UnknownOutputs(names) => format!(in alloc;
+            "names of --output that are no outputs, {} (43)",
+            Names(names)
+        ),
         PairFinding::OrderTooLong { bytes, limit } => format!(in alloc;
             "the order text has {bytes} bytes at least, and may have {limit} (2)"
         ),
@@ -345,6 +354,13 @@ fn pair_said(alloc: Global, finding: &PairFinding<'_>) -> Result<String, AllocEr
         PairFinding::InputsLeftOut(names) => format!(in alloc;
             "inputs that the order text leaves out, {} (53)",
             Names(names)
+        ),
+        PairFinding::UnknownInputs(names) => format!(in alloc;
+            "inputs of the assumption that the netlists don't have, {} (61)",
+            Names(names)
+        ),
+        PairFinding::OutputCount(count) => format!(in alloc;
+            "the assumption has {count} outputs, and has to have one (62)"
         ),
     }
 }
@@ -434,6 +450,7 @@ pub fn explanation_for<'a>(alloc: Global, request: &Request<'a>) -> Explanation<
         first: first_source(request),
         second: second_source(request),
         order: request.order.unwrap_or(""),
+        assume: request.assume.unwrap_or(""),
         options: request.options,
         lines: String::new(alloc),
     }
@@ -448,9 +465,10 @@ impl<'a> Explanation<'a> {
     /// What the text of a side is called.
     fn name(&self, side: Side) -> &'a str {
         match side {
+            Side::First | Side::Pair | Side::Options => self.first,
             Side::Second => self.second,
             Side::Order => self.order,
-            _ => self.first,
+            Side::Assume => self.assume,
         }
     }
 
@@ -543,6 +561,10 @@ impl<'a> Diagnostics for Explanation<'a> {
 
     fn pair(&mut self, finding: &PairFinding<'_>) {
         let _ = self.tell(pair_said(self.alloc, finding));
+    }
+
+    fn vacuous(&mut self) {
+        let _ = self.tell_of(self.assume, String::from_str(self.alloc, VACUOUS));
     }
 
     fn option(&mut self, code: u8) {

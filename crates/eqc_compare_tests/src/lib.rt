@@ -1,9 +1,11 @@
 //! The tests of comparisons of pairs: one output, and all by members and workers, with what they hold meanwhile.
 //!
-//! - `pairs`, the calls below a run, on one thread
+//! - `pairs`, the calls below a run, on one thread; `assumptions`, pairs under one
 //! - `workers`, by several in threads of their own; `parities`, how many nodes they take
 #![tactic(auto)]
 
+#[cfg(test)]
+mod assumptions;
 #[cfg(test)]
 mod ends;
 #[cfg(test)]

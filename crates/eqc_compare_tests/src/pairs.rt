@@ -196,7 +196,7 @@ fn checked_word<R>(
     if !is_size(nodes) {
         return String::from_str(alloc, "no such size");
     }
-    match check_plain(rt, alloc, pair, nodes) {
+    match check_plain(rt, alloc, pair, false, nodes) {
         Ok(report) => report_word(alloc, &report),
         Err(stop) => report_word(alloc, &Report::Stopped(stop)),
     }

@@ -1,5 +1,44 @@
 -- Blocks of values chosen at once.
-use Rattle.std.proofs.Common.{◌≡◌, ℕ, zero, suc, ◌+◌, ◌-◌, ◌*◌, ◌<◌, ◌≤◌, inl, inr, Bool, true, false, ◌==◌, eqb-true, not, ◌&&◌, ◌||◌, List, [], ◌∷◌, ◌++◌, length, take, drop, replicate, drop-cons, get_or, if◌then◌else◌, sym, ap, refl, ◌∙◌, arith, append_assoc, append-nil, true≢false}
+use Rattle.std.proofs.Common.{
+  ◌≡◌,
+  ℕ,
+  zero,
+  suc,
+  ◌+◌,
+  ◌-◌,
+  ◌*◌,
+  ◌<◌,
+  ◌≤◌,
+  inl,
+  inr,
+  Bool,
+  true,
+  false,
+  ◌==◌,
+  eqb-true,
+  not,
+  ◌&&◌,
+  ◌||◌,
+  List,
+  [],
+  ◌∷◌,
+  ◌++◌,
+  length,
+  take,
+  drop,
+  replicate,
+  drop-cons,
+  get_or,
+  if◌then◌else◌,
+  sym,
+  ap,
+  refl,
+  ◌∙◌,
+  arith,
+  append_assoc,
+  append-nil,
+  true≢false,
+}
 use Rattle.std.specs.List.{list_any, All}
 use Rattle.std.proofs.Math.Nat.{mul_comm}
 use Rattle.std.proofs.Math.Seq.{take-length}
@@ -55,7 +94,8 @@ chooses_one vs f rest left bits over chosen h same nothing =
     or_false false = refl
 
 -- what the try of a block decides
-pub chooses_decided : (b : Bool) (k : ℕ) (vs block : List ℕ) (f rest left : (ℕ → Bool) → Bool) (bits more : List Bool) → IsOver vs f → IsChosen vs f rest bits → length bits < length vs → length bits + k ≤ length vs
+pub chooses_decided : (b : Bool) (k : ℕ) (vs block : List ℕ) (f rest left : (ℕ → Bool) → Bool) (bits more : List Bool)
+    → IsOver vs f → IsChosen vs f rest bits → length bits < length vs → length bits + k ≤ length vs
     → block ≡ take k (drop (length bits) vs) → IsNarrowed b block rest left → more ≡ bits ++ decided b k → IsChosen vs f left more
 chooses_decided true k vs block f rest left bits more over chosen here within at narrowed e =
     let narrow : IsNarrowed true (take k (drop (length bits) vs)) rest left = rw at at narrowed in

@@ -23,12 +23,16 @@ pub held_gains : {X : Type 0} (entry : X → Entry) (old new : Holding) (rs : Li
 held_gains entry old new rs r f g h = held_more entry old new rs (λ e. omega (arith, g.held e)) h
 
 -- one function in place of another that is equal
-pub gains_as : {X E : Type 0} (entry : X → Entry) (old new : Holding) (result : Result X E) (f g : (ℕ → Bool) → Bool) → ((a : ℕ → Bool) → f a ≡ g a) → IfOk result (λ r. Gains old new (entry r) f) → IfOk result (λ r. Gains old new (entry r) g)
+pub gains_as : {X E : Type 0} (entry : X → Entry) (old new : Holding) (result : Result X E) (f g : (ℕ → Bool) → Bool)
+    → ((a : ℕ → Bool) → f a ≡ g a) → IfOk result (λ r. Gains old new (entry r) f) → IfOk result (λ r. Gains old new (entry r) g)
 gains_as entry old new (Ok r) f g e h = record { variables = h.variables; held = h.held; function = λ a. h.function a ∙ e a }
 gains_as entry old new (Err stop) f g e h = tt
 
 -- an operation on two references that are given back afterwards
-pub joins_two : {X E : Type 0} (entry : X → Entry) (d0 d1 d2 d3 d4 d5 : Holding) (x y : Entry) (result : Result X E) (f g : (ℕ → Bool) → Bool) (op : (ℕ → Bool) → Bool → Bool → Bool) → Gains d0 d1 x f → Gains d1 d2 y g → IfOk result (λ r. Gains d2 d3 (entry r) (λ a. op a (says x a) (says y a))) → Loses d3 d4 x → Loses d4 d5 y → IfOk result (λ r. Gains d0 d5 (entry r) (λ a. op a (f a) (g a)))
+pub joins_two : {X E : Type 0} (entry : X → Entry) (d0 d1 d2 d3 d4 d5 : Holding) (x y : Entry) (result : Result X E)
+    (f g : (ℕ → Bool) → Bool) (op : (ℕ → Bool) → Bool → Bool → Bool) → Gains d0 d1 x f → Gains d1 d2 y g
+    → IfOk result (λ r. Gains d2 d3 (entry r) (λ a. op a (says x a) (says y a))) → Loses d3 d4 x → Loses d4 d5 y
+    → IfOk result (λ r. Gains d0 d5 (entry r) (λ a. op a (f a) (g a)))
 joins_two entry d0 d1 d2 d3 d4 d5 x y (Ok r) f g op a b made c d = record {
   variables = d.variables ∙ (c.variables ∙ (made.variables ∙ (b.variables ∙ a.variables)));
   held = λ e. omega (arith, a.held e, b.held e, made.held e, c.held e, d.held e);

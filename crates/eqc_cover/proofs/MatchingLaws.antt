@@ -1,5 +1,37 @@
 -- Laws of rows, their columns and their values.
-use Rattle.std.proofs.Common.{◌≡◌, ℕ, zero, suc, ◌+◌, ◌<◌, ◌≤◌, Bool, true, false, ◌&&◌, ◌||◌, not, cond, List, [], ◌∷◌, ◌++◌, length, map, take, drop, refl, sym, ◌∙◌, ap, arith, ◌==◌, eqb-true, get_or, append-nil}
+use Rattle.std.proofs.Common.{
+  ◌≡◌,
+  ℕ,
+  zero,
+  suc,
+  ◌+◌,
+  ◌<◌,
+  ◌≤◌,
+  Bool,
+  true,
+  false,
+  ◌&&◌,
+  ◌||◌,
+  not,
+  cond,
+  List,
+  [],
+  ◌∷◌,
+  ◌++◌,
+  length,
+  map,
+  take,
+  drop,
+  refl,
+  sym,
+  ◌∙◌,
+  ap,
+  arith,
+  ◌==◌,
+  eqb-true,
+  get_or,
+  append-nil,
+}
 use Rattle.std.proofs.lemmas.Bool.{false≢true}
 use Rattle.std.proofs.lemmas.List.{take_more, map-append}
 use Rattle.std.specs.Borrow.{Bor}
@@ -70,11 +102,16 @@ pub some_match-nil : (row : List ℕ) (rows : List (List ℕ)) → some_match (r
 some_match-nil row rows = refl
 
 -- Shannon's expansion
-pub expansion : (on : Bool) (rows : List (List ℕ)) (v : Bool) (vs : List Bool) → cond v (agrees on (some_match (cofactor true rows) vs)) (agrees on (some_match (cofactor false rows) vs)) ≡ agrees on (some_match rows (v ∷ vs))
+pub expansion : (on : Bool) (rows : List (List ℕ)) (v : Bool) (vs : List Bool)
+    → cond v (agrees on (some_match (cofactor true rows) vs)) (agrees on (some_match (cofactor false rows) vs))
+    ≡ agrees on (some_match rows (v ∷ vs))
 expansion on rows true vs = ap (agrees on) (sym (some_match-cofactor rows true vs))
 expansion on rows false vs = ap (agrees on) (sym (some_match-cofactor rows false vs))
 
-pub of_two_values : (on : Bool) (rows : List (List ℕ)) (neither one other both x y : Bool) → neither ≡ agrees on (some_match rows (false ∷ false ∷ [])) → one ≡ agrees on (some_match rows (false ∷ true ∷ [])) → other ≡ agrees on (some_match rows (true ∷ false ∷ [])) → both ≡ agrees on (some_match rows (true ∷ true ∷ [])) → of_two neither one other both x y ≡ agrees on (some_match rows (x ∷ y ∷ []))
+pub of_two_values : (on : Bool) (rows : List (List ℕ)) (neither one other both x y : Bool)
+    → neither ≡ agrees on (some_match rows (false ∷ false ∷ [])) → one ≡ agrees on (some_match rows (false ∷ true ∷ []))
+    → other ≡ agrees on (some_match rows (true ∷ false ∷ [])) → both ≡ agrees on (some_match rows (true ∷ true ∷ []))
+    → of_two neither one other both x y ≡ agrees on (some_match rows (x ∷ y ∷ []))
 of_two_values on rows neither one other both true true e f g h = h
 of_two_values on rows neither one other both true false e f g h = g
 of_two_values on rows neither one other both false true e f g h = f
@@ -95,11 +132,14 @@ row_matches-empty [] vs h = sym (row_over vs)
 row_matches-empty (byte ∷ row) vs h = let e : length (byte ∷ row) ≡ 0 = eqb-true _ _ h in absurd (omega arith)
 
 -- the halves of a row and of its columns
-pub by_halves : {X : Type 0} (entry : X → Entry) (n : ℕ) (row left right : List ℕ) (columns some others : List (Bor X)) (a : ℕ → Bool) → some ≡ take n columns → others ≡ drop n columns → left ≡ take n row → right ≡ drop n row → (row_matches left (said entry some a) && row_matches right (said entry others a)) ≡ row_matches row (said entry columns a)
+pub by_halves : {X : Type 0} (entry : X → Entry) (n : ℕ) (row left right : List ℕ) (columns some others : List (Bor X)) (a : ℕ → Bool)
+    → some ≡ take n columns → others ≡ drop n columns → left ≡ take n row → right ≡ drop n row
+    → (row_matches left (said entry some a) && row_matches right (said entry others a)) ≡ row_matches row (said entry columns a)
 by_halves entry n row left right columns some others a e f l r =
     rw (e, f, l, r, map_take (λ r. says (entry r.now) a) n columns, map_drop (λ r. says (entry r.now) a) n columns) (sym (row_matches-split n row (said entry columns a)))
 
-pub by_short : {X : Type 0} (entry : X → Entry) (n : ℕ) (row : List ℕ) (columns some : List (Bor X)) (a : ℕ → Bool) → some ≡ take n columns → length row ≤ n → row_matches row (said entry some a) ≡ row_matches row (said entry columns a)
+pub by_short : {X : Type 0} (entry : X → Entry) (n : ℕ) (row : List ℕ) (columns some : List (Bor X)) (a : ℕ → Bool)
+    → some ≡ take n columns → length row ≤ n → row_matches row (said entry some a) ≡ row_matches row (said entry columns a)
 by_short entry n row columns some a e h = rw (e, map_take (λ r. says (entry r.now) a) n columns) (row_matches-short n row (said entry columns a) h)
 
 agrees-true : (on : Bool) → on ≡ agrees on true
@@ -107,19 +147,24 @@ agrees-true true = refl
 agrees-true false = refl
 
 -- with no columns, some row matches where there is one
-pub no_columns : {X : Type 0} (entry : X → Entry) (on : Bool) (rows : List (Bor (List ℕ))) (columns : List (Bor X)) (a : ℕ → Bool) → (length rows == 0) ≡ false → columns ≡ [] → on ≡ agrees on (some_match (map (λ r. r.now) rows) (said entry columns a))
+pub no_columns : {X : Type 0} (entry : X → Entry) (on : Bool) (rows : List (Bor (List ℕ))) (columns : List (Bor X)) (a : ℕ → Bool)
+    → (length rows == 0) ≡ false → columns ≡ [] → on ≡ agrees on (some_match (map (λ r. r.now) rows) (said entry columns a))
 no_columns entry on [] columns a some none = absurd (false≢true (sym some))
 no_columns entry on (row ∷ rows) columns a some none = rw none (agrees-true on)
 
 -- a cofactor for each value of the first column
 pub expansion_said : {X : Type 0} (entry : X → Entry) (on : Bool) (rows high low : List (Bor (List ℕ))) (x : Bor X) (columns others : List (Bor X)) (a : ℕ → Bool) → columns ≡ x ∷ others
     → map (λ r. r.now) high ≡ cofactor true (map (λ r. r.now) rows) → map (λ r. r.now) low ≡ cofactor false (map (λ r. r.now) rows)
-    → cond (says (entry x.now) a) (agrees on (some_match (map (λ r. r.now) high) (said entry others a))) (agrees on (some_match (map (λ r. r.now) low) (said entry others a))) ≡ agrees on (some_match (map (λ r. r.now) rows) (said entry columns a))
+    → cond (says (entry x.now) a) (agrees on (some_match (map (λ r. r.now) high) (said entry others a)))
+    (agrees on (some_match (map (λ r. r.now) low) (said entry others a)))
+    ≡ agrees on (some_match (map (λ r. r.now) rows) (said entry columns a))
 expansion_said entry on rows high low x columns others a e h l =
     rw (e, h, l) (expansion on (map (λ (r : Bor (List ℕ)). r.now) rows) (says (entry x.now) a) (said entry others a))
 
 -- one more row, with what is kept of it
-pub cofactor_more : (v : Bool) (i : ℕ) (rows : List (Bor (List ℕ))) (d : Bor (List ℕ)) (old new : List (List ℕ)) → i < length rows → old ≡ cofactor v (map (λ r. r.now) (take i rows)) → new ≡ old ++ cofactor v ((get_or rows i d).now ∷ []) → new ≡ cofactor v (map (λ r. r.now) (take (i + 1) rows))
+pub cofactor_more : (v : Bool) (i : ℕ) (rows : List (Bor (List ℕ))) (d : Bor (List ℕ)) (old new : List (List ℕ)) → i < length rows
+    → old ≡ cofactor v (map (λ r. r.now) (take i rows)) → new ≡ old ++ cofactor v ((get_or rows i d).now ∷ [])
+    → new ≡ cofactor v (map (λ r. r.now) (take (i + 1) rows))
 cofactor_more v i rows d old new h o n =
     n ∙ (ap (λ xs. xs ++ cofactor v ((get_or rows i d).now ∷ [])) o ∙ (sym (cofactor-append v (map (λ (r : Bor (List ℕ)). r.now) (take i rows)) ((get_or rows i d).now ∷ []))
     ∙ ap (cofactor v) (sym (ap (map (λ (r : Bor (List ℕ)). r.now)) (take_more rows i d h) ∙ map-append (λ (r : Bor (List ℕ)). r.now) (take i rows) (get_or rows i d ∷ [])))))
@@ -132,7 +177,8 @@ pub left_row : (old new : List (Bor (List ℕ))) (more : List (List ℕ)) → ne
 left_row old new more n e = ap (map (λ (r : Bor (List ℕ)). r.now)) n ∙ (sym (append-nil (map (λ (r : Bor (List ℕ)). r.now) old)) ∙ ap (λ xs. map (λ (r : Bor (List ℕ)). r.now) old ++ xs) e)
 
 -- with no rows, none matches
-pub no_rows : {X : Type 0} (entry : X → Entry) (on : Bool) (rows : List (Bor (List ℕ))) (columns : List (Bor X)) (a : ℕ → Bool) → (length rows == 0) ≡ true → not on ≡ agrees on (some_match (map (λ r. r.now) rows) (said entry columns a))
+pub no_rows : {X : Type 0} (entry : X → Entry) (on : Bool) (rows : List (Bor (List ℕ))) (columns : List (Bor X)) (a : ℕ → Bool)
+    → (length rows == 0) ≡ true → not on ≡ agrees on (some_match (map (λ r. r.now) rows) (said entry columns a))
 no_rows entry on [] columns a none = opposite on
   where
     opposite : (on : Bool) → not on ≡ agrees on false
@@ -147,11 +193,15 @@ alone (y ∷ []) x some few is = ap (λ z. z ∷ []) (sym is)
 alone (y ∷ z ∷ xs) x some few is = absurd (omega arith)
 
 -- two columns
-pub two_said : {X : Type 0} (entry : X → Entry) (on : Bool) (rows : List (List ℕ)) (x y : Bor X) (columns others : List (Bor X)) (a : ℕ → Bool) → columns ≡ x ∷ others → others ≡ y ∷ [] → agrees on (some_match rows (says (entry x.now) a ∷ says (entry y.now) a ∷ [])) ≡ agrees on (some_match rows (said entry columns a))
+pub two_said : {X : Type 0} (entry : X → Entry) (on : Bool) (rows : List (List ℕ)) (x y : Bor X) (columns others : List (Bor X))
+    (a : ℕ → Bool) → columns ≡ x ∷ others → others ≡ y ∷ []
+    → agrees on (some_match rows (says (entry x.now) a ∷ says (entry y.now) a ∷ [])) ≡ agrees on (some_match rows (said entry columns a))
 two_said entry on rows x y columns others a e f = ap (λ cs. agrees on (some_match rows (said entry cs a))) (sym (e ∙ ap (λ rs. x ∷ rs) f))
 
 -- one column and the first byte of a row
-pub one_said : {X : Type 0} (entry : X → Entry) (row : List ℕ) (x : Bor X) (columns : List (Bor X)) (a : ℕ → Bool) → (length row == 0) ≡ false → columns ≡ x ∷ [] → allows (get_or row 0 0) (says (entry x.now) a) ≡ row_matches row (said entry columns a)
+pub one_said : {X : Type 0} (entry : X → Entry) (row : List ℕ) (x : Bor X) (columns : List (Bor X)) (a : ℕ → Bool)
+    → (length row == 0) ≡ false → columns ≡ x ∷ []
+    → allows (get_or row 0 0) (says (entry x.now) a) ≡ row_matches row (said entry columns a)
 one_said entry [] x columns a some e = absurd (false≢true (sym some))
 one_said entry (byte ∷ row) x columns a some e = rw e (sym (and_true (allows byte (says (entry x.now) a)) (row_matches row []) (row_matches-none row)))
   where
@@ -176,7 +226,9 @@ pub allows-one : (byte : ℕ) (v : Bool) → byte ≡ 49 → v ≡ allows byte v
 allows-one byte v e = rw e refl
 
 -- the halves of some rows
-pub some_match-halves : (n : ℕ) (rows some others : List (Bor (List ℕ))) (vs : List Bool) → some ≡ take n rows → others ≡ drop n rows → (some_match (map (λ r. r.now) some) vs || some_match (map (λ r. r.now) others) vs) ≡ some_match (map (λ r. r.now) rows) vs
+pub some_match-halves : (n : ℕ) (rows some others : List (Bor (List ℕ))) (vs : List Bool) → some ≡ take n rows
+    → others ≡ drop n rows
+    → (some_match (map (λ r. r.now) some) vs || some_match (map (λ r. r.now) others) vs) ≡ some_match (map (λ r. r.now) rows) vs
 some_match-halves n rows some others vs e f =
     rw (e, f, map_take (λ (r : Bor (List ℕ)). r.now) n rows, map_drop (λ (r : Bor (List ℕ)). r.now) n rows) (sym (some_match-split n (map (λ (r : Bor (List ℕ)). r.now) rows) vs))
 
@@ -196,7 +248,8 @@ of_two_neither true one other both x y e = absurd (false≢true (sym e))
 of_two_neither false one other both x y e = refl
 
 -- the value of a cover by rows that match alike
-pub covered_by : (on : Bool) (n : ℕ) (kept rows : List (List ℕ)) (vs : List Bool) → length vs ≡ n → (length rows == 0) ≡ false → on ≡ is_on_set rows → MatchAlike n kept rows → agrees on (some_match kept vs) ≡ cover_value rows vs
+pub covered_by : (on : Bool) (n : ℕ) (kept rows : List (List ℕ)) (vs : List Bool) → length vs ≡ n → (length rows == 0) ≡ false
+    → on ≡ is_on_set rows → MatchAlike n kept rows → agrees on (some_match kept vs) ≡ cover_value rows vs
 covered_by on n kept [] vs size some is m = absurd (false≢true (sym some))
 covered_by on n kept (row ∷ rows) vs size some is m = ap (agrees on) (m.alike vs (omega (arith, size))) ∙ by on (is_on row) (some_match (row ∷ rows) vs) is
   where
@@ -207,7 +260,8 @@ covered_by on n kept (row ∷ rows) vs size some is m = ap (agrees on) (m.alike 
     by false false true e = refl
     by false false false e = refl
 
-pub covered_off : (n : ℕ) (kept rows : List (List ℕ)) (vs : List Bool) → length vs ≡ n → (length rows == 0) ≡ false → false ≡ is_on_set rows → MatchAlike n kept rows → not (some_match kept vs) ≡ cover_value rows vs
+pub covered_off : (n : ℕ) (kept rows : List (List ℕ)) (vs : List Bool) → length vs ≡ n → (length rows == 0) ≡ false
+    → false ≡ is_on_set rows → MatchAlike n kept rows → not (some_match kept vs) ≡ cover_value rows vs
 covered_off n kept rows vs size some is m = opposite (some_match kept vs) ∙ covered_by false n kept rows vs size some is m
   where
     opposite : (b : Bool) → not b ≡ agrees false b

@@ -1,6 +1,40 @@
 -- Laws of the rows of a cover: those that stand several times, those up to their last literal, those without places, and
 -- columns that no row asks for.
-use Rattle.std.proofs.Common.{◌≡◌, ℕ, zero, suc, ◌+◌, ◌<◌, ◌≤◌, Bool, true, false, not, ◌||◌, ◌&&◌, cond, List, [], ◌∷◌, ◌++◌, length, map, take, refl, sym, ◌∙◌, ap, ◌⊎◌, inl, inr, arith, get_or, ◌==◌, Bor, if◌then◌else◌}
+use Rattle.std.proofs.Common.{
+  ◌≡◌,
+  ℕ,
+  zero,
+  suc,
+  ◌+◌,
+  ◌<◌,
+  ◌≤◌,
+  Bool,
+  true,
+  false,
+  not,
+  ◌||◌,
+  ◌&&◌,
+  cond,
+  List,
+  [],
+  ◌∷◌,
+  ◌++◌,
+  length,
+  map,
+  take,
+  refl,
+  sym,
+  ◌∙◌,
+  ap,
+  ◌⊎◌,
+  inl,
+  inr,
+  arith,
+  get_or,
+  ◌==◌,
+  Bor,
+  if◌then◌else◌,
+}
 use Rattle.std.specs.List.{list_any}
 use Rattle.std.specs.Str.{bytes_eq}
 use Rattle.std.proofs.lemmas.Slice.Eq.{bytes_eq-Decides}
@@ -15,7 +49,9 @@ use Rattle.eqc_cover.proofs.MatchingLaws.{expansion_said, row_matches-empty}
 -- ---- rows that stand several times
 
 -- where a row matches, some row matches of rows that have it
-covered : (row : List ℕ) (kept : List (Bor (List ℕ))) (vs : List Bool) → list_any (λ (key : Bor (List ℕ)). bytes_eq row key.now) kept ≡ true → row_matches row vs ≡ true → some_match (map (λ (r : Bor (List ℕ)). r.now) kept) vs ≡ true
+covered : (row : List ℕ) (kept : List (Bor (List ℕ))) (vs : List Bool)
+    → list_any (λ (key : Bor (List ℕ)). bytes_eq row key.now) kept ≡ true → row_matches row vs ≡ true
+    → some_match (map (λ (r : Bor (List ℕ)). r.now) kept) vs ≡ true
 covered row [] vs seen matches = absurd (true≢false (sym seen))
 covered row (key ∷ kept) vs seen matches = elim (or_cases (bytes_eq row key.now) (list_any (λ (key : Bor (List ℕ)). bytes_eq row key.now) kept) seen) [
   | inl here ↦ ap (λ b. b || some_match (map (λ (r : Bor (List ℕ)). r.now) kept) vs) (ap (λ r. row_matches r vs) (sym ((bytes_eq-Decides row key.now).0 here)) ∙ matches)
@@ -31,7 +67,8 @@ absorbs true b h = refl
 absorbs false true h = h refl
 absorbs false false h = refl
 
-one_more : (rows : List (List ℕ)) (i : ℕ) (d : List ℕ) (vs : List Bool) → i < length rows → some_match (take (i + 1) rows) vs ≡ (some_match (take i rows) vs || (row_matches (get_or rows i d) vs || false))
+one_more : (rows : List (List ℕ)) (i : ℕ) (d : List ℕ) (vs : List Bool) → i < length rows
+    → some_match (take (i + 1) rows) vs ≡ (some_match (take i rows) vs || (row_matches (get_or rows i d) vs || false))
 one_more rows i d vs inside = ap (λ rs. some_match rs vs) (take_more rows i d inside) ∙ list_any-append (λ r. row_matches r vs) (take i rows) (get_or rows i d ∷ [])
 
 -- a row that is kept, or what says the same of so many columns
@@ -48,7 +85,9 @@ distinct_more n kept new rows i d row inside is same grown = record {
 
 -- a row that is among those that are kept
 pub distinct_stays : (n : ℕ) (kept : List (Bor (List ℕ))) (rows : List (List ℕ)) (i : ℕ) (d : List ℕ) (row : Bor (List ℕ)) → i < length rows → RowsAlike n row.now (get_or rows i d)
-    → MatchAlike n (map (λ (r : Bor (List ℕ)). r.now) kept) (take i rows) → list_any (λ (key : Bor (List ℕ)). bytes_eq row.now key.now) kept ≡ true → MatchAlike n (map (λ (r : Bor (List ℕ)). r.now) kept) (take (i + 1) rows)
+    → MatchAlike n (map (λ (r : Bor (List ℕ)). r.now) kept) (take i rows)
+    → list_any (λ (key : Bor (List ℕ)). bytes_eq row.now key.now) kept ≡ true
+    → MatchAlike n (map (λ (r : Bor (List ℕ)). r.now) kept) (take (i + 1) rows)
 distinct_stays n kept rows i d row inside is same seen = record {
   alike = λ vs few. absorbs (some_match (map (λ (r : Bor (List ℕ)). r.now) kept) vs) (row_matches row.now vs) (covered row.now kept vs seen)
       ∙ (ap (λ b. b || (row_matches row.now vs || false)) (same.alike vs few)
@@ -73,7 +112,8 @@ set_grows keys new row fresh f is n = n ∙ ap (λ b. if b then keys else keys +
     by false h = refl
 
 pub set_has : (keys new : List (Bor (List ℕ))) (row : Bor (List ℕ)) (fresh : Bool) → fresh ≡ not (list_any (λ (key : Bor (List ℕ)). bytes_eq row.now key.now) keys) → fresh ≡ false
-    → new ≡ (if list_any (λ (key : Bor (List ℕ)). bytes_eq row.now key.now) keys then keys else keys ++ row ∷ []) → (list_any (λ (key : Bor (List ℕ)). bytes_eq row.now key.now) keys ≡ true) × (new ≡ keys)
+    → new ≡ (if list_any (λ (key : Bor (List ℕ)). bytes_eq row.now key.now) keys then keys else keys ++ row ∷ [])
+    → (list_any (λ (key : Bor (List ℕ)). bytes_eq row.now key.now) keys ≡ true) × (new ≡ keys)
 set_has keys new row fresh f stale n =
     let seen = by (list_any (λ (key : Bor (List ℕ)). bytes_eq row.now key.now) keys) (sym f ∙ stale) in
     (seen, n ∙ ap (λ b. if b then keys else keys ++ row ∷ []) seen)
@@ -142,7 +182,8 @@ agrees-true true = refl
 agrees-true false = refl
 
 -- a row without places matches whatever the columns are
-pub free_columns : {X : Type 0} (entry : X → Entry) (on : Bool) (rows : List (List ℕ)) (columns : List (Bor X)) (a : ℕ → Bool) → has_free_row rows ≡ true → on ≡ agrees on (some_match rows (said entry columns a))
+pub free_columns : {X : Type 0} (entry : X → Entry) (on : Bool) (rows : List (List ℕ)) (columns : List (Bor X)) (a : ℕ → Bool)
+    → has_free_row rows ≡ true → on ≡ agrees on (some_match rows (said entry columns a))
 free_columns entry on rows columns a free = agrees-true on ∙ ap (agrees on) (sym (free_row rows (said entry columns a) free))
 
 -- ---- columns that no row asks for
@@ -158,7 +199,8 @@ cofactors_alike ((byte ∷ row) ∷ rows) h =
     rw (tests.0, tests.1) (ap (λ rs. row ∷ rs) (cofactors_alike rows parts.1))
 
 -- one more row
-pub constrains_more : (i : ℕ) (rows : List (Bor (List ℕ))) (d : Bor (List ℕ)) (old new : Bool) → i < length rows → old ≡ constrains_first (map (λ r. r.now) (take i rows)) → new ≡ (old || list_any is_literal (take 1 (get_or rows i d).now))
+pub constrains_more : (i : ℕ) (rows : List (Bor (List ℕ))) (d : Bor (List ℕ)) (old new : Bool) → i < length rows
+    → old ≡ constrains_first (map (λ r. r.now) (take i rows)) → new ≡ (old || list_any is_literal (take 1 (get_or rows i d).now))
     → new ≡ constrains_first (map (λ r. r.now) (take (i + 1) rows))
 constrains_more i rows d old new h o n =
     n ∙ (ap (λ b. b || list_any is_literal (take 1 (get_or rows i d).now)) o
@@ -184,7 +226,8 @@ pub unconstrained_said : {X : Type 0} (entry : X → Entry) (on : Bool) (rows re
     → constrains_first (map (λ (r : Bor (List ℕ)). r.now) rows) ≡ false → map (λ (r : Bor (List ℕ)). r.now) rest ≡ cofactor true (map (λ (r : Bor (List ℕ)). r.now) rows)
     → agrees on (some_match (map (λ (r : Bor (List ℕ)). r.now) rest) (said entry others a)) ≡ agrees on (some_match (map (λ (r : Bor (List ℕ)). r.now) rows) (said entry columns a))
 unconstrained_said entry on rows rest x columns others a e none r =
-    one (says (entry x.now) a) (agrees on (some_match (map (λ (r : Bor (List ℕ)). r.now) rest) (said entry others a))) ∙ expansion_said entry on rows rest rest x columns others a e r (r ∙ cofactors_alike (map (λ (r : Bor (List ℕ)). r.now) rows) none)
+    one (says (entry x.now) a) (agrees on (some_match (map (λ (r : Bor (List ℕ)). r.now) rest) (said entry others a)))
+    ∙ expansion_said entry on rows rest rest x columns others a e r (r ∙ cofactors_alike (map (λ (r : Bor (List ℕ)). r.now) rows) none)
   where
     one : (b f : Bool) → f ≡ cond b f f
     one true f = refl

@@ -167,7 +167,7 @@ fn distinct<'a>(
 ) -> Result<Vec<&'a [u8]>, AllocError>
     ensures { IfOk result (λ kept. MatchAlike columns (map (λ r. r.now) kept.items) rows.now) }
 {
-    let mut seen = IndexSet::new(alloc);
+    let mut seen = IndexSet::with_hasher(alloc, rows.key());
     let mut kept = Vec::new(alloc);
     'rows: for k in 0..rows.len() {
         let row = up_to_last_literal(rows.get(k), columns);

@@ -37,7 +37,8 @@ all_member {X} p (z ∷ xs) x e (inl same) = let P : X → Type 0 = λ w. p w �
 all_member p (z ∷ xs) x e (inr there) = all_member p xs x ((and_parts (p z) (list_all p xs) e).1) there
 
 -- what one step reaches ends one step earlier
-ends_next : {X : Type 0} (next : X → List X) (all : List X) (ends : ℕ → X → Bool) → IsFinite next all ends → (k : ℕ) (x y : X) → Member x all → ends (suc k) x ≡ true → Member y (next x) → ends k y ≡ true
+ends_next : {X : Type 0} (next : X → List X) (all : List X) (ends : ℕ → X → Bool) → IsFinite next all ends → (k : ℕ) (x y : X)
+    → Member x all → ends (suc k) x ≡ true → Member y (next x) → ends k y ≡ true
 ends_next next all ends g k x y i e h = all_member (ends k) (next x) y (sym (g.more k x i) ∙ e) h
 
 -- what ends does not reach itself
@@ -53,7 +54,8 @@ no_circle {X} next all ends g (suc k) _ _ same i e (through m x n h r) =
     no_circle next all ends g k x x refl (g.closed m x i there) (ends_next next all ends g k m x i e there) (reaches_more next x n x r (subst P same h))
 
 -- what is reached from an element that ends is of the graph, and ends
-reached_ends : {X : Type 0} (next : X → List X) (all : List X) (ends : ℕ → X → Bool) → IsFinite next all ends → (k : ℕ) (a b : X) → Member a all → ends k a ≡ true → Reaches next a b → (j : ℕ) × Member b all × (ends j b ≡ true)
+reached_ends : {X : Type 0} (next : X → List X) (all : List X) (ends : ℕ → X → Bool) → IsFinite next all ends → (k : ℕ) (a b : X)
+    → Member a all → ends k a ≡ true → Reaches next a b → (j : ℕ) × Member b all × (ends j b ≡ true)
 reached_ends next all ends g zero a b i e r = absurd (true≢false (sym e ∙ g.none a))
 reached_ends next all ends g (suc k) _ _ i e (directly a b h) =
     let there : Member b (next a) = contained (next a) b h in
@@ -63,7 +65,8 @@ reached_ends next all ends g (suc k) _ _ i e (through a x b h r) =
     reached_ends next all ends g k x b (g.closed a x i there) (ends_next next all ends g k a x i e there) r
 
 -- what is or reaches an element that reaches itself never ends
-pub never_ends : {X : Type 0} (next : X → List X) (all : List X) (ends : ℕ → X → Bool) → IsFinite next all ends → (x y : X) → Member x all → (y ≡ x) ⊎ Reaches next x y → Reaches next y y → (k : ℕ) → ends k x ≡ true → ⊥
+pub never_ends : {X : Type 0} (next : X → List X) (all : List X) (ends : ℕ → X → Bool) → IsFinite next all ends → (x y : X)
+    → Member x all → (y ≡ x) ⊎ Reaches next x y → Reaches next y y → (k : ℕ) → ends k x ≡ true → ⊥
 never_ends {X} next all ends g x y i (inl same) circle k e =
     let P : X → Type 0 = λ z. Member z all in
     no_circle next all ends g k y y refl (subst P (sym same) i) (ap (ends k) same ∙ e) circle
@@ -85,14 +88,16 @@ abbrev IsChain : {X : Type 0} → (X → List X) → X → List X → Type 0
 IsChain next x [] = Unit {0}
 IsChain next x (y ∷ ys) = Member y (next x) × IsChain next y ys
 
-chain_from : {X : Type 0} (next : X → List X) (all : List X) (ends : ℕ → X → Bool) → IsFinite next all ends → (k : ℕ) (x : X) → Member x all → ends k x ≡ false → (p : List X) × IsChain next x p × (length p ≡ k)
+chain_from : {X : Type 0} (next : X → List X) (all : List X) (ends : ℕ → X → Bool) → IsFinite next all ends → (k : ℕ) (x : X)
+    → Member x all → ends k x ≡ false → (p : List X) × IsChain next x p × (length p ≡ k)
 chain_from next all ends g zero x i e = ([], tt, refl)
 chain_from next all ends g (suc k) x i e =
     let (t, there, is) = some_false (ends k) (next x) (sym (g.more k x i) ∙ e) in
     let (p, chain, size) = chain_from next all ends g k t (g.closed x t i there) is in
     (t ∷ p, (there, chain), ap suc size)
 
-chain_within : {X : Type 0} (next : X → List X) (all : List X) (ends : ℕ → X → Bool) → IsFinite next all ends → (x : X) (p : List X) → IsChain next x p → Member x all → (y : X) → Member y (x ∷ p) → Member y all
+chain_within : {X : Type 0} (next : X → List X) (all : List X) (ends : ℕ → X → Bool) → IsFinite next all ends
+    → (x : X) (p : List X) → IsChain next x p → Member x all → (y : X) → Member y (x ∷ p) → Member y all
 chain_within {X} next all ends g x p c i y (inl same) = let P : X → Type 0 = λ z. Member z all in subst P same i
 chain_within next all ends g x [] c i y (inr none) = absurd none
 chain_within next all ends g x (t ∷ p) c i y (inr there) = chain_within next all ends g t p c.1 (g.closed x t i c.0) y there
@@ -137,7 +142,8 @@ chain_circle next x (t ∷ p) c (inr more) = let (y, there, circle) = chain_circ
 
 -- an element that doesn't end within as many steps as there are elements is or reaches one that reaches itself: of the
 -- elements of so long a chain one stands twice
-pub circle_found : {X : Type 0} (next : X → List X) (all : List X) (ends : ℕ → X → Bool) → IsFinite next all ends → (x : X) → Member x all → ends (length all) x ≡ false → (y : X) × Member y all × ((y ≡ x) ⊎ Reaches next x y) × Reaches next y y
+pub circle_found : {X : Type 0} (next : X → List X) (all : List X) (ends : ℕ → X → Bool) → IsFinite next all ends → (x : X)
+    → Member x all → ends (length all) x ≡ false → (y : X) × Member y all × ((y ≡ x) ⊎ Reaches next x y) × Reaches next y y
 circle_found next all ends g x i e =
     let (p, chain, size) = chain_from next all ends g (length all) x i e in
     elim (twice_or_not g.decided (x ∷ p)) [

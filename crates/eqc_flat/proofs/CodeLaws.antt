@@ -24,24 +24,32 @@ pub code_30 : (library : List ModelOf) (top : ℕ) → HasNoModelFault library t
 unfolding flat_code
 code_30 library top h large many = rw (h.models_there, h.not_recursive, h.formals_known, h.formals_once, h.inputs_given, large, many) refl
 
-pub code_26 : (library : List ModelOf) (top : ℕ) → HasNoModelFault library top → is_too_large library top ≡ false → has_many_inputs library top ≡ false → is_driven_twice library top ≡ true → flat_code library top ≡ Some 26
+pub code_26 : (library : List ModelOf) (top : ℕ) → HasNoModelFault library top → is_too_large library top ≡ false
+    → has_many_inputs library top ≡ false → is_driven_twice library top ≡ true → flat_code library top ≡ Some 26
 unfolding flat_code
 code_26 library top h large many twice = rw (h.models_there, h.not_recursive, h.formals_known, h.formals_once, h.inputs_given, large, many, twice) refl
 
-pub code_27 : (library : List ModelOf) (top : ℕ) → HasNoModelFault library top → is_too_large library top ≡ false → has_many_inputs library top ≡ false → is_driven_twice library top ≡ false → is_undriven library top ≡ true → flat_code library top ≡ Some 27
+pub code_27 : (library : List ModelOf) (top : ℕ) → HasNoModelFault library top → is_too_large library top ≡ false
+    → has_many_inputs library top ≡ false → is_driven_twice library top ≡ false → is_undriven library top ≡ true
+    → flat_code library top ≡ Some 27
 unfolding flat_code
 code_27 library top h large many twice none = rw (h.models_there, h.not_recursive, h.formals_known, h.formals_once, h.inputs_given, large, many, twice, none) refl
 
-pub code_28 : (library : List ModelOf) (top : ℕ) → HasNoModelFault library top → is_too_large library top ≡ false → has_many_inputs library top ≡ false → is_driven_twice library top ≡ false → is_undriven library top ≡ false → is_cyclic library top ≡ true → flat_code library top ≡ Some 28
+pub code_28 : (library : List ModelOf) (top : ℕ) → HasNoModelFault library top → is_too_large library top ≡ false
+    → has_many_inputs library top ≡ false → is_driven_twice library top ≡ false → is_undriven library top ≡ false
+    → is_cyclic library top ≡ true → flat_code library top ≡ Some 28
 unfolding flat_code
 code_28 library top h large many twice none circle = rw (h.models_there, h.not_recursive, h.formals_known, h.formals_once, h.inputs_given, large, many, twice, none, circle) refl
 
-pub code_none : (library : List ModelOf) (top : ℕ) → HasNoModelFault library top → is_too_large library top ≡ false → has_many_inputs library top ≡ false → is_driven_twice library top ≡ false → is_undriven library top ≡ false → is_cyclic library top ≡ false → flat_code library top ≡ None
+pub code_none : (library : List ModelOf) (top : ℕ) → HasNoModelFault library top → is_too_large library top ≡ false
+    → has_many_inputs library top ≡ false → is_driven_twice library top ≡ false → is_undriven library top ≡ false
+    → is_cyclic library top ≡ false → flat_code library top ≡ None
 unfolding flat_code
 code_none library top h large many twice none circle = rw (h.models_there, h.not_recursive, h.formals_known, h.formals_once, h.inputs_given, large, many, twice, none, circle) refl
 
 -- why some signal has not one driver, as a code of the hierarchy
-pub driver_code : (library : List ModelOf) (top code : ℕ) → HasNoModelFault library top → is_too_large library top ≡ false → has_many_inputs library top ≡ false → IsDriverFault library top code → (code ≡ 72) ⊎ (flat_code library top ≡ Some code)
+pub driver_code : (library : List ModelOf) (top code : ℕ) → HasNoModelFault library top → is_too_large library top ≡ false
+    → has_many_inputs library top ≡ false → IsDriverFault library top code → (code ≡ 72) ⊎ (flat_code library top ≡ Some code)
 driver_code library top code h large many (inl refused) = inl refused
 driver_code library top code h large many (inr (inl (is, twice))) = inr (code_26 library top h large many twice ∙ ap Some (sym is))
 driver_code library top code h large many (inr (inr (is, once, none))) = inr (code_27 library top h large many once none ∙ ap Some (sym is))
@@ -55,17 +63,26 @@ unfolding has_many_inputs
 few_inputs library top few = le-ltb 2048 (length (model library top).inputs) few
 
 -- the codes behind the drivers, where there is an order of the signals
-pub accepted : (library : List ModelOf) (top : ℕ) (drivers : List DriverOf) (steps : List ℕ) → HasNoModelFault library top → is_too_large library top ≡ false → has_many_inputs library top ≡ false → IsDriven library top drivers → IsOrder drivers steps → flat_code library top ≡ None
+pub accepted : (library : List ModelOf) (top : ℕ) (drivers : List DriverOf) (steps : List ℕ) → HasNoModelFault library top
+    → is_too_large library top ≡ false → has_many_inputs library top ≡ false → IsDriven library top drivers
+    → IsOrder drivers steps → flat_code library top ≡ None
 accepted library top drivers steps h large many driven order =
-    code_none library top h large many (not_driven_twice library top (map (λ (d : DriverOf). Some d) drivers) driven) (not_undriven library top drivers driven) (in_order_not_cyclic library top drivers steps driven order)
+    code_none library top h large many (not_driven_twice library top (map (λ (d : DriverOf). Some d) drivers) driven)
+    (not_undriven library top drivers driven) (in_order_not_cyclic library top drivers steps driven order)
 
-pub circular : (library : List ModelOf) (top : ℕ) (drivers : List DriverOf) → HasNoModelFault library top → is_too_large library top ≡ false → has_many_inputs library top ≡ false → IsDriven library top drivers → IsCircular drivers → flat_code library top ≡ Some 28
+pub circular : (library : List ModelOf) (top : ℕ) (drivers : List DriverOf) → HasNoModelFault library top
+    → is_too_large library top ≡ false → has_many_inputs library top ≡ false → IsDriven library top drivers → IsCircular drivers
+    → flat_code library top ≡ Some 28
 circular library top drivers h large many driven circle =
-    code_28 library top h large many (not_driven_twice library top (map (λ (d : DriverOf). Some d) drivers) driven) (not_undriven library top drivers driven) (circular_cyclic library top drivers driven circle)
+    code_28 library top h large many (not_driven_twice library top (map (λ (d : DriverOf). Some d) drivers) driven)
+    (not_undriven library top drivers driven) (circular_cyclic library top drivers driven circle)
 
 -- drivers of a hierarchy depend on signals that have drivers
 pub driven_closed : (library : List ModelOf) (top : ℕ) (drivers : List DriverOf) (n : ℕ) → n ≡ length drivers → IsDriven library top drivers → IsClosed (signal_deps drivers) n
-driven_closed library top drivers n size driven = λ s k t inside e. (let sourced = are_sourced library top [] [] [] drivers [] driven in let less : t < length drivers = sourced.closed s t (omega (arith, size, inside)) (got_member (signal_deps drivers s) k t e) in omega (arith, size, less))
+driven_closed library top drivers n size driven = λ s k t inside e.
+    (let sourced = are_sourced library top [] [] [] drivers [] driven in
+    let less : t < length drivers = sourced.closed s t (omega (arith, size, inside)) (got_member (signal_deps drivers s) k t e) in
+    omega (arith, size, less))
   where
     got_member : (xs : List ℕ) (k t : ℕ) → slice_get xs k ≡ Some t → Member t xs
     got_member [] k t e = absurd (cc)

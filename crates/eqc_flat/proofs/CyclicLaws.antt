@@ -26,13 +26,16 @@ each_some : (value : SignalOf → Option Bool) (xs : List SignalOf) → is_some 
 each_some value [] = refl
 each_some value (x ∷ xs) = by (value x) (all_some (map value xs)) refl (each_some value xs)
   where
-    by : (o : Option Bool) (rest : Option (List Bool)) → all_some (map value xs) ≡ rest → is_some (all_some (map value xs)) ≡ list_all (λ x. is_some (value x)) xs → is_some (all_some (o ∷ map value xs)) ≡ (is_some o && list_all (λ x. is_some (value x)) xs)
+    by : (o : Option Bool) (rest : Option (List Bool)) → all_some (map value xs) ≡ rest
+        → is_some (all_some (map value xs)) ≡ list_all (λ x. is_some (value x)) xs
+        → is_some (all_some (o ∷ map value xs)) ≡ (is_some o && list_all (λ x. is_some (value x)) xs)
     by None rest is up = refl
     by (Some v) None is up = ap (λ vs. is_some (option_map (λ ws. v ∷ ws) vs)) is ∙ (sym (ap is_some is) ∙ up)
     by (Some v) (Some vs) is up = ap (λ vs. is_some (option_map (λ ws. v ∷ ws) vs)) is ∙ (sym (ap is_some is) ∙ up)
 
 -- a signal with one source has a value where all that it depends on have one a step earlier
-value_next : (library : List ModelOf) (top d : ℕ) (s : SignalOf) (source : SourceOf) → sources library top s ≡ source ∷ [] → has_value library top (suc d) s ≡ list_all (has_value library top d) (needed library top s)
+value_next : (library : List ModelOf) (top d : ℕ) (s : SignalOf) (source : SourceOf) → sources library top s ≡ source ∷ []
+    → has_value library top (suc d) s ≡ list_all (has_value library top d) (needed library top s)
 unfolding value_at
 value_next library top d s source e =
     let value : SignalOf → Option Bool = value_at library top (λ _. false) d in
@@ -50,9 +53,13 @@ unfolding value_at
 no_value library top s = refl
 
 -- each flat signal has one source where it has not two and not none
-one_source : (library : List ModelOf) (top : ℕ) (s : SignalOf) → is_driven_twice library top ≡ false → is_undriven library top ≡ false → Member s (signals library top) → (source : SourceOf) × (sources library top s ≡ source ∷ [])
+one_source : (library : List ModelOf) (top : ℕ) (s : SignalOf) → is_driven_twice library top ≡ false
+    → is_undriven library top ≡ false → Member s (signals library top)
+    → (source : SourceOf) × (sources library top s ≡ source ∷ [])
 unfolding is_driven_twice is_undriven
-one_source library top s twice none h = one (sources library top s) (none_member (λ s. nat_lt 1 (length (sources library top s))) (signals library top) s twice h) (none_member (λ s. length (sources library top s) == 0) (signals library top) s none h)
+one_source library top s twice none h =
+    one (sources library top s) (none_member (λ s. nat_lt 1 (length (sources library top s))) (signals library top) s twice h)
+    (none_member (λ s. length (sources library top s) == 0) (signals library top) s none h)
   where
     one : (all : List SourceOf) → nat_lt 1 (length all) ≡ false → (length all == 0) ≡ false → (source : SourceOf) × (all ≡ source ∷ [])
     one [] few some = absurd (true≢false some)
@@ -84,12 +91,16 @@ some_without library top e = find (signals library top) e
     without None e = refl
     without (Some v) e = absurd (true≢false (sym e))
 
-    find : (xs : List SignalOf) → list_any (λ s. is_none (value_at library top (λ _. false) (length (signals library top)) s)) xs ≡ true → (s : SignalOf) × Member s xs × (has_value library top (length (signals library top)) s ≡ false)
+    find : (xs : List SignalOf)
+        → list_any (λ s. is_none (value_at library top (λ _. false) (length (signals library top)) s)) xs ≡ true
+        → (s : SignalOf) × Member s xs × (has_value library top (length (signals library top)) s ≡ false)
     find [] e = absurd (true≢false (sym e))
-    find (x ∷ xs) e = elim (or_cases (is_none (value_at library top (λ _. false) (length (signals library top)) x)) (list_any (λ s. is_none (value_at library top (λ _. false) (length (signals library top)) s)) xs) e) [
-      | inl here ↦ (x, inl refl, without (value_at library top (λ _. false) (length (signals library top)) x) here)
-      | inr there ↦ (let (s, inside, is) = find xs there in (s, inr inside, is))
-    ]
+    find (x ∷ xs) e =
+        elim (or_cases (is_none (value_at library top (λ _. false) (length (signals library top)) x))
+        (list_any (λ s. is_none (value_at library top (λ _. false) (length (signals library top)) s)) xs) e) [
+          | inl here ↦ (x, inl refl, without (value_at library top (λ _. false) (length (signals library top)) x) here)
+          | inr there ↦ (let (s, inside, is) = find xs there in (s, inr inside, is))
+        ]
 
 -- code 28 is that of its condition
 is_circular : (library : List ModelOf) (top : ℕ) → HasNoOtherCode library top (Some 28) → is_cyclic library top ≡ true
@@ -100,7 +111,8 @@ is_circular library top h = by (is_cyclic library top) h.left
     by false e = absurd (let none : None ≡ Some 28 = e in cc)
 
 -- a signal that depends on itself is found
-found : (library : List ModelOf) (top : ℕ) → flat_code library top ≡ Some 28 → (k : ℕ) × (k < length (signals library top)) × Reaches (needed library top) (signal_at library top k) (signal_at library top k)
+found : (library : List ModelOf) (top : ℕ) → flat_code library top ≡ Some 28
+    → (k : ℕ) × (k < length (signals library top)) × Reaches (needed library top) (signal_at library top k) (signal_at library top k)
 found library top e =
     let h = no_other_code library top (Some 28) (inr refl) e in
     let (s, inside, without) = some_without library top (is_circular library top h) in
@@ -113,7 +125,9 @@ found library top e =
 refused : (library : List ModelOf) (top k : ℕ) → flat_code library top ≡ None → k < length (signals library top) → Reaches (needed library top) (signal_at library top k) (signal_at library top k) → ⊥
 refused library top k e inside circle =
     let h = no_other_code library top None (inl refl) e in
-    never_ends (needed library top) (signals library top) (has_value library top) (signals_finite library top None h) (signal_at library top k) (signal_at library top k) (member_get (signals library top) k no_signal inside) (inl refl) circle (length (signals library top)) (accepted_have_values library top e (λ _. false) k inside)
+    never_ends (needed library top) (signals library top) (has_value library top) (signals_finite library top None h)
+    (signal_at library top k) (signal_at library top k) (member_get (signals library top) k no_signal inside) (inl refl) circle
+    (length (signals library top)) (accepted_have_values library top e (λ _. false) k inside)
 
 pub cyclic_where_reached : CyclicWhereReached
 cyclic_where_reached = λ library top kind. (

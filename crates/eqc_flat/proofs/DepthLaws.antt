@@ -7,15 +7,30 @@ use Rattle.std.proofs.lemmas.Bool.{true≢false}
 use Rattle.eqc_blif.specs.Netlist.{ModelOf}
 use Rattle.eqc_hierarchy.specs.Signals.{SignalOf, SourceOf, signals, sources, needs, all_some, made, value_at}
 use Rattle.eqc_flat.specs.Flattened.{no_signal, signal_at}
-use Rattle.eqc_hierarchy.specs.Codes.{has_no_such_model, is_recursive, has_unknown_formal, has_formal_twice, has_missing_formal, is_too_large, has_many_inputs, is_driven_twice, is_undriven, is_cyclic, code_if, flat_code}
+use Rattle.eqc_hierarchy.specs.Codes.{
+  has_no_such_model,
+  is_recursive,
+  has_unknown_formal,
+  has_formal_twice,
+  has_missing_formal,
+  is_too_large,
+  has_many_inputs,
+  is_driven_twice,
+  is_undriven,
+  is_cyclic,
+  code_if,
+  flat_code,
+}
 use Rattle.eqc_flat.specs.ValueLaws.{ValuesStay, ValuesAreThereForAll, AcceptedHaveValues}
 
 -- where each value stays, all values stay
-all_stay : (f g : SignalOf → Option Bool) (xs : List SignalOf) (vs : List Bool) → ((x : SignalOf) (v : Bool) → f x ≡ Some v → g x ≡ Some v) → all_some (map f xs) ≡ Some vs → all_some (map g xs) ≡ Some vs
+all_stay : (f g : SignalOf → Option Bool) (xs : List SignalOf) (vs : List Bool)
+    → ((x : SignalOf) (v : Bool) → f x ≡ Some v → g x ≡ Some v) → all_some (map f xs) ≡ Some vs → all_some (map g xs) ≡ Some vs
 all_stay f g [] vs h e = e
 all_stay f g (x ∷ xs) vs h e = by_value (λ ws m. all_stay f g xs ws h m) (f x) refl (all_some (map f xs)) refl
   where
-    by_value : ((ws : List Bool) → all_some (map f xs) ≡ Some ws → all_some (map g xs) ≡ Some ws) → (o : Option Bool) → f x ≡ o → (rest : Option (List Bool)) → all_some (map f xs) ≡ rest → all_some (map g (x ∷ xs)) ≡ Some vs
+    by_value : ((ws : List Bool) → all_some (map f xs) ≡ Some ws → all_some (map g xs) ≡ Some ws) → (o : Option Bool) → f x ≡ o
+        → (rest : Option (List Bool)) → all_some (map f xs) ≡ rest → all_some (map g (x ∷ xs)) ≡ Some vs
     by_value up None k rest m = absurd (let none : None ≡ Some vs = sym (ap (λ (o : Option Bool). all_some (o ∷ map f xs)) k) ∙ e in cc)
     by_value up (Some v) k None m = absurd (let none : None ≡ Some vs = sym (ap (λ (o : Option Bool). all_some (o ∷ map f xs)) k ∙ ap (option_map (λ vs. v ∷ vs)) m) ∙ e in cc)
     by_value up (Some v) k (Some ws) m =
@@ -23,7 +38,10 @@ all_stay f g (x ∷ xs) vs h e = by_value (λ ws m. all_stay f g xs ws h m) (f x
         ap (λ (o : Option Bool). all_some (o ∷ map g xs)) (h x v k) ∙ (ap (option_map (λ vs. v ∷ vs)) (up ws m) ∙ is)
 
 -- what is made of the values stays
-made_stay : (a : ℕ → Bool) (f g : SignalOf → Option Bool) (source : SourceOf) (v : Bool) → ((x : SignalOf) (v : Bool) → f x ≡ Some v → g x ≡ Some v) → option_map (made a source) (all_some (map f (needs source))) ≡ Some v → option_map (made a source) (all_some (map g (needs source))) ≡ Some v
+made_stay : (a : ℕ → Bool) (f g : SignalOf → Option Bool) (source : SourceOf) (v : Bool)
+    → ((x : SignalOf) (v : Bool) → f x ≡ Some v → g x ≡ Some v)
+    → option_map (made a source) (all_some (map f (needs source))) ≡ Some v
+    → option_map (made a source) (all_some (map g (needs source))) ≡ Some v
 made_stay a f g source v h e = by_values (all_some (map f (needs source))) refl
   where
     by_values : (o : Option (List Bool)) → all_some (map f (needs source)) ≡ o → option_map (made a source) (all_some (map g (needs source))) ≡ Some v
@@ -34,9 +52,18 @@ made_stay a f g source v h e = by_values (all_some (map f (needs source))) refl
 next_depth : (library : List ModelOf) (top : ℕ) (a : ℕ → Bool) (d : ℕ) (s : SignalOf) (v : Bool) → value_at library top a d s ≡ Some v → value_at library top a (suc d) s ≡ Some v
 unfolding value_at
 next_depth library top a zero s v e = absurd (let none : None ≡ Some v = e in cc)
-next_depth library top a (suc d) s v e = by_source (slice_get (sources library top s) 0) (made_stay a (value_at library top a d) (value_at library top a (suc d))) (λ x w k. next_depth library top a d x w k) e
+next_depth library top a (suc d) s v e =
+    by_source (slice_get (sources library top s) 0) (made_stay a (value_at library top a d) (value_at library top a (suc d)))
+    (λ x w k. next_depth library top a d x w k) e
   where
-    by_source : (o : Option SourceOf) → ((source : SourceOf) (v : Bool) → ((x : SignalOf) (v : Bool) → value_at library top a d x ≡ Some v → value_at library top a (suc d) x ≡ Some v) → option_map (made a source) (all_some (map (value_at library top a d) (needs source))) ≡ Some v → option_map (made a source) (all_some (map (value_at library top a (suc d)) (needs source))) ≡ Some v) → ((x : SignalOf) (v : Bool) → value_at library top a d x ≡ Some v → value_at library top a (suc d) x ≡ Some v) → option_and_then (λ source. option_map (made a source) (all_some (map (value_at library top a d) (needs source)))) o ≡ Some v → option_and_then (λ source. option_map (made a source) (all_some (map (value_at library top a (suc d)) (needs source)))) o ≡ Some v
+    by_source : (o : Option SourceOf)
+        → ((source : SourceOf) (v : Bool)
+        → ((x : SignalOf) (v : Bool) → value_at library top a d x ≡ Some v → value_at library top a (suc d) x ≡ Some v)
+        → option_map (made a source) (all_some (map (value_at library top a d) (needs source))) ≡ Some v
+        → option_map (made a source) (all_some (map (value_at library top a (suc d)) (needs source))) ≡ Some v)
+        → ((x : SignalOf) (v : Bool) → value_at library top a d x ≡ Some v → value_at library top a (suc d) x ≡ Some v)
+        → option_and_then (λ source. option_map (made a source) (all_some (map (value_at library top a d) (needs source)))) o ≡ Some v
+        → option_and_then (λ source. option_map (made a source) (all_some (map (value_at library top a (suc d)) (needs source)))) o ≡ Some v
     by_source None stay up k = k
     by_source (Some source) stay up k = stay source v up k
 
@@ -51,7 +78,9 @@ some_all : (f g : SignalOf → Option Bool) (xs : List SignalOf) → ((x : Signa
 some_all f g [] h = refl
 some_all f g (x ∷ xs) h = by_values (f x) (g x) (h x) (all_some (map f xs)) (all_some (map g xs)) refl refl (some_all f g xs h)
   where
-    by_values : (o p : Option Bool) → is_some o ≡ is_some p → (r t : Option (List Bool)) → all_some (map f xs) ≡ r → all_some (map g xs) ≡ t → is_some (all_some (map f xs)) ≡ is_some (all_some (map g xs)) → is_some (all_some (o ∷ map f xs)) ≡ is_some (all_some (p ∷ map g xs))
+    by_values : (o p : Option Bool) → is_some o ≡ is_some p → (r t : Option (List Bool)) → all_some (map f xs) ≡ r
+        → all_some (map g xs) ≡ t → is_some (all_some (map f xs)) ≡ is_some (all_some (map g xs))
+        → is_some (all_some (o ∷ map f xs)) ≡ is_some (all_some (p ∷ map g xs))
     by_values None None e r t k m same = refl
     by_values None (Some w) e r t k m same = absurd (true≢false (sym e))
     by_values (Some v) None e r t k m same = absurd (true≢false e)
@@ -64,15 +93,27 @@ some_all f g (x ∷ xs) h = by_values (f x) (g x) (h x) (all_some (map f xs)) (a
 pub values_are_there_for_all : ValuesAreThereForAll
 unfolding value_at
 values_are_there_for_all library top a b zero s = refl
-values_are_there_for_all library top a b (suc d) s = by_source (slice_get (sources library top s) 0) (λ source. some_all (value_at library top a d) (value_at library top b d) (needs source) (λ x. values_are_there_for_all library top a b d x))
+values_are_there_for_all library top a b (suc d) s =
+    by_source (slice_get (sources library top s) 0)
+    (λ source.
+    some_all (value_at library top a d) (value_at library top b d) (needs source)
+    (λ x. values_are_there_for_all library top a b d x))
   where
     mapped : (f : List Bool → Bool) (o : Option (List Bool)) → is_some (option_map f o) ≡ is_some o
     mapped f None = refl
     mapped f (Some vs) = refl
 
-    by_source : (o : Option SourceOf) → ((source : SourceOf) → is_some (all_some (map (value_at library top a d) (needs source))) ≡ is_some (all_some (map (value_at library top b d) (needs source)))) → is_some (option_and_then (λ source. option_map (made a source) (all_some (map (value_at library top a d) (needs source)))) o) ≡ is_some (option_and_then (λ source. option_map (made b source) (all_some (map (value_at library top b d) (needs source)))) o)
+    by_source : (o : Option SourceOf)
+        → ((source : SourceOf)
+        → is_some (all_some (map (value_at library top a d) (needs source)))
+        ≡ is_some (all_some (map (value_at library top b d) (needs source))))
+        → is_some (option_and_then (λ source. option_map (made a source) (all_some (map (value_at library top a d) (needs source)))) o)
+        ≡ is_some
+        (option_and_then (λ source. option_map (made b source) (all_some (map (value_at library top b d) (needs source)))) o)
     by_source None h = refl
-    by_source (Some source) h = mapped (made a source) (all_some (map (value_at library top a d) (needs source))) ∙ (h source ∙ sym (mapped (made b source) (all_some (map (value_at library top b d) (needs source)))))
+    by_source (Some source) h =
+        mapped (made a source) (all_some (map (value_at library top a d) (needs source)))
+        ∙ (h source ∙ sym (mapped (made b source) (all_some (map (value_at library top b d) (needs source)))))
 
 -- a condition whose code does not apply does not hold
 pub no_code : (o : Option ℕ) (condition : Bool) (code : ℕ) (later : Option ℕ) → (Some code ≡ o → ⊥) → code_if condition code later ≡ o → (condition ≡ false) × (later ≡ o)
@@ -131,7 +172,9 @@ pub accepted_have_values : AcceptedHaveValues
 unfolding is_cyclic
 accepted_have_values library top e a s inside =
     values_are_there_for_all library top a (λ _. false) (length (signals library top)) (signal_at library top s)
-    ∙ there (value_at library top (λ _. false) (length (signals library top)) (signal_at library top s)) (none_passes (λ s. is_none (value_at library top (λ _. false) (length (signals library top)) s)) (signals library top) s (not_cyclic_code library top e) inside)
+    ∙ there (value_at library top (λ _. false) (length (signals library top)) (signal_at library top s))
+    (none_passes (λ s. is_none (value_at library top (λ _. false) (length (signals library top)) s)) (signals library top) s
+    (not_cyclic_code library top e) inside)
   where
     there : (o : Option Bool) → is_none o ≡ false → is_some o ≡ true
     there None k = absurd (true≢false k)

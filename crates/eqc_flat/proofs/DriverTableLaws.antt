@@ -1,11 +1,62 @@
 -- Slots are filled driving by driving.
-use Rattle.std.proofs.Common.{◌==◌, ◌≡◌, ℕ, zero, suc, ◌+◌, ◌<◌, ◌≤◌, ◌⊎◌, inl, inr, Bool, true, false, ◌||◌, if◌then◌else◌, List, [], ◌∷◌, ◌++◌, length, map, take, drop, set, get_or, replicate, refl, sym, ◌∙◌, ap, subst, arith, Option, Some, None, nat_lt}
+use Rattle.std.proofs.Common.{
+  ◌==◌,
+  ◌≡◌,
+  ℕ,
+  zero,
+  suc,
+  ◌+◌,
+  ◌<◌,
+  ◌≤◌,
+  ◌⊎◌,
+  inl,
+  inr,
+  Bool,
+  true,
+  false,
+  ◌||◌,
+  if◌then◌else◌,
+  List,
+  [],
+  ◌∷◌,
+  ◌++◌,
+  length,
+  map,
+  take,
+  drop,
+  set,
+  get_or,
+  replicate,
+  refl,
+  sym,
+  ◌∙◌,
+  ap,
+  subst,
+  arith,
+  Option,
+  Some,
+  None,
+  nat_lt,
+}
 use Rattle.std.specs.Prelude.{is_some, slice_index_or, filter}
 use Rattle.std.specs.List.{list_any, flat_map}
 use Rattle.std.specs.Option.{option_or}
 use Rattle.std.proofs.lemmas.Bool.{cases_eq, lt-ltb, le-ltb, true≢false}
 use Rattle.std.proofs.lemmas.Grind.{flat_map-append}
-use Rattle.std.proofs.lemmas.List.{append_assoc, take-append-drop, get_or-set_same, get_or-set_other, length-set, append-nil, get_or-map, map-append, length-append, length-map, get_or-replicate, length-replicate}
+use Rattle.std.proofs.lemmas.List.{
+  append_assoc,
+  take-append-drop,
+  get_or-set_same,
+  get_or-set_other,
+  length-set,
+  append-nil,
+  get_or-map,
+  map-append,
+  length-append,
+  length-map,
+  get_or-replicate,
+  length-replicate,
+}
 use Rattle.eqc_blif.specs.Netlist.{ModelOf}
 use Rattle.eqc_flat.specs.Graph.{DriverOf, input, IsWithinSizes}
 use Rattle.eqc_hierarchy.specs.Hierarchy.{model}
@@ -35,7 +86,10 @@ filter_append p (x ∷ xs) ys = by_test (p x) (filter_append p xs ys)
 
 -- what drives a signal among drivings with one more
 sources_more : (done : List Driving) (d : Driving) (s : SignalOf) → sources_in (done ++ d ∷ []) s ≡ sources_in done s ++ sources_in (d ∷ []) s
-sources_more done d s = ap (map (λ (d : Driving). d.1)) (filter_append (λ (d : Driving). same_signal d.0 s) done (d ∷ [])) ∙ map-append (λ (d : Driving). d.1) (filter (λ (d : Driving). same_signal d.0 s) done) (filter (λ (d : Driving). same_signal d.0 s) (d ∷ []))
+sources_more done d s =
+    ap (map (λ (d : Driving). d.1)) (filter_append (λ (d : Driving). same_signal d.0 s) done (d ∷ []))
+    ∙ map-append (λ (d : Driving). d.1) (filter (λ (d : Driving). same_signal d.0 s) done)
+    (filter (λ (d : Driving). same_signal d.0 s) (d ∷ []))
 
 sources_one : (d : Driving) (s : SignalOf) → same_signal d.0 s ≡ true → sources_in (d ∷ []) s ≡ d.1 ∷ []
 sources_one d s e = rw e refl
@@ -61,11 +115,14 @@ filled_none library top n size = record {
 -- a signal that was driven twice stays so
 again_more : (done : List Driving) (d : Driving) (s : SignalOf) → 1 < length (sources_in done s) → 1 < length (sources_in (done ++ d ∷ []) s)
 again_more done d s two =
-    let more : length (sources_in (done ++ d ∷ []) s) ≡ length (sources_in done s) + length (sources_in (d ∷ []) s) = ap length (sources_more done d s) ∙ length-append (sources_in done s) (sources_in (d ∷ []) s) in
+    let more : length (sources_in (done ++ d ∷ []) s) ≡ length (sources_in done s) + length (sources_in (d ∷ []) s) =
+    ap length (sources_more done d s) ∙ length-append (sources_in done s) (sources_in (d ∷ []) s) in
     omega (arith, two, more)
 
 -- a signal that is known to be driven twice is so with one driving more
-still_again : (library : List ModelOf) (top : ℕ) (slots : List (Option DriverOf)) (twice : Option ℕ) (done : List Driving) (d : Driving) → IsFilled library top slots twice done → (s : ℕ) → twice ≡ Some s → (s < length (signals library top)) × (1 < length (sources_in (done ++ d ∷ []) (signal_at library top s)))
+still_again : (library : List ModelOf) (top : ℕ) (slots : List (Option DriverOf)) (twice : Option ℕ) (done : List Driving) (d : Driving)
+    → IsFilled library top slots twice done → (s : ℕ) → twice ≡ Some s
+    → (s < length (signals library top)) × (1 < length (sources_in (done ++ d ∷ []) (signal_at library top s)))
 still_again library top slots twice done d h s e =
     let known = h.again s e in
     (known.0, again_more done d (signal_at library top s) known.1)
@@ -80,13 +137,24 @@ some_place p (x ∷ xs) (suc i) h e = rw (some_place p xs i (omega arith) e) (or
     or_true false = refl
 
 -- one driving more, of a signal whose slot is free
-pub filled_free : (library : List ModelOf) (top : ℕ) (slots : List (Option DriverOf)) (twice : Option ℕ) (done : List Driving) (t : ℕ) (driver : DriverOf) (d : Driving) → IsFilled library top slots twice done → t < length slots → slice_index_or slots t None ≡ None → d.0 ≡ signal_at library top t → d.1 ≡ source_of (signal_at library top) (all_rows library) driver → IsWithinSizes (length (model library top).inputs) (length (signals library top)) (length (all_rows library)) driver → IsFilled library top (set slots t (Some driver)) twice (done ++ d ∷ [])
+pub filled_free : (library : List ModelOf) (top : ℕ) (slots : List (Option DriverOf)) (twice : Option ℕ) (done : List Driving) (t : ℕ)
+    (driver : DriverOf) (d : Driving) → IsFilled library top slots twice done → t < length slots
+    → slice_index_or slots t None ≡ None → d.0 ≡ signal_at library top t
+    → d.1 ≡ source_of (signal_at library top) (all_rows library) driver
+    → IsWithinSizes (length (model library top).inputs) (length (signals library top)) (length (all_rows library)) driver
+    → IsFilled library top (set slots t (Some driver)) twice (done ++ d ∷ [])
 filled_free library top slots twice done t driver d h inside free target source small = record {
   size = length-set slots t (Some driver) ∙ h.size;
   once = λ e s k. sources_more done d (signal_at library top s) ∙ each e s (rw length-set at k) (cases_eq s t);
   again = still_again library top slots twice done d h;
   within = λ s other k e. elim (cases_eq s t) [
-    | inl same ↦ (let is : Some driver ≡ Some other = sym (get_or-set_same slots t (Some driver) None inside) ∙ (ap (λ x. slice_index_or (set slots t (Some driver)) x None) (sym same) ∙ e) in let P : DriverOf → Type 0 = λ x. IsWithinSizes (length (model library top).inputs) (length (signals library top)) (length (all_rows library)) x in subst P (inside_some is) small)
+    | inl same ↦
+        (let is : Some driver ≡ Some other =
+        sym (get_or-set_same slots t (Some driver) None inside)
+        ∙ (ap (λ x. slice_index_or (set slots t (Some driver)) x None) (sym same) ∙ e) in
+        let P : DriverOf → Type 0 = λ x.
+        IsWithinSizes (length (model library top).inputs) (length (signals library top)) (length (all_rows library)) x in
+        subst P (inside_some is) small)
     | inr apart ↦ h.within s other (rw length-set at k) (sym (get_or-set_other slots t s (Some driver) None apart) ∙ e)
   ];
 }
@@ -94,7 +162,9 @@ filled_free library top slots twice done t driver d h inside free target source 
     inside_some : {x y : DriverOf} → Some x ≡ Some y → x ≡ y
     inside_some e = cc
 
-    each : is_some twice ≡ false → (s : ℕ) → s < length slots → (s ≡ t) ⊎ (s ≡ t → ⊥) → sources_in done (signal_at library top s) ++ sources_in (d ∷ []) (signal_at library top s) ≡ map (source_of (signal_at library top) (all_rows library)) (in_slot (slice_index_or (set slots t (Some driver)) s None))
+    each : is_some twice ≡ false → (s : ℕ) → s < length slots → (s ≡ t) ⊎ (s ≡ t → ⊥)
+        → sources_in done (signal_at library top s) ++ sources_in (d ∷ []) (signal_at library top s)
+        ≡ map (source_of (signal_at library top) (all_rows library)) (in_slot (slice_index_or (set slots t (Some driver)) s None))
     each e s k (inl same) =
         let here : sources_in done (signal_at library top t) ≡ [] = h.once e t inside ∙ ap (λ o. map (source_of (signal_at library top) (all_rows library)) (in_slot o)) free in
         let new : sources_in (d ∷ []) (signal_at library top t) ≡ d.1 ∷ [] = sources_one d (signal_at library top t) (rw target (same_self (signal_at library top t))) in
@@ -110,11 +180,16 @@ filled_free library top slots twice done t driver d h inside free target source 
             absurd (apart (sym (signal_numbers library top t s (omega (arith, h.size, inside)) (omega (arith, h.size, k)) (subst P target e))))
 
 -- one driving more, of a signal that has a driver: it is driven twice
-pub filled_again : (library : List ModelOf) (top : ℕ) (slots : List (Option DriverOf)) (twice : Option ℕ) (done : List Driving) (t : ℕ) (old : DriverOf) (d : Driving) → IsFilled library top slots twice done → t < length slots → slice_index_or slots t None ≡ Some old → d.0 ≡ signal_at library top t → IsFilled library top slots (option_or twice (Some t)) (done ++ d ∷ [])
+pub filled_again : (library : List ModelOf) (top : ℕ) (slots : List (Option DriverOf)) (twice : Option ℕ) (done : List Driving) (t : ℕ)
+    (old : DriverOf) (d : Driving) → IsFilled library top slots twice done → t < length slots
+    → slice_index_or slots t None ≡ Some old → d.0 ≡ signal_at library top t
+    → IsFilled library top slots (option_or twice (Some t)) (done ++ d ∷ [])
 filled_again library top slots None done t old d h inside taken target = record {
   size = h.size;
   once = λ e. absurd (true≢false e);
-  again = λ s e. let P : ℕ → Type 0 = λ x. (x < length (signals library top)) × (1 < length (sources_in (done ++ d ∷ []) (signal_at library top x))) in subst P (inside_some e) (omega (arith, h.size, inside), two);
+  again = λ s e.
+      let P : ℕ → Type 0 = λ x. (x < length (signals library top)) × (1 < length (sources_in (done ++ d ∷ []) (signal_at library top x))) in
+      subst P (inside_some e) (omega (arith, h.size, inside), two);
   within = h.within;
 }
   where
@@ -123,9 +198,13 @@ filled_again library top slots None done t old d h inside taken target = record 
 
     two : 1 < length (sources_in (done ++ d ∷ []) (signal_at library top t))
     two =
-        let here : sources_in done (signal_at library top t) ≡ source_of (signal_at library top) (all_rows library) old ∷ [] = h.once refl t inside ∙ ap (λ o. map (source_of (signal_at library top) (all_rows library)) (in_slot o)) taken in
+        let here : sources_in done (signal_at library top t) ≡ source_of (signal_at library top) (all_rows library) old ∷ [] =
+        h.once refl t inside ∙ ap (λ o. map (source_of (signal_at library top) (all_rows library)) (in_slot o)) taken in
         let new : sources_in (d ∷ []) (signal_at library top t) ≡ d.1 ∷ [] = sources_one d (signal_at library top t) (rw target (same_self (signal_at library top t))) in
-        let both : sources_in (done ++ d ∷ []) (signal_at library top t) ≡ (source_of (signal_at library top) (all_rows library) old ∷ []) ++ d.1 ∷ [] = sources_more done d (signal_at library top t) ∙ rw (here, new) refl in
+        let both :
+        sources_in (done ++ d ∷ []) (signal_at library top t)
+        ≡ (source_of (signal_at library top) (all_rows library) old ∷ []) ++ d.1 ∷ [] =
+        sources_more done d (signal_at library top t) ∙ rw (here, new) refl in
         let size : length (sources_in (done ++ d ∷ []) (signal_at library top t)) ≡ 2 = ap length both in
         omega (arith, size)
 filled_again library top slots (Some first) done t old d h inside taken target = record {
@@ -136,25 +215,37 @@ filled_again library top slots (Some first) done t old d h inside taken target =
 }
 
 -- once a signal is known to be driven twice, it stays so with whatever comes behind
-pub filled_behind : (library : List ModelOf) (top : ℕ) (slots : List (Option DriverOf)) (twice : Option ℕ) (done more : List Driving) → is_some twice ≡ true → IsFilled library top slots twice done → IsFilled library top slots twice (done ++ more)
+pub filled_behind : (library : List ModelOf) (top : ℕ) (slots : List (Option DriverOf)) (twice : Option ℕ) (done more : List Driving)
+    → is_some twice ≡ true → IsFilled library top slots twice done → IsFilled library top slots twice (done ++ more)
 filled_behind library top slots twice done [] e h = let P : List Driving → Type 0 = λ l. IsFilled library top slots twice l in subst P (sym (append-nil done)) h
 filled_behind library top slots twice done (d ∷ more) e h =
     let P : List Driving → Type 0 = λ l. IsFilled library top slots twice l in
-    let one : IsFilled library top slots twice (done ++ d ∷ []) = record { size = h.size; once = λ k. absurd (true≢false (sym e ∙ k)); again = still_again library top slots twice done d h; within = h.within } in
+    let one : IsFilled library top slots twice (done ++ d ∷ []) = record {
+      size = h.size;
+      once = λ k. absurd (true≢false (sym e ∙ k));
+      again = still_again library top slots twice done d h;
+      within = h.within;
+    } in
     subst P (append_assoc done (d ∷ []) more) (filled_behind library top slots twice (done ++ d ∷ []) more e one)
 
 -- the drivings of a list of which the first k were gone through
-pub filled_list : (library : List ModelOf) (top : ℕ) (slots : List (Option DriverOf)) (twice : Option ℕ) (done all : List Driving) (k : ℕ) → is_some twice ≡ true → IsFilled library top slots twice (done ++ take k all) → IsFilled library top slots twice (done ++ all)
+pub filled_list : (library : List ModelOf) (top : ℕ) (slots : List (Option DriverOf)) (twice : Option ℕ) (done all : List Driving) (k : ℕ)
+    → is_some twice ≡ true → IsFilled library top slots twice (done ++ take k all)
+    → IsFilled library top slots twice (done ++ all)
 filled_list library top slots twice done all k e h =
     let Q : List Driving → Type 0 = λ l. IsFilled library top slots twice l in
     subst Q (append_assoc done (take k all) (drop k all) ∙ ap (λ l. done ++ l) (take-append-drop k all)) (filled_behind library top slots twice (done ++ take k all) (drop k all) e h)
 
 -- the drivings of pieces of which the first k were gone through
-pub filled_pieces : {X : Type 0} (library : List ModelOf) (top : ℕ) (slots : List (Option DriverOf)) (twice : Option ℕ) (f : X → List Driving) (done : List Driving) (all : List X) (k : ℕ) → is_some twice ≡ true → IsFilled library top slots twice (done ++ flat_map f (take k all)) → IsFilled library top slots twice (done ++ flat_map f all)
+pub filled_pieces : {X : Type 0} (library : List ModelOf) (top : ℕ) (slots : List (Option DriverOf)) (twice : Option ℕ)
+    (f : X → List Driving) (done : List Driving) (all : List X) (k : ℕ) → is_some twice ≡ true
+    → IsFilled library top slots twice (done ++ flat_map f (take k all))
+    → IsFilled library top slots twice (done ++ flat_map f all)
 filled_pieces library top slots twice f done all k e h =
     let Q : List Driving → Type 0 = λ l. IsFilled library top slots twice l in
     let pieces : flat_map f (take k all) ++ flat_map f (drop k all) ≡ flat_map f all = sym (flat_map-append f (take k all) (drop k all)) ∙ ap (flat_map f) (take-append-drop k all) in
-    subst Q (append_assoc done (flat_map f (take k all)) (flat_map f (drop k all)) ∙ ap (λ l. done ++ l) pieces) (filled_behind library top slots twice (done ++ flat_map f (take k all)) (flat_map f (drop k all)) e h)
+    subst Q (append_assoc done (flat_map f (take k all)) (flat_map f (drop k all)) ∙ ap (λ l. done ++ l) pieces)
+    (filled_behind library top slots twice (done ++ flat_map f (take k all)) (flat_map f (drop k all)) e h)
 
 -- the codes, once all drivings were gone through
 pub driven_twice : (library : List ModelOf) (top : ℕ) (slots : List (Option DriverOf)) (s : ℕ) → IsFilled library top slots (Some s) (drivings library top) → is_driven_twice library top ≡ true
@@ -174,17 +265,23 @@ count_slot f (Some d) = omega arith
 pub not_driven_twice : (library : List ModelOf) (top : ℕ) (slots : List (Option DriverOf)) → IsFilled library top slots None (drivings library top) → is_driven_twice library top ≡ false
 unfolding is_driven_twice
 not_driven_twice library top slots h = none_place (λ s. nat_lt 1 (length (sources library top s))) (signals library top) (λ i k.
-    let one : length (sources library top (signal_at library top i)) ≤ 1 = rw (h.once refl i (omega (arith, h.size, k))) (count_slot (source_of (signal_at library top) (all_rows library)) (slice_index_or slots i None)) in
+    let one : length (sources library top (signal_at library top i)) ≤ 1 =
+    rw (h.once refl i (omega (arith, h.size, k)))
+    (count_slot (source_of (signal_at library top) (all_rows library)) (slice_index_or slots i None)) in
     le-ltb 1 (length (sources library top (signal_at library top i))) one)
 
-pub undriven : (library : List ModelOf) (top : ℕ) (slots : List (Option DriverOf)) (s : ℕ) → IsFilled library top slots None (drivings library top) → s < length slots → slice_index_or slots s None ≡ None → is_undriven library top ≡ true
+pub undriven : (library : List ModelOf) (top : ℕ) (slots : List (Option DriverOf)) (s : ℕ)
+    → IsFilled library top slots None (drivings library top) → s < length slots → slice_index_or slots s None ≡ None
+    → is_undriven library top ≡ true
 unfolding is_undriven
 undriven library top slots s h inside free =
     let none : sources library top (signal_at library top s) ≡ [] = h.once refl s inside ∙ ap (λ o. map (source_of (signal_at library top) (all_rows library)) (in_slot o)) free in
     some_place (λ s. length (sources library top s) == 0) (signals library top) s (omega (arith, h.size, inside)) (rw none refl)
 
 -- where every slot is taken, each signal has the one driver in its slot
-pub sourced : (library : List ModelOf) (top : ℕ) (slots : List (Option DriverOf)) (s : ℕ) (driver : DriverOf) → IsFilled library top slots None (drivings library top) → s < length slots → slice_index_or slots s None ≡ Some driver → sources library top (signal_at library top s) ≡ source_of (signal_at library top) (all_rows library) driver ∷ []
+pub sourced : (library : List ModelOf) (top : ℕ) (slots : List (Option DriverOf)) (s : ℕ) (driver : DriverOf)
+    → IsFilled library top slots None (drivings library top) → s < length slots → slice_index_or slots s None ≡ Some driver
+    → sources library top (signal_at library top s) ≡ source_of (signal_at library top) (all_rows library) driver ∷ []
 sourced library top slots s driver h inside taken = h.once refl s inside ∙ ap (λ o. map (source_of (signal_at library top) (all_rows library)) (in_slot o)) taken
 
 pub not_undriven : (library : List ModelOf) (top : ℕ) (drivers : List DriverOf) → IsFilled library top (map Some drivers) None (drivings library top) → is_undriven library top ≡ false

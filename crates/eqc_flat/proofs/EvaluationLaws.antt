@@ -9,9 +9,12 @@ use Rattle.eqc_flat.specs.Evaluating.{values_of}
 use Rattle.eqc_flat.specs.Known.{AreKnown}
 use Rattle.eqc_hierarchy.proofs.Members.{among_at, at_among, before_at}
 
-pub dep_before : (f : FlatOf) (k c : ℕ) → IsFlat f → k < length f.steps → c < length (dependencies (driver_at f (get_or f.steps k 0))) → (i : ℕ) × (i < k) × (get_or f.steps i 0 ≡ get_or (dependencies (driver_at f (get_or f.steps k 0))) c 0)
+pub dep_before : (f : FlatOf) (k c : ℕ) → IsFlat f → k < length f.steps
+    → c < length (dependencies (driver_at f (get_or f.steps k 0)))
+    → (i : ℕ) × (i < k) × (get_or f.steps i 0 ≡ get_or (dependencies (driver_at f (get_or f.steps k 0))) c 0)
 dep_before f k c h inside within =
-    elim (before_at (λ s. dependencies (driver_at f s)) [] f.steps k (get_or (dependencies (driver_at f (get_or f.steps k 0))) c 0) h.ordered inside (among_at (dependencies (driver_at f (get_or f.steps k 0))) c within)) [
+    elim (before_at (λ s. dependencies (driver_at f s)) [] f.steps k (get_or (dependencies (driver_at f (get_or f.steps k 0))) c 0) h.ordered
+    inside (among_at (dependencies (driver_at f (get_or f.steps k 0))) c within)) [
       | inl none ↦ absurd (true≢false (sym none))
       | inr w ↦ w
     ]
@@ -28,17 +31,24 @@ map_same v w (x ∷ columns) same =
     cc
 
 -- a driver makes the same of values that agree on what it depends on
-driven_same : (rows : List (List (List ℕ))) (a v w : ℕ → Bool) (driver : DriverOf) → ((c : ℕ) → c < length (dependencies driver) → v (get_or (dependencies driver) c 0) ≡ w (get_or (dependencies driver) c 0)) → driven rows a v driver ≡ driven rows a w driver
+driven_same : (rows : List (List (List ℕ))) (a v w : ℕ → Bool) (driver : DriverOf)
+    → ((c : ℕ) → c < length (dependencies driver) → v (get_or (dependencies driver) c 0) ≡ w (get_or (dependencies driver) c 0))
+    → driven rows a v driver ≡ driven rows a w driver
 driven_same rows a v w (input position) same = refl
 driven_same rows a v w (tie other) same = same 0 (omega arith)
 driven_same rows a v w (cover columns r) same = ap (cover_value (get_or rows r [])) (map_same v w columns same)
 
 -- one signal more
-pub known_more : (f : FlatOf) (a : ℕ → Bool) (values : List Bool) (k : ℕ) (value : Bool) → IsFlat f → FollowsDrivers f → k < length f.steps → AreKnown f a values k → value ≡ driven f.rows a (values_of values) (driver_at f (get_or f.steps k 0)) → AreKnown f a (set values (get_or f.steps k 0) value) (k + 1)
+pub known_more : (f : FlatOf) (a : ℕ → Bool) (values : List Bool) (k : ℕ) (value : Bool) → IsFlat f → FollowsDrivers f
+    → k < length f.steps → AreKnown f a values k → value ≡ driven f.rows a (values_of values) (driver_at f (get_or f.steps k 0))
+    → AreKnown f a (set values (get_or f.steps k 0) value) (k + 1)
 known_more f a values k value h follows inside known is = record {
   size = length-set values (get_or f.steps k 0) value ∙ known.size;
   known = λ i lt. elim (cases_eq (get_or f.steps i 0) (get_or f.steps k 0)) [
-    | inl same ↦ ap (values_of (set values (get_or f.steps k 0) value)) same ∙ (get_or-set_same values (get_or f.steps k 0) value false (omega (arith, known.size, h.steps_within k inside)) ∙ (right ∙ ap (value_of f a) (sym same)))
+    | inl same ↦
+        ap (values_of (set values (get_or f.steps k 0) value)) same
+        ∙ (get_or-set_same values (get_or f.steps k 0) value false (omega (arith, known.size, h.steps_within k inside))
+        ∙ (right ∙ ap (value_of f a) (sym same)))
     | inr apart ↦ get_or-set_other values (get_or f.steps k 0) (get_or f.steps i 0) value false apart ∙ known.known i (before i lt apart)
   ];
 }
@@ -58,7 +68,9 @@ known_all f a values s h known inside =
     subst (λ t. values_of values t ≡ value_of f a t) w.2 (known.known w.0 w.1)
 
 -- the values of the outputs' signals
-pub known_outputs : (f : FlatOf) (a : ℕ → Bool) (values : List Bool) → IsFlat f → ((s : ℕ) → s < length f.drivers → values_of values s ≡ value_of f a s) → map (values_of values) f.output_signals ≡ map (value_of f a) f.output_signals
+pub known_outputs : (f : FlatOf) (a : ℕ → Bool) (values : List Bool) → IsFlat f
+    → ((s : ℕ) → s < length f.drivers → values_of values s ≡ value_of f a s)
+    → map (values_of values) f.output_signals ≡ map (value_of f a) f.output_signals
 known_outputs f a values h known = map_same (values_of values) (value_of f a) f.output_signals (λ o inside. known (get_or f.output_signals o 0) (h.outputs_within o (omega (arith, h.each_output))))
 
 -- the outputs' signals are among the signals

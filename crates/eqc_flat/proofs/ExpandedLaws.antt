@@ -23,16 +23,22 @@ use Rattle.eqc_hierarchy.proofs.Distinct.{member_get}
 use Rattle.eqc_hierarchy.proofs.NamingLaws.{no_instance, callee_at, formal_there}
 
 -- the signal of a name of an instance, by the instance's first signal and the name's place
-pub signal_is : (library : List ModelOf) (top i n k : ℕ) (name : List ℕ) → i < length (paths library top) → n ≡ first_signal library top i → k < length (names_of (model_of library top i)) → slice_index_or (names_of (model_of library top i)) k [] ≡ name → signal_at library top (n + k) ≡ record { path = path_at library top i; name = name }
+pub signal_is : (library : List ModelOf) (top i n k : ℕ) (name : List ℕ) → i < length (paths library top)
+    → n ≡ first_signal library top i → k < length (names_of (model_of library top i))
+    → slice_index_or (names_of (model_of library top i)) k [] ≡ name
+    → signal_at library top (n + k) ≡ record { path = path_at library top i; name = name }
 signal_is library top i n k name inside first here is =
     ap (λ f. signal_at library top (f + k)) first ∙ (signal_here library top i k inside here ∙ ap (λ (x : List ℕ). record { path = path_at library top i; name = x }) is)
 
-pub signal_within : (library : List ModelOf) (top i n k : ℕ) → i < length (paths library top) → n ≡ first_signal library top i → k < length (names_of (model_of library top i)) → n + k < length (signals library top)
+pub signal_within : (library : List ModelOf) (top i n k : ℕ) → i < length (paths library top) → n ≡ first_signal library top i
+    → k < length (names_of (model_of library top i)) → n + k < length (signals library top)
 signal_within library top i n k inside first here = let there = signal_inside library top i k inside here in omega (arith, first, there)
 
 -- a list is its elements at their places
 pub places_of : {X : Type 0} (xs : List X) (d : X) → map (λ i. get_or xs i d) (range_with_len 0 (length xs)) ≡ xs
-places_of xs d = ext_get_or d (map (λ i. get_or xs i d) (range_with_len 0 (length xs))) xs (length-map-range_with_len (λ i. get_or xs i d) 0 (length xs)) (λ i h. get_or-map-range_with_len (λ i. get_or xs i d) 0 (length xs) i i d (rw length-map-range_with_len at h) (omega arith))
+places_of xs d =
+    ext_get_or d (map (λ i. get_or xs i d) (range_with_len 0 (length xs))) xs (length-map-range_with_len (λ i. get_or xs i d) 0 (length xs))
+    (λ i h. get_or-map-range_with_len (λ i. get_or xs i d) 0 (length xs) i i d (rw length-map-range_with_len at h) (omega arith))
 
 map_pieces : {A B C : Type 0} (h : B → C) (f : A → List B) (xs : List A) → map h (flat_map f xs) ≡ flat_map (λ x. map h (f x)) xs
 map_pieces h f [] = refl
@@ -58,7 +64,12 @@ signals_named library top =
     let by_number : flat_map (signals_at library top) (paths library top) ≡ flat_map (λ i. signals_at library top (path_at library top i)) (range_with_len 0 n) =
     ap (flat_map (signals_at library top)) (sym (places_of (paths library top) [])) ∙ pieces_map (signals_at library top) (path_at library top) (range_with_len 0 n) in
     by_number
-    ∙ (same_pieces (λ i. signals_at library top (path_at library top i)) (λ i. map (λ (s : ℕ × List ℕ). record { path = path_at library top s.0; name = s.1 }) (named_here library top i)) (range_with_len 0 n) (λ i. sym (two_maps (λ (s : ℕ × List ℕ). record { path = path_at library top s.0; name = s.1 }) (λ name. (i, name)) (names_of (model_of library top i))))
+    ∙ (same_pieces (λ i. signals_at library top (path_at library top i))
+    (λ i. map (λ (s : ℕ × List ℕ). record { path = path_at library top s.0; name = s.1 }) (named_here library top i))
+    (range_with_len 0 n)
+    (λ i.
+    sym (two_maps (λ (s : ℕ × List ℕ). record { path = path_at library top s.0; name = s.1 }) (λ name. (i, name))
+    (names_of (model_of library top i))))
     ∙ sym (map_pieces (λ (s : ℕ × List ℕ). record { path = path_at library top s.0; name = s.1 }) (named_here library top) (range_with_len 0 n)))
 
 -- a main model whose models never reach themselves has a list of instances
@@ -71,15 +82,23 @@ growing library top e = paths_fixed library top (not_false (ends_within (callees
     not_false false k = absurd (true≢false k)
 
 -- the number of the first rows of a model
-pub row_first : (library : List ModelOf) (firsts : List ℕ) (rows : List (List (List ℕ))) (m n : ℕ) → IsRowTable library firsts rows → m < length library → n ≡ slice_index_or firsts m n → n ≡ length (flat_map rows_of (take m library))
-row_first library firsts rows m n h inside read = read ∙ (ap (λ xs. get_or xs m n) h.firsts_of ∙ get_or-map-range_with_len (λ m. length (flat_map rows_of (take m library))) 0 (length library) m m n inside (omega arith))
+pub row_first : (library : List ModelOf) (firsts : List ℕ) (rows : List (List (List ℕ))) (m n : ℕ)
+    → IsRowTable library firsts rows → m < length library → n ≡ slice_index_or firsts m n
+    → n ≡ length (flat_map rows_of (take m library))
+row_first library firsts rows m n h inside read =
+    read
+    ∙ (ap (λ xs. get_or xs m n) h.firsts_of
+    ∙ get_or-map-range_with_len (λ m. length (flat_map rows_of (take m library))) 0 (length library) m m n inside (omega arith))
 
 pub row_firsts : (library : List ModelOf) (firsts : List ℕ) (rows : List (List (List ℕ))) → IsRowTable library firsts rows → length firsts ≡ length library
 row_firsts library firsts rows h = ap length h.firsts_of ∙ length-map-range_with_len (λ m. length (flat_map rows_of (take m library))) 0 (length library)
 
 -- the rows of one model more
 pub rows_more : (library : List ModelOf) (m : ℕ) → m < length library → flat_map rows_of (take (m + 1) library) ≡ flat_map rows_of (take m library) ++ rows_of (model library m)
-rows_more library m inside = ap (flat_map rows_of) (take_more library m no_model inside) ∙ (flat_map-append rows_of (take m library) (model library m ∷ []) ∙ ap (λ xs. flat_map rows_of (take m library) ++ xs) (append-nil (rows_of (model library m))))
+rows_more library m inside =
+    ap (flat_map rows_of) (take_more library m no_model inside)
+    ∙ (flat_map-append rows_of (take m library) (model library m ∷ [])
+    ∙ ap (λ xs. flat_map rows_of (take m library) ++ xs) (append-nil (rows_of (model library m))))
 
 -- the pieces for one number more
 pub range_more : {X : Type 0} (f : ℕ → List X) (k : ℕ) → flat_map f (range_with_len 0 (k + 1)) ≡ flat_map f (range_with_len 0 k) ++ f k
@@ -97,7 +116,14 @@ first_most library top i =
     omega (arith, ap length whole, length-append (flat_map f (take i all)) (flat_map f (drop i all)))
 
 -- the same by the numbers of the instance, its position and the pair
-pub formal_known : (library : List ModelOf) (top i p j : ℕ) → has_unknown_formal library top ≡ false → i < length (paths library top) → p < length (model library (model_at library top (path_at library top i))).instances → j < length (slice_index_or (model library (model_at library top (path_at library top i))).instances p no_instance).pairs → (callee : ℕ) → callee ≡ slice_index_or (callees library (model_at library top (path_at library top i))) p (length library) → is_named ((model library callee).inputs ++ (model library callee).outputs) (slice_index_or (slice_index_or (model library (model_at library top (path_at library top i))).instances p no_instance).pairs j ([], [])).0 ≡ true
+pub formal_known : (library : List ModelOf) (top i p j : ℕ) → has_unknown_formal library top ≡ false
+    → i < length (paths library top) → p < length (model library (model_at library top (path_at library top i))).instances
+    → j < length (slice_index_or (model library (model_at library top (path_at library top i))).instances p no_instance).pairs
+    → (callee : ℕ) → callee ≡ slice_index_or (callees library (model_at library top (path_at library top i))) p (length library)
+    → is_named ((model library callee).inputs ++ (model library callee).outputs)
+    (slice_index_or (slice_index_or (model library (model_at library top (path_at library top i))).instances p no_instance).pairs j
+    ([], [])).0
+    ≡ true
 formal_known library top i p j none inside here there callee calls =
     let path = path_at library top i in
     let instances = (model library (model_at library top path)).instances in
@@ -108,7 +134,9 @@ formal_known library top i p j none inside here there callee calls =
     subst R (sym same) (formal_there library top path one pair none (member_get (paths library top) i [] inside) (member_get instances p no_instance here) (member_get one.pairs j ([], []) there))
 
 -- the rows of a model's cover, among those of all covers
-pub rows_at : (library : List ModelOf) (m k : ℕ) → m < length library → k < length (model library m).covers → slice_index_or (all_rows library) (length (flat_map rows_of (take m library)) + k) [] ≡ (slice_index_or (model library m).covers k no_cover).rows
+pub rows_at : (library : List ModelOf) (m k : ℕ) → m < length library → k < length (model library m).covers
+    → slice_index_or (all_rows library) (length (flat_map rows_of (take m library)) + k) []
+    ≡ (slice_index_or (model library m).covers k no_cover).rows
 rows_at library m k inside here =
     get_or-flat_map rows_of library m k no_model [] inside (rw length-map here) ∙ get_or-map (λ (c : CoverOf). c.rows) (model library m).covers k no_cover [] here
 

@@ -1,5 +1,40 @@
 -- What is at fault is found, and told by its place.
-use Rattle.std.proofs.Common.{◌==◌, ◌≡◌, ℕ, zero, suc, ◌+◌, ◌-◌, ◌<◌, ◌≤◌, inl, inr, Bool, true, false, ◌||◌, List, [], ◌∷◌, ◌++◌, length, map, take, drop, get_or, refl, sym, ◌∙◌, ap, subst, arith, Option, Some, None, nat_lt}
+use Rattle.std.proofs.Common.{
+  ◌==◌,
+  ◌≡◌,
+  ℕ,
+  zero,
+  suc,
+  ◌+◌,
+  ◌-◌,
+  ◌<◌,
+  ◌≤◌,
+  inl,
+  inr,
+  Bool,
+  true,
+  false,
+  ◌||◌,
+  List,
+  [],
+  ◌∷◌,
+  ◌++◌,
+  length,
+  map,
+  take,
+  drop,
+  get_or,
+  refl,
+  sym,
+  ◌∙◌,
+  ap,
+  subst,
+  arith,
+  Option,
+  Some,
+  None,
+  nat_lt,
+}
 use Rattle.std.specs.Prelude.{slice_index_or, is_some, is_none, position, IsSome, Contains, MatchOption}
 use Rattle.std.specs.List.{list_any, flat_map}
 use Rattle.std.specs.Option.{option_map}
@@ -14,7 +49,20 @@ use Rattle.eqc_flat.specs.Ordering.{signal_deps, IsTrail, HasNoOrder}
 use Rattle.eqc_hierarchy.specs.Walks.{IsWalk, from_on}
 use Rattle.eqc_hierarchy.specs.Hierarchy.{model, model_at, paths_within, paths}
 use Rattle.eqc_hierarchy.specs.Signals.{SignalOf, needs, names_of, signals, sources, drivings}
-use Rattle.eqc_hierarchy.specs.Codes.{has_no_such_model, is_recursive, has_unknown_formal, has_formal_twice, has_missing_formal, is_too_large, has_many_inputs, is_driven_twice, is_undriven, is_cyclic, code_if, flat_code}
+use Rattle.eqc_hierarchy.specs.Codes.{
+  has_no_such_model,
+  is_recursive,
+  has_unknown_formal,
+  has_formal_twice,
+  has_missing_formal,
+  is_too_large,
+  has_many_inputs,
+  is_driven_twice,
+  is_undriven,
+  is_cyclic,
+  code_if,
+  flat_code,
+}
 use Rattle.eqc_flat.specs.Flattened.{path_at, model_of, first_signal, signal_at, source_of}
 use Rattle.eqc_flat.specs.DriverTable.{in_slot, IsFilled, IsTable, IsDriven, driven_code, first_driven, HasSources}
 use Rattle.eqc_hierarchy.specs.Columns.{all_columns}
@@ -22,11 +70,11 @@ use Rattle.eqc_flat.specs.RowTable.{all_rows}
 use Rattle.eqc_flat.specs.StoredDrivers.{driver_from}
 use Rattle.eqc_flat.specs.Finding.{steps_of, hierarchical_name, IsCircle}
 use Rattle.eqc_hierarchy.specs.Rule.{rule_code}
-use Rattle.eqc_flat.specs.declared.hierarchical_name.Step.{Step}
+use Rattle.eqc_flat.specs.declared.finding.hierarchical_name.Step.{Step}
 use Rattle.eqc_hierarchy.specs.declared.rule.Rule.{Rule}
-use Rattle.eqc_flat.specs.declared.stored_driver.StoredDriver.{StoredDriver}
-use Rattle.eqc_flat.specs.declared.driver_table.Driven.{Driven}
-use Rattle.eqc_flat.specs.declared.driver_table.Driven.TheVariants.{Twice, Never}
+use Rattle.eqc_flat.specs.declared.drivers.stored_driver.StoredDriver.{StoredDriver}
+use Rattle.eqc_flat.specs.declared.drivers.driver_table.Driven.{Driven}
+use Rattle.eqc_flat.specs.declared.drivers.driver_table.Driven.TheVariants.{Twice, Never}
 use Rattle.eqc_flat.proofs.InstanceLaws.{first_more, first_all}
 use Rattle.eqc_flat.proofs.DrivingLaws.{slot_empty}
 use Rattle.eqc_flat.proofs.DepthLaws.{no_code}
@@ -45,7 +93,11 @@ first_path library top = by (length library)
     by (suc n) = refl
 
 -- one step further up
-pub step_more : (library : List ModelOf) (top inner parent position m : ℕ) (all done now : List Step) → all ≡ done ++ steps_of library top (path_at library top inner) → path_at library top inner ≡ position ∷ path_at library top parent → m ≡ model_at library top (path_at library top inner) → now ≡ done ++ record { position = position; model = m } ∷ [] → all ≡ now ++ steps_of library top (path_at library top parent)
+pub step_more : (library : List ModelOf) (top inner parent position m : ℕ) (all done now : List Step)
+    → all ≡ done ++ steps_of library top (path_at library top inner)
+    → path_at library top inner ≡ position ∷ path_at library top parent → m ≡ model_at library top (path_at library top inner)
+    → now ≡ done ++ record { position = position; model = m } ∷ []
+    → all ≡ now ++ steps_of library top (path_at library top parent)
 step_more library top inner parent position m all done now is place named grown =
     let up = steps_of library top (path_at library top parent) in
     let here : steps_of library top (path_at library top inner) ≡ record { position = position; model = m } ∷ up =
@@ -57,7 +109,9 @@ steps_end library top inner all done is none =
     sym (is ∙ (ap (λ (i : ℕ). done ++ steps_of library top (path_at library top i)) none ∙ (ap (λ (path : List ℕ). done ++ steps_of library top path) (first_path library top) ∙ append-nil done)))
 
 -- the instance of a signal is looked for one instance further on
-pub next_instance : (library : List ModelOf) (top i k s n : ℕ) → i < length (paths library top) → first_signal library top i + k ≡ s → s < length (signals library top) → n ≡ length (names_of (model_of library top i)) → n ≤ k → (i + 1 < length (paths library top)) × (first_signal library top (i + 1) + (k - n) ≡ s)
+pub next_instance : (library : List ModelOf) (top i k s n : ℕ) → i < length (paths library top)
+    → first_signal library top i + k ≡ s → s < length (signals library top) → n ≡ length (names_of (model_of library top i))
+    → n ≤ k → (i + 1 < length (paths library top)) × (first_signal library top (i + 1) + (k - n) ≡ s)
 next_instance library top i k s n inside here less size most =
     let more = first_more library top i inside in
     let same : first_signal library top (i + 1) + (k - n) ≡ s = omega (arith, more, size, most, here) in (
@@ -123,14 +177,20 @@ told_28 false false true e = (refl, refl, refl)
 told_28 false false false e = absurd (none_some 28 e)
 
 -- a table of a hierarchy that is refused by 26 knows a signal that is driven twice
-pub twice_known : (library : List ModelOf) (top : ℕ) (slots : List (Option DriverOf)) (twice : Option ℕ) → IsNumbered library top 26 → IsFilled library top slots twice (drivings library top) → is_some twice ≡ true
+pub twice_known : (library : List ModelOf) (top : ℕ) (slots : List (Option DriverOf)) (twice : Option ℕ)
+    → IsNumbered library top 26 → IsFilled library top slots twice (drivings library top) → is_some twice ≡ true
 twice_known library top slots (Some s) h filled = refl
-twice_known library top slots None h filled = absurd (true≢false (sym (told_26 (is_driven_twice library top) (is_undriven library top) (is_cyclic library top) h.left) ∙ not_driven_twice library top slots filled))
+twice_known library top slots None h filled =
+    absurd (true≢false (sym (told_26 (is_driven_twice library top) (is_undriven library top) (is_cyclic library top) h.left)
+    ∙ not_driven_twice library top slots filled))
 
 -- a table of a hierarchy that is refused by 27 knows none
-pub none_twice : (library : List ModelOf) (top : ℕ) (slots : List (Option DriverOf)) (twice : Option ℕ) → IsNumbered library top 27 → IsFilled library top slots twice (drivings library top) → twice ≡ None
+pub none_twice : (library : List ModelOf) (top : ℕ) (slots : List (Option DriverOf)) (twice : Option ℕ)
+    → IsNumbered library top 27 → IsFilled library top slots twice (drivings library top) → twice ≡ None
 none_twice library top slots None h filled = refl
-none_twice library top slots (Some s) h filled = absurd (true≢false (sym (driven_twice library top slots s filled) ∙ (told_27 (is_driven_twice library top) (is_undriven library top) (is_cyclic library top) h.left).0))
+none_twice library top slots (Some s) h filled =
+    absurd (true≢false (sym (driven_twice library top slots s filled)
+    ∙ (told_27 (is_driven_twice library top) (is_undriven library top) (is_cyclic library top) h.left).0))
 
 none_at : {X : Type 0} (p : X → Bool) (xs : List X) (k : ℕ) (d : X) → list_any p xs ≡ false → k < length xs → p (get_or xs k d) ≡ false
 none_at p [] k d e h = absurd (omega arith)
@@ -146,7 +206,9 @@ none_at p (x ∷ xs) (suc k) d e h = none_at p xs k d (rest (p x) (list_any p xs
     rest true b k = absurd (true≢false k)
 
 -- a hierarchy whose slots are all taken has a driver for each signal
-all_taken : (library : List ModelOf) (top : ℕ) (columns : List (List ℕ)) (slots : List (Option StoredDriver)) → IsFilled library top (map (option_map (driver_from columns)) slots) None (drivings library top) → list_any is_none slots ≡ false → is_undriven library top ≡ false
+all_taken : (library : List ModelOf) (top : ℕ) (columns : List (List ℕ)) (slots : List (Option StoredDriver))
+    → IsFilled library top (map (option_map (driver_from columns)) slots) None (drivings library top)
+    → list_any is_none slots ≡ false → is_undriven library top ≡ false
 unfolding is_undriven
 all_taken library top columns slots h e = none_place (λ s. length (sources library top s) == 0) (signals library top) (λ i k.
     let room : i < length slots = omega (arith, h.size, k, length-map slots (option_map (driver_from columns))) in
@@ -155,22 +217,32 @@ all_taken library top columns slots h e = none_place (λ s. length (sources libr
     by : (i : ℕ) → i < length slots → (o : Option StoredDriver) → slice_index_or slots i None ≡ o → (length (sources library top (signal_at library top i)) == 0) ≡ false
     by i room None is = absurd (true≢false (sym (ap is_none is) ∙ none_at is_none slots i None e room))
     by i room (Some d) is =
-        let taken : slice_index_or (map (option_map (driver_from columns)) slots) i None ≡ Some (driver_from columns d) = get_or-map (option_map (driver_from columns)) slots i None None room ∙ ap (option_map (driver_from columns)) is in
+        let taken : slice_index_or (map (option_map (driver_from columns)) slots) i None ≡ Some (driver_from columns d) =
+        get_or-map (option_map (driver_from columns)) slots i None None room ∙ ap (option_map (driver_from columns)) is in
         rw (sourced library top (map (option_map (driver_from columns)) slots) i (driver_from columns d) h (omega (arith, room, length-map slots (option_map (driver_from columns)))) taken) refl
 
 -- a table of a hierarchy that is refused by 27 has an empty slot
-pub empty_known : (library : List ModelOf) (top : ℕ) (columns : List (List ℕ)) (slots : List (Option StoredDriver)) (twice : Option ℕ) → IsNumbered library top 27 → IsFilled library top (map (option_map (driver_from columns)) slots) twice (drivings library top) → is_some (position is_none slots) ≡ true
+pub empty_known : (library : List ModelOf) (top : ℕ) (columns : List (List ℕ)) (slots : List (Option StoredDriver)) (twice : Option ℕ)
+    → IsNumbered library top 27 → IsFilled library top (map (option_map (driver_from columns)) slots) twice (drivings library top)
+    → is_some (position is_none slots) ≡ true
 empty_known library top columns slots twice h filled = by (is_some (position is_none slots)) refl
   where
     once : IsFilled library top (map (option_map (driver_from columns)) slots) None (drivings library top)
-    once = let P : Option ℕ → Type 0 = λ o. IsFilled library top (map (option_map (driver_from columns)) slots) o (drivings library top) in subst P (none_twice library top (map (option_map (driver_from columns)) slots) twice h filled) filled
+    once =
+        let P : Option ℕ → Type 0 = λ o. IsFilled library top (map (option_map (driver_from columns)) slots) o (drivings library top) in
+        subst P (none_twice library top (map (option_map (driver_from columns)) slots) twice h filled) filled
 
     by : (b : Bool) → is_some (position is_none slots) ≡ b → is_some (position is_none slots) ≡ true
     by true e = e
-    by false e = absurd (true≢false (sym (told_27 (is_driven_twice library top) (is_undriven library top) (is_cyclic library top) h.left).1 ∙ all_taken library top columns slots once (unplaced is_none slots e)))
+    by false e =
+        absurd (true≢false (sym (told_27 (is_driven_twice library top) (is_undriven library top) (is_cyclic library top) h.left).1
+        ∙ all_taken library top columns slots once (unplaced is_none slots e)))
 
 -- an empty slot is that of a signal that nothing drives
-pub empty_undriven : (library : List ModelOf) (top : ℕ) (columns : List (List ℕ)) (slots : List (Option StoredDriver)) (twice : Option ℕ) (s : ℕ) → IsNumbered library top 27 → IsFilled library top (map (option_map (driver_from columns)) slots) twice (drivings library top) → position is_none slots ≡ Some s → (s < length (signals library top)) × (sources library top (signal_at library top s) ≡ [])
+pub empty_undriven : (library : List ModelOf) (top : ℕ) (columns : List (List ℕ)) (slots : List (Option StoredDriver)) (twice : Option ℕ)
+    (s : ℕ) → IsNumbered library top 27
+    → IsFilled library top (map (option_map (driver_from columns)) slots) twice (drivings library top)
+    → position is_none slots ≡ Some s → (s < length (signals library top)) × (sources library top (signal_at library top s) ≡ [])
 empty_undriven library top columns slots twice s h filled e =
     let found = position-Some is_none slots s None e in
     let free : slice_index_or slots s None ≡ None = none_there (slice_index_or slots s None) found.1 in
@@ -190,12 +262,17 @@ driven_numbered Twice library top e = numbered library top 26 (omega arith) (ome
 driven_numbered Never library top e = numbered library top 27 (omega arith) (omega arith) e
 
 -- its table knows one
-pub driven_known : (driven : Driven) (library : List ModelOf) (top : ℕ) (slots : List (Option StoredDriver)) (twice : Option ℕ) → IsNumbered library top (driven_code driven) → IsTable library top slots twice (drivings library top) → is_some (first_driven driven slots twice) ≡ true
+pub driven_known : (driven : Driven) (library : List ModelOf) (top : ℕ) (slots : List (Option StoredDriver)) (twice : Option ℕ)
+    → IsNumbered library top (driven_code driven) → IsTable library top slots twice (drivings library top)
+    → is_some (first_driven driven slots twice) ≡ true
 driven_known Twice library top slots twice h table = twice_known library top (map (option_map (driver_from (all_columns library))) slots) twice h table
 driven_known Never library top slots twice h table = empty_known library top (all_columns library) slots twice h table
 
 -- the one that it knows is driven so
-pub driven_is : (driven : Driven) (library : List ModelOf) (top : ℕ) (slots : List (Option StoredDriver)) (twice : Option ℕ) (s : ℕ) → IsNumbered library top (driven_code driven) → IsTable library top slots twice (drivings library top) → first_driven driven slots twice ≡ Some s → (s < length (signals library top)) × HasSources driven (sources library top (signal_at library top s))
+pub driven_is : (driven : Driven) (library : List ModelOf) (top : ℕ) (slots : List (Option StoredDriver)) (twice : Option ℕ) (s : ℕ)
+    → IsNumbered library top (driven_code driven) → IsTable library top slots twice (drivings library top)
+    → first_driven driven slots twice ≡ Some s
+    → (s < length (signals library top)) × HasSources driven (sources library top (signal_at library top s))
 driven_is Twice library top slots twice s h table e = table.again s e
 driven_is Never library top slots twice s h table e = empty_undriven library top (all_columns library) slots twice s h table e
 
@@ -240,7 +317,9 @@ walk_within deps n closed (x ∷ []) first h (suc k) inside = absurd (omega (ari
 walk_within deps n closed (x ∷ y ∷ ys) first h (suc k) inside = walk_within deps n closed (y ∷ ys) (closed x y first h.0) h.1 k (omega (arith, inside))
 
 -- a walk as a walk of what its nodes stand for
-walk_mapped : {X : Type 0} (deps : ℕ → List ℕ) (next : X → List X) (f : ℕ → X) (n : ℕ) → ((x y : ℕ) → x < n → Contains (deps x) y → y < n) → ((x y : ℕ) → x < n → Contains (deps x) y → Contains (next (f x)) (f y)) → (xs : List ℕ) → get_or xs 0 0 < n → IsWalk deps xs → IsWalk next (map f xs)
+walk_mapped : {X : Type 0} (deps : ℕ → List ℕ) (next : X → List X) (f : ℕ → X) (n : ℕ)
+    → ((x y : ℕ) → x < n → Contains (deps x) y → y < n) → ((x y : ℕ) → x < n → Contains (deps x) y → Contains (next (f x)) (f y))
+    → (xs : List ℕ) → get_or xs 0 0 < n → IsWalk deps xs → IsWalk next (map f xs)
 walk_mapped deps next f n closed step [] first h = tt
 walk_mapped deps next f n closed step (x ∷ []) first h = tt
 walk_mapped deps next f n closed step (x ∷ y ∷ ys) first h = (step x y first h.0, walk_mapped deps next f n closed step (y ∷ ys) (closed x y first h.0) h.1)
@@ -251,12 +330,15 @@ needs_mapped signal rows (input position) = refl
 needs_mapped signal rows (tie other) = refl
 needs_mapped signal rows (cover columns r) = refl
 
-pub dependency_closed : (library : List ModelOf) (top : ℕ) (drivers : List DriverOf) → IsDriven library top drivers → (x y : ℕ) → x < length drivers → Contains (signal_deps drivers x) y → y < length drivers
+pub dependency_closed : (library : List ModelOf) (top : ℕ) (drivers : List DriverOf) → IsDriven library top drivers → (x y : ℕ)
+    → x < length drivers → Contains (signal_deps drivers x) y → y < length drivers
 dependency_closed library top drivers driven x y inside h =
     let P : ℕ → Type 0 = λ z. Member z (signal_deps drivers x) in
     (are_sourced library top [] [] [] drivers [] driven).closed x y inside (subst P h.2 (member_get (signal_deps drivers x) h.0 y h.1))
 
-dependency_needed : (library : List ModelOf) (top : ℕ) (drivers : List DriverOf) → IsDriven library top drivers → (x y : ℕ) → x < length drivers → Contains (signal_deps drivers x) y → Contains (needed library top (signal_at library top x)) (signal_at library top y)
+dependency_needed : (library : List ModelOf) (top : ℕ) (drivers : List DriverOf) → IsDriven library top drivers → (x y : ℕ)
+    → x < length drivers → Contains (signal_deps drivers x) y
+    → Contains (needed library top (signal_at library top x)) (signal_at library top y)
 dependency_needed library top drivers driven x y inside h =
     let deps = signal_deps drivers x in
     let driver = slice_index_or drivers x (input 0) in
@@ -267,13 +349,21 @@ dependency_needed library top drivers driven x y inside h =
     subst P same (h.0, omega (arith, h.1, length-map deps (signal_at library top)), get_or-map (signal_at library top) deps h.0 y (signal_at library top y) h.1 ∙ ap (signal_at library top) h.2)
 
 -- the circle at the end of a walk along the drivers of a hierarchy
-pub circle_named : (library : List ModelOf) (top : ℕ) (drivers : List DriverOf) (walk : List ℕ) (start : ℕ) (circle : List (List Step × List ℕ) × ℕ) → IsDriven library top drivers → IsTrail drivers walk → start + 1 < length walk → slice_index_or walk start 0 ≡ slice_index_or walk (length walk - 1) 0 → circle ≡ (map (λ s. hierarchical_name library top (signal_at library top s)) (take 20 (from_on start walk)), length (from_on start walk)) → IsCircle library top circle
+pub circle_named : (library : List ModelOf) (top : ℕ) (drivers : List DriverOf) (walk : List ℕ) (start : ℕ)
+    (circle : List (List Step × List ℕ) × ℕ) → IsDriven library top drivers → IsTrail drivers walk → start + 1 < length walk
+    → slice_index_or walk start 0 ≡ slice_index_or walk (length walk - 1) 0
+    → circle
+    ≡ (map (λ s. hierarchical_name library top (signal_at library top s)) (take 20 (from_on start walk)), length (from_on start walk))
+    → IsCircle library top circle
 circle_named library top drivers walk start circle driven (root, rooted, back) inside same is = (
   members,
   omega (arith, count, long),
   ap (λ (c : List (List Step × List ℕ) × ℕ). c.1) is,
   ap (λ (c : List (List Step × List ℕ) × ℕ). c.0) is,
-  (λ k less. (let bound = walk_within deps n closed round head steps k (omega (arith, less, count)) in let at = get_or-take (length round - 1) round k 0 (omega (arith, less, count)) in omega (arith, bound, at, driven.size, length-map drivers (λ (d : DriverOf). Some d)))),
+  (λ k less.
+      (let bound = walk_within deps n closed round head steps k (omega (arith, less, count)) in
+      let at = get_or-take (length round - 1) round k 0 (omega (arith, less, count)) in
+      omega (arith, bound, at, driven.size, length-map drivers (λ (d : DriverOf). Some d)))),
   walk_mapped deps (needed library top) (signal_at library top) n closed (dependency_needed library top drivers driven) (members ++ slice_index_or members 0 0 ∷ []) front closed_round,
 )
   where
@@ -350,7 +440,8 @@ start_is walk j node i inside same e =
     )
 
 -- the nodes of a walk along the drivers of a hierarchy are its signals
-pub walk_inside : (library : List ModelOf) (top : ℕ) (drivers : List DriverOf) (walk : List ℕ) → IsDriven library top drivers → IsTrail drivers walk → (k : ℕ) → k < length walk → slice_index_or walk k 0 < length (signals library top)
+pub walk_inside : (library : List ModelOf) (top : ℕ) (drivers : List DriverOf) (walk : List ℕ) → IsDriven library top drivers
+    → IsTrail drivers walk → (k : ℕ) → k < length walk → slice_index_or walk k 0 < length (signals library top)
 walk_inside library top drivers walk driven (root, rooted, back) k inside =
     let P : ℕ → Type 0 = λ x. x < length drivers in
     let bound = walk_within (signal_deps drivers) (length drivers) (dependency_closed library top drivers driven) walk (subst P (sym back.begins) rooted) back.follows k inside in
@@ -362,6 +453,8 @@ circle_left library top drivers h driven order sorted =
     true≢false (sym (told_28 (is_driven_twice library top) (is_undriven library top) (is_cyclic library top) h.left).2 ∙ in_order_not_cyclic library top drivers order driven sorted)
 
 -- a hierarchy that isn't too large is there
-pub hierarchy_there : (library : List ModelOf) (top : ℕ) (o : Option (List ModelOf × ℕ)) → is_too_large library top ≡ false → MatchOption o (is_too_large library top ≡ true) (λ (h : List ModelOf × ℕ). (is_too_large library top ≡ false) × (h ≡ (library, top))) → IsSome o
+pub hierarchy_there : (library : List ModelOf) (top : ℕ) (o : Option (List ModelOf × ℕ)) → is_too_large library top ≡ false
+    → MatchOption o (is_too_large library top ≡ true) (λ (h : List ModelOf × ℕ). (is_too_large library top ≡ false) × (h ≡ (library, top)))
+    → IsSome o
 hierarchy_there library top None small e = absurd (true≢false (sym e ∙ small))
 hierarchy_there library top (Some h) small e = refl

@@ -45,7 +45,10 @@ slot_at : (drivers : List DriverOf) (s : ℕ) → s < length drivers → slice_i
 slot_at drivers s h = get_or-map (λ (d : DriverOf). Some d) drivers s (input 0) None h
 
 -- each driver speaks of what is there
-driver_within : (library : List ModelOf) (top : ℕ) (drivers : List DriverOf) (s : ℕ) → IsDriven library top drivers → s < length drivers → IsWithinSizes (length (model library top).inputs) (length (signals library top)) (length (all_rows library)) (slice_index_or drivers s (input 0))
+driver_within : (library : List ModelOf) (top : ℕ) (drivers : List DriverOf) (s : ℕ) → IsDriven library top drivers
+    → s < length drivers
+    → IsWithinSizes (length (model library top).inputs) (length (signals library top)) (length (all_rows library))
+    (slice_index_or drivers s (input 0))
 driver_within library top drivers s h inside = h.within s (slice_index_or drivers s (input 0)) (omega (arith, inside, length-map drivers (λ (d : DriverOf). Some d))) (slot_at drivers s inside)
 
 member_place : (xs : List ℕ) (x : ℕ) → Member x xs → (k : ℕ) × (k < length xs) × (slice_index_or xs k 0 ≡ x)
@@ -60,11 +63,20 @@ dependency_within inputs n rows (tie other) x h (inr none) = absurd none
 dependency_within inputs n rows (cover columns r) x h e = let (k, inside, is) = member_place columns x e in let least = h.0 k inside in omega (arith, least, is)
 
 -- the signals of the drivers are those of the hierarchy
-pub are_sourced : (library : List ModelOf) (top : ℕ) (output_signals : List ℕ) (named : List (ℕ × List ℕ)) (places : List (ℕ × ℕ)) (drivers : List DriverOf) (steps : List ℕ) → IsDriven library top drivers → IsSourced library top (put_together library top output_signals named places drivers steps)
+pub are_sourced : (library : List ModelOf) (top : ℕ) (output_signals : List ℕ) (named : List (ℕ × List ℕ)) (places : List (ℕ × ℕ))
+    (drivers : List DriverOf) (steps : List ℕ) → IsDriven library top drivers
+    → IsSourced library top (put_together library top output_signals named places drivers steps)
 are_sourced library top output_signals named places drivers steps h = record {
   size = driven_size library top drivers h;
-  sourced = λ s inside. sourced library top (map (λ (d : DriverOf). Some d) drivers) s (slice_index_or drivers s (input 0)) h (omega (arith, inside, length-map drivers (λ (d : DriverOf). Some d))) (slot_at drivers s inside);
-  closed = λ s x inside e. let size = driven_size library top drivers h in let less = dependency_within (length (model library top).inputs) (length (signals library top)) (length (all_rows library)) (slice_index_or drivers s (input 0)) x (driver_within library top drivers s h inside) e in omega (arith, less, size);
+  sourced = λ s inside.
+      sourced library top (map (λ (d : DriverOf). Some d) drivers) s (slice_index_or drivers s (input 0)) h
+      (omega (arith, inside, length-map drivers (λ (d : DriverOf). Some d))) (slot_at drivers s inside);
+  closed = λ s x inside e.
+      let size = driven_size library top drivers h in
+      let less =
+      dependency_within (length (model library top).inputs) (length (signals library top)) (length (all_rows library))
+      (slice_index_or drivers s (input 0)) x (driver_within library top drivers s h inside) e in
+      omega (arith, less, size);
 }
 
 -- all that a signal depends on ends, where the signals have an order
@@ -72,7 +84,9 @@ ends : (drivers : List DriverOf) (steps : List ℕ) → IsOrder drivers steps �
 ends drivers steps h s inside = let P : ℕ → Type 0 = λ n. ends_within (signal_deps drivers) n s ≡ true in subst P h.count (ordered_ends (signal_deps drivers) steps h.ordered s (h.each s inside))
 
 pub in_order_not_cyclic : (library : List ModelOf) (top : ℕ) (drivers : List DriverOf) (steps : List ℕ) → IsDriven library top drivers → IsOrder drivers steps → is_cyclic library top ≡ false
-in_order_not_cyclic library top drivers steps h o = not_cyclic library top (put_together library top [] [] [] drivers steps) (are_sourced library top [] [] [] drivers steps h) (λ s inside. ends drivers steps o s inside)
+in_order_not_cyclic library top drivers steps h o =
+    not_cyclic library top (put_together library top [] [] [] drivers steps) (are_sourced library top [] [] [] drivers steps h)
+    (λ s inside. ends drivers steps o s inside)
 
 pub circular_cyclic : (library : List ModelOf) (top : ℕ) (drivers : List DriverOf) → IsDriven library top drivers → IsCircular drivers → is_cyclic library top ≡ true
 circular_cyclic library top drivers h (s, inside, never) = cyclic library top (put_together library top [] [] [] drivers []) (are_sourced library top [] [] [] drivers [] h) s inside never
@@ -94,22 +108,36 @@ named_in library top s h = all_pieces (λ t. t.0 < length (paths library top)) (
         omega (arith, less, number)
 
 -- the instance of each signal is there
-instances_there : (library : List ModelOf) (top : ℕ) (output_signals : List ℕ) (named : List (ℕ × List ℕ)) (places : List (ℕ × ℕ)) (drivers : List DriverOf) (steps : List ℕ) → IsParts library top output_signals named places drivers steps → (s : ℕ) → s < length named → (slice_index_or named s (0, [])).0 ≤ length places
+instances_there : (library : List ModelOf) (top : ℕ) (output_signals : List ℕ) (named : List (ℕ × List ℕ)) (places : List (ℕ × ℕ))
+    (drivers : List DriverOf) (steps : List ℕ) → IsParts library top output_signals named places drivers steps → (s : ℕ)
+    → s < length named → (slice_index_or named s (0, [])).0 ≤ length places
 instances_there library top output_signals named places drivers steps h s inside =
-    let here : (slice_index_or named s (0, [])).0 < length (paths library top) = named_in library top (slice_index_or named s (0, [])) (let P : List (ℕ × List ℕ) → Type 0 = λ l. Member (slice_index_or named s (0, [])) l in subst P h.named_all (member_get named s (0, []) inside)) in
+    let here : (slice_index_or named s (0, [])).0 < length (paths library top) =
+    named_in library top (slice_index_or named s (0, []))
+    (let P : List (ℕ × List ℕ) → Type 0 = λ l. Member (slice_index_or named s (0, [])) l in
+    subst P h.named_all (member_get named s (0, []) inside)) in
     omega (arith, here, ap length h.placed, length-map places (λ (place : ℕ × ℕ). place.1 ∷ path_at library top place.0))
 
 -- the parts make a flat netlist
-pub parts_flat : (library : List ModelOf) (top : ℕ) (output_signals : List ℕ) (named : List (ℕ × List ℕ)) (places : List (ℕ × ℕ)) (drivers : List DriverOf) (steps : List ℕ) → IsParts library top output_signals named places drivers steps → IsFlat (put_together library top output_signals named places drivers steps)
+pub parts_flat : (library : List ModelOf) (top : ℕ) (output_signals : List ℕ) (named : List (ℕ × List ℕ)) (places : List (ℕ × ℕ))
+    (drivers : List DriverOf) (steps : List ℕ) → IsParts library top output_signals named places drivers steps
+    → IsFlat (put_together library top output_signals named places drivers steps)
 parts_flat library top output_signals named places drivers steps h = record {
   few_inputs = h.few_inputs;
   few_signals = omega (arith, size, h.few_signals);
-  each_named = ap length h.named_all ∙ (sym (ap length (signals_named library top) ∙ length-map (all_named library top) (λ (s : ℕ × List ℕ). record { path = path_at library top s.0; name = s.1 })) ∙ sym size);
+  each_named =
+      ap length h.named_all
+      ∙ (sym (ap length (signals_named library top)
+      ∙ length-map (all_named library top) (λ (s : ℕ × List ℕ). record { path = path_at library top s.0; name = s.1 }))
+      ∙ sym size);
   each_output = outputs;
   inputs_differ = h.inputs_once;
   outputs_differ = h.outputs_once;
   outputs_within = λ o inside. let less = h.outputs_within o (omega (arith, inside, outputs)) in omega (arith, less, size);
-  drivers_within = λ s inside. let P : ℕ → Type 0 = λ n. IsWithinSizes (length (model library top).inputs) n (length (all_rows library)) (slice_index_or drivers s (input 0)) in subst P (sym size) (driver_within library top drivers s h.driven inside);
+  drivers_within = λ s inside.
+      let P : ℕ → Type 0 = λ n.
+      IsWithinSizes (length (model library top).inputs) n (length (all_rows library)) (slice_index_or drivers s (input 0)) in
+      subst P (sym size) (driver_within library top drivers s h.driven inside);
   steps_within = h.ordered.within;
   instances_within = instances_there library top output_signals named places drivers steps h;
   parents_before = λ i some there. let before = h.parents (i - 1) (omega (arith, some, there)) in omega (arith, before, some);
@@ -123,14 +151,19 @@ parts_flat library top output_signals named places drivers steps h = record {
     size = driven_size library top drivers h.driven
 
     outputs : length output_signals ≡ length (model library top).outputs
-    outputs = sym (length-map output_signals (signal_at library top)) ∙ (ap length h.outputs_of ∙ length-map (model library top).outputs (λ (name : List ℕ). record { path = path_at library top 0; name = name }))
+    outputs =
+        sym (length-map output_signals (signal_at library top))
+        ∙ (ap length h.outputs_of
+        ∙ length-map (model library top).outputs (λ (name : List ℕ). record { path = path_at library top 0; name = name }))
 
 -- signals of names of the main model
 main_signals : (library : List ModelOf) (top : ℕ) (names : List (List ℕ)) → path_at library top 0 ≡ [] → signals_here library top 0 names ≡ map (λ name. record { path = []; name = name }) names
 main_signals library top names root = ap (λ (p : List ℕ). map (λ (name : List ℕ). record { path = p; name = name }) names) root
 
 -- the parts make the flat netlist of their hierarchy
-pub parts_flat_of : (library : List ModelOf) (top : ℕ) (output_signals : List ℕ) (named : List (ℕ × List ℕ)) (places : List (ℕ × ℕ)) (drivers : List DriverOf) (steps : List ℕ) → IsParts library top output_signals named places drivers steps → IsFlatOf library top (put_together library top output_signals named places drivers steps)
+pub parts_flat_of : (library : List ModelOf) (top : ℕ) (output_signals : List ℕ) (named : List (ℕ × List ℕ)) (places : List (ℕ × ℕ))
+    (drivers : List DriverOf) (steps : List ℕ) → IsParts library top output_signals named places drivers steps
+    → IsFlatOf library top (put_together library top output_signals named places drivers steps)
 parts_flat_of library top output_signals named places drivers steps h = record {
   inputs = refl;
   outputs = refl;
@@ -141,20 +174,48 @@ parts_flat_of library top output_signals named places drivers steps h = record {
   named_within = instances_there library top output_signals named places drivers steps h;
   sourced = (are_sourced library top output_signals named places drivers steps h.driven).sourced;
   values = λ a o inside.
-      let from : o < length output_signals = omega (arith, inside, ap length main, length-map output_signals (signal_at library top), length-map {B = SignalOf} (model library top).outputs (λ (name : List ℕ). record { path = []; name = name })) in
+      let from : o < length output_signals =
+      omega (
+        arith,
+        inside,
+        ap length main,
+        length-map output_signals (signal_at library top),
+        length-map {B = SignalOf} (model library top).outputs (λ (name : List ℕ). record { path = []; name = name }),
+      ) in
       let here : signal_at library top (slice_index_or output_signals o 0) ≡ record { path = []; name = slice_index_or (model library top).outputs o [] } =
-      sym (get_or-map (signal_at library top) output_signals o 0 no_signal from) ∙ (ap (λ (l : List SignalOf). get_or l o no_signal) main ∙ get_or-map (λ (name : List ℕ). record { path = []; name = name }) (model library top).outputs o [] no_signal inside) in
+      sym (get_or-map (signal_at library top) output_signals o 0 no_signal from)
+      ∙ (ap (λ (l : List SignalOf). get_or l o no_signal) main
+      ∙ get_or-map (λ (name : List ℕ). record { path = []; name = name }) (model library top).outputs o [] no_signal inside) in
       let less : slice_index_or output_signals o 0 < length drivers = (let k = h.outputs_within o from in let size = driven_size library top drivers h.driven in omega (arith, k, size)) in
-      output_there library top (put_together library top output_signals named places drivers steps) (are_sourced library top output_signals named places drivers steps h.driven) a (slice_index_or output_signals o 0) (slice_index_or (model library top).outputs o []) less (ends drivers steps h.ordered (slice_index_or output_signals o 0) less) here;
+      output_there library top (put_together library top output_signals named places drivers steps)
+      (are_sourced library top output_signals named places drivers steps h.driven) a (slice_index_or output_signals o 0)
+      (slice_index_or (model library top).outputs o []) less (ends drivers steps h.ordered (slice_index_or output_signals o 0) less)
+      here;
 }
   where
     main : map (signal_at library top) output_signals ≡ map (λ name. record { path = []; name = name }) (model library top).outputs
     main = h.outputs_of ∙ main_signals library top (model library top).outputs h.root
 
 -- the same parts, read from elsewhere
-pub flat_same : (library : List ModelOf) (top : ℕ) (inputs outputs : List (List ℕ)) (output_signals : List ℕ) (named : List (ℕ × List ℕ)) (places : List (ℕ × ℕ)) (drivers : List DriverOf) (rows : List (List (List ℕ))) (steps : List ℕ) → inputs ≡ (model library top).inputs → outputs ≡ (model library top).outputs → rows ≡ all_rows library → put_together library top output_signals named places drivers steps ≡ record { inputs = inputs; outputs = outputs; output_signals = output_signals; signals = named; places = places; drivers = drivers; rows = rows; steps = steps }
+pub flat_same : (library : List ModelOf) (top : ℕ) (inputs outputs : List (List ℕ)) (output_signals : List ℕ) (named : List (ℕ × List ℕ))
+    (places : List (ℕ × ℕ)) (drivers : List DriverOf) (rows : List (List (List ℕ))) (steps : List ℕ)
+    → inputs ≡ (model library top).inputs → outputs ≡ (model library top).outputs → rows ≡ all_rows library
+    → put_together library top output_signals named places drivers steps
+    ≡ record {
+      inputs = inputs;
+      outputs = outputs;
+      output_signals = output_signals;
+      signals = named;
+      places = places;
+      drivers = drivers;
+      rows = rows;
+      steps = steps;
+    }
 flat_same library top inputs outputs output_signals named places drivers rows steps i o r = rw (i, o, r) refl
 
 -- the few signals of a hierarchy
-pub expanded_few : (library naming : List ModelOf) (top signals_ : ℕ) (models firsts : List ℕ) (places : List (ℕ × ℕ)) → IsExpanded library naming top models firsts places signals_ → length (signals library top) ≤ 1048576
-expanded_few library naming top signals_ models firsts places h = let all = found_signals library top (length (paths library top)) signals_ models firsts places h.found refl in omega (arith, all, h.found.few)
+pub expanded_few : (library naming : List ModelOf) (top signals_ : ℕ) (models firsts : List ℕ) (places : List (ℕ × ℕ))
+    → IsExpanded library naming top models firsts places signals_ → length (signals library top) ≤ 1048576
+expanded_few library naming top signals_ models firsts places h =
+    let all = found_signals library top (length (paths library top)) signals_ models firsts places h.found refl in
+    omega (arith, all, h.found.few)

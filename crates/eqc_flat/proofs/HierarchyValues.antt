@@ -38,7 +38,9 @@ all_there at value v [] h = refl
 all_there at value v (x ∷ xs) h = rw (h x (inl refl), all_there at value v xs (λ z k. h z (inr k))) refl
 
 -- where one has no value, not all have
-some_missing : (at : ℕ → SignalOf) (value : SignalOf → Option Bool) (test : ℕ → Bool) (xs : List ℕ) → ((x : ℕ) → Member x xs → test x ≡ false → value (at x) ≡ None) → list_all test xs ≡ false → all_some (map value (map at xs)) ≡ None
+some_missing : (at : ℕ → SignalOf) (value : SignalOf → Option Bool) (test : ℕ → Bool) (xs : List ℕ)
+    → ((x : ℕ) → Member x xs → test x ≡ false → value (at x) ≡ None) → list_all test xs ≡ false
+    → all_some (map value (map at xs)) ≡ None
 some_missing at value test [] h e = absurd (true≢false e)
 some_missing at value test (x ∷ xs) h e = by_test (test x) refl (some_missing at value test xs (λ z k. h z (inr k)))
   where
@@ -60,24 +62,34 @@ unfolding value_at
 at_zero library top a s = refl
 
 -- the value of a signal one deeper, by its driver
-deeper : (library : List ModelOf) (top : ℕ) (f : FlatOf) → IsSourced library top f → (a : ℕ → Bool) (d s : ℕ) → s < length f.drivers → value_at library top a (suc d) (signal_at library top s) ≡ option_map (made a (source_of (signal_at library top) f.rows (driver_at f s))) (all_some (map (value_at library top a d) (map (signal_at library top) (depends f s))))
+deeper : (library : List ModelOf) (top : ℕ) (f : FlatOf) → IsSourced library top f → (a : ℕ → Bool) (d s : ℕ)
+    → s < length f.drivers
+    → value_at library top a (suc d) (signal_at library top s)
+    ≡ option_map (made a (source_of (signal_at library top) f.rows (driver_at f s)))
+    (all_some (map (value_at library top a d) (map (signal_at library top) (depends f s))))
 unfolding value_at
 deeper library top f h a d s inside =
     ap (λ all. option_and_then (λ source. option_map (made a source) (all_some (map (value_at library top a d) (needs source)))) (slice_get all 0)) (h.sourced s inside)
-    ∙ ap (λ on. option_map (made a (source_of (signal_at library top) f.rows (driver_at f s))) (all_some (map (value_at library top a d) on))) (needs_source (signal_at library top) f.rows (driver_at f s))
+    ∙ ap
+    (λ on. option_map (made a (source_of (signal_at library top) f.rows (driver_at f s))) (all_some (map (value_at library top a d) on)))
+    (needs_source (signal_at library top) f.rows (driver_at f s))
 
 -- a signal whose dependencies end within a depth has the settled value at that depth
-pub value_there : (library : List ModelOf) (top : ℕ) (f : FlatOf) → IsSourced library top f → (a : ℕ → Bool) (d s : ℕ) → s < length f.drivers → ends_within (depends f) d s ≡ true → value_at library top a d (signal_at library top s) ≡ Some (settled f a d s)
+pub value_there : (library : List ModelOf) (top : ℕ) (f : FlatOf) → IsSourced library top f → (a : ℕ → Bool) (d s : ℕ)
+    → s < length f.drivers → ends_within (depends f) d s ≡ true
+    → value_at library top a d (signal_at library top s) ≡ Some (settled f a d s)
 unfolding settled
 value_there library top f h a zero s inside e = absurd (true≢false (sym e))
 value_there library top f h a (suc d) s inside e =
     deeper library top f h a d s inside
     ∙ (ap (λ all. option_map (made a (source_of (signal_at library top) f.rows (driver_at f s))) all)
-    (all_there (signal_at library top) (value_at library top a d) (settled f a d) (depends f s) (λ x k. value_there library top f h a d x (h.closed s x inside k) (member_all (ends_within (depends f) d) (depends f s) x e k)))
+    (all_there (signal_at library top) (value_at library top a d) (settled f a d) (depends f s)
+    (λ x k. value_there library top f h a d x (h.closed s x inside k) (member_all (ends_within (depends f) d) (depends f s) x e k)))
     ∙ ap Some (made_driven (signal_at library top) f.rows a (settled f a d) (driver_at f s)))
 
 -- a signal whose dependencies don't end within a depth has no value at that depth
-pub value_none : (library : List ModelOf) (top : ℕ) (f : FlatOf) → IsSourced library top f → (a : ℕ → Bool) (d s : ℕ) → s < length f.drivers → ends_within (depends f) d s ≡ false → value_at library top a d (signal_at library top s) ≡ None
+pub value_none : (library : List ModelOf) (top : ℕ) (f : FlatOf) → IsSourced library top f → (a : ℕ → Bool) (d s : ℕ)
+    → s < length f.drivers → ends_within (depends f) d s ≡ false → value_at library top a d (signal_at library top s) ≡ None
 value_none library top f h a zero s inside e = at_zero library top a (signal_at library top s)
 value_none library top f h a (suc d) s inside e =
     deeper library top f h a d s inside
@@ -98,7 +110,8 @@ some_pass p (x ∷ xs) (suc i) d h e = rw (some_pass p xs i d (omega arith) e) (
     or_true false = refl
 
 -- where all dependencies end, no signal depends on itself
-pub not_cyclic : (library : List ModelOf) (top : ℕ) (f : FlatOf) → IsSourced library top f → ((s : ℕ) → s < length f.drivers → ends_within (depends f) (length f.drivers) s ≡ true) → is_cyclic library top ≡ false
+pub not_cyclic : (library : List ModelOf) (top : ℕ) (f : FlatOf) → IsSourced library top f
+    → ((s : ℕ) → s < length f.drivers → ends_within (depends f) (length f.drivers) s ≡ true) → is_cyclic library top ≡ false
 unfolding is_cyclic
 not_cyclic library top f h ends = none_pass (λ s. is_none (value_at library top (λ _. false) (length (signals library top)) s)) (signals library top) no_signal (λ s k.
     let inside : s < length f.drivers = omega (arith, h.size, k) in
@@ -108,13 +121,19 @@ not_cyclic library top f h ends = none_pass (λ s. is_none (value_at library top
 -- where one signal's dependencies never end, the netlist has a circle
 pub cyclic : (library : List ModelOf) (top : ℕ) (f : FlatOf) → IsSourced library top f → (s : ℕ) → s < length f.drivers → ((d : ℕ) → ends_within (depends f) d s ≡ false) → is_cyclic library top ≡ true
 unfolding is_cyclic
-cyclic library top f h s inside never = some_pass (λ s. is_none (value_at library top (λ _. false) (length (signals library top)) s)) (signals library top) s no_signal (omega (arith, h.size, inside)) (ap is_none (value_none library top f h (λ _. false) (length (signals library top)) s inside (never (length (signals library top)))))
+cyclic library top f h s inside never =
+    some_pass (λ s. is_none (value_at library top (λ _. false) (length (signals library top)) s)) (signals library top) s no_signal
+    (omega (arith, h.size, inside))
+    (ap is_none (value_none library top f h (λ _. false) (length (signals library top)) s inside (never (length (signals library top)))))
 
 -- the value of an output, by its signal
-pub output_there : (library : List ModelOf) (top : ℕ) (f : FlatOf) → IsSourced library top f → (a : ℕ → Bool) (s : ℕ) (name : List ℕ) → s < length f.drivers → ends_within (depends f) (length f.drivers) s ≡ true → signal_at library top s ≡ record { path = []; name = name } → value_of f a s ≡ output_value library top a name
+pub output_there : (library : List ModelOf) (top : ℕ) (f : FlatOf) → IsSourced library top f
+    → (a : ℕ → Bool) (s : ℕ) (name : List ℕ) → s < length f.drivers → ends_within (depends f) (length f.drivers) s ≡ true
+    → signal_at library top s ≡ record { path = []; name = name } → value_of f a s ≡ output_value library top a name
 unfolding output_value value_of
 output_there library top f h a s name inside ends same =
     let P : ℕ → Type 0 = λ n. value_at library top a n (signal_at library top s) ≡ Some (settled f a (length f.drivers) s) in
-    let value : value_at library top a (length (signals library top)) (signal_at library top s) ≡ Some (settled f a (length f.drivers) s) = subst P h.size (value_there library top f h a (length f.drivers) s inside ends) in
+    let value : value_at library top a (length (signals library top)) (signal_at library top s) ≡ Some (settled f a (length f.drivers) s) =
+    subst P h.size (value_there library top f h a (length f.drivers) s inside ends) in
     let Q : SignalOf → Type 0 = λ x. settled f a (length f.drivers) s ≡ unwrap_or (value_at library top a (length (signals library top)) x) false in
     subst Q same (sym (ap (λ o. unwrap_or o false) value))

@@ -6,7 +6,26 @@ use Rattle.std.specs.Option.{option_map, option_and_then}
 use Rattle.eqc_blif.specs.Netlist.{ModelOf, InstanceOf}
 use Rattle.eqc_blif.specs.Names.{is_named}
 use Rattle.eqc_hierarchy.specs.Hierarchy.{model, model_at, paths}
-use Rattle.eqc_hierarchy.specs.Signals.{SignalOf, same_signal, SourceOf, from_signal, from_cover, Driving, input_drivings, cover_driving, pair_driving, instance_drivings, drivings_at, drivings, sources_in, sources, needs, all_some, made, value_at}
+use Rattle.eqc_hierarchy.specs.Signals.{
+  SignalOf,
+  same_signal,
+  SourceOf,
+  from_signal,
+  from_cover,
+  Driving,
+  input_drivings,
+  cover_driving,
+  pair_driving,
+  instance_drivings,
+  drivings_at,
+  drivings,
+  sources_in,
+  sources,
+  needs,
+  all_some,
+  made,
+  value_at,
+}
 use Rattle.eqc_flat.specs.ValueLaws.{ValuesDependOnInputsAlone, CoversDependOnColumnsAlone}
 use Rattle.eqc_hierarchy.proofs.Distinct.{Member, member_append, member_of_map, all_pieces}
 
@@ -15,7 +34,8 @@ abbrev IsSame : (ℕ → Bool) → (ℕ → Bool) → SourceOf → Type 0
 IsSame a b source = (vs : List Bool) → made a source vs ≡ made b source vs
 
 -- inputs that are numbered from n on
-inputs_same : (a b : ℕ → Bool) (n : ℕ) (names : List (List ℕ)) → ((k : ℕ) → n ≤ k → k < n + length names → a k ≡ b k) → (d : Driving) → Member d (input_drivings (enumerate_from n names)) → IsSame a b d.1
+inputs_same : (a b : ℕ → Bool) (n : ℕ) (names : List (List ℕ)) → ((k : ℕ) → n ≤ k → k < n + length names → a k ≡ b k)
+    → (d : Driving) → Member d (input_drivings (enumerate_from n names)) → IsSame a b d.1
 inputs_same a b n [] h d e = absurd e
 inputs_same a b n (x ∷ names) h d (inl same) = let P : Driving → Type 0 = λ d. IsSame a b d.1 in subst P same (λ vs. h n (omega arith) (omega arith))
 inputs_same a b n (x ∷ names) h d (inr there) = inputs_same a b (n + 1) names (λ k low high. h k (omega (arith, low)) (omega (arith, high))) d there
@@ -58,7 +78,8 @@ all_same a b library top h d e =
     ]
 
 -- the first of the sources of a signal, where all make the same
-first_same : (a b : ℕ → Bool) (ds : List Driving) (s : SignalOf) → ((d : Driving) → Member d ds → IsSame a b d.1) → (source : SourceOf) → slice_get (sources_in ds s) 0 ≡ Some source → IsSame a b source
+first_same : (a b : ℕ → Bool) (ds : List Driving) (s : SignalOf) → ((d : Driving) → Member d ds → IsSame a b d.1)
+    → (source : SourceOf) → slice_get (sources_in ds s) 0 ≡ Some source → IsSame a b source
 first_same a b [] s h source e = absurd (let none : None ≡ Some source = e in cc)
 first_same a b (d ∷ ds) s h source e = by_test (first_same a b ds s (λ y k. h y (inr k)) source) (same_signal d.0 s) e
   where
@@ -75,13 +96,18 @@ map_same f g (x ∷ xs) h = rw (h x, map_same f g xs h) refl
 pub values_depend_on_inputs_alone : ValuesDependOnInputsAlone
 unfolding value_at
 values_depend_on_inputs_alone library top a b h zero s = refl
-values_depend_on_inputs_alone library top a b h (suc d) s = by_source (slice_get (sources library top s) 0) (first_same a b (drivings library top) s (all_same a b library top h)) (λ x. values_depend_on_inputs_alone library top a b h d x)
+values_depend_on_inputs_alone library top a b h (suc d) s =
+    by_source (slice_get (sources library top s) 0) (first_same a b (drivings library top) s (all_same a b library top h))
+    (λ x. values_depend_on_inputs_alone library top a b h d x)
   where
     mapped : (source : SourceOf) → IsSame a b source → (o : Option (List Bool)) → option_map (made a source) o ≡ option_map (made b source) o
     mapped source same None = refl
     mapped source same (Some vs) = ap (λ (v : Bool). Some v) (same vs)
 
-    by_source : (o : Option SourceOf) → ((source : SourceOf) → o ≡ Some source → IsSame a b source) → ((x : SignalOf) → value_at library top a d x ≡ value_at library top b d x) → option_and_then (λ source. option_map (made a source) (all_some (map (value_at library top a d) (needs source)))) o ≡ option_and_then (λ source. option_map (made b source) (all_some (map (value_at library top b d) (needs source)))) o
+    by_source : (o : Option SourceOf) → ((source : SourceOf) → o ≡ Some source → IsSame a b source)
+        → ((x : SignalOf) → value_at library top a d x ≡ value_at library top b d x)
+        → option_and_then (λ source. option_map (made a source) (all_some (map (value_at library top a d) (needs source)))) o
+        ≡ option_and_then (λ source. option_map (made b source) (all_some (map (value_at library top b d) (needs source)))) o
     by_source None same up = refl
     by_source (Some source) same up =
         mapped source (same source refl) (all_some (map (value_at library top a d) (needs source)))
@@ -89,7 +115,10 @@ values_depend_on_inputs_alone library top a b h (suc d) s = by_source (slice_get
 
 pub covers_depend_on_columns_alone : CoversDependOnColumnsAlone
 unfolding value_at
-covers_depend_on_columns_alone library top a b d s columns rows source same = rw source (mapped (all_some (map (value_at library top a d) columns)) ∙ ap (λ (vs : List (Option Bool)). option_map (made b (from_cover columns rows)) (all_some vs)) same)
+covers_depend_on_columns_alone library top a b d s columns rows source same =
+    rw source
+    (mapped (all_some (map (value_at library top a d) columns))
+    ∙ ap (λ (vs : List (Option Bool)). option_map (made b (from_cover columns rows)) (all_some vs)) same)
   where
     mapped : (o : Option (List Bool)) → option_map (made a (from_cover columns rows)) o ≡ option_map (made b (from_cover columns rows)) o
     mapped None = refl

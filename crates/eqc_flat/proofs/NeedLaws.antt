@@ -5,7 +5,25 @@ use Rattle.std.specs.List.{flat_map, enumerate_from}
 use Rattle.eqc_blif.specs.Netlist.{ModelOf, InstanceOf, CoverOf}
 use Rattle.eqc_blif.specs.Names.{is_named}
 use Rattle.eqc_hierarchy.specs.Hierarchy.{model, model_number, model_at, paths}
-use Rattle.eqc_hierarchy.specs.Signals.{SignalOf, same_signal, SourceOf, from_input, Driving, input_drivings, cover_driving, pair_driving, instance_drivings, drivings_at, drivings, sources_in, sources, needs, cover_names, actuals, signals}
+use Rattle.eqc_hierarchy.specs.Signals.{
+  SignalOf,
+  same_signal,
+  SourceOf,
+  from_input,
+  Driving,
+  input_drivings,
+  cover_driving,
+  pair_driving,
+  instance_drivings,
+  drivings_at,
+  drivings,
+  sources_in,
+  sources,
+  needs,
+  cover_names,
+  actuals,
+  signals,
+}
 use Rattle.eqc_hierarchy.specs.Codes.{is_recursive, has_unknown_formal}
 use Rattle.eqc_flat.specs.HierarchyLaws.{IsInstance, inner, needed, occurring}
 use Rattle.eqc_hierarchy.proofs.Distinct.{Member, member_append, member_left, member_right, member_map, member_of_map, member_piece, all_pieces}
@@ -46,16 +64,29 @@ numbered n (x ∷ xs) at (inr there) =
 
 -- where a name occurs
 in_cover : (m : ModelOf) (c : CoverOf) (name : List ℕ) → Member c m.covers → Member name c.columns → is_named (occurring m) name ≡ true
-in_cover m c name there here = member_named name (occurring m) (member_left name (m.inputs ++ m.outputs ++ flat_map cover_names m.covers) (flat_map actuals m.instances) (member_right name (m.inputs ++ m.outputs) (flat_map cover_names m.covers) (member_piece cover_names m.covers c name there (member_left name c.columns (c.output ∷ []) here))))
+in_cover m c name there here =
+    member_named name (occurring m)
+    (member_left name (m.inputs ++ m.outputs ++ flat_map cover_names m.covers) (flat_map actuals m.instances)
+    (member_right name (m.inputs ++ m.outputs) (flat_map cover_names m.covers)
+    (member_piece cover_names m.covers c name there (member_left name c.columns (c.output ∷ []) here))))
 
 as_actual : (m : ModelOf) (i : InstanceOf) (pair : List ℕ × List ℕ) → Member i m.instances → Member pair i.pairs → is_named (occurring m) pair.1 ≡ true
-as_actual m i pair there here = member_named pair.1 (occurring m) (member_right pair.1 (m.inputs ++ m.outputs ++ flat_map cover_names m.covers) (flat_map actuals m.instances) (member_piece actuals m.instances i pair.1 there (member_map (λ (p : List ℕ × List ℕ). p.1) pair i.pairs here)))
+as_actual m i pair there here =
+    member_named pair.1 (occurring m)
+    (member_right pair.1 (m.inputs ++ m.outputs ++ flat_map cover_names m.covers) (flat_map actuals m.instances)
+    (member_piece actuals m.instances i pair.1 there (member_map (λ (p : List ℕ × List ℕ). p.1) pair i.pairs here)))
 
 as_port : (m : ModelOf) (name : List ℕ) → is_named (m.inputs ++ m.outputs) name ≡ true → is_named (occurring m) name ≡ true
-as_port m name e = member_named name (occurring m) (member_left name (m.inputs ++ m.outputs ++ flat_map cover_names m.covers) (flat_map actuals m.instances) (member_left name (m.inputs ++ m.outputs) (flat_map cover_names m.covers) (named_member name (m.inputs ++ m.outputs) e)))
+as_port m name e =
+    member_named name (occurring m)
+    (member_left name (m.inputs ++ m.outputs ++ flat_map cover_names m.covers) (flat_map actuals m.instances)
+    (member_left name (m.inputs ++ m.outputs) (flat_map cover_names m.covers) (named_member name (m.inputs ++ m.outputs) e)))
 
 -- the model of an instance, by its position
-model_below : (library : List ModelOf) (top p : ℕ) (path : List ℕ) (i : InstanceOf) → p < length (model library (model_at library top path)).instances → get_or (model library (model_at library top path)).instances p no_instance ≡ i → model_at library top (p ∷ path) ≡ model_number library i.model
+model_below : (library : List ModelOf) (top p : ℕ) (path : List ℕ) (i : InstanceOf)
+    → p < length (model library (model_at library top path)).instances
+    → get_or (model library (model_at library top path)).instances p no_instance ≡ i
+    → model_at library top (p ∷ path) ≡ model_number library i.model
 unfolding model_at
 model_below library top p path i inside is = callee_at library (model_at library top path) p inside ∙ ap (λ (one : InstanceOf). model_number library one.model) is
 
@@ -66,14 +97,23 @@ input_needs library top inputs d h =
     subst (NeedsSignals library top) same (λ t e. absurd e)
 
 -- a cover needs its columns
-cover_needs : (library : List ModelOf) (top : ℕ) (path : List ℕ) (c : CoverOf) → is_recursive library top ≡ false → IsInstance library top path → Member c (model library (model_at library top path)).covers → NeedsSignals library top (cover_driving path c)
+cover_needs : (library : List ModelOf) (top : ℕ) (path : List ℕ) (c : CoverOf) → is_recursive library top ≡ false
+    → IsInstance library top path → Member c (model library (model_at library top path)).covers
+    → NeedsSignals library top (cover_driving path c)
 cover_needs library top path c ends at there t e =
     let P : SignalOf → Type 0 = λ s. Member s (signals library top) in
     let (column, here, same) = member_of_map {Y = SignalOf} (λ (column : List ℕ). record { path = path; name = column }) t c.columns e in
     subst P same (signal_member library top (record { path = path; name = column }) (growing library top ends) at (in_cover (model library (model_at library top path)) c column there here))
 
 -- a pair needs the signal at its other end
-pair_needs : (library : List ModelOf) (top p : ℕ) (path : List ℕ) (i : InstanceOf) (pair : List ℕ × List ℕ) → is_recursive library top ≡ false → IsInstance library top path → p < length (model library (model_at library top path)).instances → model_at library top (p ∷ path) ≡ model_number library i.model → Member i (model library (model_at library top path)).instances → Member pair i.pairs → is_named ((model library (model_number library i.model)).inputs ++ (model library (model_number library i.model)).outputs) pair.0 ≡ true → NeedsSignals library top (pair_driving path p (model library (model_at library top (p ∷ path))) pair)
+pair_needs : (library : List ModelOf) (top p : ℕ) (path : List ℕ) (i : InstanceOf) (pair : List ℕ × List ℕ)
+    → is_recursive library top ≡ false → IsInstance library top path
+    → p < length (model library (model_at library top path)).instances
+    → model_at library top (p ∷ path) ≡ model_number library i.model
+    → Member i (model library (model_at library top path)).instances → Member pair i.pairs
+    → is_named ((model library (model_number library i.model)).inputs ++ (model library (model_number library i.model)).outputs) pair.0
+    ≡ true
+    → NeedsSignals library top (pair_driving path p (model library (model_at library top (p ∷ path))) pair)
 pair_needs library top p path i pair ends at inside callee here there known = by (is_named (model library (model_at library top (p ∷ path))).inputs pair.0) refl
   where
     actual : Member (record { path = path; name = pair.1 }) (signals library top)
@@ -92,12 +132,19 @@ pair_needs library top p path i pair ends at inside callee here there known = by
     other_end s t h (inl same) = let P : SignalOf → Type 0 = λ x. Member x (signals library top) in subst P same h
     other_end s t h (inr none) = absurd none
 
-    by : (b : Bool) → is_named (model library (model_at library top (p ∷ path))).inputs pair.0 ≡ b → NeedsSignals library top (pair_driving path p (model library (model_at library top (p ∷ path))) pair)
-    by true e = subst (NeedsSignals library top) (sym (pair_input path p (model library (model_at library top (p ∷ path))) pair e)) (λ t m. other_end (record { path = path; name = pair.1 }) t actual m)
-    by false e = subst (NeedsSignals library top) (sym (pair_output path p (model library (model_at library top (p ∷ path))) pair e)) (λ t m. other_end (record { path = p ∷ path; name = pair.0 }) t formal m)
+    by : (b : Bool) → is_named (model library (model_at library top (p ∷ path))).inputs pair.0 ≡ b
+        → NeedsSignals library top (pair_driving path p (model library (model_at library top (p ∷ path))) pair)
+    by true e =
+        subst (NeedsSignals library top) (sym (pair_input path p (model library (model_at library top (p ∷ path))) pair e))
+        (λ t m. other_end (record { path = path; name = pair.1 }) t actual m)
+    by false e =
+        subst (NeedsSignals library top) (sym (pair_output path p (model library (model_at library top (p ∷ path))) pair e))
+        (λ t m. other_end (record { path = p ∷ path; name = pair.0 }) t formal m)
 
 -- what drives in an instance
-here_needs : (library : List ModelOf) (top : ℕ) (path : List ℕ) (d : Driving) → is_recursive library top ≡ false → has_unknown_formal library top ≡ false → Member path (paths library top) → Member d (drivings_at library top path) → NeedsSignals library top d
+here_needs : (library : List ModelOf) (top : ℕ) (path : List ℕ) (d : Driving) → is_recursive library top ≡ false
+    → has_unknown_formal library top ≡ false → Member path (paths library top) → Member d (drivings_at library top path)
+    → NeedsSignals library top d
 here_needs library top path d ends known of h =
     elim (member_append d (map (cover_driving path) m.covers) (flat_map (instance_drivings library top path) (enumerate_from 0 m.instances)) h) [
       | inl cover ↦ (let (c, there, same) = member_of_map (cover_driving path) d m.covers cover in subst (NeedsSignals library top) same (cover_needs library top path c ends at there))
@@ -117,7 +164,10 @@ here_needs library top path d ends known of h =
         let place : one.0 ≡ k = omega (arith, number) in
         let P : ℕ → Type 0 = λ n. get_or m.instances n no_instance ≡ one.1 in
         let less : one.0 < length m.instances = omega (arith, place, inside) in
-        subst (NeedsSignals library top) same (pair_needs library top one.0 path one.1 pair ends at less (model_below library top one.0 path one.1 less (subst P (sym place) is)) member in_pairs (formal_there library top path one.1 pair known of member in_pairs))
+        subst (NeedsSignals library top) same
+        (pair_needs library top one.0 path one.1 pair ends at less
+        (model_below library top one.0 path one.1 less (subst P (sym place) is)) member in_pairs
+        (formal_there library top path one.1 pair known of member in_pairs))
 
 all_needs : (library : List ModelOf) (top : ℕ) (d : Driving) → is_recursive library top ≡ false → has_unknown_formal library top ≡ false → Member d (drivings library top) → NeedsSignals library top d
 unfolding drivings
@@ -128,7 +178,8 @@ all_needs library top d ends known h =
     ]
 
 -- a signal depends on flat signals alone
-pub needed_there : (library : List ModelOf) (top : ℕ) (s t : SignalOf) → is_recursive library top ≡ false → has_unknown_formal library top ≡ false → Member t (needed library top s) → Member t (signals library top)
+pub needed_there : (library : List ModelOf) (top : ℕ) (s t : SignalOf) → is_recursive library top ≡ false
+    → has_unknown_formal library top ≡ false → Member t (needed library top s) → Member t (signals library top)
 needed_there library top s t ends known h =
     all_pieces (λ x. Member x (signals library top)) needs (sources library top s) (λ source y of here.
     let (d, there, same) = source_driving (drivings library top) s source of in

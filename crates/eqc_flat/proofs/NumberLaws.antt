@@ -51,23 +51,41 @@ distinct_filter p (x ∷ xs) d = by_test (p x) refl (distinct_filter p xs d.1)
 -- no name stands twice among the names of a model
 pub distinct_once : (names : List (List ℕ)) → Distinct (once_each names)
 distinct_once [] = tt
-distinct_once (name ∷ names) =
-    (λ h. let (there, other) = kept_member (λ z. not (bytes_eq name z)) name (once_each names) h in true≢false (sym other ∙ ap not (bytes_self name)), distinct_filter (λ z. not (bytes_eq name z)) (once_each names) (distinct_once names))
+distinct_once (name ∷ names) = (
+  λ h.
+      let (there, other) = kept_member (λ z. not (bytes_eq name z)) name (once_each names) h in
+      true≢false (sym other ∙ ap not (bytes_self name)),
+  distinct_filter (λ z. not (bytes_eq name z)) (once_each names) (distinct_once names),
+)
 
 pub names_distinct : (m : ModelOf) → Distinct (names_of m)
 unfolding names_of
 names_distinct m = distinct_once (m.inputs ++ m.outputs ++ flat_map cover_names m.covers ++ flat_map actuals m.instances)
 
 at_path : (library : List ModelOf) (top : ℕ) (path : List ℕ) (y : SignalOf) → Member y (signals_at library top path) → y.path ≡ path
-at_path library top path y h = let (name, there, same) = member_of_map (λ name. record { path = path; name = name }) y (names_of (model library (model_at library top path))) h in ap (λ (s : SignalOf). s.path) (sym same)
+at_path library top path y h =
+    let (name, there, same) =
+    member_of_map (λ name. record { path = path; name = name }) y (names_of (model library (model_at library top path))) h in
+    ap (λ (s : SignalOf). s.path) (sym same)
 
 -- no flat signal stands twice
 pub signals_distinct : (library : List ModelOf) (top : ℕ) → Distinct (signals library top)
 unfolding signals
-signals_distinct library top = distinct_flat_map (λ s. s.path) (signals_at library top) (paths library top) (at_path library top) (λ path. distinct_map (λ name. record { path = path; name = name }) (names_of (model library (model_at library top path))) (λ x z e. ap (λ (s : SignalOf). s.name) e) (names_distinct (model library (model_at library top path)))) (paths_distinct library top)
+signals_distinct library top =
+    distinct_flat_map (λ s. s.path) (signals_at library top) (paths library top) (at_path library top)
+    (λ path.
+    distinct_map (λ name. record { path = path; name = name }) (names_of (model library (model_at library top path)))
+    (λ x z e. ap (λ (s : SignalOf). s.name) e) (names_distinct (model library (model_at library top path))))
+    (paths_distinct library top)
 
 -- the signal of the name at a place in an instance's model
-pub signal_here : (library : List ModelOf) (top i j : ℕ) → i < length (paths library top) → j < length (names_of (model library (model_at library top (path_at library top i)))) → signal_at library top (first_signal library top i + j) ≡ record { path = path_at library top i; name = slice_index_or (names_of (model library (model_at library top (path_at library top i)))) j [] }
+pub signal_here : (library : List ModelOf) (top i j : ℕ) → i < length (paths library top)
+    → j < length (names_of (model library (model_at library top (path_at library top i))))
+    → signal_at library top (first_signal library top i + j)
+    ≡ record {
+      path = path_at library top i;
+      name = slice_index_or (names_of (model library (model_at library top (path_at library top i)))) j [];
+    }
 unfolding signals
 signal_here library top i j inside here =
     let names = names_of (model library (model_at library top (path_at library top i))) in
@@ -75,13 +93,20 @@ signal_here library top i j inside here =
     ∙ get_or-map (λ name. record { path = path_at library top i; name = name }) names j [] no_signal here
 
 -- its number is one of a signal
-pub signal_inside : (library : List ModelOf) (top i j : ℕ) → i < length (paths library top) → j < length (names_of (model library (model_at library top (path_at library top i)))) → first_signal library top i + j < length (signals library top)
+pub signal_inside : (library : List ModelOf) (top i j : ℕ) → i < length (paths library top)
+    → j < length (names_of (model library (model_at library top (path_at library top i))))
+    → first_signal library top i + j < length (signals library top)
 unfolding signals
 signal_inside library top i j inside here =
     let most = length-flat_map-take (signals_at library top) (paths library top) i [] inside in
-    let row : length (signals_at library top (path_at library top i)) ≡ length (names_of (model library (model_at library top (path_at library top i)))) = length-map (names_of (model library (model_at library top (path_at library top i)))) (λ name. record { path = path_at library top i; name = name }) in
+    let row :
+    length (signals_at library top (path_at library top i))
+    ≡ length (names_of (model library (model_at library top (path_at library top i)))) =
+    length-map (names_of (model library (model_at library top (path_at library top i))))
+    (λ name. record { path = path_at library top i; name = name }) in
     omega (arith, most, row, here)
 
 -- signals that are the same have the same number
-pub signal_numbers : (library : List ModelOf) (top s t : ℕ) → s < length (signals library top) → t < length (signals library top) → same_signal (signal_at library top s) (signal_at library top t) ≡ true → s ≡ t
+pub signal_numbers : (library : List ModelOf) (top s t : ℕ) → s < length (signals library top) → t < length (signals library top)
+    → same_signal (signal_at library top s) (signal_at library top t) ≡ true → s ≡ t
 signal_numbers library top s t a b e = distinct_places (signals library top) no_signal s t (signals_distinct library top) a b (signals_same (signal_at library top s) (signal_at library top t) e)

@@ -29,7 +29,11 @@ pub at_most : {X : Type 0} (ys xs : List X) → Distinct ys → ((y : X) → Mem
 at_most [] xs d h = omega arith
 at_most {X} (y ∷ ys) xs d h =
     let (front, back, is) = split_at y xs (h y (inl refl)) in
-    let rest : length ys ≤ length (front ++ back) = at_most ys (front ++ back) d.1 (λ z k. without z front back (λ e. d.0 (let P : X → Type 0 = λ w. Member w ys in subst P e k)) (let P : List X → Type 0 = λ w. Member z w in subst P is (h z (inr k)))) in
+    let rest : length ys ≤ length (front ++ back) =
+    at_most ys (front ++ back) d.1
+    (λ z k.
+    without z front back (λ e. d.0 (let P : X → Type 0 = λ w. Member w ys in subst P e k))
+    (let P : List X → Type 0 = λ w. Member z w in subst P is (h z (inr k)))) in
     let long : length xs ≡ length front + suc (length back) = ap length is ∙ length-append front (y ∷ back) in
     let short : length (front ++ back) ≡ length front + length back = length-append front back in
     omega (arith, rest, long, short)
@@ -42,7 +46,10 @@ at_most {X} (y ∷ ys) xs d h =
 
 -- n numbers below n are in a list of at least n places
 pub covered : (n : ℕ) (xs : List ℕ) → ((s : ℕ) → s < n → Member s xs) → n ≤ length xs
-covered n xs h = let most = at_most (range_with_len 0 n) xs (distinct_range 0 n) (λ y k. h y (let b : y < 0 + n = range_below 0 n y k in omega (arith, b))) in omega (arith, most, length-range_with_len 0 n)
+covered n xs h =
+    let most =
+    at_most (range_with_len 0 n) xs (distinct_range 0 n) (λ y k. h y (let b : y < 0 + n = range_below 0 n y k in omega (arith, b))) in
+    omega (arith, most, length-range_with_len 0 n)
 
 -- a list without the element at a place still has what it has elsewhere
 dropped : (xs : List ℕ) (i j y : ℕ) → i < j → j < length xs → get_or xs i 0 ≡ get_or xs j 0 → Member y xs → Member y (take j xs ++ drop (suc j) xs)
@@ -83,7 +90,9 @@ pub order_length : (n : ℕ) (xs : List ℕ) → ((s : ℕ) → s < n → among 
 order_length n xs h few = let least = covered n xs (λ s k. among_member xs s (h s k)) in omega (arith, least, few)
 
 -- a search that went over all signals has an order of them
-pub search_order : (drivers : List DriverOf) (n : ℕ) (stages : List Stage) (order : List ℕ) → IsSearch (signal_deps drivers) n stages [] order → n ≡ length drivers → ((s : ℕ) → s < n → among order s ≡ true) → IsOrder drivers order
+pub search_order : (drivers : List DriverOf) (n : ℕ) (stages : List Stage) (order : List ℕ)
+    → IsSearch (signal_deps drivers) n stages [] order → n ≡ length drivers → ((s : ℕ) → s < n → among order s ≡ true)
+    → IsOrder drivers order
 search_order drivers n stages order h size all = record {
   ordered = h.sorted;
   each = λ s inside. all s (omega (arith, size, inside));

@@ -46,13 +46,18 @@ recursive_where_reached = λ library top small. (
     not_true true e = absurd (true≢false (sym e))
     not_true false e = refl
 
-    found : (library : List ModelOf) (top : ℕ) → top < length library + 1 → ends_within (callees library) (suc (length library)) top ≡ false → (m : ℕ) × ((m ≡ top) ⊎ Reaches (callees library) top m) × Reaches (callees library) m m
+    found : (library : List ModelOf) (top : ℕ) → top < length library + 1
+        → ends_within (callees library) (suc (length library)) top ≡ false
+        → (m : ℕ) × ((m ≡ top) ⊎ Reaches (callees library) top m) × Reaches (callees library) m m
     found library top small e =
         let P : ℕ → Type 0 = λ n. ends_within (callees library) n top ≡ false in
         let size : suc (length library) ≡ length (numbers library) = omega (arith, length-range_with_len 0 (length library + 1)) in
         let (m, _there, at, circle) = circle_found (callees library) (numbers library) (ends_within (callees library)) (calls_finite library) top (number_there library top small) (subst P size e) in
         (m, at, circle)
 
-    by : (library : List ModelOf) (top m : ℕ) → top < length library + 1 → (m ≡ top) ⊎ Reaches (callees library) top m → Reaches (callees library) m m → (b : Bool) → ends_within (callees library) (suc (length library)) top ≡ b → not b ≡ true
+    by : (library : List ModelOf) (top m : ℕ) → top < length library + 1 → (m ≡ top) ⊎ Reaches (callees library) top m
+        → Reaches (callees library) m m → (b : Bool) → ends_within (callees library) (suc (length library)) top ≡ b → not b ≡ true
     by library top m small at circle false e = refl
-    by library top m small at circle true e = absurd (never_ends (callees library) (numbers library) (ends_within (callees library)) (calls_finite library) top m (number_there library top small) at circle (suc (length library)) e)
+    by library top m small at circle true e =
+        absurd (never_ends (callees library) (numbers library) (ends_within (callees library)) (calls_finite library) top m
+        (number_there library top small) at circle (suc (length library)) e)

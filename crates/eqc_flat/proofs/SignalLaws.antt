@@ -52,17 +52,21 @@ unfolding names_of
 names_occurring m name = once_named (occurring m) name
 
 -- what holds of each flat signal
-signal_origin : (library : List ModelOf) (top : ℕ) (s : SignalOf) → Member s (signals library top) → IsInstance library top s.path × (is_named (occurring (model library (model_at library top s.path))) s.name ≡ true)
+signal_origin : (library : List ModelOf) (top : ℕ) (s : SignalOf) → Member s (signals library top)
+    → IsInstance library top s.path × (is_named (occurring (model library (model_at library top s.path))) s.name ≡ true)
 unfolding signals
 signal_origin library top s h =
-    all_pieces (λ (t : SignalOf). IsInstance library top t.path × (is_named (occurring (model library (model_at library top t.path))) t.name ≡ true)) (signals_at library top) (paths library top) (λ path t of here.
+    all_pieces (λ (t : SignalOf).
+    IsInstance library top t.path × (is_named (occurring (model library (model_at library top t.path))) t.name ≡ true))
+    (signals_at library top) (paths library top) (λ path t of here.
     let m = model library (model_at library top path) in
     let (name, there, same) = member_of_map {Y = SignalOf} (λ (name : List ℕ). record { path = path; name = name }) t (names_of m) here in
     let P : SignalOf → Type 0 = λ t. IsInstance library top t.path × (is_named (occurring (model library (model_at library top t.path))) t.name ≡ true) in
     subst P same (there_instance library top (length library) path of, sym (names_occurring m name) ∙ member_named name (names_of m) there)) s h
 
 -- a name that occurs in an instance's model is a flat signal
-pub signal_member : (library : List ModelOf) (top : ℕ) (s : SignalOf) → IsGrowing library top → IsInstance library top s.path → is_named (occurring (model library (model_at library top s.path))) s.name ≡ true → Member s (signals library top)
+pub signal_member : (library : List ModelOf) (top : ℕ) (s : SignalOf) → IsGrowing library top → IsInstance library top s.path
+    → is_named (occurring (model library (model_at library top s.path))) s.name ≡ true → Member s (signals library top)
 unfolding signals
 signal_member library top s g i named =
     let m = model library (model_at library top s.path) in

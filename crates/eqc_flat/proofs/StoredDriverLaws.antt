@@ -22,7 +22,9 @@ same_count (m ∷ library) =
     omega (arith, here, others, length-append (columns_of m) (flat_map columns_of library), length-append (rows_of m) (flat_map rows_of library))
 
 -- the columns of a model's cover, among those of all covers
-pub columns_at : (library : List ModelOf) (m k : ℕ) → m < length library → k < length (model library m).covers → slice_index_or (all_columns library) (length (flat_map rows_of (take m library)) + k) [] ≡ places_in (names_of (model library m)) (slice_index_or (model library m).covers k no_cover).columns
+pub columns_at : (library : List ModelOf) (m k : ℕ) → m < length library → k < length (model library m).covers
+    → slice_index_or (all_columns library) (length (flat_map rows_of (take m library)) + k) []
+    ≡ places_in (names_of (model library m)) (slice_index_or (model library m).covers k no_cover).columns
 columns_at library m k inside here =
     let names = names_of (model library m) in
     ap (λ n. slice_index_or (all_columns library) (n + k) []) (sym (same_count (take m library)))
@@ -35,10 +37,14 @@ within_more a b c d e f (tie other) ab cd ef h = omega (arith, h, cd)
 within_more a b c d e f (cover columns r) ab cd ef h = (λ k inside. let less = h.0 k inside in omega (arith, less, cd), let less = h.1 in omega (arith, less, ef))
 
 -- the drivers of a hierarchy are in range
-pub in_range : (library : List ModelOf) (top : ℕ) (drivers : List DriverOf) → length (model library top).inputs ≤ 2048 → length (signals library top) ≤ 1048576 → IsDriven library top drivers → AreInRange (length (all_columns library)) drivers
+pub in_range : (library : List ModelOf) (top : ℕ) (drivers : List DriverOf) → length (model library top).inputs ≤ 2048
+    → length (signals library top) ≤ 1048576 → IsDriven library top drivers → AreInRange (length (all_columns library)) drivers
 in_range library top drivers inputs few driven = λ s inside.
-    within_more (length (model library top).inputs) 4294967296 (length (signals library top)) 4294967296 (length (all_rows library)) (length (all_columns library)) (slice_index_or drivers s (input 0)) (omega (arith, inputs)) (omega (arith, few)) (sym (same_count library))
-    (driven.within s (slice_index_or drivers s (input 0)) (omega (arith, inside, length-map drivers (λ (d : DriverOf). Some d))) (get_or-map (λ (d : DriverOf). Some d) drivers s (input 0) None inside))
+    within_more (length (model library top).inputs) 4294967296 (length (signals library top)) 4294967296 (length (all_rows library))
+    (length (all_columns library)) (slice_index_or drivers s (input 0)) (omega (arith, inputs)) (omega (arith, few))
+    (sym (same_count library))
+    (driven.within s (slice_index_or drivers s (input 0)) (omega (arith, inside, length-map drivers (λ (d : DriverOf). Some d)))
+    (get_or-map (λ (d : DriverOf). Some d) drivers s (input 0) None inside))
 
 -- distances from the signal 0 are signals
 pub from_zero : (n : ℕ) (xs : List ℕ) → n ≡ 0 → map (λ d. n + d) xs ≡ xs

@@ -16,7 +16,9 @@ map_agree test v w (x ∷ xs) h e =
     rw (h x both.0, map_agree test v w xs h both.1) refl
 
 -- what a driver makes depends on the values of its dependencies alone
-pub driven_agree : (rows : List (List (List ℕ))) (a test v w : ℕ → Bool) (driver : DriverOf) → ((x : ℕ) → test x ≡ true → v x ≡ w x) → list_all test (dependencies driver) ≡ true → driven rows a v driver ≡ driven rows a w driver
+pub driven_agree : (rows : List (List (List ℕ))) (a test v w : ℕ → Bool) (driver : DriverOf)
+    → ((x : ℕ) → test x ≡ true → v x ≡ w x) → list_all test (dependencies driver) ≡ true
+    → driven rows a v driver ≡ driven rows a w driver
 driven_agree rows a test v w (input position) h e = refl
 driven_agree rows a test v w (tie other) h e = h other ((and_parts (test other) true e).0)
 driven_agree rows a test v w (cover columns r) h e = ap (λ vs. cover_value (slice_index_or rows r []) vs) (map_agree test v w columns h e)

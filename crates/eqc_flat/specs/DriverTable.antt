@@ -11,10 +11,10 @@ use Rattle.eqc_flat.specs.RowTable.{all_rows}
 use Rattle.eqc_hierarchy.specs.Columns.{all_columns}
 use Rattle.eqc_flat.specs.StoredDrivers.{driver_from}
 use Rattle.eqc_flat.specs.Finding.{hierarchical_name}
-use Rattle.eqc_flat.specs.declared.hierarchical_name.Step.{Step}
-use Rattle.eqc_flat.specs.declared.stored_driver.StoredDriver.{StoredDriver}
-use Rattle.eqc_flat.specs.declared.driver_table.Driven.{Driven}
-use Rattle.eqc_flat.specs.declared.driver_table.Driven.TheVariants.{Twice, Never}
+use Rattle.eqc_flat.specs.declared.finding.hierarchical_name.Step.{Step}
+use Rattle.eqc_flat.specs.declared.drivers.stored_driver.StoredDriver.{StoredDriver}
+use Rattle.eqc_flat.specs.declared.drivers.driver_table.Driven.{Driven}
+use Rattle.eqc_flat.specs.declared.drivers.driver_table.Driven.TheVariants.{Twice, Never}
 
 -- the driver of a slot as a list
 abbrev pub in_slot : Option DriverOf → List DriverOf
@@ -25,9 +25,12 @@ in_slot (Some driver) = driver ∷ []
 -- they drive twice
 pub record IsFilled (library : List ModelOf) (top : ℕ) (slots : List (Option DriverOf)) (twice : Option ℕ) (done : List Driving) : Type 0 where
   pub size : length slots ≡ length (signals library top)
-  pub once : is_some twice ≡ false → (s : ℕ) → s < length slots → sources_in done (signal_at library top s) ≡ map (source_of (signal_at library top) (all_rows library)) (in_slot (slice_index_or slots s None))
+  pub once : is_some twice ≡ false → (s : ℕ) → s < length slots
+      → sources_in done (signal_at library top s)
+      ≡ map (source_of (signal_at library top) (all_rows library)) (in_slot (slice_index_or slots s None))
   pub again : (s : ℕ) → twice ≡ Some s → (s < length (signals library top)) × (1 < length (sources_in done (signal_at library top s)))
-  pub within : (s : ℕ) (driver : DriverOf) → s < length slots → slice_index_or slots s None ≡ Some driver → IsWithinSizes (length (model library top).inputs) (length (signals library top)) (length (all_rows library)) driver
+  pub within : (s : ℕ) (driver : DriverOf) → s < length slots → slice_index_or slots s None ≡ Some driver
+      → IsWithinSizes (length (model library top).inputs) (length (signals library top)) (length (all_rows library)) driver
 
 -- the same of slots in the form in which drivers are kept
 abbrev pub IsTable : List ModelOf → ℕ → List (Option StoredDriver) → Option ℕ → List Driving → Type 0

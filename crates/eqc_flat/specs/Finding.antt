@@ -7,7 +7,7 @@ use Rattle.eqc_flat.specs.HierarchyLaws.{needed}
 use Rattle.eqc_hierarchy.specs.Signals.{SignalOf, signals, sources}
 use Rattle.eqc_hierarchy.specs.Codes.{flat_code}
 use Rattle.eqc_flat.specs.Flattened.{signal_at}
-use Rattle.eqc_flat.specs.declared.hierarchical_name.Step.{Step}
+use Rattle.eqc_flat.specs.declared.finding.hierarchical_name.Step.{Step}
 use Rattle.eqc_flat.specs.declared.finding.Finding.{Finding}
 use Rattle.eqc_flat.specs.declared.finding.Finding.TheVariants.{NoSuchModel, Recursion, UnknownFormal, FormalTwice, MissingInput, DrivenTwice, Undriven, Circular, TooLarge, ManyInputs}
 use Rattle.eqc_hierarchy.specs.InstanceFinding.{IsMissingModel, IsUnknownFormal, IsRepeatedFormal, IsMissingInput}
@@ -37,7 +37,12 @@ NamesUndriven library top name =
 -- their number is told
 abbrev pub IsCircle : List ModelOf → ℕ → List (List Step × List ℕ) × ℕ → Type 0
 IsCircle library top circle =
-    (members : List ℕ) × (0 < length members) × (circle.1 ≡ length members) × (circle.0 ≡ map (λ s. hierarchical_name library top (signal_at library top s)) (take 20 members)) × ((k : ℕ) → k < length members → slice_index_or members k 0 < length (signals library top)) × IsWalk (needed library top) (map (signal_at library top) (members ++ slice_index_or members 0 0 ∷ []))
+    (members : List ℕ)
+    × (0 < length members)
+    × (circle.1 ≡ length members)
+    × (circle.0 ≡ map (λ s. hierarchical_name library top (signal_at library top s)) (take 20 members))
+    × ((k : ℕ) → k < length members → slice_index_or members k 0 < length (signals library top))
+    × IsWalk (needed library top) (map (signal_at library top) (members ++ slice_index_or members 0 0 ∷ []))
 
 -- what is named holds of the hierarchy, which is refused for it
 abbrev pub IsAtFault : List ModelOf → ℕ → Finding → Type 0
@@ -49,7 +54,11 @@ IsAtFault library top (MissingInput found) = (flat_code library top ≡ Some 25)
 IsAtFault library top (DrivenTwice name) = (flat_code library top ≡ Some 26) × NamesDrivenTwice library top name
 IsAtFault library top (Undriven name) = (flat_code library top ≡ Some 27) × NamesUndriven library top name
 IsAtFault library top (Circular circle) = (flat_code library top ≡ Some 28) × IsCircle library top circle
-IsAtFault library top (TooLarge size limit) = (flat_code library top ≡ Some 29) × (limit ≡ 1048576) × (limit < length (signals library top) + (length (paths library top) - 1)) × IsTold size (length (signals library top) + (length (paths library top) - 1))
+IsAtFault library top (TooLarge size limit) =
+    (flat_code library top ≡ Some 29)
+    × (limit ≡ 1048576)
+    × (limit < length (signals library top) + (length (paths library top) - 1))
+    × IsTold size (length (signals library top) + (length (paths library top) - 1))
 IsAtFault library top (ManyInputs inputs limit) = (flat_code library top ≡ Some 30) × (inputs ≡ length (model library top).inputs) × (limit ≡ 2048) × (limit < inputs)
 
 -- what is at fault, or none where nothing is refused

@@ -32,12 +32,22 @@ SignalsStandOnce = (library : List ModelOf) (top i j : ℕ) → i < length (sign
 
 -- without recursion a signal stands in the list exactly when its path is an instance, in whose model its name occurs
 abbrev pub SignalsAreNamesOfInstances : Type 0
-SignalsAreNamesOfInstances = (library : List ModelOf) (top : ℕ) → is_recursive library top ≡ false → (s : SignalOf) → ((k : ℕ) × (k < length (signals library top)) × (signal_at library top k ≡ s)) ↔ (IsInstance library top s.path × (is_named (occurring (model library (model_at library top s.path))) s.name ≡ true))
+SignalsAreNamesOfInstances =
+    (library : List ModelOf) (top : ℕ) → is_recursive library top ≡ false → (s : SignalOf)
+    → ((k : ℕ) × (k < length (signals library top)) × (signal_at library top k ≡ s))
+    ↔ (IsInstance library top s.path × (is_named (occurring (model library (model_at library top s.path))) s.name ≡ true))
 
 -- the condition of code 22 holds exactly when the main model is or reaches a model that reaches itself
 abbrev pub RecursiveWhereReached : Type 0
-RecursiveWhereReached = (library : List ModelOf) (top : ℕ) → top < length library → (is_recursive library top ≡ true) ↔ ((m : ℕ) × ((m ≡ top) ⊎ Reaches (callees library) top m) × Reaches (callees library) m m)
+RecursiveWhereReached =
+    (library : List ModelOf) (top : ℕ) → top < length library
+    → (is_recursive library top ≡ true) ↔ ((m : ℕ) × ((m ≡ top) ⊎ Reaches (callees library) top m) × Reaches (callees library) m m)
 
 -- a netlist that no other code refuses has code 28 exactly when some flat signal depends on itself
 abbrev pub CyclicWhereReached : Type 0
-CyclicWhereReached = (library : List ModelOf) (top : ℕ) → (flat_code library top ≡ None) ⊎ (flat_code library top ≡ Some 28) → (flat_code library top ≡ Some 28) ↔ ((k : ℕ) × (k < length (signals library top)) × Reaches (needed library top) (signal_at library top k) (signal_at library top k))
+CyclicWhereReached =
+    (library : List ModelOf) (top : ℕ) → (flat_code library top ≡ None) ⊎ (flat_code library top ≡ Some 28)
+    → (flat_code library top ≡ Some 28)
+    ↔ ((k : ℕ)
+    × (k < length (signals library top))
+    × Reaches (needed library top) (signal_at library top k) (signal_at library top k))

@@ -12,13 +12,3 @@ pub mod Ordering
 pub mod Known
 pub mod Flattening
 pub mod Finding
-pub use Rattle.eqc_hierarchy.specs.Hierarchy
-pub use Rattle.eqc_hierarchy.specs.Signals
-pub use Rattle.eqc_hierarchy.specs.Dependency
-pub use Rattle.eqc_hierarchy.specs.Codes
-pub use Rattle.eqc_hierarchy.specs.Rule
-pub use Rattle.eqc_hierarchy.specs.NameSets
-pub use Rattle.eqc_hierarchy.specs.Walks
-pub use Rattle.eqc_hierarchy.specs.Reaching
-pub use Rattle.eqc_hierarchy.specs.InstanceFinding
-pub use Rattle.eqc_hierarchy.specs.Sizes

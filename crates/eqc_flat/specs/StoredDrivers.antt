@@ -2,8 +2,8 @@
 -- names of its model, and stand once for all instances of the model.
 use Rattle.std.specs.Prelude.{ℕ, ◌+◌, ◌<◌, List, [], length, map, slice_index_or}
 use Rattle.eqc_flat.specs.Graph.{DriverOf, input, tie, cover, IsWithinSizes}
-use Rattle.eqc_flat.specs.declared.stored_driver.StoredDriver.{StoredDriver}
-use Rattle.eqc_flat.specs.declared.stored_driver.StoredDriver.TheVariants.{Input, Tie, Cover}
+use Rattle.eqc_flat.specs.declared.drivers.stored_driver.StoredDriver.{StoredDriver}
+use Rattle.eqc_flat.specs.declared.drivers.stored_driver.StoredDriver.TheVariants.{Input, Tie, Cover}
 
 -- a driver that is kept, as a driver of the graph
 abbrev pub driver_from : List (List ℕ) → StoredDriver → DriverOf

@@ -16,12 +16,20 @@ ValuesAreThereForAll = (library : List ModelOf) (top : ℕ) (a b : ℕ → Bool)
 
 -- each signal of an accepted netlist has a value under every assignment
 abbrev pub AcceptedHaveValues : Type 0
-AcceptedHaveValues = (library : List ModelOf) (top : ℕ) → flat_code library top ≡ None → (a : ℕ → Bool) (s : ℕ) → s < length (signals library top) → is_some (value_at library top a (length (signals library top)) (signal_at library top s)) ≡ true
+AcceptedHaveValues =
+    (library : List ModelOf) (top : ℕ) → flat_code library top ≡ None → (a : ℕ → Bool) (s : ℕ) → s < length (signals library top)
+    → is_some (value_at library top a (length (signals library top)) (signal_at library top s)) ≡ true
 
 -- the value of a signal at a depth depends on the values of the main model's inputs alone
 abbrev pub ValuesDependOnInputsAlone : Type 0
-ValuesDependOnInputsAlone = (library : List ModelOf) (top : ℕ) (a b : ℕ → Bool) → ((k : ℕ) → k < length (model library top).inputs → a k ≡ b k) → (d : ℕ) (s : SignalOf) → value_at library top a d s ≡ value_at library top b d s
+ValuesDependOnInputsAlone =
+    (library : List ModelOf) (top : ℕ) (a b : ℕ → Bool) → ((k : ℕ) → k < length (model library top).inputs → a k ≡ b k)
+    → (d : ℕ) (s : SignalOf) → value_at library top a d s ≡ value_at library top b d s
 
 -- the value of a signal that a cover drives depends on the values of the cover's columns alone
 abbrev pub CoversDependOnColumnsAlone : Type 0
-CoversDependOnColumnsAlone = (library : List ModelOf) (top : ℕ) (a b : ℕ → Bool) (d : ℕ) (s : SignalOf) (columns : List SignalOf) (rows : List (List ℕ)) → slice_get (sources library top s) 0 ≡ Some (from_cover columns rows) → map (value_at library top a d) columns ≡ map (value_at library top b d) columns → value_at library top a (suc d) s ≡ value_at library top b (suc d) s
+CoversDependOnColumnsAlone =
+    (library : List ModelOf) (top : ℕ) (a b : ℕ → Bool) (d : ℕ) (s : SignalOf) (columns : List SignalOf) (rows : List (List ℕ))
+    → slice_get (sources library top s) 0 ≡ Some (from_cover columns rows)
+    → map (value_at library top a d) columns ≡ map (value_at library top b d) columns
+    → value_at library top a (suc d) s ≡ value_at library top b (suc d) s

@@ -4,9 +4,14 @@ ghost use Rattle.eqc_flat.specs.Graph.{input};
 ghost use Rattle.eqc_flat.specs.Drivers.{driver_of};
 ghost use Rattle.eqc_flat.specs.StoredDrivers.{driver_from, AreInRange};
 
-use crate::driver::Driver;
-use crate::signals::Signals;
-use crate::stored_driver::StoredDriver;
+pub(crate) mod driver;
+pub(crate) mod driver_table;
+pub(crate) mod row_table;
+pub(crate) mod stored_driver;
+
+use crate::drivers::driver::Driver;
+use crate::drivers::stored_driver::StoredDriver;
+use crate::flat::signals::Signals;
 use eqc_hierarchy::Graph;
 use std::marker::Model;
 

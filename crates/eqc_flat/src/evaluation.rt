@@ -3,10 +3,10 @@ ghost use Rattle.std.specs.Prelude.{◌≡◌, ℕ, ◌<◌, false, length, map,
 ghost use Rattle.eqc_flat.specs.Graph.{driver_at, driven, value_of};
 ghost use Rattle.eqc_flat.specs.Evaluating.{values_of};
 
-use crate::driver::Driver;
+use crate::drivers::driver::Driver;
 use crate::fault::Fault;
 use crate::flat::Flat;
-use crate::signals::Signals;
+use crate::flat::signals::Signals;
 use eqc_blif::cover_value;
 use std::alloc::{AllocError, Global};
 

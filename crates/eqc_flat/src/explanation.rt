@@ -5,12 +5,12 @@ ghost use Rattle.eqc_hierarchy.specs.Codes.{flat_code};
 ghost use Rattle.eqc_flat.specs.Finding.{IsAtFault, IsExplained};
 ghost use Rattle.eqc_hierarchy.specs.Rule.{rule_code};
 
-use crate::circle_finding::circle_below;
-use crate::driver_findings::driven_below;
-use crate::driver_table::Driven;
+use crate::drivers::driver_table::Driven;
 use crate::finding::Finding;
+use crate::finding::circle_finding::circle_below;
+use crate::finding::driver_findings::driven_below;
 use crate::flattening::{MAX_INPUTS, flatten};
-use crate::instances::LIMIT;
+use crate::hierarchy::instances::LIMIT;
 use eqc_blif::Library;
 use eqc_hierarchy::{
     Rule, formal_twice, hierarchy_size, missing_input, missing_model, recursive_chain,

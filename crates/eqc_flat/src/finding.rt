@@ -1,7 +1,11 @@
 //! What a refusal of a hierarchy is about: the instance, models, signals or number at fault, by the rule that it breaks.
+pub(crate) mod circle;
+pub(crate) mod circle_finding;
+pub(crate) mod driver_findings;
+pub(crate) mod hierarchical_name;
 
-use crate::circle::Circle;
-use crate::hierarchical_name::HierarchicalName;
+use crate::finding::circle::Circle;
+use crate::finding::hierarchical_name::HierarchicalName;
 use eqc_hierarchy::{FoundFormal, FoundInstance};
 
 /// What is at fault in a hierarchy that is refused.

@@ -3,14 +3,18 @@ ghost use Rattle.std.specs.Prelude.{◌≡◌, ◌<◌, ◌≤◌, ◌-◌, leng
 ghost use Rattle.eqc_flat.specs.Graph.{driver_at, FollowsDrivers, IsFlat};
 ghost use Rattle.eqc_flat.specs.Drivers.{driver_of};
 
-use crate::driver::Driver;
+pub(crate) mod signal_order;
+pub(crate) mod signals;
+
 use crate::drivers::Drivers;
-use eqc_blif::{Name, Rows};
+use crate::drivers::driver::Driver;
+use eqc_blif::{Key, Name, Rows};
 use std::marker::Model;
 
 /// A flat netlist over the names and rows of a library: numbered signals, each with its driver.
 #[derive(Drop)]
 pub struct Flat<'a> {
+    key: Key,
     inputs: &'a [Name],
     outputs: &'a [Name],
     output_signals: Vec<u32>,
@@ -54,6 +58,7 @@ impl<'a> Flat<'a> {
     /// A flat netlist of these parts.
     #[allow(clippy::too_many_arguments)]
     pub(crate) fn new(
+        key: Key,
         inputs: &'a [Name],
         outputs: &'a [Name],
         output_signals: Vec<u32>,
@@ -85,6 +90,7 @@ impl<'a> Flat<'a> {
         } }
     {
         Flat {
+            key,
             inputs,
             outputs,
             output_signals,
@@ -94,6 +100,11 @@ impl<'a> Flat<'a> {
             rows,
             steps,
         }
+    }
+
+    /// The key of the text, for tables that its names or what it says are looked up in. Nothing but their time depends on it.
+    pub fn key(&self) -> Key {
+        self.key
     }
 
     /// The names of the main model's inputs, in its order.

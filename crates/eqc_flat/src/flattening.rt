@@ -12,13 +12,13 @@ ghost use Rattle.eqc_hierarchy.specs.Columns.{all_columns};
 ghost use Rattle.eqc_hierarchy.specs.ModelFaults.{HasNoModelFault};
 ghost use Rattle.eqc_flat.specs.Flattening.{IsNumberable, IsFlatFault};
 
-use crate::driver_table::{drivers_of, signals_of};
 use crate::drivers::Drivers;
+use crate::drivers::driver_table::{drivers_of, signals_of};
+use crate::drivers::row_table::RowTable;
 use crate::fault::Fault;
 use crate::flat::Flat;
+use crate::flat::signal_order::order_of;
 use crate::hierarchy::Hierarchy;
-use crate::row_table::RowTable;
-use crate::signal_order::order_of;
 use eqc_blif::{Library, Name};
 use eqc_hierarchy::{Calls, Rule, first_model_fault};
 use std::alloc::{AllocError, Global};
@@ -67,11 +67,13 @@ fn put_together<'a>(
     requires ordered { IsOrder drivers steps.items }
     ensures { IfOk result (λ flat. IsFlatOf hierarchy.entry.0 hierarchy.entry.1 flat) }
 {
+    let key = hierarchy.library().key();
     let (inputs, outputs) = main_ports(&hierarchy);
     let (output_signals, signals) = listed(alloc, &hierarchy)?;
     let places = hierarchy.into_places();
     let rows = rows.into_rows();
     Ok(Flat::new(
+        key,
         inputs,
         outputs,
         output_signals,

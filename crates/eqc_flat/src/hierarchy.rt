@@ -8,8 +8,10 @@ ghost use Rattle.eqc_flat.specs.Instances.{IsGrowing, IsExpansion};
 ghost use Rattle.eqc_flat.specs.Flattened.{path_at, model_of, first_signal, signal_at, named_here, all_named};
 ghost use Rattle.eqc_flat.specs.Finding.{steps_of, hierarchical_name};
 
-use crate::hierarchical_name::{HierarchicalName, Step};
-use crate::instances::Instances;
+pub(crate) mod instances;
+
+use crate::finding::hierarchical_name::{HierarchicalName, Step};
+use crate::hierarchy::instances::Instances;
 use eqc_blif::Library;
 use eqc_hierarchy::{Calls, Naming};
 use std::alloc::{AllocError, Global};

@@ -43,12 +43,14 @@ pub entry_count : {X Y : Type 0} (f : X → Y) (g : ℕ → Y) (xs : List X) (n 
 entry_count f g xs n is = omega (arith, length-map xs f, ap length is, length-map-range_with_len g 0 (n + 1))
 
 -- one entry more
-pub entry_more : {X Y : Type 0} (f : X → Y) (g : ℕ → Y) (xs ys : List X) (k : ℕ) (x : X) → map f xs ≡ map g (range_with_len 0 k) → ys ≡ xs ++ x ∷ [] → f x ≡ g k → map f ys ≡ map g (range_with_len 0 (k + 1))
+pub entry_more : {X Y : Type 0} (f : X → Y) (g : ℕ → Y) (xs ys : List X) (k : ℕ) (x : X) → map f xs ≡ map g (range_with_len 0 k)
+    → ys ≡ xs ++ x ∷ [] → f x ≡ g k → map f ys ≡ map g (range_with_len 0 (k + 1))
 entry_more f g xs ys k x is grown made =
     ap (map f) grown ∙ (map-append f xs (x ∷ []) ∙ (ap (λ l. l ++ f x ∷ []) is ∙ (ap (λ y. map g (range_with_len 0 k) ++ y ∷ []) made ∙ sym (map-range_with_len_more g 0 k k (omega arith)))))
 
 -- the last entry, for a model that isn't there
-pub entry_last : {X Y : Type 0} (f : X → Y) (g : ℕ → Y) (xs ys : List X) (k n : ℕ) (x : X) → k ≡ n → map f xs ≡ map g (range_with_len 0 k) → ys ≡ xs ++ x ∷ [] → f x ≡ g n → map f ys ≡ map g (range_with_len 0 (n + 1))
+pub entry_last : {X Y : Type 0} (f : X → Y) (g : ℕ → Y) (xs ys : List X) (k n : ℕ) (x : X) → k ≡ n
+    → map f xs ≡ map g (range_with_len 0 k) → ys ≡ xs ++ x ∷ [] → f x ≡ g n → map f ys ≡ map g (range_with_len 0 (n + 1))
 entry_last f g xs ys k n x same is grown made = rw same at (entry_more f g xs ys k x is grown (made ∙ ap g (sym same)))
 
 -- ---- the same for entries that are read as they are

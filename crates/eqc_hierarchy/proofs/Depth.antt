@@ -30,14 +30,20 @@ moved t ts done s (inl e) = elim (or_cases (t == s) (among ts s) e) [ inl h ↦ 
 moved t ts done s (inr e) = inr (or_right (t == s) (among done s) e)
 
 -- where those that stand before end within n, all end within n and one more for each signal to come
-order_ends : (deps : ℕ → List ℕ) (done order : List ℕ) (n : ℕ) → ((x : ℕ) → among done x ≡ true → ends_within deps n x ≡ true) → in_order deps done order ≡ true → (s : ℕ) → (among order s ≡ true) ⊎ (among done s ≡ true) → ends_within deps (length order + n) s ≡ true
+order_ends : (deps : ℕ → List ℕ) (done order : List ℕ) (n : ℕ) → ((x : ℕ) → among done x ≡ true → ends_within deps n x ≡ true)
+    → in_order deps done order ≡ true → (s : ℕ) → (among order s ≡ true) ⊎ (among done s ≡ true)
+    → ends_within deps (length order + n) s ≡ true
 order_ends deps done [] n h o s (inl e) = absurd (true≢false (sym e))
 order_ends deps done [] n h o s (inr e) = rw zero-add (h s e)
 order_ends deps done (t ∷ ts) n h o s e =
     let both = and_parts (list_all (among done) (deps t)) (in_order deps (t ∷ done) ts) o in
     let now : ends_within deps (suc n) t ≡ true = all_more (among done) (ends_within deps n) (deps t) h both.0 in
     let P : ℕ → Type 0 = λ x. ends_within deps (suc n) x ≡ true in
-    let next = λ (x : ℕ) (k : among (t ∷ done) x ≡ true). elim (among_cases t done x k) as (λ _. ends_within deps (suc n) x ≡ true) [ inl same ↦ subst P same now | inr old ↦ ends_more deps n x (h x old) ] in
+    let next = λ (x : ℕ) (k : among (t ∷ done) x ≡ true).
+    elim (among_cases t done x k) as (λ _. ends_within deps (suc n) x ≡ true) [
+      | inl same ↦ subst P same now
+      | inr old ↦ ends_more deps n x (h x old)
+    ] in
     let found = order_ends deps (t ∷ done) ts (suc n) next both.1 s (moved t ts done s e) in
     let same : suc (length ts) + n ≡ length ts + suc n = omega arith in
     rw same found

@@ -9,7 +9,21 @@ use Rattle.eqc_blif.specs.Netlist.{ModelOf, InstanceOf}
 use Rattle.eqc_blif.specs.Names.{is_named}
 use Rattle.eqc_blif.proofs.CodeLemmas.{alone}
 use Rattle.eqc_hierarchy.specs.Hierarchy.{model_number, reached}
-use Rattle.eqc_hierarchy.specs.Codes.{formals, has_no_such_model, is_recursive, has_unknown_formal, has_formal_twice, has_missing_formal, is_too_large, has_many_inputs, is_driven_twice, is_undriven, is_cyclic, code_if, flat_code}
+use Rattle.eqc_hierarchy.specs.Codes.{
+  formals,
+  has_no_such_model,
+  is_recursive,
+  has_unknown_formal,
+  has_formal_twice,
+  has_missing_formal,
+  is_too_large,
+  has_many_inputs,
+  is_driven_twice,
+  is_undriven,
+  is_cyclic,
+  code_if,
+  flat_code,
+}
 use Rattle.eqc_hierarchy.specs.InstanceFinding.{callee}
 use Rattle.eqc_hierarchy.specs.NameSets.{with_name}
 use Rattle.eqc_hierarchy.specs.Reaching.{some_instance_in}
@@ -28,7 +42,9 @@ none_some n e = cc
 
 -- what is nowhere stands at no place
 pub unplaced : {X : Type 0} (p : X → Bool) (xs : List X) → is_some (position p xs) ≡ false → list_any p xs ≡ false
-unplaced {X} p xs e = sym (sym (ap (λ (ys : List X). nat_lt (position_or_len p ys) (length xs)) (append-nil xs)) ∙ front_place p xs []) ∙ by (nat_lt (position_or_len p xs) (length xs)) (position_or_len p xs) e
+unplaced {X} p xs e =
+    sym (sym (ap (λ (ys : List X). nat_lt (position_or_len p ys) (length xs)) (append-nil xs)) ∙ front_place p xs [])
+    ∙ by (nat_lt (position_or_len p xs) (length xs)) (position_or_len p xs) e
   where
     by : (b : Bool) (n : ℕ) → is_some (cond b (Some n) None) ≡ false → b ≡ false
     by true n k = absurd (true≢false k)
@@ -42,8 +58,17 @@ there (Some s) e = refl
 -- the conditions of the codes, each with its rule, in their order
 abbrev pub conditions : List ModelOf → ℕ → List (Bool × Rule)
 conditions library top =
-    (has_no_such_model library top, NoSuchModel) ∷ (is_recursive library top, Recursion) ∷ (has_unknown_formal library top, UnknownFormal) ∷ (has_formal_twice library top, FormalTwice) ∷ (has_missing_formal library top, MissingInput)
-    ∷ (is_too_large library top, TooLarge) ∷ (has_many_inputs library top, ManyInputs) ∷ (is_driven_twice library top, DrivenTwice) ∷ (is_undriven library top, Undriven) ∷ (is_cyclic library top, Circle) ∷ []
+    (has_no_such_model library top, NoSuchModel)
+    ∷ (is_recursive library top, Recursion)
+    ∷ (has_unknown_formal library top, UnknownFormal)
+    ∷ (has_formal_twice library top, FormalTwice)
+    ∷ (has_missing_formal library top, MissingInput)
+    ∷ (is_too_large library top, TooLarge)
+    ∷ (has_many_inputs library top, ManyInputs)
+    ∷ (is_driven_twice library top, DrivenTwice)
+    ∷ (is_undriven library top, Undriven)
+    ∷ (is_cyclic library top, Circle)
+    ∷ []
 
 -- the code of the first condition that holds
 abbrev pub first_code : List (Bool × Rule) → Option ℕ
@@ -99,18 +124,27 @@ not_true false e = refl
 not_true true e = absurd (true≢false (sym e))
 
 -- the first formal that isn't among the ports of an instance's model
-pub unknown_known : (library : List ModelOf) (i : InstanceOf) → names_no_formal library i ≡ true → is_some (position (λ (pair : List ℕ × List ℕ). not (is_named (ports library (model_number library i.model)) pair.0)) i.pairs) ≡ true
+pub unknown_known : (library : List ModelOf) (i : InstanceOf) → names_no_formal library i ≡ true
+    → is_some (position (λ (pair : List ℕ × List ℕ). not (is_named (ports library (model_number library i.model)) pair.0)) i.pairs) ≡ true
 unknown_known library i e =
     let known = ports library (model_number library i.model) in
-    place_known (λ (pair : List ℕ × List ℕ). not (is_named known pair.0)) i.pairs (sym (any_mapped (λ formal. not (is_named known formal)) (λ (pair : List ℕ × List ℕ). pair.0) i.pairs) ∙ (no_formal_is library i known refl ∙ e))
+    place_known (λ (pair : List ℕ × List ℕ). not (is_named known pair.0)) i.pairs
+    (sym (any_mapped (λ formal. not (is_named known formal)) (λ (pair : List ℕ × List ℕ). pair.0) i.pairs)
+    ∙ (no_formal_is library i known refl ∙ e))
 
 -- a pair's formal is one of its instance
 pub formal_here : (i : InstanceOf) (k : ℕ) → k < length i.pairs → is_named (formals i) (get_or i.pairs k ([], [])).0 ≡ true
 formal_here i k inside =
     let same : get_or (formals i) k [] ≡ (get_or i.pairs k ([], [])).0 = get_or-map (λ (pair : List ℕ × List ℕ). pair.0) i.pairs k ([], []) [] inside in
-    ap (is_named (formals i)) (sym same) ∙ member_named (get_or (formals i) k []) (formals i) (member_get (formals i) k [] (omega (arith, length-map i.pairs (λ (pair : List ℕ × List ℕ). pair.0), inside)))
+    ap (is_named (formals i)) (sym same)
+    ∙ member_named (get_or (formals i) k []) (formals i)
+    (member_get (formals i) k [] (omega (arith, length-map i.pairs (λ (pair : List ℕ × List ℕ). pair.0), inside)))
 
-pub unknown_is : (library : List ModelOf) (i : InstanceOf) (k : ℕ) → position (λ (pair : List ℕ × List ℕ). not (is_named (ports library (model_number library i.model)) pair.0)) i.pairs ≡ Some k → (k < length i.pairs) × (is_named (formals i) (get_or i.pairs k ([], [])).0 ≡ true) × (is_named ((callee library i).inputs ++ (callee library i).outputs) (get_or i.pairs k ([], [])).0 ≡ false)
+pub unknown_is : (library : List ModelOf) (i : InstanceOf) (k : ℕ)
+    → position (λ (pair : List ℕ × List ℕ). not (is_named (ports library (model_number library i.model)) pair.0)) i.pairs ≡ Some k
+    → (k < length i.pairs)
+    × (is_named (formals i) (get_or i.pairs k ([], [])).0 ≡ true)
+    × (is_named ((callee library i).inputs ++ (callee library i).outputs) (get_or i.pairs k ([], [])).0 ≡ false)
 unknown_is library i k e =
     let found = position-Some (λ (pair : List ℕ × List ℕ). not (is_named (ports library (model_number library i.model)) pair.0)) i.pairs k ([], []) e in
     let name = (get_or i.pairs k ([], [])).0 in (
@@ -120,22 +154,38 @@ unknown_is library i k e =
     )
 
 -- the two places of a formal that stands in an earlier pair
-pub repeated_is : (i : InstanceOf) (k : ℕ) → k < length i.pairs → is_named (map (λ (pair : List ℕ × List ℕ). pair.0) (take k i.pairs)) (get_or i.pairs k ([], [])).0 ≡ true → (j : ℕ) × (l : ℕ) × (j < l) × (l < length (formals i)) × (get_or (formals i) j [] ≡ (get_or i.pairs k ([], [])).0) × (get_or (formals i) l [] ≡ (get_or i.pairs k ([], [])).0)
+pub repeated_is : (i : InstanceOf) (k : ℕ) → k < length i.pairs
+    → is_named (map (λ (pair : List ℕ × List ℕ). pair.0) (take k i.pairs)) (get_or i.pairs k ([], [])).0 ≡ true
+    → (j : ℕ)
+    × (l : ℕ)
+    × (j < l)
+    × (l < length (formals i))
+    × (get_or (formals i) j [] ≡ (get_or i.pairs k ([], [])).0)
+    × (get_or (formals i) l [] ≡ (get_or i.pairs k ([], [])).0)
 repeated_is i k inside e =
     let f = λ (pair : List ℕ × List ℕ). pair.0 in
     let name = (get_or i.pairs k ([], [])).0 in
     let (j, less, same) = member_place (map f (take k i.pairs)) name [] (named_member name (map f (take k i.pairs)) e) in
     let before : j < k = omega (arith, less, length-map (take k i.pairs) f, length-take-le k i.pairs (omega (arith, inside))) in
     let there : get_or (formals i) j [] ≡ get_or (map f (take k i.pairs)) j [] =
-    get_or-map f i.pairs j ([], []) [] (omega (arith, before, inside)) ∙ (ap f (sym (get_or-take k i.pairs j ([], []) before)) ∙ sym (get_or-map f (take k i.pairs) j ([], []) [] (omega (arith, less, length-map (take k i.pairs) f)))) in
+    get_or-map f i.pairs j ([], []) [] (omega (arith, before, inside))
+    ∙ (ap f (sym (get_or-take k i.pairs j ([], []) before))
+    ∙ sym (get_or-map f (take k i.pairs) j ([], []) [] (omega (arith, less, length-map (take k i.pairs) f)))) in
     (j, k, before, omega (arith, inside, length-map i.pairs f), there ∙ same, get_or-map f i.pairs k ([], []) [] inside)
 
 -- the first input that an instance leaves out
-pub input_known : (library : List ModelOf) (i : InstanceOf) (names inputs : List (List ℕ)) → names ≡ fold with_name [] (formals i) → inputs ≡ (callee library i).inputs → leaves_input_out library i ≡ true → is_some (position (λ word. not (is_named names word)) inputs) ≡ true
+pub input_known : (library : List ModelOf) (i : InstanceOf) (names inputs : List (List ℕ)) → names ≡ fold with_name [] (formals i)
+    → inputs ≡ (callee library i).inputs → leaves_input_out library i ≡ true
+    → is_some (position (λ word. not (is_named names word)) inputs) ≡ true
 input_known library i names inputs made same e =
     place_known (λ word. not (is_named names word)) inputs (ap (list_any (λ word. not (is_named names word))) same ∙ (input_out_is library i names made ∙ e))
 
-pub input_is : (library : List ModelOf) (i : InstanceOf) (names inputs : List (List ℕ)) (k : ℕ) → names ≡ fold with_name [] (formals i) → inputs ≡ (callee library i).inputs → position (λ word. not (is_named names word)) inputs ≡ Some k → (k < length inputs) × (is_named (callee library i).inputs (get_or inputs k []) ≡ true) × (is_named (formals i) (get_or inputs k []) ≡ false)
+pub input_is : (library : List ModelOf) (i : InstanceOf) (names inputs : List (List ℕ)) (k : ℕ)
+    → names ≡ fold with_name [] (formals i) → inputs ≡ (callee library i).inputs
+    → position (λ word. not (is_named names word)) inputs ≡ Some k
+    → (k < length inputs)
+    × (is_named (callee library i).inputs (get_or inputs k []) ≡ true)
+    × (is_named (formals i) (get_or inputs k []) ≡ false)
 input_is library i names inputs k made same e =
     let found = position-Some (λ word. not (is_named names word)) inputs k [] e in
     let name = get_or inputs k [] in (

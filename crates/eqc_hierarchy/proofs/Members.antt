@@ -100,7 +100,8 @@ among_get (y ∷ xs) zero x e = let same : y ≡ x = cc in rw (eq-eqb y x same) 
 among_get (y ∷ xs) (suc k) x e = or_right (y == x) (among xs x) (among_get xs k x e)
 
 -- what a signal of an order depends on stands before it
-pub before_at : (deps : ℕ → List ℕ) (done order : List ℕ) (k t : ℕ) → in_order deps done order ≡ true → k < length order → among (deps (get_or order k 0)) t ≡ true → (among done t ≡ true) ⊎ ((i : ℕ) × (i < k) × (get_or order i 0 ≡ t))
+pub before_at : (deps : ℕ → List ℕ) (done order : List ℕ) (k t : ℕ) → in_order deps done order ≡ true → k < length order
+    → among (deps (get_or order k 0)) t ≡ true → (among done t ≡ true) ⊎ ((i : ℕ) × (i < k) × (get_or order i 0 ≡ t))
 before_at deps done [] k t o h e = absurd (omega arith)
 before_at deps done (s ∷ ss) zero t o h e = inl (all_among (among done) (deps s) t ((and_parts (list_all (among done) (deps s)) (in_order deps (s ∷ done) ss) o).0) e)
 before_at deps done (s ∷ ss) (suc k) t o h e =

@@ -1,5 +1,45 @@
 -- Names each once, as a set that they are put into has them; and where a name stands among others.
-use Rattle.std.proofs.Common.{◌≡◌, ℕ, zero, suc, Bool, true, false, not, ◌||◌, cond, List, [], ◌∷◌, ◌++◌, map, refl, sym, ◌∙◌, ap, nat_eq, nat_lt, inl, inr, arith, ◌+◌, ◌<◌, length, take, drop, get_or, ltb, position, Bor, is_some, filter, Option, Some, None, IfSome}
+use Rattle.std.proofs.Common.{
+  ◌≡◌,
+  ℕ,
+  zero,
+  suc,
+  Bool,
+  true,
+  false,
+  not,
+  ◌||◌,
+  cond,
+  List,
+  [],
+  ◌∷◌,
+  ◌++◌,
+  map,
+  refl,
+  sym,
+  ◌∙◌,
+  ap,
+  nat_eq,
+  nat_lt,
+  inl,
+  inr,
+  arith,
+  ◌+◌,
+  ◌<◌,
+  length,
+  take,
+  drop,
+  get_or,
+  ltb,
+  position,
+  Bor,
+  is_some,
+  filter,
+  Option,
+  Some,
+  None,
+  IfSome,
+}
 use Rattle.std.specs.List.{list_any, position_or_len, fold, flat_map}
 use Rattle.std.specs.Str.{bytes_eq}
 use Rattle.std.proofs.Math.Seq.{split_at}
@@ -84,7 +124,10 @@ once_push (n ∷ ns) x = by (bytes_eq x n) refl (is_named ns x) refl (once_push 
         let more : once_each (ns ++ x ∷ []) ≡ once_each ns ++ x ∷ [] = rest ∙ ap (λ b. cond b (once_each ns) (once_each ns ++ x ∷ [])) old in
         let none : filter (λ other. not (bytes_eq n other)) (x ∷ []) ≡ [] = ap (λ b. cond (not b) (x ∷ []) []) (bytes_eq-sym n x ∙ e) in
         ap (λ l. n ∷ filter (λ other. not (bytes_eq n other)) l) more
-        ∙ (ap (λ l. n ∷ l) (filter-append (λ other. not (bytes_eq n other)) (once_each ns) (x ∷ []) ∙ (ap (λ l. filter (λ other. not (bytes_eq n other)) (once_each ns) ++ l) none ∙ append-nil (filter (λ other. not (bytes_eq n other)) (once_each ns))))
+        ∙ (ap (λ l. n ∷ l)
+        (filter-append (λ other. not (bytes_eq n other)) (once_each ns) (x ∷ [])
+        ∙ (ap (λ l. filter (λ other. not (bytes_eq n other)) (once_each ns) ++ l) none
+        ∙ append-nil (filter (λ other. not (bytes_eq n other)) (once_each ns))))
         ∙ sym (ap (λ b. cond b (once_each (n ∷ ns)) (once_each (n ∷ ns) ++ x ∷ [])) here))
     by false e false there rest =
         let old : is_named (once_each ns) x ≡ false = once_named ns x ∙ there in
@@ -119,19 +162,27 @@ once_differ (n ∷ ns) = rw (left_out n (once_each ns)) (filter_once n (once_eac
 
 -- ---- the names of a model
 
-pub fold_flat_more : {X : Type 0} (f : X → List (List ℕ)) (a : List (List ℕ)) (xs : List X) (x : X) → fold with_name (fold with_name a (flat_map f xs)) (f x) ≡ fold with_name a (flat_map f (xs ++ x ∷ []))
+pub fold_flat_more : {X : Type 0} (f : X → List (List ℕ)) (a : List (List ℕ)) (xs : List X) (x : X)
+    → fold with_name (fold with_name a (flat_map f xs)) (f x) ≡ fold with_name a (flat_map f (xs ++ x ∷ []))
 fold_flat_more {X = X} f a xs x = sym (fold-append with_name a (flat_map f xs) (f x)) ∙ ap (fold with_name a) (flat_more xs)
   where
     flat_more : (xs : List X) → flat_map f xs ++ f x ≡ flat_map f (xs ++ x ∷ [])
     flat_more [] = sym (append-nil (f x))
     flat_more (y ∷ xs) = append_assoc (f y) (flat_map f xs) (f x) ∙ ap (λ l. f y ++ l) (flat_more xs)
 
-pub names_made : (m : ModelOf) (a b c d : List (List ℕ)) → a ≡ fold with_name [] m.inputs → b ≡ fold with_name a m.outputs → c ≡ fold with_name b (flat_map cover_names m.covers) → d ≡ fold with_name c (flat_map actuals m.instances) → d ≡ names_of m
+pub names_made : (m : ModelOf) (a b c d : List (List ℕ)) → a ≡ fold with_name [] m.inputs → b ≡ fold with_name a m.outputs
+    → c ≡ fold with_name b (flat_map cover_names m.covers) → d ≡ fold with_name c (flat_map actuals m.instances) → d ≡ names_of m
 unfolding names_of
 names_made m a b c d ea eb ec ed =
     let ab : b ≡ fold with_name [] (m.inputs ++ m.outputs) = eb ∙ (ap (λ l. fold with_name l m.outputs) ea ∙ sym (fold-append with_name [] m.inputs m.outputs)) in
-    let abc : c ≡ fold with_name [] (m.inputs ++ m.outputs ++ flat_map cover_names m.covers) = ec ∙ (ap (λ l. fold with_name l (flat_map cover_names m.covers)) ab ∙ sym (fold-append with_name [] (m.inputs ++ m.outputs) (flat_map cover_names m.covers))) in
-    let abcd : d ≡ fold with_name [] (m.inputs ++ m.outputs ++ flat_map cover_names m.covers ++ flat_map actuals m.instances) = ed ∙ (ap (λ l. fold with_name l (flat_map actuals m.instances)) abc ∙ sym (fold-append with_name [] (m.inputs ++ m.outputs ++ flat_map cover_names m.covers) (flat_map actuals m.instances))) in
+    let abc : c ≡ fold with_name [] (m.inputs ++ m.outputs ++ flat_map cover_names m.covers) =
+    ec
+    ∙ (ap (λ l. fold with_name l (flat_map cover_names m.covers)) ab
+    ∙ sym (fold-append with_name [] (m.inputs ++ m.outputs) (flat_map cover_names m.covers))) in
+    let abcd : d ≡ fold with_name [] (m.inputs ++ m.outputs ++ flat_map cover_names m.covers ++ flat_map actuals m.instances) =
+    ed
+    ∙ (ap (λ l. fold with_name l (flat_map actuals m.instances)) abc
+    ∙ sym (fold-append with_name [] (m.inputs ++ m.outputs ++ flat_map cover_names m.covers) (flat_map actuals m.instances))) in
     abcd ∙ fold_once (m.inputs ++ m.outputs ++ flat_map cover_names m.covers ++ flat_map actuals m.instances)
 
 -- ---- slices and their bytes
@@ -144,31 +195,9 @@ any_mapped p f (x ∷ xs) = ap (λ b. p (f x) || b) (any_mapped p f xs)
 pub formal_named : (pairs : List (List ℕ × List ℕ)) (name : List ℕ) → list_any (λ (pair : List ℕ × List ℕ). bytes_eq name pair.0) pairs ≡ is_named (map (λ (pair : List ℕ × List ℕ). pair.0) pairs) name
 formal_named pairs name = sym (any_mapped (λ other. bytes_eq name other) (λ (pair : List ℕ × List ℕ). pair.0) pairs)
 
--- a slice that a set has or not
-pub slice_named : (keys : List (Bor (List ℕ))) (name : List ℕ) → list_any (λ (key : Bor (List ℕ)). bytes_eq name key.now) keys ≡ is_named (bytes_in keys) name
-slice_named keys name = sym (any_mapped (λ other. bytes_eq name other) (λ (key : Bor (List ℕ)). key.now) keys)
-
--- a slice that is put in
-pub slice_put : (keys new : List (Bor (List ℕ))) (name : Bor (List ℕ)) → new ≡ cond (list_any (λ (key : Bor (List ℕ)). bytes_eq name.now key.now) keys) keys (keys ++ name ∷ []) → bytes_in new ≡ with_name (bytes_in keys) name.now
-slice_put keys new name e = by (list_any (λ (key : Bor (List ℕ)). bytes_eq name.now key.now) keys) refl
-  where
-    by : (b : Bool) → list_any (λ (key : Bor (List ℕ)). bytes_eq name.now key.now) keys ≡ b → bytes_in new ≡ with_name (bytes_in keys) name.now
-    by true h =
-        let there : is_named (bytes_in keys) name.now ≡ true = sym (slice_named keys name.now) ∙ h in
-        let same : new ≡ keys = e ∙ ap (λ b. cond b keys (keys ++ name ∷ [])) h in
-        rw (same, there) refl
-    by false h =
-        let absent : is_named (bytes_in keys) name.now ≡ false = sym (slice_named keys name.now) ∙ h in
-        let more : new ≡ keys ++ name ∷ [] = e ∙ ap (λ b. cond b keys (keys ++ name ∷ [])) h in
-        rw (more, absent) (map-append (λ (name : Bor (List ℕ)). name.now) keys (name ∷ []))
-
 pub first_mapped : {A B : Type 0} (p : B → Bool) (f : A → B) (xs : List A) → position_or_len p (map f xs) ≡ position_or_len (λ x. p (f x)) xs
 first_mapped p f [] = refl
 first_mapped p f (x ∷ xs) = ap (λ n. cond (not (p (f x))) (1 + n) 0) (first_mapped p f xs)
-
--- a place among slices is the place among their bytes
-pub slice_position : (name : List ℕ) (keys : List (Bor (List ℕ))) → position (λ (key : Bor (List ℕ)). bytes_eq name key.now) keys ≡ position (λ other. bytes_eq name other) (bytes_in keys)
-slice_position name keys = sym (rw (first_mapped (λ other. bytes_eq name other) (λ (key : Bor (List ℕ)). key.now) keys, length-map keys (λ (key : Bor (List ℕ)). key.now)) refl)
 
 pub ltb-suc : (a b : ℕ) → ltb (1 + a) (1 + b) ≡ ltb a b
 ltb-suc a b = elim (cases_lt a b) [
@@ -181,9 +210,15 @@ named_at : (names : List (List ℕ)) (name : List ℕ) → is_named names name �
 named_at [] name = refl
 named_at (x ∷ xs) name = by (bytes_eq name x) refl (named_at xs name)
   where
-    by : (b : Bool) → bytes_eq name x ≡ b → is_named xs name ≡ nat_lt (position_or_len (λ other. bytes_eq name other) xs) (length xs) → is_named (x ∷ xs) name ≡ nat_lt (position_or_len (λ other. bytes_eq name other) (x ∷ xs)) (length (x ∷ xs))
+    by : (b : Bool) → bytes_eq name x ≡ b
+        → is_named xs name ≡ nat_lt (position_or_len (λ other. bytes_eq name other) xs) (length xs)
+        → is_named (x ∷ xs) name ≡ nat_lt (position_or_len (λ other. bytes_eq name other) (x ∷ xs)) (length (x ∷ xs))
     by true e rest = rw (e, lt-ltb 0 (length (x ∷ xs)) (omega arith)) refl
-    by false e rest = rw e (rest ∙ sym (ap (λ n. ltb (1 + position_or_len (λ other. bytes_eq name other) xs) n) (omega arith) ∙ ltb-suc (position_or_len (λ other. bytes_eq name other) xs) (length xs)))
+    by false e rest =
+        rw e
+        (rest
+        ∙ sym (ap (λ n. ltb (1 + position_or_len (λ other. bytes_eq name other) xs) n) (omega arith)
+        ∙ ltb-suc (position_or_len (λ other. bytes_eq name other) xs) (length xs)))
 
 -- a name is among others where its place was found
 pub named_if_found : (names : List (List ℕ)) (name : List ℕ) → is_some (position (λ other. bytes_eq name other) names) ≡ is_named names name
@@ -202,7 +237,9 @@ named_more f xs i d inside = ap (map f) (take_more xs i d inside) ∙ map-append
 -- one of them that was there before
 pub named_twice : {X : Type 0} (f : X → List ℕ) (xs : List X) (i : ℕ) (d : X) → i < length xs → is_named (map f (take i xs)) (f (get_or xs i d)) ≡ true → has_twice (map f xs) ≡ true
 named_twice f xs i d inside there =
-    ap (λ l. has_twice (map f l)) (split_at xs i d inside) ∙ (ap has_twice (map-append f (take i xs) (get_or xs i d ∷ drop (suc i) xs)) ∙ twice_there (map f (take i xs)) (map f (drop (suc i) xs)) (f (get_or xs i d)) there)
+    ap (λ l. has_twice (map f l)) (split_at xs i d inside)
+    ∙ (ap has_twice (map-append f (take i xs) (get_or xs i d ∷ drop (suc i) xs))
+    ∙ twice_there (map f (take i xs)) (map f (drop (suc i) xs)) (f (get_or xs i d)) there)
 
 -- a name that wasn't there goes to the end
 pub with_new : (names : List (List ℕ)) (name : List ℕ) → is_named names name ≡ false → with_name names name ≡ names ++ name ∷ []
@@ -216,7 +253,9 @@ mapped_at f (y ∷ xs) zero x h = refl
 mapped_at f (y ∷ xs) (suc i) x h = mapped_at f xs i x (omega arith)
 
 -- an element whose name was there already
-pub twice_found : {X : Type 0} (f : X → List ℕ) (xs : List X) (i : ℕ) (x : X) (names : List (List ℕ)) (fresh : Bool) → i < length xs → x ≡ get_or xs i x → names ≡ map f (take i xs) → fresh ≡ not (is_named names (f x)) → fresh ≡ false → has_twice (map f xs) ≡ true
+pub twice_found : {X : Type 0} (f : X → List ℕ) (xs : List X) (i : ℕ) (x : X) (names : List (List ℕ)) (fresh : Bool)
+    → i < length xs → x ≡ get_or xs i x → names ≡ map f (take i xs) → fresh ≡ not (is_named names (f x)) → fresh ≡ false
+    → has_twice (map f xs) ≡ true
 twice_found f xs i x names fresh inside here is e stale =
     named_twice f xs i x inside (ap (λ l. is_named l (f (get_or xs i x))) (sym is) ∙ (ap (λ y. is_named names (f y)) (sym here) ∙ by (is_named names (f x)) (sym e ∙ stale)))
   where
@@ -225,7 +264,9 @@ twice_found f xs i x names fresh inside here is e stale =
     by false h = absurd (true≢false h)
 
 -- an element whose name wasn't there
-pub once_kept : {X : Type 0} (f : X → List ℕ) (xs : List X) (i : ℕ) (x : X) (names new : List (List ℕ)) (fresh : Bool) → i < length xs → x ≡ get_or xs i x → names ≡ map f (take i xs) → has_twice (map f (take i xs)) ≡ false → fresh ≡ not (is_named names (f x)) → fresh ≡ true → new ≡ with_name names (f x)
+pub once_kept : {X : Type 0} (f : X → List ℕ) (xs : List X) (i : ℕ) (x : X) (names new : List (List ℕ)) (fresh : Bool)
+    → i < length xs → x ≡ get_or xs i x → names ≡ map f (take i xs) → has_twice (map f (take i xs)) ≡ false
+    → fresh ≡ not (is_named names (f x)) → fresh ≡ true → new ≡ with_name names (f x)
     → (new ≡ map f (take (i + 1) xs)) × (has_twice (map f (take (i + 1) xs)) ≡ false)
 once_kept f xs i x names new fresh inside here is once e was grown =
     let absent : is_named names (f x) ≡ false = by (is_named names (f x)) (sym e ∙ was) in
@@ -239,12 +280,16 @@ once_kept f xs i x names new fresh inside here is once e was grown =
     by false h = refl
 
 -- an element whose name is not among those before it
-pub once_next : {X : Type 0} (f : X → List ℕ) (xs : List X) (i : ℕ) (x : X) → i < length xs → x ≡ get_or xs i x → has_twice (map f (take i xs)) ≡ false → is_named (map f (take i xs)) (f x) ≡ false → has_twice (map f (take (i + 1) xs)) ≡ false
+pub once_next : {X : Type 0} (f : X → List ℕ) (xs : List X) (i : ℕ) (x : X) → i < length xs → x ≡ get_or xs i x
+    → has_twice (map f (take i xs)) ≡ false → is_named (map f (take i xs)) (f x) ≡ false
+    → has_twice (map f (take (i + 1) xs)) ≡ false
 once_next f xs i x inside here once absent =
     ap has_twice (named_more f xs i x inside ∙ ap (λ y. map f (take i xs) ++ f y ∷ []) (sym here)) ∙ once_more (map f (take i xs)) (f x) once absent
 
 -- an element whose name is not among some
-pub some_other : {X : Type 0} (f : X → List ℕ) (names : List (List ℕ)) (xs : List X) (i : ℕ) (x : X) (has : Bool) → i < length xs → x ≡ get_or xs i x → has ≡ is_named names (f x) → has ≡ false → list_any (λ formal. not (is_named names formal)) (map f xs) ≡ true
+pub some_other : {X : Type 0} (f : X → List ℕ) (names : List (List ℕ)) (xs : List X) (i : ℕ) (x : X) (has : Bool) → i < length xs
+    → x ≡ get_or xs i x → has ≡ is_named names (f x) → has ≡ false
+    → list_any (λ formal. not (is_named names formal)) (map f xs) ≡ true
 some_other f names xs i x has inside here e absent =
     list_any_at (λ formal. not (is_named names formal)) (map f xs) i (f x) (omega (arith, length-map xs f))
     (ap (λ y. not (is_named names y)) (mapped_at f xs i x inside ∙ ap f (sym here)) ∙ ap not (sym e ∙ absent))
@@ -260,7 +305,9 @@ place_before : (names more : List (List ℕ)) (name : List ℕ) → is_named nam
 place_before [] more name e = absurd (true≢false (sym e))
 place_before (x ∷ names) more name e = by (bytes_eq name x) refl e (place_before names more name)
   where
-    by : (b : Bool) → bytes_eq name x ≡ b → (b || is_named names name) ≡ true → (is_named names name ≡ true → place_in (names ++ more) name ≡ place_in names name) → place_in ((x ∷ names) ++ more) name ≡ place_in (x ∷ names) name
+    by : (b : Bool) → bytes_eq name x ≡ b → (b || is_named names name) ≡ true
+        → (is_named names name ≡ true → place_in (names ++ more) name ≡ place_in names name)
+        → place_in ((x ∷ names) ++ more) name ≡ place_in (x ∷ names) name
     by true h e rest = rw h refl
     by false h e rest = rw (h, rest e) refl
 
@@ -295,13 +342,18 @@ named_put names name = by (is_named names name) refl
 -- and stays there, whatever is put in later
 place_stays : (names later : List (List ℕ)) (name : List ℕ) → is_named names name ≡ true → place_in (fold with_name names later) name ≡ place_in names name
 place_stays names [] name e = refl
-place_stays names (x ∷ later) name e = by (is_named names x) refl (place_stays names later name e) (place_stays (names ++ x ∷ []) later name (named_append names (x ∷ []) name ∙ or_here (is_named names name) (is_named (x ∷ []) name) e))
+place_stays names (x ∷ later) name e =
+    by (is_named names x) refl (place_stays names later name e)
+    (place_stays (names ++ x ∷ []) later name
+    (named_append names (x ∷ []) name ∙ or_here (is_named names name) (is_named (x ∷ []) name) e))
   where
     or_here : (a b : Bool) → a ≡ true → (a || b) ≡ true
     or_here true b h = refl
     or_here false b h = absurd (true≢false (sym h))
 
-    by : (b : Bool) → is_named names x ≡ b → place_in (fold with_name names later) name ≡ place_in names name → place_in (fold with_name (names ++ x ∷ []) later) name ≡ place_in (names ++ x ∷ []) name → place_in (fold with_name (with_name names x) later) name ≡ place_in names name
+    by : (b : Bool) → is_named names x ≡ b → place_in (fold with_name names later) name ≡ place_in names name
+        → place_in (fold with_name (names ++ x ∷ []) later) name ≡ place_in (names ++ x ∷ []) name
+        → place_in (fold with_name (with_name names x) later) name ≡ place_in names name
     by true h same more = ap (λ ns. place_in (fold with_name ns later) name) (let kept : with_name names x ≡ names = rw h refl in kept) ∙ same
     by false h same more = ap (λ ns. place_in (fold with_name ns later) name) (with_new names x h) ∙ (more ∙ place_before names (x ∷ []) name e)
 
@@ -324,24 +376,28 @@ place_is p xs k e = by (ltb (position_or_len p xs) (length xs)) refl
     by false h = cc
 
 -- a name whose place was found is there already, and stays at its place
-pub name_found : (names later : List (List ℕ)) (name : List ℕ) (k : ℕ) → position (λ other. bytes_eq name other) names ≡ Some k → (is_named names name ≡ true) × (k ≡ place_in (fold with_name names later) name)
+pub name_found : (names later : List (List ℕ)) (name : List ℕ) (k : ℕ) → position (λ other. bytes_eq name other) names ≡ Some k
+    → (is_named names name ≡ true) × (k ≡ place_in (fold with_name names later) name)
 name_found names later name k e =
     let there : is_named names name ≡ true = sym (named_if_found names name) ∙ ap is_some e in
     (there, place_is (λ other. bytes_eq name other) names k e ∙ sym (place_stays names later name there))
 
--- the place at which a slice is put in
-pub place_kept : (keys new : List (Bor (List ℕ))) (name : Bor (List ℕ)) (place : ℕ) (later : List (List ℕ)) → place ≡ position_or_len (λ (key : Bor (List ℕ)). bytes_eq name.now key.now) keys → bytes_in new ≡ with_name (bytes_in keys) name.now → place ≡ place_in (fold with_name (bytes_in new) later) name.now
+-- the place at which a name is put in
+pub place_kept : (keys new : List (List ℕ)) (name : List ℕ) (place : ℕ) (later : List (List ℕ)) → place ≡ place_in keys name
+    → new ≡ with_name keys name → place ≡ place_in (fold with_name new later) name
 place_kept keys new name place later at put =
     at
-    ∙ (sym (first_mapped (λ other. bytes_eq name.now other) (λ (key : Bor (List ℕ)). key.now) keys)
-    ∙ (sym (place_put (bytes_in keys) name.now)
-    ∙ (sym (place_stays (with_name (bytes_in keys) name.now) later name.now (named_put (bytes_in keys) name.now))
-    ∙ ap (λ ns. place_in (fold with_name ns later) name.now) (sym put))))
+    ∙ (sym (place_put keys name)
+    ∙ (sym (place_stays (with_name keys name) later name (named_put keys name)) ∙ ap (λ ns. place_in (fold with_name ns later) name) (sym put)))
 
 -- ---- the places of columns
 
 -- one column more
-pub places_more : (names next : List (List ℕ)) (places now : List ℕ) (columns : List (List ℕ)) (k place : ℕ) (column : List ℕ) → k < length columns → column ≡ get_or columns k column → ((later : List (List ℕ)) → places ≡ places_in (fold with_name names later) (take k columns)) → next ≡ with_name names column → ((later : List (List ℕ)) → place ≡ place_in (fold with_name next later) column) → now ≡ places ++ place ∷ [] → (later : List (List ℕ)) → now ≡ places_in (fold with_name next later) (take (k + 1) columns)
+pub places_more : (names next : List (List ℕ)) (places now : List ℕ) (columns : List (List ℕ)) (k place : ℕ) (column : List ℕ)
+    → k < length columns → column ≡ get_or columns k column
+    → ((later : List (List ℕ)) → places ≡ places_in (fold with_name names later) (take k columns)) → next ≡ with_name names column
+    → ((later : List (List ℕ)) → place ≡ place_in (fold with_name next later) column) → now ≡ places ++ place ∷ []
+    → (later : List (List ℕ)) → now ≡ places_in (fold with_name next later) (take (k + 1) columns)
 places_more names next places now columns k place column inside read before put here grown = λ later.
     let all = fold with_name next later in
     let old : places ≡ places_in all (take k columns) = before (column ∷ later) ∙ ap (λ ns. places_in (fold with_name ns later) (take k columns)) (sym put) in
@@ -352,11 +408,19 @@ places_more names next places now columns k place column inside read before put 
     ∙ ap (places_in all) (ap (λ x. take k columns ++ x ∷ []) read ∙ sym (take_more columns k column inside)))))
 
 -- one cover more
-pub columns_grown : (names middle next : List (List ℕ)) (before old now : List (List ℕ)) (covers : List CoverOf) (k : ℕ) (cover : CoverOf) (places : List ℕ) → k < length covers → cover ≡ get_or covers k cover → ((later : List (List ℕ)) → old ≡ before ++ columns_in (fold with_name names later) (take k covers)) → middle ≡ fold with_name names cover.columns → ((later : List (List ℕ)) → places ≡ places_in (fold with_name middle later) cover.columns) → next ≡ with_name middle cover.output → now ≡ old ++ places ∷ [] → (later : List (List ℕ)) → now ≡ before ++ columns_in (fold with_name next later) (take (k + 1) covers)
+pub columns_grown : (names middle next : List (List ℕ)) (before old now : List (List ℕ)) (covers : List CoverOf) (k : ℕ) (cover : CoverOf)
+    (places : List ℕ) → k < length covers → cover ≡ get_or covers k cover
+    → ((later : List (List ℕ)) → old ≡ before ++ columns_in (fold with_name names later) (take k covers))
+    → middle ≡ fold with_name names cover.columns
+    → ((later : List (List ℕ)) → places ≡ places_in (fold with_name middle later) cover.columns)
+    → next ≡ with_name middle cover.output → now ≡ old ++ places ∷ [] → (later : List (List ℕ))
+    → now ≡ before ++ columns_in (fold with_name next later) (take (k + 1) covers)
 columns_grown names middle next before old now covers k cover places inside read kept first here put grown = λ later.
     let all = fold with_name next later in
     let last : fold with_name middle (cover.output ∷ later) ≡ all = ap (λ ns. fold with_name ns later) (sym put) in
-    let whole : fold with_name names (cover.columns ++ cover.output ∷ later) ≡ all = fold-append with_name names cover.columns (cover.output ∷ later) ∙ (ap (λ ns. fold with_name ns (cover.output ∷ later)) (sym first) ∙ last) in
+    let whole : fold with_name names (cover.columns ++ cover.output ∷ later) ≡ all =
+    fold-append with_name names cover.columns (cover.output ∷ later)
+    ∙ (ap (λ ns. fold with_name ns (cover.output ∷ later)) (sym first) ∙ last) in
     let f = λ (c : CoverOf). places_in all c.columns in
     let old_is : old ≡ before ++ map f (take k covers) = kept (cover.columns ++ cover.output ∷ later) ∙ ap (λ ns. before ++ columns_in ns (take k covers)) whole in
     let new : places ≡ f cover = here (cover.output ∷ later) ∙ ap (λ ns. places_in ns cover.columns) last in
@@ -371,7 +435,14 @@ pub put_more : (a xs : List (List ℕ)) (k : ℕ) (x : List ℕ) → k < length 
 put_more a xs k x inside read = sym (fold-append with_name a (take k xs) (x ∷ [])) ∙ ap (fold with_name a) (ap (λ y. take k xs ++ y ∷ []) read ∙ sym (take_more xs k x inside))
 
 -- the names of one cover more
-pub cover_put : (a names middle next : List (List ℕ)) (covers : List CoverOf) (k : ℕ) (cover : CoverOf) → k < length covers → cover ≡ get_or covers k cover → names ≡ fold with_name a (flat_map cover_names (take k covers)) → middle ≡ fold with_name names cover.columns → next ≡ with_name middle cover.output → next ≡ fold with_name a (flat_map cover_names (take (k + 1) covers))
+pub cover_put : (a names middle next : List (List ℕ)) (covers : List CoverOf) (k : ℕ) (cover : CoverOf) → k < length covers
+    → cover ≡ get_or covers k cover → names ≡ fold with_name a (flat_map cover_names (take k covers))
+    → middle ≡ fold with_name names cover.columns → next ≡ with_name middle cover.output
+    → next ≡ fold with_name a (flat_map cover_names (take (k + 1) covers))
 cover_put a names middle next covers k cover inside read is first last =
     let put : next ≡ fold with_name names (cover_names cover) = last ∙ (ap (λ l. with_name l cover.output) first ∙ sym (fold-append with_name names cover.columns (cover.output ∷ []))) in
-    put ∙ (ap (λ l. fold with_name l (cover_names cover)) is ∙ (fold_flat_more cover_names a (take k covers) cover ∙ ap (λ cs. fold with_name a (flat_map cover_names cs)) (ap (λ y. take k covers ++ y ∷ []) read ∙ sym (take_more covers k cover inside))))
+    put
+    ∙ (ap (λ l. fold with_name l (cover_names cover)) is
+    ∙ (fold_flat_more cover_names a (take k covers) cover
+    ∙ ap (λ cs. fold with_name a (flat_map cover_names cs))
+    (ap (λ y. take k covers ++ y ∷ []) read ∙ sym (take_more covers k cover inside))))

@@ -55,12 +55,16 @@ or_swap false true c = refl
 or_swap false false c = refl
 
 -- a signal whose dependencies stand in the order goes to its end
-pub order_more : (deps : ℕ → List ℕ) (done order : List ℕ) (s : ℕ) → in_order deps done order ≡ true → list_all (λ x. among order x || among done x) (deps s) ≡ true → in_order deps done (order ++ s ∷ []) ≡ true
+pub order_more : (deps : ℕ → List ℕ) (done order : List ℕ) (s : ℕ) → in_order deps done order ≡ true
+    → list_all (λ x. among order x || among done x) (deps s) ≡ true → in_order deps done (order ++ s ∷ []) ≡ true
 order_more deps done [] s o h = rw h refl
 order_more deps done (t ∷ ts) s o h =
     let both = and_parts (list_all (among done) (deps t)) (in_order deps (t ∷ done) ts) o in
     and_from (list_all (among done) (deps t)) (in_order deps (t ∷ done) (ts ++ s ∷ [])) both.0
-    (order_more deps (t ∷ done) ts s both.1 (sym (same_all (λ x. among (t ∷ ts) x || among done x) (λ x. among ts x || among (t ∷ done) x) (deps s) (λ x. or_swap (t == x) (among ts x) (among done x))) ∙ h))
+    (order_more deps (t ∷ done) ts s both.1
+    (sym (same_all (λ x. among (t ∷ ts) x || among done x) (λ x. among ts x || among (t ∷ done) x) (deps s)
+    (λ x. or_swap (t == x) (among ts x) (among done x)))
+    ∙ h))
 
 -- some element passes p, where all that pass p fail q: not all pass q
 any_fails : (p q : ℕ → Bool) (xs : List ℕ) → ((x : ℕ) → p x ≡ true → q x ≡ false) → list_any p xs ≡ true → list_all q xs ≡ false

@@ -1,9 +1,55 @@
 -- The list of the models that a main model reaches: what its steps keep, and that it has them all in the end.
-use Rattle.std.proofs.Common.{◌==◌, ◌≡◌, ℕ, zero, suc, ◌+◌, ◌<◌, ◌≤◌, ◌⊎◌, inl, inr, Bool, true, false, not, List, [], ◌∷◌, ◌++◌, length, get_or, set, replicate, cond, map, take, refl, sym, ◌∙◌, ap, subst, arith, nat_lt}
+use Rattle.std.proofs.Common.{
+  ◌==◌,
+  ◌≡◌,
+  ℕ,
+  zero,
+  suc,
+  ◌+◌,
+  ◌<◌,
+  ◌≤◌,
+  ◌⊎◌,
+  inl,
+  inr,
+  Bool,
+  true,
+  false,
+  not,
+  List,
+  [],
+  ◌∷◌,
+  ◌++◌,
+  length,
+  get_or,
+  set,
+  replicate,
+  cond,
+  map,
+  take,
+  refl,
+  sym,
+  ◌∙◌,
+  ap,
+  subst,
+  arith,
+  nat_lt,
+}
 use Rattle.std.specs.List.{list_all, flat_map, count_by}
 use Rattle.std.specs.Str.{bytes_eq}
 use Rattle.std.proofs.lemmas.Bool.{cases_eq, cases_lt, true≢false, false≢true, lt-ltb, ltb-true, and_from}
-use Rattle.std.proofs.lemmas.List.{get_or-set_same, get_or-set_other, take_more, length-set, length_push, get_or-replicate, get_or_past, length-replicate, get_or_append_left, get_or_at, get_or_default}
+use Rattle.std.proofs.lemmas.List.{
+  get_or-set_same,
+  get_or-set_other,
+  take_more,
+  length-set,
+  length_push,
+  get_or-replicate,
+  get_or_past,
+  length-replicate,
+  get_or_append_left,
+  get_or_at,
+  get_or_default,
+}
 use Rattle.std.proofs.lemmas.List.Sums.{sum_by-set, prefix_len-le-length}
 use Rattle.std.proofs.lemmas.List.Folds.{sum_by-replicate}
 use Rattle.eqc_blif.specs.Netlist.{ModelOf, InstanceOf}
@@ -27,7 +73,10 @@ all_numbers library (i ∷ instances) =
 -- each callee is at most the number of models
 pub callee_within : (library : List ModelOf) (m t : ℕ) → among (callees library m) t ≡ true → t < length library + 1
 unfolding callees
-callee_within library m t e = ltb-true t (length library + 1) (all_among (λ t. nat_lt t (length library + 1)) (map (λ (i : InstanceOf). model_number library i.model) (model library m).instances) t (all_numbers library (model library m).instances) e)
+callee_within library m t e =
+    ltb-true t (length library + 1)
+    (all_among (λ t. nat_lt t (length library + 1)) (map (λ (i : InstanceOf). model_number library i.model) (model library m).instances)
+    t (all_numbers library (model library m).instances) e)
 
 pub calls_closed : (library : List ModelOf) → IsClosed (callees library) (length library + 1)
 calls_closed library = λ s k t inside e. callee_within library s t (among_get (callees library s) k t e)
@@ -44,7 +93,8 @@ reached_more library top (suc n) m e = elim (among_cases top (flat_map (callees 
   | inl same ↦ among_here top (flat_map (callees library) (top ∷ flat_map (callees library) (reached_within library top n))) m same
   | inr there ↦
       let w = flat_among (callees library) (reached_within library top n) m there in
-      or_right (top == m) (among (flat_map (callees library) (reached_within library top (suc n))) m) (among_flat (callees library) (reached_within library top (suc n)) w.0 m (reached_more library top n w.0 w.1) w.2)
+      or_right (top == m) (among (flat_map (callees library) (reached_within library top (suc n))) m)
+      (among_flat (callees library) (reached_within library top (suc n)) w.0 m (reached_more library top n w.0 w.1) w.2)
 ]
 
 -- a callee of a model that is reached
@@ -105,7 +155,9 @@ reach_start library top n seen all inside is one = rw (is, one) start
     }
 
 -- a callee of the model at place k that wasn't seen
-reach_more : (library : List ModelOf) (top n : ℕ) (seen : List Bool) (all : List ℕ) (k t : ℕ) → IsReaching library top n seen all k → k < length all → among (callees library (get_or all k 0)) t ≡ true → get_or seen t false ≡ false → t < n → IsReaching library top n (set seen t true) (all ++ t ∷ []) k
+reach_more : (library : List ModelOf) (top n : ℕ) (seen : List Bool) (all : List ℕ) (k t : ℕ)
+    → IsReaching library top n seen all k → k < length all → among (callees library (get_or all k 0)) t ≡ true
+    → get_or seen t false ≡ false → t < n → IsReaching library top n (set seen t true) (all ++ t ∷ []) k
 reach_more library top n seen all k t h inside called unseen small = record {
   size = length-set seen t true ∙ h.size;
   counted = omega (arith, h.counted, length_push all t, count_seen seen t room unseen);
@@ -116,16 +168,25 @@ reach_more library top n seen all k t h inside called unseen small = record {
   begun = among_left all (t ∷ []) top h.begun;
   origin = λ i lt. elim (cases_lt i (length all)) [
     | inl old ↦ rw (get_or_append_left all (t ∷ []) 0 i old) (h.origin i old)
-    | inr new ↦ let at : length all ≡ i = omega (arith, length_push all t) in rw (get_or_at all t [] 0 i at) (reached_below library top (suc k) i t (omega arith) (reached_next library top k (get_or all k 0) t (h.origin k inside) called))
+    | inr new ↦
+        let at : length all ≡ i = omega (arith, length_push all t) in
+        rw (get_or_at all t [] 0 i at)
+        (reached_below library top (suc k) i t (omega arith)
+        (reached_next library top k (get_or all k 0) t (h.origin k inside) called))
   ];
   within = omega (arith, h.within, length_push all t);
-  closed = λ i lt. let old : i < length all = omega arith in rw (get_or_append_left all (t ∷ []) 0 i old) (all_more (among all) (among (all ++ t ∷ [])) (callees library (get_or all i 0)) (λ x e. among_left all (t ∷ []) x e) (h.closed i lt));
+  closed = λ i lt.
+      let old : i < length all = omega arith in
+      rw (get_or_append_left all (t ∷ []) 0 i old)
+      (all_more (among all) (among (all ++ t ∷ [])) (callees library (get_or all i 0)) (λ x e. among_left all (t ∷ []) x e)
+      (h.closed i lt));
 }
   where
     room : t < length seen
     room = omega (arith, h.size)
 
-pub adding_begin : (library : List ModelOf) (top n : ℕ) (seen : List Bool) (all : List ℕ) (k m : ℕ) → IsReaching library top n seen all k → k < length all → m ≡ get_or all k m → IsAdding library top n seen all k m []
+pub adding_begin : (library : List ModelOf) (top n : ℕ) (seen : List Bool) (all : List ℕ) (k m : ℕ)
+    → IsReaching library top n seen all k → k < length all → m ≡ get_or all k m → IsAdding library top n seen all k m []
 adding_begin library top n seen all k m h inside is = record {
   reaching = h;
   inside = inside;
@@ -139,7 +200,8 @@ adding_begin library top n seen all k m h inside is = record {
     read (y ∷ xs) (suc k) x h e = read xs k x (omega arith) e
 
 -- a callee that was seen
-pub adding_skip : (library : List ModelOf) (top n : ℕ) (seen : List Bool) (all : List ℕ) (k m : ℕ) (done : List ℕ) (t : ℕ) → IsAdding library top n seen all k m done → get_or seen t false ≡ true → IsAdding library top n seen all k m (done ++ t ∷ [])
+pub adding_skip : (library : List ModelOf) (top n : ℕ) (seen : List Bool) (all : List ℕ) (k m : ℕ) (done : List ℕ) (t : ℕ)
+    → IsAdding library top n seen all k m done → get_or seen t false ≡ true → IsAdding library top n seen all k m (done ++ t ∷ [])
 adding_skip library top n seen all k m done t h old = record {
   reaching = h.reaching;
   inside = h.inside;
@@ -148,7 +210,9 @@ adding_skip library top n seen all k m done t h old = record {
 }
 
 -- a callee that wasn't seen
-pub adding_more : (library : List ModelOf) (top n : ℕ) (seen : List Bool) (all : List ℕ) (k m : ℕ) (done : List ℕ) (t : ℕ) → IsAdding library top n seen all k m done → among (callees library m) t ≡ true → get_or seen t false ≡ false → t < n → IsAdding library top n (set seen t true) (all ++ t ∷ []) k m (done ++ t ∷ [])
+pub adding_more : (library : List ModelOf) (top n : ℕ) (seen : List Bool) (all : List ℕ) (k m : ℕ) (done : List ℕ) (t : ℕ)
+    → IsAdding library top n seen all k m done → among (callees library m) t ≡ true → get_or seen t false ≡ false → t < n
+    → IsAdding library top n (set seen t true) (all ++ t ∷ []) k m (done ++ t ∷ [])
 adding_more library top n seen all k m done t h called new small = record {
   reaching = reach_more library top n seen all k t h.reaching h.inside (rw h.here called) new small;
   inside = omega (arith, h.inside, length_push all t);
@@ -157,7 +221,8 @@ adding_more library top n seen all k m done t h called new small = record {
 }
 
 -- all callees of the model at place k were looked at
-pub adding_done : (library : List ModelOf) (top n : ℕ) (seen : List Bool) (all : List ℕ) (k m : ℕ) (done : List ℕ) → IsAdding library top n seen all k m done → done ≡ callees library m → IsReaching library top n seen all (k + 1)
+pub adding_done : (library : List ModelOf) (top n : ℕ) (seen : List Bool) (all : List ℕ) (k m : ℕ) (done : List ℕ)
+    → IsAdding library top n seen all k m done → done ≡ callees library m → IsReaching library top n seen all (k + 1)
 adding_done library top n seen all k m done h is = record {
   size = h.reaching.size;
   counted = h.reaching.counted;
@@ -173,7 +238,8 @@ adding_done library top n seen all k m done h is = record {
 
 -- ---- the list in the end
 
-reached_all : (library : List ModelOf) (top n : ℕ) (seen : List Bool) (all : List ℕ) (k : ℕ) → IsReaching library top n seen all k → length all ≤ k → (d m : ℕ) → among (reached_within library top d) m ≡ true → among all m ≡ true
+reached_all : (library : List ModelOf) (top n : ℕ) (seen : List Bool) (all : List ℕ) (k : ℕ) → IsReaching library top n seen all k
+    → length all ≤ k → (d m : ℕ) → among (reached_within library top d) m ≡ true → among all m ≡ true
 unfolding reached_within
 reached_all library top n seen all k h end zero m e = elim (among_cases top [] m e) [
   | inl same ↦ let P : ℕ → Type 0 = λ x. among all x ≡ true in subst P same h.begun
@@ -189,7 +255,9 @@ reached_all library top n seen all k h end (suc d) m e = elim (among_cases top (
 ]
 
 -- the list has the models that the main model reaches
-pub reach_end : (library : List ModelOf) (top : ℕ) (seen : List Bool) (all : List ℕ) (k : ℕ) → IsReaching library top (length library + 1) seen all k → length all ≤ k → (m : ℕ) → among all m ≡ among (reached library top) m
+pub reach_end : (library : List ModelOf) (top : ℕ) (seen : List Bool) (all : List ℕ) (k : ℕ)
+    → IsReaching library top (length library + 1) seen all k → length all ≤ k → (m : ℕ)
+    → among all m ≡ among (reached library top) m
 reach_end library top seen all k h end = λ m.
     same_test (among all m) (among (reached library top) m)
     (λ e. let at = at_among all m e in
@@ -219,16 +287,24 @@ read_seen : (seen : List Bool) (t : ℕ) (r : Bool) → t < length seen → r �
 read_seen seen t r inside is = get_or_default seen t false r inside ∙ sym is
 
 -- the callee at a place was seen
-pub adding_skip_at : (library : List ModelOf) (top : ℕ) (seen : List Bool) (all : List ℕ) (k m : ℕ) (items : List ℕ) (i : ℕ) (r : Bool) → IsAdding library top (length library + 1) seen all k m (take i items) → items ≡ callees library m → i < length items → r ≡ get_or seen (get_or items i 0) r → r ≡ true
+pub adding_skip_at : (library : List ModelOf) (top : ℕ) (seen : List Bool) (all : List ℕ) (k m : ℕ) (items : List ℕ) (i : ℕ) (r : Bool)
+    → IsAdding library top (length library + 1) seen all k m (take i items) → items ≡ callees library m → i < length items
+    → r ≡ get_or seen (get_or items i 0) r → r ≡ true
     → IsAdding library top (length library + 1) seen all k m (take (i + 1) items)
 adding_skip_at library top seen all k m items i r h is inside read old =
     let small = callee_small library m items i is inside in
-    rw (take_more items i 0 inside) (adding_skip library top (length library + 1) seen all k m (take i items) (get_or items i 0) h (read_seen seen (get_or items i 0) r (omega (arith, small, h.reaching.size)) read ∙ old))
+    rw (take_more items i 0 inside)
+    (adding_skip library top (length library + 1) seen all k m (take i items) (get_or items i 0) h
+    (read_seen seen (get_or items i 0) r (omega (arith, small, h.reaching.size)) read ∙ old))
 
 -- the callee at a place wasn't
-pub adding_more_at : (library : List ModelOf) (top : ℕ) (seen seen2 : List Bool) (all all2 : List ℕ) (k m : ℕ) (items : List ℕ) (i : ℕ) (r : Bool) → IsAdding library top (length library + 1) seen all k m (take i items) → items ≡ callees library m → i < length items → r ≡ get_or seen (get_or items i 0) r → r ≡ false
+pub adding_more_at : (library : List ModelOf) (top : ℕ) (seen seen2 : List Bool) (all all2 : List ℕ) (k m : ℕ) (items : List ℕ) (i : ℕ)
+    (r : Bool) → IsAdding library top (length library + 1) seen all k m (take i items) → items ≡ callees library m
+    → i < length items → r ≡ get_or seen (get_or items i 0) r → r ≡ false
     → seen2 ≡ set seen (get_or items i 0) true → all2 ≡ all ++ get_or items i 0 ∷ [] → IsAdding library top (length library + 1) seen2 all2 k m (take (i + 1) items)
 adding_more_at library top seen seen2 all all2 k m items i r h is inside read new marked grown =
     let small = callee_small library m items i is inside in
     let called : among (callees library m) (get_or items i 0) ≡ true = ap (λ l. among l (get_or items i 0)) (sym is) ∙ among_at items i inside in
-    rw (marked, grown, take_more items i 0 inside) (adding_more library top (length library + 1) seen all k m (take i items) (get_or items i 0) h called (read_seen seen (get_or items i 0) r (omega (arith, small, h.reaching.size)) read ∙ new) small)
+    rw (marked, grown, take_more items i 0 inside)
+    (adding_more library top (length library + 1) seen all k m (take i items) (get_or items i 0) h called
+    (read_seen seen (get_or items i 0) r (omega (arith, small, h.reaching.size)) read ∙ new) small)

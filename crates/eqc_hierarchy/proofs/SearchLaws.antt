@@ -1,5 +1,43 @@
 -- The steps of a search in depth keep what it keeps.
-use Rattle.std.proofs.Common.{◌==◌, ◌≡◌, ℕ, zero, suc, ◌+◌, ◌-◌, ◌<◌, ◌≤◌, ◌⊎◌, inl, inr, Bool, true, false, not, ◌&&◌, ◌||◌, List, [], ◌∷◌, ◌++◌, length, take, set, get_or, refl, sym, ◌∙◌, ap, subst, arith, Some, cond, replicate, nat_lt, sum_by}
+use Rattle.std.proofs.Common.{
+  ◌==◌,
+  ◌≡◌,
+  ℕ,
+  zero,
+  suc,
+  ◌+◌,
+  ◌-◌,
+  ◌<◌,
+  ◌≤◌,
+  ◌⊎◌,
+  inl,
+  inr,
+  Bool,
+  true,
+  false,
+  not,
+  ◌&&◌,
+  ◌||◌,
+  List,
+  [],
+  ◌∷◌,
+  ◌++◌,
+  length,
+  take,
+  set,
+  get_or,
+  refl,
+  sym,
+  ◌∙◌,
+  ap,
+  subst,
+  arith,
+  Some,
+  cond,
+  replicate,
+  nat_lt,
+  sum_by,
+}
 use Rattle.std.specs.List.{list_all, list_any, slice_get, count_by}
 use Rattle.std.proofs.Math.Bool.{or-false}
 use Rattle.std.proofs.lemmas.Bool.{cases_eq, cases_lt, true≢false, and_parts, and_from, lt-ltb, ltb-true, not-true, or_cases, eqb-true, eq-eqb}
@@ -28,12 +66,15 @@ path_front deps order [] p h = tt
 path_front deps order (q ∷ []) p h = h.0
 path_front deps order (q ∷ r ∷ front) p h = (h.0, h.1, path_front deps order (r ∷ front) p h.2)
 
-path_next : (deps : ℕ → List ℕ) (order : List ℕ) (front : List (ℕ × ℕ)) (s k j : ℕ) → list_all (among order) (take j (deps s)) ≡ true → IsPath deps order (front ++ (s, k) ∷ []) → IsPath deps order (front ++ (s, j) ∷ [])
+path_next : (deps : ℕ → List ℕ) (order : List ℕ) (front : List (ℕ × ℕ)) (s k j : ℕ)
+    → list_all (among order) (take j (deps s)) ≡ true → IsPath deps order (front ++ (s, k) ∷ [])
+    → IsPath deps order (front ++ (s, j) ∷ [])
 path_next deps order [] s k j e h = e
 path_next deps order (p ∷ []) s k j e h = (h.0, h.1, e)
 path_next deps order (p ∷ q ∷ front) s k j e h = (h.0, h.1, path_next deps order (q ∷ front) s k j e h.2)
 
-pub path_push : (deps : ℕ → List ℕ) (order : List ℕ) (front : List (ℕ × ℕ)) (s k t : ℕ) → slice_get (deps s) k ≡ Some t → IsPath deps order (front ++ (s, k) ∷ []) → IsPath deps order ((front ++ (s, k) ∷ []) ++ (t, 0) ∷ [])
+pub path_push : (deps : ℕ → List ℕ) (order : List ℕ) (front : List (ℕ × ℕ)) (s k t : ℕ) → slice_get (deps s) k ≡ Some t
+    → IsPath deps order (front ++ (s, k) ∷ []) → IsPath deps order ((front ++ (s, k) ∷ []) ++ (t, 0) ∷ [])
 path_push deps order [] s k t e h = (h, e, refl)
 path_push deps order (p ∷ []) s k t e h = (h.0, h.1, (h.2, e, refl))
 path_push deps order (p ∷ q ∷ front) s k t e h = (h.0, h.1, path_push deps order (q ∷ front) s k t e h.2)
@@ -41,7 +82,11 @@ path_push deps order (p ∷ q ∷ front) s k t e h = (h.0, h.1, path_push deps o
 path_more : (deps : ℕ → List ℕ) (order : List ℕ) (t : ℕ) (path : List (ℕ × ℕ)) → IsPath deps order path → IsPath deps (order ++ t ∷ []) path
 path_more deps order t [] h = tt
 path_more deps order t (p ∷ []) h = all_more (among order) (among (order ++ t ∷ [])) (take p.1 (deps p.0)) (λ x k. among_left order (t ∷ []) x k) h
-path_more deps order t (p ∷ q ∷ path) h = (all_more (among order) (among (order ++ t ∷ [])) (take p.1 (deps p.0)) (λ x k. among_left order (t ∷ []) x k) h.0, h.1, path_more deps order t (q ∷ path) h.2)
+path_more deps order t (p ∷ q ∷ path) h = (
+  all_more (among order) (among (order ++ t ∷ [])) (take p.1 (deps p.0)) (λ x k. among_left order (t ∷ []) x k) h.0,
+  h.1,
+  path_more deps order t (q ∷ path) h.2,
+)
 
 -- setting the stage of a node leaves the stages of the others
 stage_other : (stages : List Stage) (t x : ℕ) (to : Stage) → (x ≡ t → ⊥) → stage_at stages x ≡ stage_at (set stages t to) x
@@ -51,7 +96,9 @@ stage_same : (stages : List Stage) (t x : ℕ) (to : Stage) → t < length stage
 stage_same stages t x to inside same = rw same (get_or-set_same stages t to Fresh inside)
 
 -- nodes that were begun stay so where a node is set to another stage than the first
-begun_more : (stages : List Stage) (n t : ℕ) (to : Stage) (xs : List ℕ) → t < length stages → is_fresh to ≡ false → list_all (λ s. nat_lt s n && not (is_fresh (stage_at stages s))) xs ≡ true → list_all (λ s. nat_lt s n && not (is_fresh (stage_at (set stages t to) s))) xs ≡ true
+begun_more : (stages : List Stage) (n t : ℕ) (to : Stage) (xs : List ℕ) → t < length stages → is_fresh to ≡ false
+    → list_all (λ s. nat_lt s n && not (is_fresh (stage_at stages s))) xs ≡ true
+    → list_all (λ s. nat_lt s n && not (is_fresh (stage_at (set stages t to) s))) xs ≡ true
 begun_more stages n t to xs inside begun h = all_more (λ s. nat_lt s n && not (is_fresh (stage_at stages s))) (λ s. nat_lt s n && not (is_fresh (stage_at (set stages t to) s))) xs each h
   where
     each : (x : ℕ) → (nat_lt x n && not (is_fresh (stage_at stages x))) ≡ true → (nat_lt x n && not (is_fresh (stage_at (set stages t to) x))) ≡ true
@@ -90,7 +137,9 @@ start deps n = record {
     all_fresh (suc n) = rw (sum_by-cons (λ x. cond (is_fresh x) 1 0) Fresh (replicate n Fresh)) (omega (arith, all_fresh n))
 
 -- a node that was not begun goes onto the path
-pub enter : (deps : ℕ → List ℕ) (n : ℕ) (stages : List Stage) (path : List (ℕ × ℕ)) (order : List ℕ) (t : ℕ) → IsSearch deps n stages path order → t < n → stage_at stages t ≡ Fresh → IsPath deps order (path ++ (t, 0) ∷ []) → IsSearch deps n (set stages t Open) (path ++ (t, 0) ∷ []) order
+pub enter : (deps : ℕ → List ℕ) (n : ℕ) (stages : List Stage) (path : List (ℕ × ℕ)) (order : List ℕ) (t : ℕ)
+    → IsSearch deps n stages path order → t < n → stage_at stages t ≡ Fresh → IsPath deps order (path ++ (t, 0) ∷ [])
+    → IsSearch deps n (set stages t Open) (path ++ (t, 0) ∷ []) order
 enter deps n stages path order t h inside fresh linked = record {
   size = length-set stages t Open ∙ h.size;
   sorted = h.sorted;
@@ -102,7 +151,12 @@ enter deps n stages path order t h inside fresh linked = record {
     | inl same ↦ rw same (among_end (on path) t)
     | inr other ↦ among_left (on path) (t ∷ []) x (h.open_on_path x (stage_other stages t x Open other ∙ e))
   ]);
-  path_begun = rw (on_push path t 0) (all_push (λ s. nat_lt s n && not (is_fresh (stage_at (set stages t Open) s))) (on path) t (begun_more stages n t Open (on path) room refl h.path_begun) (and_from (nat_lt t n) (not (is_fresh (stage_at (set stages t Open) t))) (lt-ltb t n inside) (rw (stage_same stages t t Open room refl) refl)));
+  path_begun =
+      rw (on_push path t 0)
+      (all_push (λ s. nat_lt s n && not (is_fresh (stage_at (set stages t Open) s))) (on path) t
+      (begun_more stages n t Open (on path) room refl h.path_begun)
+      (and_from (nat_lt t n) (not (is_fresh (stage_at (set stages t Open) t))) (lt-ltb t n inside)
+      (rw (stage_same stages t t Open room refl) refl)));
   chain = linked;
   order_within = h.order_within;
   counted = count;
@@ -124,7 +178,9 @@ enter deps n stages path order t h inside fresh linked = record {
         one = ap (λ x. cond (is_fresh x) 1 0) fresh
 
 -- a node all of whose dependencies were looked at goes from the path to the end of the order
-pub leave : (deps : ℕ → List ℕ) (n : ℕ) (stages : List Stage) (front : List (ℕ × ℕ)) (order : List ℕ) (s k : ℕ) → IsSearch deps n stages (front ++ (s, k) ∷ []) order → length (deps s) ≤ k → IsSearch deps n (set stages s Done) front (order ++ s ∷ [])
+pub leave : (deps : ℕ → List ℕ) (n : ℕ) (stages : List Stage) (front : List (ℕ × ℕ)) (order : List ℕ) (s k : ℕ)
+    → IsSearch deps n stages (front ++ (s, k) ∷ []) order → length (deps s) ≤ k
+    → IsSearch deps n (set stages s Done) front (order ++ s ∷ [])
 leave deps n stages front order s k h all = record {
   size = length-set stages s Done ∙ h.size;
   sorted = order_more deps [] order s h.sorted (sym (same_all (among order) (λ x. among order x || false) (deps s) (λ x. sym (or-false (among order x)))) ∙ looked_at);
@@ -167,7 +223,9 @@ leave deps n stages front order s k h all = record {
         none = ap (λ b. cond b 1 0) (not-true (is_fresh (stage_at stages s)) here.1)
 
 -- the next dependency of the last of the path stands in the order
-pub advance : (deps : ℕ → List ℕ) (n : ℕ) (stages : List Stage) (front : List (ℕ × ℕ)) (order : List ℕ) (s k t : ℕ) → IsSearch deps n stages (front ++ (s, k) ∷ []) order → slice_get (deps s) k ≡ Some t → stage_at stages t ≡ Done → IsSearch deps n stages (front ++ (s, k + 1) ∷ []) order
+pub advance : (deps : ℕ → List ℕ) (n : ℕ) (stages : List Stage) (front : List (ℕ × ℕ)) (order : List ℕ) (s k t : ℕ)
+    → IsSearch deps n stages (front ++ (s, k) ∷ []) order → slice_get (deps s) k ≡ Some t → stage_at stages t ≡ Done
+    → IsSearch deps n stages (front ++ (s, k + 1) ∷ []) order
 advance deps n stages front order s k t h next done = record {
   size = h.size;
   sorted = h.sorted;
@@ -183,20 +241,31 @@ advance deps n stages front order s k t h next done = record {
     same_on = on_push front s (k + 1) ∙ sym (on_push front s k)
 
 -- a path whose last depends on one of the path never ends
-pub circle : (deps : ℕ → List ℕ) (order : List ℕ) (front : List (ℕ × ℕ)) (s k t : ℕ) → IsPath deps order (front ++ (s, k) ∷ []) → slice_get (deps s) k ≡ Some t → among (on (front ++ (s, k) ∷ [])) t ≡ true → (steps x : ℕ) → among (on (front ++ (s, k) ∷ [])) x ≡ true → ends_within deps steps x ≡ false
+pub circle : (deps : ℕ → List ℕ) (order : List ℕ) (front : List (ℕ × ℕ)) (s k t : ℕ) → IsPath deps order (front ++ (s, k) ∷ [])
+    → slice_get (deps s) k ≡ Some t → among (on (front ++ (s, k) ∷ [])) t ≡ true → (steps x : ℕ)
+    → among (on (front ++ (s, k) ∷ [])) x ≡ true → ends_within deps steps x ≡ false
 circle deps order front s k t h next back = stuck_never_ends deps (among (on (front ++ (s, k) ∷ []))) (each front (among (on (front ++ (s, k) ∷ []))) (λ x e. e) back h)
   where
-    each : (front : List (ℕ × ℕ)) (all : ℕ → Bool) → ((x : ℕ) → among (on (front ++ (s, k) ∷ [])) x ≡ true → all x ≡ true) → all t ≡ true → IsPath deps order (front ++ (s, k) ∷ []) → (x : ℕ) → among (on (front ++ (s, k) ∷ [])) x ≡ true → list_any all (deps x) ≡ true
+    each : (front : List (ℕ × ℕ)) (all : ℕ → Bool) → ((x : ℕ) → among (on (front ++ (s, k) ∷ [])) x ≡ true → all x ≡ true)
+        → all t ≡ true → IsPath deps order (front ++ (s, k) ∷ []) → (x : ℕ) → among (on (front ++ (s, k) ∷ [])) x ≡ true
+        → list_any all (deps x) ≡ true
     each [] all within back h x e = elim (among_push [] s x e) [
       | inl none ↦ absurd (true≢false (sym none))
       | inr same ↦ let P : ℕ → Type 0 = λ z. list_any all (deps z) ≡ true in subst P same (any_at all (deps s) k t next back)
     ]
     each (p ∷ []) all within back h x e = elim (or_cases (p.0 == x) (among (on ((s, k) ∷ [])) x) e) [
-      | inl same ↦ let P : ℕ → Type 0 = λ z. list_any all (deps z) ≡ true in subst P (eqb-true p.0 x same) (any_at all (deps p.0) p.1 s h.1 (within s (or_right (p.0 == s) (among (s ∷ []) s) (among_end [] s))))
+      | inl same ↦
+          let P : ℕ → Type 0 = λ z. list_any all (deps z) ≡ true in
+          subst P (eqb-true p.0 x same)
+          (any_at all (deps p.0) p.1 s h.1 (within s (or_right (p.0 == s) (among (s ∷ []) s) (among_end [] s))))
       | inr there ↦ each [] all (λ y m. within y (or_right (p.0 == y) (among (s ∷ []) y) m)) back h.2 x there
     ]
     each (p ∷ q ∷ front) all within back h x e = elim (or_cases (p.0 == x) (among (on ((q ∷ front) ++ (s, k) ∷ [])) x) e) [
-      | inl same ↦ let P : ℕ → Type 0 = λ z. list_any all (deps z) ≡ true in subst P (eqb-true p.0 x same) (any_at all (deps p.0) p.1 q.0 h.1 (within q.0 (or_right (p.0 == q.0) (among (on ((q ∷ front) ++ (s, k) ∷ [])) q.0) (rw (eq-eqb q.0 q.0 refl) refl))))
+      | inl same ↦
+          let P : ℕ → Type 0 = λ z. list_any all (deps z) ≡ true in
+          subst P (eqb-true p.0 x same)
+          (any_at all (deps p.0) p.1 q.0 h.1
+          (within q.0 (or_right (p.0 == q.0) (among (on ((q ∷ front) ++ (s, k) ∷ [])) q.0) (rw (eq-eqb q.0 q.0 refl) refl))))
       | inr there ↦ each (q ∷ front) all (λ y m. within y (or_right (p.0 == y) (among (on ((q ∷ front) ++ (s, k) ∷ [])) y) m)) back h.2 x there
     ]
 
@@ -217,18 +286,31 @@ fresh_less deps stages t to (suc n) room begun past =
     rw (before, sym (stage_other stages t n to other)) refl
 
 -- a node that is begun takes its dependencies and two from the work
-pub fresh_begun : (deps : ℕ → List ℕ) (stages : List Stage) (t : ℕ) (to : Stage) (n : ℕ) → t < length stages → is_fresh to ≡ false → stage_at stages t ≡ Fresh → t < n → fresh_work deps (set stages t to) n + (length (deps t) + 2) ≡ fresh_work deps stages n
+pub fresh_begun : (deps : ℕ → List ℕ) (stages : List Stage) (t : ℕ) (to : Stage) (n : ℕ) → t < length stages → is_fresh to ≡ false
+    → stage_at stages t ≡ Fresh → t < n → fresh_work deps (set stages t to) n + (length (deps t) + 2) ≡ fresh_work deps stages n
 fresh_begun deps stages t to zero room begun fresh inside = absurd (omega arith)
-fresh_begun deps stages t to (suc n) room begun fresh inside = elim (cases_eq n t) [ inl same ↦ here n same | inr other ↦ there n other (fresh_begun deps stages t to n room begun fresh (omega (arith, other))) ]
+fresh_begun deps stages t to (suc n) room begun fresh inside = elim (cases_eq n t) [
+  | inl same ↦ here n same
+  | inr other ↦ there n other (fresh_begun deps stages t to n room begun fresh (omega (arith, other)))
+]
   where
-    here : (n : ℕ) → n ≡ t → fresh_work deps (set stages t to) n + cond (is_fresh (stage_at (set stages t to) n)) (length (deps n) + 2) 0 + (length (deps t) + 2) ≡ fresh_work deps stages n + cond (is_fresh (stage_at stages n)) (length (deps n) + 2) 0
+    here : (n : ℕ) → n ≡ t
+        → fresh_work deps (set stages t to) n
+        + cond (is_fresh (stage_at (set stages t to) n)) (length (deps n) + 2) 0
+        + (length (deps t) + 2)
+        ≡ fresh_work deps stages n + cond (is_fresh (stage_at stages n)) (length (deps n) + 2) 0
     here n same = rw (same, stage_same stages t t to room refl, begun, fresh, fresh_less deps stages t to t room begun (omega arith)) (omega arith)
 
-    there : (n : ℕ) → (n ≡ t → ⊥) → fresh_work deps (set stages t to) n + (length (deps t) + 2) ≡ fresh_work deps stages n → fresh_work deps (set stages t to) n + cond (is_fresh (stage_at (set stages t to) n)) (length (deps n) + 2) 0 + (length (deps t) + 2) ≡ fresh_work deps stages n + cond (is_fresh (stage_at stages n)) (length (deps n) + 2) 0
+    there : (n : ℕ) → (n ≡ t → ⊥) → fresh_work deps (set stages t to) n + (length (deps t) + 2) ≡ fresh_work deps stages n
+        → fresh_work deps (set stages t to) n
+        + cond (is_fresh (stage_at (set stages t to) n)) (length (deps n) + 2) 0
+        + (length (deps t) + 2)
+        ≡ fresh_work deps stages n + cond (is_fresh (stage_at stages n)) (length (deps n) + 2) 0
     there n other e = rw (sym (stage_other stages t n to other)) (omega (arith, e))
 
 -- a node that was begun before leaves the work
-pub fresh_done : (deps : ℕ → List ℕ) (stages : List Stage) (t : ℕ) (to : Stage) (n : ℕ) → t < length stages → is_fresh to ≡ false → is_fresh (stage_at stages t) ≡ false → fresh_work deps (set stages t to) n ≡ fresh_work deps stages n
+pub fresh_done : (deps : ℕ → List ℕ) (stages : List Stage) (t : ℕ) (to : Stage) (n : ℕ) → t < length stages → is_fresh to ≡ false
+    → is_fresh (stage_at stages t) ≡ false → fresh_work deps (set stages t to) n ≡ fresh_work deps stages n
 fresh_done deps stages t to zero room begun old = refl
 fresh_done deps stages t to (suc n) room begun old =
     rw (fresh_done deps stages t to n room begun old) (ap (λ b. fresh_work deps stages n + cond b (length (deps n) + 2) 0) (elim (cases_eq n t) [

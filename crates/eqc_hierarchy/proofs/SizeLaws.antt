@@ -1,5 +1,36 @@
 -- The size of a hierarchy, counted model by model, is the number of its flat signals and instances.
-use Rattle.std.proofs.Common.{◌≡◌, ℕ, zero, suc, ◌+◌, ◌-◌, ◌<◌, inl, inr, Bool, true, false, List, [], ◌∷◌, length, map, take, set, get_or, refl, sym, ◌∙◌, ap, subst, arith, Option, None, nat_lt, zero-add}
+use Rattle.std.proofs.Common.{
+  ◌≡◌,
+  ℕ,
+  zero,
+  suc,
+  ◌+◌,
+  ◌-◌,
+  ◌<◌,
+  inl,
+  inr,
+  Bool,
+  true,
+  false,
+  List,
+  [],
+  ◌∷◌,
+  length,
+  map,
+  take,
+  set,
+  get_or,
+  refl,
+  sym,
+  ◌∙◌,
+  ap,
+  subst,
+  arith,
+  Option,
+  None,
+  nat_lt,
+  zero-add,
+}
 use Rattle.std.specs.List.{list_all, flat_map, sum_by}
 use Rattle.std.proofs.lemmas.Bool.{and_parts, true≢false, cases_eq, ltb-true}
 use Rattle.std.proofs.lemmas.List.{length-map, length-take-le, take_more, get_or-take, get_or-set_same, get_or-set_other}
@@ -111,9 +142,12 @@ size_stays library zero m e = omega (arith, none (callees library m) e)
     none [] h = refl
     none (x ∷ xs) h = absurd (true≢false (sym h))
 size_stays library (suc d) m e =
-    ap (λ k. length (names_of (model library m)) + k) (sum_agree (ends_within (callees library) (suc d)) (λ c. size_within library (suc d) c + 1) (λ c. size_within library d c + 1) (callees library m) (λ c h. ap (λ k. k + 1) (size_stays library d c h)) e)
+    ap (λ k. length (names_of (model library m)) + k)
+    (sum_agree (ends_within (callees library) (suc d)) (λ c. size_within library (suc d) c + 1) (λ c. size_within library d c + 1)
+    (callees library m) (λ c h. ap (λ k. k + 1) (size_stays library d c h)) e)
 
-pub size_step : (library : List ModelOf) (m : ℕ) → ends_within (callees library) (suc (length library)) m ≡ true → length (names_of (model library m)) + sum_by (λ c. model_size library c + 1) (callees library m) ≡ model_size library m
+pub size_step : (library : List ModelOf) (m : ℕ) → ends_within (callees library) (suc (length library)) m ≡ true
+    → length (names_of (model library m)) + sum_by (λ c. model_size library c + 1) (callees library m) ≡ model_size library m
 unfolding size_within
 size_step library m e = size_stays library (length library) m e
 
@@ -129,7 +163,8 @@ pub told_more : (library : List ModelOf) (m i : ℕ) (items : List ℕ) (sizes :
 told_more library m i items sizes size next below is inside known sum read told =
     let f : ℕ → ℕ = λ c. model_size library c + 1 in
     let called : among (callees library m) (get_or items i 0) ≡ true = ap (λ l. among l (get_or items i 0)) (sym is) ∙ among_at items i inside in
-    let more : sum_by f (take (i + 1) (callees library m)) ≡ sum_by f (take i (callees library m)) + f (get_or (callees library m) i 0) = sum_by_more f (callees library m) i 0 (omega (arith, inside, ap length is)) in
+    let more : sum_by f (take (i + 1) (callees library m)) ≡ sum_by f (take i (callees library m)) + f (get_or (callees library m) i 0) =
+    sum_by_more f (callees library m) i 0 (omega (arith, inside, ap length is)) in
     let same : get_or (callees library m) i 0 ≡ get_or items i 0 = ap (λ l. get_or l i 0) (sym is) in
     let P : Option ℕ → Type 0 = λ o. IsTold o (model_size library (get_or items i 0)) in
     let next_told = sum (names library m + sum_by f (take i (callees library m))) (model_size library (get_or items i 0)) told (subst P (sym read) (known (get_or items i 0) called)) in
@@ -159,7 +194,8 @@ sized_more library order k sizes size h inside each told known x e =
     before other = elim (among_push (take k order) m x (rw (take_more order k 0 inside) at e)) [ inl there ↦ there | inr same ↦ absurd (other (sym same)) ]
 
 -- the callees of a model stand before it
-pub callees_before : (library : List ModelOf) (order : List ℕ) (k c : ℕ) → IsCallOrder library order → k < length order → among (callees library (get_or order k 0)) c ≡ true → among (take k order) c ≡ true
+pub callees_before : (library : List ModelOf) (order : List ℕ) (k c : ℕ) → IsCallOrder library order → k < length order
+    → among (callees library (get_or order k 0)) c ≡ true → among (take k order) c ≡ true
 callees_before library order k c h inside e =
     elim (before_at (callees library) [] order k c h.sorted inside e) [
       | inl none ↦ absurd (true≢false (sym none))
@@ -172,7 +208,10 @@ callees_before library order k c h inside e =
         subst P (get_or-take k order i 0 less ∙ is) (among_at (take k order) i (omega (arith, less, inside, length-take-le k order (omega (arith, inside)))))
 
 -- a search from a model that never reaches itself ends, with all that it reaches in order
-pub call_order : (library : List ModelOf) (top : ℕ) (stages : List Stage) (order : List ℕ) (ends : Bool) → (ends ≡ true → IsSearch (callees library) (length library + 1) stages [] order) → (ends ≡ true → among order top ≡ true) → (ends ≡ false → (steps : ℕ) → ends_within (callees library) steps top ≡ false) → is_recursive library top ≡ false → IsCallOrder library order × (among order top ≡ true)
+pub call_order : (library : List ModelOf) (top : ℕ) (stages : List Stage) (order : List ℕ) (ends : Bool)
+    → (ends ≡ true → IsSearch (callees library) (length library + 1) stages [] order) → (ends ≡ true → among order top ≡ true)
+    → (ends ≡ false → (steps : ℕ) → ends_within (callees library) steps top ≡ false) → is_recursive library top ≡ false
+    → IsCallOrder library order × (among order top ≡ true)
 call_order library top stages order true searching placed cyclic e =
     let h = searching refl in
     (record { sorted = h.sorted; within = h.order_within; few = omega (arith, h.counted) }, placed refl)

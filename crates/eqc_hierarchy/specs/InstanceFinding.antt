@@ -28,7 +28,13 @@ IsUnknownFormal library top found =
 -- 24: a formal stands at two places of an instance
 abbrev pub IsRepeatedFormal : List ModelOf → ℕ → ((ℕ × ℕ) × InstanceOf) × List ℕ → Type 0
 IsRepeatedFormal library top found =
-    StandsAt library top found.0.0 found.0.1 × ((j : ℕ) × (k : ℕ) × (j < k) × (k < length (formals found.0.1)) × (slice_index_or (formals found.0.1) j [] ≡ found.1) × (slice_index_or (formals found.0.1) k [] ≡ found.1))
+    StandsAt library top found.0.0 found.0.1
+    × ((j : ℕ)
+    × (k : ℕ)
+    × (j < k)
+    × (k < length (formals found.0.1))
+    × (slice_index_or (formals found.0.1) j [] ≡ found.1)
+    × (slice_index_or (formals found.0.1) k [] ≡ found.1))
 
 -- 25: an input of an instance's model is no formal of the instance
 abbrev pub IsMissingInput : List ModelOf → ℕ → ((ℕ × ℕ) × InstanceOf) × List ℕ → Type 0

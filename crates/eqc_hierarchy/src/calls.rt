@@ -2,7 +2,10 @@
 ghost use Rattle.std.specs.Prelude.{◌≡◌, ◌+◌, ◌<◌, ◌≤◌, length, IfOk};
 ghost use Rattle.eqc_hierarchy.specs.Hierarchy.{model, model_number, callees};
 
-use crate::graph::Graph;
+pub(crate) mod reach;
+pub(crate) mod recursion;
+
+use crate::search::graph::Graph;
 use eqc_blif::{Instance, Library, Name};
 use std::alloc::{AllocError, Global};
 use std::marker::Model;

@@ -4,6 +4,8 @@ ghost use Rattle.std.specs.List.{list_any};
 ghost use Rattle.eqc_blif.specs.Netlist.{InstanceOf};
 ghost use Rattle.eqc_hierarchy.specs.Reaching.{some_instance_in, no_instance, IsPlaceIn};
 
+pub(crate) mod instance_conditions;
+
 use crate::calls::instances;
 use eqc_blif::{Instance, Library};
 use std::alloc::{AllocError, Global};

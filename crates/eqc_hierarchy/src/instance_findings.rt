@@ -6,15 +6,17 @@ ghost use Rattle.eqc_hierarchy.specs.Hierarchy.{reached};
 ghost use Rattle.eqc_hierarchy.specs.Reaching.{some_instance_in};
 ghost use Rattle.eqc_hierarchy.specs.InstanceFinding.{StandsAt, IsMissingModel, IsUnknownFormal, IsRepeatedFormal, IsMissingInput};
 
+pub(crate) mod found_instance;
+
+use crate::calls::reach::reached_models;
 use crate::calls::{Calls, model_number};
-use crate::condition::{Condition, first_instance};
-use crate::found_instance::{FoundFormal, FoundInstance};
-use crate::instance_conditions::{
+use crate::condition::instance_conditions::{
     LeavesInputOut, NamesFormalTwice, NamesNoFormal, NamesNoModel, first_repeated, formals_of,
     inputs,
 };
-use crate::name_set::NameSet;
-use crate::reach::reached_models;
+use crate::condition::{Condition, first_instance};
+use crate::instance_findings::found_instance::{FoundFormal, FoundInstance};
+use crate::naming::name_set::NameSet;
 use eqc_blif::{Library, Name};
 use std::alloc::{AllocError, Global};
 
@@ -82,9 +84,14 @@ pub fn formal_twice(
     requires refused { flat_code library.now top ≡ Some 24 }
     ensures { IfOk result (λ found. IsRepeatedFormal library.now top found) }
 {
-    let found = first_at_fault(alloc, library, top, &NamesFormalTwice)?;
+    let found = first_at_fault(
+        alloc,
+        library,
+        top,
+        &NamesFormalTwice { key: library.key() },
+    )?;
     let instance = found.instance();
-    let repeated = first_repeated(alloc, &instance.pairs)?;
+    let repeated = first_repeated(alloc, library.key(), &instance.pairs)?;
     let k = repeated.unwrap();
     let formal = instance.pairs[k].0.as_bytes();
     Ok(FoundFormal::new(found, formal))
@@ -110,7 +117,7 @@ pub fn missing_input(
     let condition = LeavesInputOut::new(library);
     let found = first_at_fault(alloc, library, top, &condition)?;
     let instance = found.instance();
-    let names = formals_of(alloc, instance)?;
+    let names = formals_of(alloc, library.key(), instance)?;
     let inputs = inputs(library, model_number(library, &instance.model));
     let k = first_left_out(&names, inputs).unwrap();
     let formal = inputs[k].as_bytes();

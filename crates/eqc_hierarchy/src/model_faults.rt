@@ -6,9 +6,11 @@ ghost use Rattle.eqc_hierarchy.specs.Codes.{flat_code, has_no_such_model, is_rec
 ghost use Rattle.eqc_hierarchy.specs.ModelFaults.{HasNoModelFault};
 
 use crate::calls::Calls;
+use crate::calls::reach::reached_models;
+use crate::condition::instance_conditions::{
+    LeavesInputOut, NamesFormalTwice, NamesNoFormal, NamesNoModel,
+};
 use crate::condition::some_instance;
-use crate::instance_conditions::{LeavesInputOut, NamesFormalTwice, NamesNoFormal, NamesNoModel};
-use crate::reach::reached_models;
 use crate::rule::Rule;
 use crate::search::Search;
 use eqc_blif::Library;
@@ -48,7 +50,12 @@ fn has_unknown_formal(
 fn has_formal_twice(alloc: Global, library: &Library, models: &[usize]) -> Result<bool, AllocError>
     ensures { IfOk result (λ some. (top : ℕ) → ((m : ℕ) → among models.now m ≡ among (reached library.now top) m) → some ≡ has_formal_twice library.now top) }
 {
-    some_instance(alloc, library, models, &NamesFormalTwice)
+    some_instance(
+        alloc,
+        library,
+        models,
+        &NamesFormalTwice { key: library.key() },
+    )
 }
 
 /// Whether an instance in one of these models has no pair for an input of its model.

@@ -7,8 +7,12 @@ ghost use Rattle.eqc_hierarchy.specs.Hierarchy.{model};
 ghost use Rattle.eqc_hierarchy.specs.Signals.{names_of};
 ghost use Rattle.eqc_hierarchy.specs.Columns.{all_columns};
 
-use crate::model_names::names_of;
-use crate::name_set::NameSet;
+pub(crate) mod model_names;
+pub(crate) mod name_bytes;
+pub(crate) mod name_set;
+
+use crate::naming::model_names::names_of;
+use crate::naming::name_set::NameSet;
 use eqc_blif::Library;
 use std::alloc::{AllocError, Global};
 use std::marker::Model;

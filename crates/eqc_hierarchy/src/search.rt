@@ -4,7 +4,9 @@ ghost use Rattle.eqc_hierarchy.specs.Dependency.{among, ends_within};
 ghost use Rattle.eqc_hierarchy.specs.Walks.{WalksBack};
 ghost use Rattle.eqc_hierarchy.specs.Searching.{stage_at, on, IsClosed, IsSearch};
 
-use crate::graph::Graph;
+pub(crate) mod graph;
+
+use crate::search::graph::Graph;
 use std::alloc::{AllocError, Global};
 
 /// How far the search is with a node.

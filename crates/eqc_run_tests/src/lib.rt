@@ -1,10 +1,13 @@
 //! The tests of runs: from texts to the bytes of a report.
 //!
 //! - `running`, what makes runs and looks at what they write
+//! - `assumptions`, runs in which not every assignment counts, each difference is wanted or outputs are chosen
 //! - `runs`, options, readers and writers; `reports`, their bytes; `messages`, what stops and faults say
 //! - `compared_hierarchies`, `structures` and `inside`, what is reported of netlists; `costs`, of texts that would like to be dear
 #![tactic(auto)]
 
+#[cfg(test)]
+mod assumptions;
 #[cfg(test)]
 mod compared_hierarchies;
 #[cfg(test)]

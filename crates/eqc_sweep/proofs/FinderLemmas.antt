@@ -36,7 +36,11 @@ pub never_zero : (nodes : List Node) (x y : ℕ) → IsGraph nodes → x ≡ 0 �
 never_zero nodes x y g e = record { value = λ a. ap (λ (b : Bool). b && literal_value nodes a y) (ap (λ (l : ℕ). literal_value nodes a l) e ∙ value_false nodes g a) }
 
 pub never_with_zero : (nodes : List Node) (x y : ℕ) → IsGraph nodes → y ≡ 0 → AreNever nodes x y
-never_with_zero nodes x y g e = record { value = λ a. ap (λ (b : Bool). literal_value nodes a x && b) (ap (λ (l : ℕ). literal_value nodes a l) e ∙ value_false nodes g a) ∙ and_false (literal_value nodes a x) }
+never_with_zero nodes x y g e = record {
+  value = λ a.
+      ap (λ (b : Bool). literal_value nodes a x && b) (ap (λ (l : ℕ). literal_value nodes a l) e ∙ value_false nodes g a)
+      ∙ and_false (literal_value nodes a x);
+}
 
 -- literals neither of which is true where the other is false
 pub equal_by_two : (nodes : List Node) (x y m n : ℕ) → AreOpposite x m → AreOpposite y n → AreNever nodes x n → AreNever nodes m y → AreEqual nodes x y

@@ -20,7 +20,9 @@ complement_value nodes a x k e odd =
     ap (λ (l : ℕ). literal_value nodes a l) same ∙ value_behind nodes a (2 * k) even
 
 -- the complement of a conjunction
-pub not_both_gate : (nodes : List Node) (x k p q : ℕ) → k ≡ x / 2 → x / 2 < length nodes → x % 2 ≡ 1 → IsBelow k (And p q) → ((a : ℕ → Bool) → literal_value nodes a (2 * k) ≡ (literal_value nodes a p && literal_value nodes a q)) → Makes not_both nodes x p q
+pub not_both_gate : (nodes : List Node) (x k p q : ℕ) → k ≡ x / 2 → x / 2 < length nodes → x % 2 ≡ 1 → IsBelow k (And p q)
+    → ((a : ℕ → Bool) → literal_value nodes a (2 * k) ≡ (literal_value nodes a p && literal_value nodes a q))
+    → Makes not_both nodes x p q
 not_both_gate nodes x k p q e within odd below says = record {
   first = omega (arith, within, below.0, e);
   second = omega (arith, within, below.1, e);
@@ -31,7 +33,11 @@ not_differ : (x y : Bool) → not (differ x y) ≡ differ (not x) y
 not_differ = same_of_two (λ x y. not (differ x y)) (λ x y. differ (not x) y) refl refl refl refl
 
 -- the complement of a difference is the difference with a complement
-pub differ_gate : (nodes : List Node) (x k p q n : ℕ) (sign : Bool) → k ≡ x / 2 → x / 2 < length nodes → sign ≡ eqb (x % 2) 1 → IsBelow k (Xor p q) → ((a : ℕ → Bool) → literal_value nodes a (2 * k) ≡ differ (literal_value nodes a p) (literal_value nodes a q)) → n / 2 ≡ p / 2 → ((ns : List Node) (a : ℕ → Bool) → literal_value ns a n ≡ differ sign (literal_value ns a p)) → Makes differ nodes x n q
+pub differ_gate : (nodes : List Node) (x k p q n : ℕ) (sign : Bool) → k ≡ x / 2 → x / 2 < length nodes → sign ≡ eqb (x % 2) 1
+    → IsBelow k (Xor p q)
+    → ((a : ℕ → Bool) → literal_value nodes a (2 * k) ≡ differ (literal_value nodes a p) (literal_value nodes a q))
+    → n / 2 ≡ p / 2 → ((ns : List Node) (a : ℕ → Bool) → literal_value ns a n ≡ differ sign (literal_value ns a p))
+    → Makes differ nodes x n q
 differ_gate nodes x k p q n true e within odd below says node value = record {
   first = omega (arith, within, below.0, node, e);
   second = omega (arith, within, below.1, e);

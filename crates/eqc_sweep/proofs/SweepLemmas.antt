@@ -22,7 +22,10 @@ pub value_there : (nodes : List Node) (n : Node) (l : ℕ) → StandsFor nodes n
 value_there nodes n l s = record { within = s.within; value = s.value }
 
 -- the literal of a form, or its complement, where the form is that of a node that stands for another
-pub value_absent : (old new : List Node) (n m form : Node) (sign : Bool) (l k : ℕ) → StandsFor old n (Absent m) → IsFormOf m form sign → HasValueOf old new form l → k / 2 ≡ l / 2 → ((nodes : List Node) (a : ℕ → Bool) → literal_value nodes a k ≡ differ sign (literal_value nodes a l)) → HasValueOf old new n k
+pub value_absent : (old new : List Node) (n m form : Node) (sign : Bool) (l k : ℕ) → StandsFor old n (Absent m)
+    → IsFormOf m form sign → HasValueOf old new form l → k / 2 ≡ l / 2
+    → ((nodes : List Node) (a : ℕ → Bool) → literal_value nodes a k ≡ differ sign (literal_value nodes a l))
+    → HasValueOf old new n k
 value_absent old new n m form sign l k s f has node value = record {
   within = omega (arith, has.within, node);
   value = λ a.
@@ -34,7 +37,8 @@ pub value_known : (nodes : List Node) (n : Node) (l : ℕ) → IsLiteralOf nodes
 value_known nodes n l is = record { within = is.within; value = is.value }
 
 -- the literal of a new node
-pub value_new : (old new : List Node) (n : Node) (l : ℕ) → new ≡ old ++ n ∷ [] → l ≡ 2 * length old → ((a : ℕ → Bool) → literal_value new a l ≡ node_value a (literal_value old a) n) → HasValueOf old new n l
+pub value_new : (old new : List Node) (n : Node) (l : ℕ) → new ≡ old ++ n ∷ [] → l ≡ 2 * length old
+    → ((a : ℕ → Bool) → literal_value new a l ≡ node_value a (literal_value old a) n) → HasValueOf old new n l
 value_new old new n l e is value = record {
   within = omega (arith, is, ap (λ (ns : List Node). length ns) e, length-append old (n ∷ []));
   value = value;
@@ -48,11 +52,15 @@ literal_new old new n l below e has = record {
 }
 
 -- a table of what is known, after the literal of a node was put into it
-pub known_put : (old new : List Node) (entries more : List Known) (n : Node) (l : ℕ) → AreKnown old entries → Extends old new → IsGraph new → IsBelow (length old) n → HasValueOf old new n l → ((nodes : List Node) → IsGraph nodes → AreKnown nodes entries → IsLiteralOf nodes n l → AreKnown nodes more) → AreKnown new more
+pub known_put : (old new : List Node) (entries more : List Known) (n : Node) (l : ℕ) → AreKnown old entries → Extends old new
+    → IsGraph new → IsBelow (length old) n → HasValueOf old new n l
+    → ((nodes : List Node) → IsGraph nodes → AreKnown nodes entries → IsLiteralOf nodes n l → AreKnown nodes more)
+    → AreKnown new more
 known_put old new entries more n l known e g below has keeps = keeps new g (known_extended old new entries e known) (literal_new old new n l below e has)
 
 -- an older literal that has the value of a node that is taken back
-pub value_older : (old big new : List Node) (n : Node) (l m : ℕ) → big ≡ old ++ n ∷ [] → new ≡ old → l ≡ 2 * length old → ((a : ℕ → Bool) → literal_value big a l ≡ node_value a (literal_value old a) n) → IsOlder big l m → HasValueOf old new n m
+pub value_older : (old big new : List Node) (n : Node) (l m : ℕ) → big ≡ old ++ n ∷ [] → new ≡ old → l ≡ 2 * length old
+    → ((a : ℕ → Bool) → literal_value big a l ≡ node_value a (literal_value old a) n) → IsOlder big l m → HasValueOf old new n m
 value_older old big new n l m pushed back is value o =
     let inside : IsWithin old m = omega (arith, o.older, is) in
     let same : (a : ℕ → Bool) → literal_value big a m ≡ literal_value old a m = λ a. ap (λ (nodes : List Node). literal_value nodes a m) pushed ∙ value_stays old (n ∷ []) a m inside in

@@ -38,4 +38,8 @@ literal_extended old new n l e is = record {
 
 pub known_extended : (old new : List Node) (entries : List Known) → Extends old new → AreKnown old entries → AreKnown new entries
 known_extended old new entries e known =
-    record { each = All-weaker (λ (k : Known). IsLiteralOf old k.node k.literal) (λ (k : Known). IsLiteralOf new k.node k.literal) (λ k is. literal_extended old new k.node k.literal e is) entries known.each }
+    record {
+      each =
+          All-weaker (λ (k : Known). IsLiteralOf old k.node k.literal) (λ (k : Known). IsLiteralOf new k.node k.literal)
+          (λ k is. literal_extended old new k.node k.literal e is) entries known.each;
+    }

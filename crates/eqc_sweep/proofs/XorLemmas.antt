@@ -19,7 +19,10 @@ differ_same nodes x y g e = record {
 pub differ_opposite : (nodes : List Node) (x y : ℕ) → IsGraph nodes → AreOpposite x y → StandsFor nodes (Xor x y) (There 1)
 differ_opposite nodes x y g o = record {
   within = omega (arith, g.some);
-  value = λ a. value_true nodes g a ∙ (same_of_one (λ b. true) (λ b. differ b (not b)) refl refl (literal_value nodes a x) ∙ ap (λ (b : Bool). differ (literal_value nodes a x) b) (sym (o.value nodes a)));
+  value = λ a.
+      value_true nodes g a
+      ∙ (same_of_one (λ b. true) (λ b. differ b (not b)) refl refl (literal_value nodes a x)
+      ∙ ap (λ (b : Bool). differ (literal_value nodes a x) b) (sym (o.value nodes a)));
 }
 
 pub differ_zero : (nodes : List Node) (x y : ℕ) → IsGraph nodes → IsWithin nodes y → x ≡ 0 → StandsFor nodes (Xor x y) (There y)

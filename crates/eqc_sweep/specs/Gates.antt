@@ -2,8 +2,8 @@
 use Rattle.std.specs.Prelude.{◌≡◌, ℕ, ◌/◌, ◌&&◌, Bool, false, not, List, ⊤}
 use Rattle.eqc_graph.specs.declared.node.Node.{Node}
 use Rattle.eqc_graph.specs.Graph.{literal_value, differ, IsWithin}
-use Rattle.eqc_sweep.specs.declared.gate.Gate.{Gate}
-use Rattle.eqc_sweep.specs.declared.gate.Gate.TheVariants.{Both, NotBoth, Differ, Other}
+use Rattle.eqc_sweep.specs.declared.rules.gate.Gate.{Gate}
+use Rattle.eqc_sweep.specs.declared.rules.gate.Gate.TheVariants.{Both, NotBoth, Differ, Other}
 
 -- whether not both are true
 abbrev pub not_both : Bool → Bool → Bool

@@ -3,12 +3,20 @@ ghost use Rattle.std.specs.Prelude.{◌≡◌, ◌/◌, ◌<◌, IfOk, IfSome};
 ghost use Rattle.eqc_graph.specs.Graph.{IsWithin};
 ghost use Rattle.eqc_sweep.specs.Finding.{AreEqual, IsOlder, AreNever, IsRight};
 
-use crate::account::{Account, budget_of};
-use crate::classes::Classes;
-use crate::comparison::Comparison;
-use crate::counterexamples::{Counterexamples, ROOM};
+pub(crate) mod account;
+pub(crate) mod classes;
+pub(crate) mod comparison;
+pub(crate) mod counterexamples;
+pub(crate) mod patterns;
+pub(crate) mod random;
+pub(crate) mod words;
+
 use crate::effort::Effort;
-use crate::patterns::Patterns;
+use crate::finder::account::{Account, budget_of};
+use crate::finder::classes::Classes;
+use crate::finder::comparison::Comparison;
+use crate::finder::counterexamples::{Counterexamples, ROOM};
+use crate::finder::patterns::Patterns;
 use eqc_graph::{Graph, Node, negated, negated_if, node_of};
 use eqc_search::{Answer, Budget, Search};
 use std::alloc::{AllocError, Global};
@@ -18,7 +26,7 @@ const CANDIDATES: u32 = 3;
 
 /// What is known of the nodes by simulation, and the search.
 #[derive(Drop)]
-pub struct Finder {
+pub(crate) struct Finder {
     alloc: Global,
     effort: Effort,
     patterns: Patterns,
@@ -83,7 +91,7 @@ fn ask_both(
 }
 
 impl Finder {
-    pub fn new(alloc: Global, effort: Effort) -> Result<Finder, AllocError> {
+    pub(crate) fn new(alloc: Global, effort: Effort) -> Result<Finder, AllocError> {
         let mut finder = Finder {
             alloc,
             effort,
@@ -110,7 +118,7 @@ impl Finder {
     }
 
     /// The literal of a node that is older than the last one, and equal to it, if one is found.
-    pub fn older_equal(&mut self, graph: &Graph, new: u32) -> Result<Option<u32>, AllocError>
+    pub(crate) fn older_equal(&mut self, graph: &Graph, new: u32) -> Result<Option<u32>, AllocError>
         requires { IsWithin graph.now new }
         ensures { IfOk result (λ found. IfSome found (IsOlder graph.now new)) }
     {
@@ -175,13 +183,21 @@ impl Finder {
         let given = self.account.open();
         let mut budget = given;
         let answer = ask_both(&mut self.search, graph, x, y, &mut budget);
-        self.account.close(given, budget);
+        let is_equal = match &answer {
+            Ok(Answer::Refuted) => true,
+            _ => false,
+        };
+        self.account.close(given, budget, is_equal);
         answer
     }
 
     /// Takes the counterexample of the last question in, and simulates where there are enough.
     fn simulate(&mut self, graph: &Graph) -> Result<(), AllocError> {
         let alloc = self.alloc;
+        // A row that nobody simulates isn't begun either: that takes a word for each node.
+        if !self.account.has_rows() {
+            return Ok(());
+        }
         self.counterexamples
             .begin(alloc, graph, &mut self.patterns)?;
         if self.account.is_alone() {
@@ -203,7 +219,7 @@ impl Finder {
 
     /// Whether two literals are equal, by simulation and for so many conflicts, of which those are taken away that
     /// there were.
-    pub fn compare(
+    pub(crate) fn compare(
         &mut self,
         graph: &Graph,
         x: u32,

@@ -4,7 +4,7 @@ use eqc_graph::Node;
 
 /// What a rule puts in place of a gate.
 #[derive(Clone, Copy, PartialEq, Eq, Debug)]
-pub enum Reduced {
+pub(crate) enum Reduced {
     /// A literal of the graph.
     There(u32),
     /// Another gate, which may have to be made.

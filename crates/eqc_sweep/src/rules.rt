@@ -3,9 +3,14 @@ ghost use Rattle.std.specs.Prelude.{length, IfSome};
 ghost use Rattle.eqc_graph.specs.Graph.{IsBelow};
 ghost use Rattle.eqc_sweep.specs.Reducing.{StandsFor};
 
-use crate::and_rules::and_rule;
+pub(crate) mod and_rules;
+pub(crate) mod gate;
+pub(crate) mod relations;
+pub(crate) mod xor_rules;
+
 use crate::reduced::Reduced;
-use crate::xor_rules::xor_rule;
+use crate::rules::and_rules::and_rule;
+use crate::rules::xor_rules::xor_rule;
 use eqc_graph::{Graph, Node};
 
 /// How many rules are applied to a gate, one to what the other left. More than three were not met.
@@ -26,7 +31,7 @@ fn by_one(graph: &Graph, node: Node) -> Option<Reduced>
 
 #[tactic(auto, using(crate::proofs::RuleLemmas::stands_itself, crate::proofs::RuleLemmas::stands_along))]
 /// What stands in place of a gate.
-pub fn reduced(graph: &Graph, gate: Node) -> Reduced
+pub(crate) fn reduced(graph: &Graph, gate: Node) -> Reduced
     requires { IsBelow (length graph.now) gate }
     ensures { StandsFor graph.now gate result }
 {

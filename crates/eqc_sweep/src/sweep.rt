@@ -4,13 +4,13 @@ ghost use Rattle.eqc_graph.specs.Graph.{differ, literal_value, node_value, IsWit
 ghost use Rattle.eqc_sweep.specs.Sweeping.{HasValue, HasValueOf};
 ghost use Rattle.eqc_sweep.specs.Finding.{IsRight};
 
-use crate::comparison::Comparison;
 use crate::effort::Effort;
 use crate::finder::Finder;
-use crate::order::ordered;
+use crate::finder::comparison::Comparison;
 use crate::reduced::Reduced;
 use crate::rules::reduced;
 use crate::table::Table;
+use crate::table::order::ordered;
 use eqc_graph::{Graph, Node, negated_if};
 use std::alloc::{AllocError, Global};
 use std::marker::Model;
@@ -46,6 +46,13 @@ impl Sweep {
             table: Table::new(alloc),
             finder: Finder::new(alloc, effort)?,
         })
+    }
+
+    /// The graph as it is.
+    pub fn graph(&self) -> &Graph
+        ensures { result.now ≡ self.now }
+    {
+        &self.graph
     }
 
     #[tactic(auto, using(crate::proofs::ConstantLemmas::constant_true, crate::proofs::ConstantLemmas::constant_false))]

@@ -3,6 +3,8 @@ ghost use Rattle.std.specs.Prelude.{◌≡◌, List, [], IfOk, IfSome};
 ghost use Rattle.eqc_graph.specs.Graph.{IsGraph};
 ghost use Rattle.eqc_sweep.specs.Known.{IsLiteralOf, AreKnown};
 
+pub(crate) mod order;
+
 use eqc_graph::Node;
 use std::alloc::{AllocError, Global};
 
@@ -11,7 +13,7 @@ const FEWEST: usize = 1024;
 
 /// A node that was asked for, and the literal that has its value.
 #[derive(Clone, Copy, PartialEq, Eq, Debug)]
-pub struct Known {
+pub(crate) struct Known {
     pub(crate) node: Node,
     pub(crate) literal: u32,
 }
@@ -24,7 +26,7 @@ const FREE: Known = Known {
 
 /// The literals of gates and inputs, each in the first place that was free behind its home.
 #[derive(Drop)]
-pub struct Table {
+pub(crate) struct Table {
     alloc: Global,
     pub(crate) entries: Vec<Known>,
     used: usize,
@@ -90,7 +92,7 @@ fn keep_all(entries: &mut Vec<Known>, others: &[Known])
 
 impl Table {
     /// Nothing is known.
-    pub fn new(alloc: Global) -> Table
+    pub(crate) fn new(alloc: Global) -> Table
         ensures { result.entries.items ≡ [] }
     {
         Table {
@@ -101,7 +103,7 @@ impl Table {
     }
 
     /// The literal of a node that was asked for.
-    pub fn find(&self, node: Node) -> Option<u32>
+    pub(crate) fn find(&self, node: Node) -> Option<u32>
         ensures { IfSome result (λ l. (nodes : List Node) → AreKnown nodes self.now.entries.items → IsLiteralOf nodes node l) }
     {
         let known = *self.entries.get(place_of(self.entries.as_slice(), node))?;
@@ -123,7 +125,7 @@ impl Table {
     }
 
     /// Keeps the literal of a node. Fails where memory is refused.
-    pub fn put(&mut self, node: Node, literal: u32) -> Result<(), AllocError>
+    pub(crate) fn put(&mut self, node: Node, literal: u32) -> Result<(), AllocError>
         ensures { (nodes : List Node) → IsGraph nodes → AreKnown nodes self.old.entries.items → IsLiteralOf nodes node literal → AreKnown nodes self.new.entries.items }
     {
         if self.used >= self.entries.len() / 2 {

@@ -5,4 +5,8 @@ use Rattle.eqc_class.specs.Numbering.{AreNumbered}
 use Rattle.eqc_class.proofs.numbering.numbers_of.Given as goal
 
 abbrev pub invariant-loop-k : goal.invariant-loop-k
-invariant-loop-k l = record { rows : l.table.0 ≡ l.initial.table.0; grown : Grows (constant false) (structures_in l.initial.table) (structures_in l.table) l.k; numbered : AreNumbered l.flat l.variables (structures_in l.table) l.numbers.items l.k }
+invariant-loop-k l = record {
+  rows : l.table.0 ≡ l.initial.table.0;
+  grown : Grows (constant false) (structures_in l.initial.table) (structures_in l.table) l.k;
+  numbered : AreNumbered l.flat l.variables (structures_in l.table) l.numbers.items l.k;
+}

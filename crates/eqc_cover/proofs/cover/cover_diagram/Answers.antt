@@ -9,13 +9,31 @@ pub returns-in_default : goal.returns-in_default
 returns-in_default g c = memory_makes g.D.References.entry _ _
 
 pub returns-then-plan : goal.returns-then-plan
-returns-then-plan g c = makes_as g.D.References.entry _ _ c.by_columns.result _ _ (λ a. covered_by c.is_on_set-on.result (length c.args.columns.now) (map (λ r. r.now) c.deref.result.now) c.args.rows.now (said g.D.References.entry c.args.columns.now a) (length_said g.D.References.entry c.args.columns.now a) (sym c.is_empty.ensures ∙ c.if-is_empty.false) c.is_on_set-on.ensures (rw c.deref.ensures.value c.in-Ok.ensures)) c.by_columns.ensures
+returns-then-plan g c =
+    makes_as g.D.References.entry _ _ c.by_columns.result _ _
+    (λ a.
+    covered_by c.is_on_set-on.result (length c.args.columns.now) (map (λ r. r.now) c.deref.result.now) c.args.rows.now
+    (said g.D.References.entry c.args.columns.now a) (length_said g.D.References.entry c.args.columns.now a)
+    (sym c.is_empty.ensures ∙ c.if-is_empty.false) c.is_on_set-on.ensures (rw c.deref.ensures.value c.in-Ok.ensures))
+    c.by_columns.ensures
 
 pub returns-then-on : goal.returns-then-on
-returns-then-on g c = makes_as g.D.References.entry _ _ c.by_rows-matched.result _ _ (λ a. covered_by true (length c.args.columns.now) (map (λ r. r.now) c.deref-2.result.now) c.args.rows.now (said g.D.References.entry c.args.columns.now a) (length_said g.D.References.entry c.args.columns.now a) (sym c.is_empty.ensures ∙ c.if-is_empty.false) (sym c.if-on.true ∙ c.is_on_set-on.ensures) (rw c.deref-2.ensures.value c.in-Ok.ensures)) c.by_rows-matched.ensures
+returns-then-on g c =
+    makes_as g.D.References.entry _ _ c.by_rows-matched.result _ _
+    (λ a.
+    covered_by true (length c.args.columns.now) (map (λ r. r.now) c.deref-2.result.now) c.args.rows.now
+    (said g.D.References.entry c.args.columns.now a) (length_said g.D.References.entry c.args.columns.now a)
+    (sym c.is_empty.ensures ∙ c.if-is_empty.false) (sym c.if-on.true ∙ c.is_on_set-on.ensures)
+    (rw c.deref-2.ensures.value c.in-Ok.ensures)) c.by_rows-matched.ensures
 
 pub inverted-requires : goal.inverted-requires
 inverted-requires g c = makes_owned g.D.References.entry _ _ c.by_rows-matched.result _ c.by_rows-matched.ensures
 
 pub returns : goal.returns
-returns g c = inverted_makes g.D.References.entry _ _ _ c.by_rows-matched.result c.inverted.result _ _ (λ a. covered_off (length c.args.columns.now) (map (λ r. r.now) c.deref-2.result.now) c.args.rows.now (said g.D.References.entry c.args.columns.now a) (length_said g.D.References.entry c.args.columns.now a) (sym c.is_empty.ensures ∙ c.if-is_empty.false) (sym c.if-on.false ∙ c.is_on_set-on.ensures) (rw c.deref-2.ensures.value c.in-Ok.ensures)) c.by_rows-matched.ensures c.inverted.ensures
+returns g c =
+    inverted_makes g.D.References.entry _ _ _ c.by_rows-matched.result c.inverted.result _ _
+    (λ a.
+    covered_off (length c.args.columns.now) (map (λ r. r.now) c.deref-2.result.now) c.args.rows.now
+    (said g.D.References.entry c.args.columns.now a) (length_said g.D.References.entry c.args.columns.now a)
+    (sym c.is_empty.ensures ∙ c.if-is_empty.false) (sym c.if-on.false ∙ c.is_on_set-on.ensures)
+    (rw c.deref-2.ensures.value c.in-Ok.ensures)) c.by_rows-matched.ensures c.inverted.ensures

@@ -51,7 +51,10 @@ tries-preserved g c =
       variables = c.in_ok-narrows.ensures.replaced.variables ∙ c.tries.invariant.variables;
       some = c.in-Ok-decide.ensures.next.some;
       size = omega (arith, more, decided_most c.in_ok-narrows.narrows k (omega arith));
-      chosen = chooses_decided c.in_ok-narrows.narrows k _ _ _ _ _ c.tries.values.items _ (record { distinct = c.requires.distinct; depends = c.requires.depends }) c.tries.invariant.chosen (omega arith) (omega arith) (rw at (block_is vs m k)) c.in_ok-narrows.ensures.narrowed values;
+      chosen =
+          chooses_decided c.in_ok-narrows.narrows k _ _ _ _ _ c.tries.values.items _
+          (record { distinct = c.requires.distinct; depends = c.requires.depends }) c.tries.invariant.chosen (omega arith) (omega arith)
+          (rw at (block_is vs m k)) c.in_ok-narrows.ensures.narrowed values;
     }
 
 pub returns-clause-least : goal.returns-clause-least
@@ -76,10 +79,22 @@ returns-in_err-narrows-clause-kept g c = record {
 }
 
 pub decide-requires : goal.decide-requires
-decide-requires g c = omega (arith, block_long c.args.variables.now c.len-in-tries.result c.block_length.result (omega (arith, open_long c.args.variables.now c.len-in-tries.result)), open_long c.args.variables.now c.len-in-tries.result)
+decide-requires g c =
+    omega (
+      arith,
+      block_long c.args.variables.now c.len-in-tries.result c.block_length.result
+          (omega (arith, open_long c.args.variables.now c.len-in-tries.result)),
+      open_long c.args.variables.now c.len-in-tries.result,
+    )
 
 pub give_back-requires : goal.give_back-requires
-give_back-requires g c = omega (arith, c.tries.invariant.held (g.D.References.entry c.in_ok-narrows.left), c.in_ok-narrows.ensures.replaced.held (g.D.References.entry c.in_ok-narrows.left), counts_itself (g.D.References.holding c.args.d.now) (g.D.References.entry c.in_ok-narrows.left))
+give_back-requires g c =
+    omega (
+      arith,
+      c.tries.invariant.held (g.D.References.entry c.in_ok-narrows.left),
+      c.in_ok-narrows.ensures.replaced.held (g.D.References.entry c.in_ok-narrows.left),
+      counts_itself (g.D.References.holding c.args.d.now) (g.D.References.entry c.in_ok-narrows.left),
+    )
 
 pub returns-in-Err-clause-kept : goal.returns-in-Err-clause-kept
 returns-in-Err-clause-kept g c = record {

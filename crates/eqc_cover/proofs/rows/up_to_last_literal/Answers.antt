@@ -10,4 +10,6 @@ places-init c = cut_alike c.args.columns c.min.result c.args.row.now _ (elim (ca
 ]) refl
 
 pub places-preserved : goal.places-preserved
-places-preserved c = last_alike c.args.columns c.places.places.now c.in-Some.front.now c.args.row.now c.in-Some.byte.now (sym c.is_literal.ensures ∙ c.if-is_literal.false) c.in-Some.ensures.cases.0 c.places.invariant
+places-preserved c =
+    last_alike c.args.columns c.places.places.now c.in-Some.front.now c.args.row.now c.in-Some.byte.now
+    (sym c.is_literal.ensures ∙ c.if-is_literal.false) c.in-Some.ensures.cases.0 c.places.invariant

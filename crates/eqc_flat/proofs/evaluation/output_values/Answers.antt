@@ -4,7 +4,9 @@ use Rattle.eqc_flat.proofs.EvaluationLaws.{known_outputs, outputs_small}
 use Rattle.eqc_flat.proofs.evaluation.output_values.Goals as goal
 
 pub read-requires : goal.read-requires
-read-requires c = outputs_small c.args.flat.now c.of.result (length c.deref.result.now) c.recall_laws.ensures.lawful (c.of.ensures ∙ c.output_signals.ensures.signals) (ap length c.deref.ensures.value ∙ c.in_ok-values.ensures.size)
+read-requires c =
+    outputs_small c.args.flat.now c.of.result (length c.deref.result.now) c.recall_laws.ensures.lawful
+    (c.of.ensures ∙ c.output_signals.ensures.signals) (ap length c.deref.ensures.value ∙ c.in_ok-values.ensures.size)
 
 pub returns : goal.returns
 returns c =

@@ -27,7 +27,9 @@ memory_alone Memory e = refl
 
 pub returns-in-Some : goal.returns-in-Some
 unfolding all
-returns-in-Some c = λ rule e. eqb-true (rule_code (get_or all c.in-Some.k NoSuchModel)) c.args.code.now (position-Some (λ r. rule_code r == c.args.code.now) all c.in-Some.k NoSuchModel (sym c.in-Some.ensures)).1
+returns-in-Some c = λ rule e.
+    eqb-true (rule_code (get_or all c.in-Some.k NoSuchModel)) c.args.code.now
+    (position-Some (λ r. rule_code r == c.args.code.now) all c.in-Some.k NoSuchModel (sym c.in-Some.ensures)).1
 
 pub returns-in-None : goal.returns-in-None
 unfolding all

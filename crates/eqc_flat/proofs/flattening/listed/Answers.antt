@@ -11,12 +11,20 @@ pub signals_of-requires-clause-named : goal.signals_of-requires-clause-named
 signals_of-requires-clause-named c = λ j h.
     let library = c.args.hierarchy.now.0 in
     let top = c.args.hierarchy.now.1 in
-    let outputs : c.outputs-outputs.result.now ≡ (model library top).outputs = c.outputs-outputs.ensures.names ∙ (ap (λ (n : ℕ). (model c.library.result.now n).outputs) c.top.ensures.top ∙ ap (λ (l : List ModelOf). (model l top).outputs) c.library.ensures) in
-    ap (λ (m : ModelOf). is_named (names_of m) (get_or c.outputs-outputs.result.now j [])) c.top.ensures.main ∙ (ap (λ (xs : List (List ℕ)). is_named (names_of (model library top)) (get_or xs j [])) outputs ∙ output_named (model library top) j (omega (arith, h, ap length outputs)))
+    let outputs : c.outputs-outputs.result.now ≡ (model library top).outputs =
+    c.outputs-outputs.ensures.names
+    ∙ (ap (λ (n : ℕ). (model c.library.result.now n).outputs) c.top.ensures.top
+    ∙ ap (λ (l : List ModelOf). (model l top).outputs) c.library.ensures) in
+    ap (λ (m : ModelOf). is_named (names_of m) (get_or c.outputs-outputs.result.now j [])) c.top.ensures.main
+    ∙ (ap (λ (xs : List (List ℕ)). is_named (names_of (model library top)) (get_or xs j [])) outputs
+    ∙ output_named (model library top) j (omega (arith, h, ap length outputs)))
 
 pub returns-clause-outputs : goal.returns-clause-outputs
 returns-clause-outputs c =
     let library = c.args.hierarchy.now.0 in
     let top = c.args.hierarchy.now.1 in
-    let outputs : c.outputs-outputs.result.now ≡ (model library top).outputs = c.outputs-outputs.ensures.names ∙ (ap (λ (n : ℕ). (model c.library.result.now n).outputs) c.top.ensures.top ∙ ap (λ (l : List ModelOf). (model l top).outputs) c.library.ensures) in
+    let outputs : c.outputs-outputs.result.now ≡ (model library top).outputs =
+    c.outputs-outputs.ensures.names
+    ∙ (ap (λ (n : ℕ). (model c.library.result.now n).outputs) c.top.ensures.top
+    ∙ ap (λ (l : List ModelOf). (model l top).outputs) c.library.ensures) in
     c.in_ok-output_signals.ensures.signals ∙ ap (signals_here library top 0) outputs

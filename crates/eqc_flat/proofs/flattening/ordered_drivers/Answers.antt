@@ -20,7 +20,9 @@ returns-in_default-clause-refused c =
     let library = c.args.hierarchy.now.0 in
     let top = c.args.hierarchy.now.1 in
     let it = c.requires.numbered in
-    rw c.of.ensures (inr (circular library top c.in-Ok.drivers it.models it.small (few_inputs library top it.few) (rw c.in-Ok.is at c.drivers_of.ensures.driven) (rw c.in_default.is at c.in_ok-steps.ensures)))
+    rw c.of.ensures
+    (inr (circular library top c.in-Ok.drivers it.models it.small (few_inputs library top it.few)
+    (rw c.in-Ok.is at c.drivers_of.ensures.driven) (rw c.in_default.is at c.in_ok-steps.ensures)))
 
 pub returns-clause-ordered : goal.returns-clause-ordered
 returns-clause-ordered c = (rw c.in-Ok.is at c.drivers_of.ensures.driven, rw c.in-Some.is at c.in_ok-steps.ensures)

@@ -22,7 +22,10 @@ returns c =
     let known = repeated_is i k first.0 first.1 in
     let formal : c.as_bytes-formal.result.now ≡ (get_or i.pairs k ([], [])).0 =
     c.as_bytes-formal.ensures
-    ∙ ap (λ (pair : List ℕ × List ℕ). pair.0) (c.index.ensures ∙ (get_or_default c.instance.inside.pairs.items k c.index.result.now ([], []) (omega (arith, first.0, ap length same)) ∙ ap (λ (pairs : List (List ℕ × List ℕ)). get_or pairs k ([], [])) same)) in
+    ∙ ap (λ (pair : List ℕ × List ℕ). pair.0)
+    (c.index.ensures
+    ∙ (get_or_default c.instance.inside.pairs.items k c.index.result.now ([], []) (omega (arith, first.0, ap length same))
+    ∙ ap (λ (pairs : List (List ℕ × List ℕ)). get_or pairs k ([], [])) same)) in
     let Q : List ℕ → Type 0 = λ name. IsRepeatedFormal library top (c.in_ok-found.found, name) in
     let R : ((ℕ × ℕ) × InstanceOf) × List ℕ → Type 0 = λ r. IsRepeatedFormal library top r in
     subst R (sym c.new.ensures) (subst Q (sym formal) (c.in_ok-found.ensures.stands, known))

@@ -23,8 +23,14 @@ unwrap-k-requires c =
     let i = c.in_ok-found.found.1 in
     let P : List ModelOf → Type 0 = λ l. leaves_input_out l i ≡ true in
     let made : c.in_ok-names.names ≡ fold with_name [] (formals i) = c.in_ok-names.ensures ∙ ap (λ (j : InstanceOf). fold with_name [] (formals j)) c.instance-instance.ensures in
-    let same : c.inputs-inputs.result.now ≡ (callee library i).inputs = c.inputs-inputs.ensures ∙ ap (λ (m : ℕ). (model library m).inputs) (c.model_number.ensures ∙ ap (λ (j : InstanceOf). model_number library j.model) (c.instance.view_is ∙ c.instance-instance.ensures)) in
-    ap (λ (o : Option ℕ). is_some o) c.first_left_out.ensures ∙ input_known library i c.in_ok-names.names c.inputs-inputs.result.now made same (subst P c.new-condition.ensures c.in_ok-found.ensures.holds)
+    let same : c.inputs-inputs.result.now ≡ (callee library i).inputs =
+    c.inputs-inputs.ensures
+    ∙ ap (λ (m : ℕ). (model library m).inputs)
+    (c.model_number.ensures
+    ∙ ap (λ (j : InstanceOf). model_number library j.model) (c.instance.view_is ∙ c.instance-instance.ensures)) in
+    ap (λ (o : Option ℕ). is_some o) c.first_left_out.ensures
+    ∙ input_known library i c.in_ok-names.names c.inputs-inputs.result.now made same
+    (subst P c.new-condition.ensures c.in_ok-found.ensures.holds)
 
 pub returns : goal.returns
 returns c =
@@ -33,7 +39,11 @@ returns c =
     let i = c.in_ok-found.found.1 in
     let k = c.unwrap-k.result in
     let made : c.in_ok-names.names ≡ fold with_name [] (formals i) = c.in_ok-names.ensures ∙ ap (λ (j : InstanceOf). fold with_name [] (formals j)) c.instance-instance.ensures in
-    let same : c.inputs-inputs.result.now ≡ (callee library i).inputs = c.inputs-inputs.ensures ∙ ap (λ (m : ℕ). (model library m).inputs) (c.model_number.ensures ∙ ap (λ (j : InstanceOf). model_number library j.model) (c.instance.view_is ∙ c.instance-instance.ensures)) in
+    let same : c.inputs-inputs.result.now ≡ (callee library i).inputs =
+    c.inputs-inputs.ensures
+    ∙ ap (λ (m : ℕ). (model library m).inputs)
+    (c.model_number.ensures
+    ∙ ap (λ (j : InstanceOf). model_number library j.model) (c.instance.view_is ∙ c.instance-instance.ensures)) in
     let known = input_is library i c.in_ok-names.names c.inputs-inputs.result.now k made same (sym c.first_left_out.ensures ∙ c.unwrap-k.ensures) in
     let formal : c.as_bytes-formal.result.now ≡ get_or c.inputs-inputs.result.now k [] =
     c.as_bytes-formal.ensures ∙ (c.index-inputs-k.is ∙ get_or_default c.inputs-inputs.result.now k c.index-inputs-k.result [] known.0) in

@@ -22,7 +22,10 @@ unwrap-k-requires c =
     let P : List ModelOf → Type 0 = λ l. names_no_formal l i ≡ true in
     let first : c.first_unknown.result ≡ position (λ (pair : List ℕ × List ℕ). not (is_named (ports library (model_number library i.model)) pair.0)) i.pairs =
     c.first_unknown.ensures
-    ∙ (ap (λ (j : InstanceOf). position (λ (pair : List ℕ × List ℕ). not (is_named (ports c.in_ok-condition.condition (model_number c.in_ok-condition.condition j.model)) pair.0)) j.pairs) c.instance-instance.ensures
+    ∙ (ap (λ (j : InstanceOf).
+    position (λ (pair : List ℕ × List ℕ).
+    not (is_named (ports c.in_ok-condition.condition (model_number c.in_ok-condition.condition j.model)) pair.0))
+    j.pairs) c.instance-instance.ensures
     ∙ ap (λ (l : List ModelOf). position (λ (pair : List ℕ × List ℕ). not (is_named (ports l (model_number l i.model)) pair.0)) i.pairs) c.in_ok-condition.ensures) in
     ap (λ (o : Option ℕ). is_some o) first ∙ unknown_known library i (subst P c.in_ok-condition.ensures c.in_ok-found.ensures.holds)
 
@@ -34,13 +37,19 @@ returns c =
     let k = c.unwrap-k.result in
     let first : c.first_unknown.result ≡ position (λ (pair : List ℕ × List ℕ). not (is_named (ports library (model_number library i.model)) pair.0)) i.pairs =
     c.first_unknown.ensures
-    ∙ (ap (λ (j : InstanceOf). position (λ (pair : List ℕ × List ℕ). not (is_named (ports c.in_ok-condition.condition (model_number c.in_ok-condition.condition j.model)) pair.0)) j.pairs) c.instance-instance.ensures
+    ∙ (ap (λ (j : InstanceOf).
+    position (λ (pair : List ℕ × List ℕ).
+    not (is_named (ports c.in_ok-condition.condition (model_number c.in_ok-condition.condition j.model)) pair.0))
+    j.pairs) c.instance-instance.ensures
     ∙ ap (λ (l : List ModelOf). position (λ (pair : List ℕ × List ℕ). not (is_named (ports l (model_number l i.model)) pair.0)) i.pairs) c.in_ok-condition.ensures) in
     let known = unknown_is library i k (sym first ∙ c.unwrap-k.ensures) in
     let same : c.instance.inside.pairs.items ≡ i.pairs = ap (λ (j : InstanceOf). j.pairs) (c.instance.view_is ∙ c.instance-instance.ensures) in
     let formal : c.as_bytes-formal.result.now ≡ (get_or i.pairs k ([], [])).0 =
     c.as_bytes-formal.ensures
-    ∙ ap (λ (pair : List ℕ × List ℕ). pair.0) (c.index.ensures ∙ (get_or_default c.instance.inside.pairs.items k c.index.result.now ([], []) (omega (arith, known.0, ap length same)) ∙ ap (λ (pairs : List (List ℕ × List ℕ)). get_or pairs k ([], [])) same)) in
+    ∙ ap (λ (pair : List ℕ × List ℕ). pair.0)
+    (c.index.ensures
+    ∙ (get_or_default c.instance.inside.pairs.items k c.index.result.now ([], []) (omega (arith, known.0, ap length same))
+    ∙ ap (λ (pairs : List (List ℕ × List ℕ)). get_or pairs k ([], [])) same)) in
     let Q : List ℕ → Type 0 = λ name. IsUnknownFormal library top (c.in_ok-found.found, name) in
     let R : ((ℕ × ℕ) × InstanceOf) × List ℕ → Type 0 = λ r. IsUnknownFormal library top r in
     subst R (sym c.new.ensures) (subst Q (sym formal) (c.in_ok-found.ensures.stands, known.1, known.2))

@@ -15,8 +15,18 @@ index-requires c =
 pub callees-preserved : goal.callees-preserved
 callees-preserved c =
     let items = c.callees-callee-items.result.now in
-    let read = c.index.ensures ∙ get_or_default c.args.sizes.now.items (get_or items c.callees.callee-index 0) c.index.result.now None (omega (arith, callee_small c.args.calls.now c.args.m items c.callees.callee-index c.callees-callee-items.ensures c.callees-test.true, c.requires.each)) in
-    told_more c.args.calls.now c.args.m c.callees.callee-index items c.args.sizes.now.items c.callees.size c.sum_and_one-size.result c.index.result.now c.callees-callee-items.ensures c.callees-test.true c.requires.known c.sum_and_one-size.ensures read c.callees.invariant
+    let read =
+    c.index.ensures
+    ∙ get_or_default c.args.sizes.now.items (get_or items c.callees.callee-index 0) c.index.result.now None
+    (omega (
+      arith,
+      callee_small c.args.calls.now c.args.m items c.callees.callee-index c.callees-callee-items.ensures
+          c.callees-test.true,
+      c.requires.each,
+    )) in
+    told_more c.args.calls.now c.args.m c.callees.callee-index items c.args.sizes.now.items c.callees.size c.sum_and_one-size.result
+    c.index.result.now c.callees-callee-items.ensures c.callees-test.true c.requires.known c.sum_and_one-size.ensures read
+    c.callees.invariant
 
 pub returns : goal.returns
 returns c =

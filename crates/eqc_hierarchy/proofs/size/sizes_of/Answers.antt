@@ -11,7 +11,9 @@ size_by_callees-size-requires-clause-known c = λ x e. c.loop-k.invariant.told x
 pub loop-k-preserved : goal.loop-k-preserved
 loop-k-preserved c = record {
   each = length-set c.loop-k.sizes.items (get_or c.args.order.now c.loop-k.k 0) c.size_by_callees-size.result ∙ c.loop-k.invariant.each;
-  told = sized_more c.args.calls.now c.args.order.now c.loop-k.k c.loop-k.sizes.items c.size_by_callees-size.result c.requires.ordered (omega (arith, c.loop-k-test.true)) c.loop-k.invariant.each c.size_by_callees-size.ensures c.loop-k.invariant.told;
+  told =
+      sized_more c.args.calls.now c.args.order.now c.loop-k.k c.loop-k.sizes.items c.size_by_callees-size.result c.requires.ordered
+      (omega (arith, c.loop-k-test.true)) c.loop-k.invariant.each c.size_by_callees-size.ensures c.loop-k.invariant.told;
 }
 
 pub returns-clause-told : goal.returns-clause-told

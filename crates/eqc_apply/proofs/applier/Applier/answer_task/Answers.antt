@@ -1,6 +1,7 @@
 use Rattle.eqc_apply.specs.Referring.{entry_of}
 use Rattle.eqc_apply.proofs.Kept.{cells_stay}
 use Rattle.eqc_apply.proofs.Helping.{keeps_trans, kept_again, gained_held, gained_still, kept_held, extends_keeps, name_held, says_right}
+use Rattle.eqc_apply.proofs.Spending.{spends_trans}
 use Rattle.eqc_apply.proofs.applier.Applier.answer_task.Goals as goal
 
 pub put_done-requires-clause-f : goal.put_done-requires-clause-f
@@ -38,3 +39,9 @@ returns-in-Ok-clause-kept g c = kept_again (entry_of c.in-Ok.r) _ c.in-Ok.ensure
 
 pub returns-in-Err-clause-kept : goal.returns-in-Err-clause-kept
 returns-in-Err-clause-kept g c = keeps_trans c.in-Err.ensures.stop (extends_keeps c.apply_forked.new.self.names c.put_stop.new.self c.put_stop.ensures)
+
+pub returns-in-Ok-clause-turns : goal.returns-in-Ok-clause-turns
+returns-in-Ok-clause-turns g c = spends_trans c.apply_forked.ensures.turns (spends_trans c.put_done.ensures.turns c.give_back.ensures.turns)
+
+pub returns-in-Err-clause-turns : goal.returns-in-Err-clause-turns
+returns-in-Err-clause-turns g c = spends_trans c.apply_forked.ensures.turns c.put_stop.ensures.turns

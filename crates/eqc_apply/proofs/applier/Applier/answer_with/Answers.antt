@@ -8,6 +8,7 @@ use Rattle.eqc_apply.specs.Extending.{holding_in}
 use Rattle.eqc_apply.specs.Referring.{entry_of}
 use Rattle.eqc_apply.proofs.Kept.{cells_stay}
 use Rattle.eqc_apply.proofs.Helping.{gained_held, kept_held, extends_keeps, name_held}
+use Rattle.eqc_apply.proofs.Spending.{spends_as, spends_trans}
 use Rattle.eqc_apply.proofs.applier.Applier.answer_with.Goals as goal
 
 pub answer_task-requires-clause-g : goal.answer_task-requires-clause-g
@@ -26,3 +27,6 @@ invariant_of-self-in-Err g c =
 
 pub returns-in-Err-clause-kept : goal.returns-in-Err-clause-kept
 returns-in-Err-clause-kept g c = subst (λ (n : Held). Keeps (holding_in n) (holding_in c.put_stop.new.self)) c.in-Err.ensures.still (extends_keeps c.refer.new.self c.put_stop.new.self c.put_stop.ensures)
+
+pub returns-in-Ok-clause-turns : goal.returns-in-Ok-clause-turns
+returns-in-Ok-clause-turns g c = spends_trans (spends_as c.args.self.now.names.turns c.refer.new.self.turns c.refer.ensures.turns) (spends_trans c.answer_task.ensures.turns c.give_back.ensures.turns)

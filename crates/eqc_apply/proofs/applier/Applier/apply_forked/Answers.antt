@@ -1,6 +1,6 @@
 use Rattle.std.proofs.Common.{◌∙◌, inr}
 use Rattle.eqc_apply.specs.Extending.{entry_in}
-use Rattle.eqc_apply.proofs.Answering.{worker_stays, worker_stays_on, is_referenced, operate_referred, on_err, stays_keeps, answer_gains, answer_keeps, answer_full}
+use Rattle.eqc_apply.proofs.Answering.{worker_stays, worker_stays_on, turns_stay_on, is_referenced, operate_referred, on_err, stays_keeps, answer_gains, answer_keeps, answer_full}
 use Rattle.eqc_apply.proofs.applier.Applier.apply_forked.Goals as goal
 
 pub answer-requires-clause-f : goal.answer-requires-clause-f
@@ -26,3 +26,6 @@ returns-in_err-x-clause-worker g c = worker_stays c.args.self.now.names c.answer
 
 pub returns-clause-worker : goal.returns-clause-worker
 returns-clause-worker g c = worker_stays_on c.args.self.now.names c.answer.new.self.names c.refer.new.self c.answer.ensures.names c.refer.ensures.worker
+
+pub returns-clause-turns : goal.returns-clause-turns
+returns-clause-turns g c = turns_stay_on c.args.self.now.names c.answer.new.self.names c.refer.new.self c.answer.ensures.names c.refer.ensures.turns

@@ -11,4 +11,5 @@ pub returns-clause-ok : goal.returns-clause-ok
 returns-clause-ok g c = results_stay c.go_in_parts-made.new.self.names c.withdraw.new.self.names c.args.op c.args.f c.args.g c.go_in_parts-made.result c.withdraw.ensures.names c.go_in_parts-made.ensures.ok
 
 pub returns-clause-stop : goal.returns-clause-stop
-returns-clause-stop g c = stops_stay c.go_in_parts-made.result c.go_in_parts-made.new.self.names.worker.known.core c.withdraw.new.self.names.worker.known.core c.withdraw.ensures.marks c.go_in_parts-made.ensures.stop
+returns-clause-stop g c =
+    stops_stay c.go_in_parts-made.result c.go_in_parts-made.new.self.names c.withdraw.new.self.names c.withdraw.ensures.names c.withdraw.ensures.marks c.go_in_parts-made.ensures.stop

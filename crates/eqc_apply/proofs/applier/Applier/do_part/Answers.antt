@@ -14,7 +14,7 @@ loop-level-preserved g c =
     let n = c.args.self.now.names in
     let x = extends_trans n c.known.new.self.names c.half.new.self.names (extends_trans n c.loop-level.self.names c.known.new.self.names c.loop-level.invariant.names c.known.ensures.names) c.half.ensures.names in
     record {
-      names = record { forest = x.forest; seat = x.seat; variables = x.variables; references = x.references; before = x.before };
+      names = record { forest = x.forest; seat = x.seat; variables = x.variables; references = x.references; before = x.before; turns = x.turns };
       first = c.in_ok-next.ensures.held.0;
       second = c.in_ok-next.ensures.held.1;
     }

@@ -56,7 +56,7 @@ loop-task-preserved-in-Some-2 g c =
     let x = extends_trans c.args.self.now.names c.take_back.new.self.names n (extends_trans c.args.self.now.names c.loop-task.self.names c.take_back.new.self.names c.loop-task.invariant.names c.take_back.ensures.names) c.finish.ensures.names in
     let less = less_owed s.names.variables n.variables c.pop.new.self.items s.tasks.items c.args.self.now.tasks.items (Low c.in-Low.f c.in-Low.g c.in-Low.variable c.in-Low.f_high c.in-Low.g_high) (c.finish.ensures.names.variables ∙ c.take_back.ensures.names.variables) was i.less in
     record {
-      names = record { forest = x.forest; seat = x.seat; variables = x.variables; references = x.references; before = x.before };
+      names = record { forest = x.forest; seat = x.seat; variables = x.variables; references = x.references; before = x.before; turns = x.turns };
       leads = rw (c.finish.ensures.tasks, c.take_back.ensures.tasks) leads;
       less = rw (c.finish.ensures.tasks, c.take_back.ensures.tasks) less;
     }
@@ -101,7 +101,7 @@ loop-task-preserved g c =
     let less = less_owed s.names.variables n.variables c.pop.new.self.items s.tasks.items c.args.self.now.tasks.items (High c.in-High.f c.in-High.g c.in-High.variable c.in-High.low) (e.variables ∙ c.end_offer.ensures.names.variables) was i.less in
     let x = extends_trans c.args.self.now.names b n (extends_trans c.args.self.now.names s.names b i.names c.end_offer.ensures.names) e in
     record {
-      names = record { forest = x.forest; seat = x.seat; variables = x.variables; references = x.references; before = x.before };
+      names = record { forest = x.forest; seat = x.seat; variables = x.variables; references = x.references; before = x.before; turns = x.turns };
       leads = rw (c.finish-in-High.ensures.tasks, c.end_offer.ensures.tasks) leads;
       less = rw (c.finish-in-High.ensures.tasks, c.end_offer.ensures.tasks) less;
     }

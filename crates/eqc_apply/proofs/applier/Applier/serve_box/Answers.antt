@@ -7,6 +7,7 @@ use Rattle.eqc_apply.specs.Extending.{holding_in}
 use Rattle.eqc_apply.specs.Referring.{entry_of}
 use Rattle.eqc_apply.proofs.Kept.{cells_stay}
 use Rattle.eqc_apply.proofs.Helping.{keeps_trans, kept_again, gained_held, kept_held, extends_keeps}
+use Rattle.eqc_apply.proofs.Spending.{spends_as, spends_trans}
 use Rattle.eqc_apply.proofs.applier.Applier.serve_box.Goals as goal
 
 pub invariant_of-self : goal.invariant_of-self
@@ -35,3 +36,13 @@ returns-in-Ok-clause-kept g c = keeps_trans (extends_keeps c.args.self.now.names
 
 pub returns-in-Err-clause-kept : goal.returns-in-Err-clause-kept
 returns-in-Err-clause-kept g c = keeps_trans (extends_keeps c.args.self.now.names c.take_task.new.self c.take_task.ensures.names) (subst (λ (n : Held). Keeps (holding_in n) (holding_in c.put_stop.new.self)) c.in-Err.ensures.still (extends_keeps c.refer.new.self c.put_stop.new.self c.put_stop.ensures))
+
+pub returns-in-Ok-clause-turns : goal.returns-in-Ok-clause-turns
+returns-in-Ok-clause-turns g c =
+    let referred = spends_as c.take_task.new.self.turns c.refer.new.self.turns c.refer.ensures.turns in
+    spends_trans (spends_trans c.take_task.ensures.names.turns referred) (spends_trans c.answer_with.ensures.turns c.give_back.ensures.turns)
+
+pub returns-in-Err-clause-turns : goal.returns-in-Err-clause-turns
+returns-in-Err-clause-turns g c =
+    let referred = spends_as c.take_task.new.self.turns c.refer.new.self.turns c.refer.ensures.turns in
+    spends_trans (spends_trans c.take_task.ensures.names.turns referred) c.put_stop.ensures.turns

@@ -1,5 +1,6 @@
-use Rattle.eqc_apply.proofs.Meanings.{extends_trans}
+use Rattle.eqc_apply.proofs.Meanings.{extends_refl, extends_trans}
 use Rattle.eqc_apply.proofs.Kept.{cells_stay}
+use Rattle.eqc_apply.proofs.applier.Applier.take_back.Goals.{then-level-len-via-then-level-len, then-level-len-via-else-level-len+then-is_taken}
 use Rattle.eqc_apply.proofs.applier.Applier.take_back.Goals as goal
 
 pub invariant_of-self-then-is_taken : goal.invariant_of-self-then-is_taken
@@ -19,3 +20,11 @@ returns-clause-names g c =
     let n = c.args.self.now.names in
     let t = extends_trans n c.is_taken.new.self c.take_back.new.self c.is_taken.ensures c.take_back.ensures.names in
     extends_trans n c.take_back.new.self c.keep.new.self.names t c.keep.ensures.names
+
+pub returns-then-level-len-clause-names : goal.returns-then-level-len-clause-names
+returns-then-level-len-clause-names g c =
+    let n = c.args.self.now.names in
+    elim c.then-level-len.branch [
+      | then-level-len-via-then-level-len w ↦ rw w.self-is (extends_refl n)
+      | then-level-len-via-else-level-len+then-is_taken w ↦ rw w.self-is w.is_taken.ensures
+    ]

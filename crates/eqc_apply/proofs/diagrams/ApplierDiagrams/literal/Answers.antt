@@ -1,5 +1,5 @@
 use Rattle.eqc_apply.specs.Extending.{entry_in}
-use Rattle.eqc_apply.proofs.Answering.{worker_stays, worker_stays_on, variables_in, on_err, stays_keeps, answer_gains, answer_keeps, answer_full}
+use Rattle.eqc_apply.proofs.Answering.{worker_stays, worker_stays_on, turns_stay_on, variables_in, on_err, stays_keeps, answer_gains, answer_keeps, answer_full}
 use Rattle.eqc_apply.proofs.diagrams.ApplierDiagrams.literal.Goals as goal
 
 pub variable_node-requires : goal.variable_node-requires
@@ -22,3 +22,6 @@ returns-in_err-x-clause-worker g c = worker_stays c.args.self.now.names c.variab
 
 pub returns-clause-worker : goal.returns-clause-worker
 returns-clause-worker g c = worker_stays_on c.args.self.now.names c.variable_node.new.self.names c.refer.new.self c.variable_node.ensures.names c.refer.ensures.worker
+
+pub returns-clause-turns : goal.returns-clause-turns
+returns-clause-turns g c = turns_stay_on c.args.self.now.names c.variable_node.new.self.names c.refer.new.self c.variable_node.ensures.names c.refer.ensures.turns

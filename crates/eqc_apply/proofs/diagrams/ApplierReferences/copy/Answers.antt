@@ -4,6 +4,7 @@ use Rattle.eqc_tree.specs.Holding.{Gains, copies}
 use Rattle.eqc_apply.specs.Extending.{holding_in}
 use Rattle.eqc_apply.specs.Referring.{entry_of}
 use Rattle.eqc_apply.proofs.Answering.{same_worker, referred_tree, is_referenced, referenced_held}
+use Rattle.eqc_apply.proofs.Spending.{spends_as}
 use Rattle.eqc_apply.proofs.diagrams.ApplierReferences.copy.Goals as goal
 
 pub refer-requires : goal.refer-requires
@@ -21,3 +22,6 @@ returns-clause-full c =
 
 pub returns-clause-worker : goal.returns-clause-worker
 returns-clause-worker c = same_worker c.args.self.now.names.worker c.refer.new.self.worker c.refer.ensures.worker
+
+pub returns-clause-turns : goal.returns-clause-turns
+returns-clause-turns c = spends_as c.args.self.now.names.turns c.refer.new.self.turns c.refer.ensures.turns

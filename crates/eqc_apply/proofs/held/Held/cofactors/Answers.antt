@@ -4,6 +4,7 @@ use Rattle.eqc_guard.specs.Known.{tree_of}
 use Rattle.eqc_arena.proofs.References.{low_counts, high_counts, opened}
 use Rattle.eqc_apply.proofs.Once.{before_trans, seat_trans, settles_before}
 use Rattle.eqc_apply.proofs.Reading.{read_has, read_before, read_seat, root_read, starts_below, less, same_cofactors, taken_before, taken_seat, cofactors_taken}
+use Rattle.eqc_apply.proofs.Spending.{spends_refl}
 use Rattle.eqc_apply.proofs.held.Held.cofactors.Goals as goal
 
 pub returns-then-top-variable-clause-ok : goal.returns-then-top-variable-clause-ok
@@ -24,6 +25,7 @@ returns-then-top-variable-clause-names c = record {
   variables = refl;
   references = λ y. refl;
   before = read_before c.args.x c.word_of-word.result c.args.self.now.variables c.args.self.now.counts.items c.args.self.now.worker c.word_of-word.new.worker c.word_of-word.ensures.step c.word_of-word.ensures.tells c.requires.held c.args.self.now.once;
+  turns = spends_refl c.args.self.now.turns;
 }
 
 pub hold-requires-clause-may : goal.hold-requires-clause-may
@@ -39,6 +41,7 @@ returns-in_err-hold-clause-names c = record {
   variables = refl;
   references = c.hold.ensures.references;
   before = before_trans (read_before c.args.x c.word_of-word.result c.args.self.now.variables c.args.self.now.counts.items c.args.self.now.worker c.word_of-word.new.worker c.word_of-word.ensures.step c.word_of-word.ensures.tells c.requires.held c.args.self.now.once) (settles_before (read_has c.args.x c.word_of-word.result c.args.self.now.variables c.args.self.now.counts.items c.args.self.now.worker c.word_of-word.new.worker c.word_of-word.ensures.step c.word_of-word.ensures.tells c.requires.held c.args.self.now.once) c.hold.ensures.settles);
+  turns = spends_refl c.args.self.now.turns;
 }
 
 pub hold-requires-2-clause-has : goal.hold-requires-2-clause-has
@@ -57,6 +60,7 @@ returns-in_err-hold-2-clause-names c = record {
   variables = refl;
   references = λ y. c.hold-2.ensures.references y ∙ c.hold.ensures.references y;
   before = taken_before c.args.x c.word_of-word.result c.args.self.now.variables c.args.self.now.counts.items c.hold.new.counts.items c.args.self.now.worker c.word_of-word.new.worker c.hold.new.worker c.hold-2.new.worker c.word_of-word.ensures.step c.word_of-word.ensures.tells c.requires.held c.args.self.now.once c.unpack_node-top.result.1 c.unpack_node-top.result.2 c.hold.ensures.settles (c.hold.ensures.has c.args.self.now.variables (read_has c.args.x c.word_of-word.result c.args.self.now.variables c.args.self.now.counts.items c.args.self.now.worker c.word_of-word.new.worker c.word_of-word.ensures.step c.word_of-word.ensures.tells c.requires.held c.args.self.now.once)) c.in_ok-hold.ensures.there.0 c.hold-2.ensures.settles;
+  turns = spends_refl c.args.self.now.turns;
 }
 
 pub returns-clause-ok : goal.returns-clause-ok
@@ -72,4 +76,5 @@ returns-clause-names c = record {
   variables = refl;
   references = λ y. c.hold-2.ensures.references y ∙ c.hold.ensures.references y;
   before = taken_before c.args.x c.word_of-word.result c.args.self.now.variables c.args.self.now.counts.items c.hold.new.counts.items c.args.self.now.worker c.word_of-word.new.worker c.hold.new.worker c.hold-2.new.worker c.word_of-word.ensures.step c.word_of-word.ensures.tells c.requires.held c.args.self.now.once c.unpack_node-top.result.1 c.unpack_node-top.result.2 c.hold.ensures.settles (c.hold.ensures.has c.args.self.now.variables (read_has c.args.x c.word_of-word.result c.args.self.now.variables c.args.self.now.counts.items c.args.self.now.worker c.word_of-word.new.worker c.word_of-word.ensures.step c.word_of-word.ensures.tells c.requires.held c.args.self.now.once)) c.in_ok-hold.ensures.there.0 c.hold-2.ensures.settles;
+  turns = spends_refl c.args.self.now.turns;
 }

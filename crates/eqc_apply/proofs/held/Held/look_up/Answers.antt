@@ -4,6 +4,7 @@ use Rattle.eqc_arena.proofs.Taking.{may_clear}
 use Rattle.eqc_apply.proofs.Once.{has_after}
 use Rattle.eqc_apply.proofs.Asked.{came_has, came_before, came_seat}
 use Rattle.eqc_apply.proofs.Finding.{passes, hits, found_result}
+use Rattle.eqc_apply.proofs.Spending.{spends_refl}
 use Rattle.eqc_apply.proofs.held.Held.look_up.Goals as goal
 
 pub lookup-hit-requires-clause-may : goal.lookup-hit-requires-clause-may
@@ -27,6 +28,7 @@ returns-in_err-x-clause-names c =
       variables = refl;
       references = c.settle.ensures.references;
       before = came_before 0 c.args.f c.args.g c.args.self.now.variables c.args.self.now.counts.items c.args.self.now.worker c.lookup-hit.new.worker c.args.self.now.once c.recall_laws.ensures c.requires.f c.requires.g c.in-Some.name.number t c.settle.new.worker c.settle.ensures.settles;
+      turns = spends_refl c.args.self.now.turns;
     }
 
 pub returns-clause-names : goal.returns-clause-names
@@ -38,6 +40,7 @@ returns-clause-names c =
       variables = refl;
       references = c.settle.ensures.references;
       before = came_before 0 c.args.f c.args.g c.args.self.now.variables c.args.self.now.counts.items c.args.self.now.worker c.lookup-hit.new.worker c.args.self.now.once c.recall_laws.ensures c.requires.f c.requires.g c.in-Some.name.number t c.settle.new.worker c.settle.ensures.settles;
+      turns = spends_refl c.args.self.now.turns;
     }
 
 pub returns-clause-ok : goal.returns-clause-ok

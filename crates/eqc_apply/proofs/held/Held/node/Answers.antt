@@ -3,6 +3,7 @@ use Rattle.eqc_guard.specs.Known.{tree_of}
 use Rattle.eqc_arena.specs.Nodes.{MayAsk, IsNodeOf}
 use Rattle.eqc_apply.proofs.Once.{changes_before, seat_of}
 use Rattle.eqc_apply.proofs.Asked.{may_ask, two_left, came_has, came_before, came_seat, node_is, memory_left}
+use Rattle.eqc_apply.proofs.Spending.{spends_refl}
 use Rattle.eqc_apply.proofs.held.Held.node.Goals as goal
 
 pub mk-made-requires : goal.mk-made-requires
@@ -30,6 +31,7 @@ returns-in-Ok-clause-names g c = record {
   variables = refl;
   references = c.settle.ensures.references;
   before = came_before c.args.variable c.args.low c.args.high c.args.self.now.variables c.args.self.now.counts.items c.args.self.now.worker c.mk-made.new.worker c.args.self.now.once c.recall_laws.ensures c.requires.low c.requires.high c.in-Ok.name.number c.in-Ok.ensures.node c.settle.new.worker c.settle.ensures.settles;
+  turns = spends_refl c.args.self.now.turns;
 }
 
 pub returns-in-Ok-clause-only : goal.returns-in-Ok-clause-only
@@ -42,6 +44,7 @@ returns-in-Err-clause-names g c = record {
   variables = refl;
   references = λ y. refl;
   before = changes_before c.in-Err.ensures.still;
+  turns = spends_refl c.args.self.now.turns;
 }
 
 pub returns-in-Err-clause-only : goal.returns-in-Err-clause-only

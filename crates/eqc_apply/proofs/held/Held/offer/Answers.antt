@@ -4,6 +4,7 @@ use Rattle.eqc_arena.proofs.Changing.{held_still}
 use Rattle.eqc_arena.proofs.Unboxing.{came_went}
 use Rattle.eqc_apply.proofs.Once.{few_held, has_after, changes_before, seat_of}
 use Rattle.eqc_apply.proofs.Handing.{as_named, come_may, come_held, come_few, pair_comes}
+use Rattle.eqc_apply.proofs.Spending.{spends_refl}
 use Rattle.eqc_apply.proofs.held.Held.offer.Goals as goal
 
 pub another-first-requires-clause-few : goal.another-first-requires-clause-few
@@ -35,4 +36,4 @@ returns c =
     let f = c.another-first.result in
     let g = c.another-second.result in
     let t = came_went (pair_comes f.number g.number (as_named c.args.f f.number c.another-first.ensures.name c.another-first.ensures.came) (as_named c.args.g g.number c.another-second.ensures.name c.another-second.ensures.came)) c.put.ensures.changes in
-    record { forest = t.forest; seat = seat_of t; variables = refl; references = λ y. refl; before = changes_before t }
+    record { forest = t.forest; seat = seat_of t; variables = refl; references = λ y. refl; before = changes_before t; turns = spends_refl c.args.self.now.turns }

@@ -1,5 +1,6 @@
 use Rattle.std.proofs.Common.{refl}
 use Rattle.eqc_apply.proofs.Reading.{read_before, read_seat, root_read, root_few}
+use Rattle.eqc_apply.proofs.Spending.{spends_refl}
 use Rattle.eqc_apply.proofs.held.Held.root.Goals as goal
 
 pub returns-clause-root : goal.returns-clause-root
@@ -15,4 +16,5 @@ returns-clause-names c = record {
   variables = refl;
   references = λ y. refl;
   before = read_before c.args.x c.word_of-word.result c.args.self.now.variables c.args.self.now.counts.items c.args.self.now.worker c.word_of-word.new.worker c.word_of-word.ensures.step c.word_of-word.ensures.tells c.requires c.args.self.now.once;
+  turns = spends_refl c.args.self.now.turns;
 }

@@ -4,16 +4,21 @@ use Rattle.eqc_apply.specs.Handing.{HasCome}
 use Rattle.eqc_apply.proofs.Once.{few_held, changes_before, seat_of}
 use Rattle.eqc_apply.proofs.Asked.{came_has, came_before, came_seat}
 use Rattle.eqc_apply.proofs.Finding.{found_result}
+use Rattle.eqc_apply.proofs.Spending.{spends_refl}
 use Rattle.eqc_apply.proofs.held.Held.take_back.Goals as goal
 
 pub take_out-requires-clause-few : goal.take_out-requires-clause-few
 take_out-requires-clause-few g c = let f = few_held c.args.self.now.once c.recall_laws.ensures in omega arith
 
 pub returns-in_err-name-clause-names : goal.returns-in_err-name-clause-names
-returns-in_err-name-clause-names g c = let t = c.in_err-name.ensures.stop.0 in record { forest = t.forest; seat = seat_of t; variables = refl; references = λ y. refl; before = changes_before t }
+returns-in_err-name-clause-names g c =
+    let t = c.in_err-name.ensures.stop.0 in
+    record { forest = t.forest; seat = seat_of t; variables = refl; references = λ y. refl; before = changes_before t; turns = spends_refl c.args.self.now.turns }
 
 pub returns-in_default-2-clause-names : goal.returns-in_default-2-clause-names
-returns-in_default-2-clause-names g c = let t = c.take_out.ensures.undone (c.in_ok-name.was ∙ ap Ok c.in_default-2.is) in record { forest = t.forest; seat = seat_of t; variables = refl; references = λ y. refl; before = changes_before t }
+returns-in_default-2-clause-names g c =
+    let t = c.take_out.ensures.undone (c.in_ok-name.was ∙ ap Ok c.in_default-2.is) in
+    record { forest = t.forest; seat = seat_of t; variables = refl; references = λ y. refl; before = changes_before t; turns = spends_refl c.args.self.now.turns }
 
 pub invariant_of-self-2 : goal.invariant_of-self-2
 invariant_of-self-2 g c =
@@ -29,6 +34,7 @@ returns-in_err-x-clause-names g c =
       variables = refl;
       references = c.settle.ensures.references;
       before = came_before 0 c.args.f c.args.g c.args.self.now.variables c.args.self.now.counts.items c.args.self.now.worker c.take_out.new.worker c.args.self.now.once c.recall_laws.ensures c.requires.f c.requires.g c.in-Some-2.name.number come.came c.settle.new.worker c.settle.ensures.settles;
+      turns = spends_refl c.args.self.now.turns;
     }
 
 pub returns-clause-names : goal.returns-clause-names
@@ -40,6 +46,7 @@ returns-clause-names g c =
       variables = refl;
       references = c.settle.ensures.references;
       before = came_before 0 c.args.f c.args.g c.args.self.now.variables c.args.self.now.counts.items c.args.self.now.worker c.take_out.new.worker c.args.self.now.once c.recall_laws.ensures c.requires.f c.requires.g c.in-Some-2.name.number come.came c.settle.new.worker c.settle.ensures.settles;
+      turns = spends_refl c.args.self.now.turns;
     }
 
 pub returns-clause-ok : goal.returns-clause-ok

@@ -5,13 +5,16 @@ use Rattle.eqc_apply.proofs.Once.{few_held, same_as, changes_before, seat_of}
 use Rattle.eqc_arena.proofs.Unboxing.{came_went}
 use Rattle.eqc_apply.proofs.Handing.{come_may, come_held}
 use Rattle.eqc_apply.proofs.Receiving.{first_has, second_has, both_before, both_seat}
+use Rattle.eqc_apply.proofs.Spending.{spends_refl}
 use Rattle.eqc_apply.proofs.held.Held.take_task.Goals as goal
 
 pub task_out-requires-clause-few : goal.task_out-requires-clause-few
 task_out-requires-clause-few c = let f = few_held c.args.self.now.once c.recall_laws.ensures in omega arith
 
 pub returns-in_default-clause-names : goal.returns-in_default-clause-names
-returns-in_default-clause-names c = let t = c.task_out.ensures.none c.in_default.is in record { forest = t.forest; seat = seat_of t; variables = refl; references = λ y. refl; before = changes_before t }
+returns-in_default-clause-names c =
+    let t = c.task_out.ensures.none c.in_default.is in
+    record { forest = t.forest; seat = seat_of t; variables = refl; references = λ y. refl; before = changes_before t; turns = spends_refl c.args.self.now.turns }
 
 pub put-requires : goal.put-requires
 put-requires c =
@@ -24,7 +27,14 @@ put-requires c =
 pub returns-in_default-grow_counts-clause-names : goal.returns-in_default-grow_counts-clause-names
 returns-in_default-grow_counts-clause-names c =
     let t = came_went c.in-Some.ensures.some c.put.ensures.changes in
-    record { forest = t.forest; seat = seat_of t; variables = refl; references = same_as c.args.self.now.counts.items c.grow_counts.new.counts.items c.grow_counts.ensures.same; before = changes_before t }
+    record {
+      forest = t.forest;
+      seat = seat_of t;
+      variables = refl;
+      references = same_as c.args.self.now.counts.items c.grow_counts.new.counts.items c.grow_counts.ensures.same;
+      before = changes_before t;
+      turns = spends_refl c.args.self.now.turns;
+    }
 
 pub count_in-first-requires-clause-has : goal.count_in-first-requires-clause-has
 count_in-first-requires-clause-has c =
@@ -66,6 +76,7 @@ returns-clause-names c =
       variables = refl;
       references = λ y. c.count_in-second.ensures.references y ∙ (c.count_in-first.ensures.references y ∙ same_as c.args.self.now.counts.items room c.grow_counts.ensures.same y);
       before = both_before f g n c.args.self.now.worker c.task_out.new.worker c.args.self.now.counts.items room c.args.self.now.once t c.grow_counts.ensures.same c.count_in-first.new.worker c.count_in-first.new.counts.items c.count_in-first.ensures.has c.count_in-first.ensures.settles c.count_in-first.ensures.still c.count_in-second.new.worker c.count_in-second.ensures.settles;
+      turns = spends_refl c.args.self.now.turns;
     }
 
 pub returns-clause-held : goal.returns-clause-held

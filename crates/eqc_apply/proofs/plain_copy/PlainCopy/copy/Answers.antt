@@ -30,3 +30,6 @@ place-requires c = within_places c.visits.names c.visits.self c.args.f c.recall_
 
 pub returns-clause-ok : goal.returns-clause-ok
 returns-clause-ok c = c.visits.invariant.way.faithful.placed c.args.f c.in-Some-place.number (sym c.place.ensures ∙ c.in-Some-place.is)
+
+pub returns-in_err-visit-clause-names : goal.returns-in_err-visit-clause-names
+returns-in_err-visit-clause-names c = extends_trans c.args.names.now c.visits.names c.visit.new.names c.visits.invariant.names c.visit.ensures.names

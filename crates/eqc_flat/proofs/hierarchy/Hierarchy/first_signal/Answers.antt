@@ -19,7 +19,9 @@ returns-clause-first c =
     let library = c.self.inside.calls in
     let here : c.args.i < length (paths library all.top) = omega (arith, c.requires, ap (λ (v : List ModelOf × ℕ). length (paths v.0 v.1)) c.self.view_is) in
     let P : List ModelOf × ℕ → Type 0 = λ v. c.index.result.now ≡ first_signal v.0 v.1 c.args.i in
-    subst P c.self.view_is (found_first library all.top (length (paths library all.top)) c.args.i c.index.result.now all.signals all.models.items all.firsts.items all.places.items c.self.invariant.found here c.index.ensures)
+    subst P c.self.view_is
+    (found_first library all.top (length (paths library all.top)) c.args.i c.index.result.now all.signals all.models.items
+    all.firsts.items all.places.items c.self.invariant.found here c.index.ensures)
 
 pub returns-clause-small : goal.returns-clause-small
 returns-clause-small c =

@@ -20,7 +20,9 @@ returns-clause-number c =
     let size = found_models library all.top (length (paths library all.top)) all.signals all.models.items all.firsts.items all.places.items c.self.invariant.found in
     let same = ap (λ (v : List ModelOf × ℕ). length (paths v.0 v.1)) c.self.view_is in
     let P : List ModelOf × ℕ → Type 0 = λ v. c.index.result.now ≡ model_at v.0 v.1 (path_at v.0 v.1 c.args.i) in
-    subst P c.self.view_is (found_model library all.top (length (paths library all.top)) c.args.i c.index.result.now all.signals all.models.items all.firsts.items all.places.items c.self.invariant.found (omega (arith, size, same, c.requires)) c.index.ensures)
+    subst P c.self.view_is
+    (found_model library all.top (length (paths library all.top)) c.args.i c.index.result.now all.signals all.models.items
+    all.firsts.items all.places.items c.self.invariant.found (omega (arith, size, same, c.requires)) c.index.ensures)
 
 pub returns-clause-growing : goal.returns-clause-growing
 returns-clause-growing c =

@@ -10,7 +10,9 @@ pub invariant_of-hierarchy : goal.invariant_of-hierarchy
 invariant_of-hierarchy c =
     let found = rw c.in-Some.is at c.in_ok-instances.ensures in
     let top : c.in-Some.instances.top ≡ c.args.top = found.1 in
-    let P : ℕ → Type 0 = λ t. IsExpanded c.args.calls c.in_ok-naming.naming t c.in-Some.instances.models.items c.in-Some.instances.firsts.items c.in-Some.instances.places.items c.in-Some.instances.signals in
+    let P : ℕ → Type 0 = λ t.
+    IsExpanded c.args.calls c.in_ok-naming.naming t c.in-Some.instances.models.items c.in-Some.instances.firsts.items
+    c.in-Some.instances.places.items c.in-Some.instances.signals in
     subst P (sym top) (record {
       same = c.in_ok-naming.ensures.library ∙ c.library.ensures;
       growing = growing c.args.calls c.args.top c.requires.ends;

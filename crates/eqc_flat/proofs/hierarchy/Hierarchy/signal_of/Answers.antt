@@ -21,7 +21,8 @@ overflow_add-result c =
     let library = c.self.inside.calls in
     let here : c.args.i < length (paths library all.top) = omega (arith, c.requires.instance, ap (λ (v : List ModelOf × ℕ). length (paths v.0 v.1)) c.self.view_is) in
     let first = found_first library all.top (length (paths library all.top)) c.args.i c.index.result.now all.signals all.models.items all.firsts.items all.places.items h here c.index.ensures in
-    let inside : c.args.k < length (names_of (model_of library all.top c.args.i)) = omega (arith, c.requires.position, ap (λ (v : List ModelOf × ℕ). length (names_of (model_of v.0 v.1 c.args.i))) c.self.view_is) in
+    let inside : c.args.k < length (names_of (model_of library all.top c.args.i)) =
+    omega (arith, c.requires.position, ap (λ (v : List ModelOf × ℕ). length (names_of (model_of v.0 v.1 c.args.i))) c.self.view_is) in
     let within = signal_within library all.top c.args.i c.index.result.now c.args.k here first inside in
     let most = found_signals library all.top (length (paths library all.top)) all.signals all.models.items all.firsts.items all.places.items h refl in
     omega (arith, within, most, h.few)
@@ -33,7 +34,8 @@ returns-clause-within c =
     let library = c.self.inside.calls in
     let here : c.args.i < length (paths library all.top) = omega (arith, c.requires.instance, ap (λ (v : List ModelOf × ℕ). length (paths v.0 v.1)) c.self.view_is) in
     let first = found_first library all.top (length (paths library all.top)) c.args.i c.index.result.now all.signals all.models.items all.firsts.items all.places.items h here c.index.ensures in
-    let inside : c.args.k < length (names_of (model_of library all.top c.args.i)) = omega (arith, c.requires.position, ap (λ (v : List ModelOf × ℕ). length (names_of (model_of v.0 v.1 c.args.i))) c.self.view_is) in
+    let inside : c.args.k < length (names_of (model_of library all.top c.args.i)) =
+    omega (arith, c.requires.position, ap (λ (v : List ModelOf × ℕ). length (names_of (model_of v.0 v.1 c.args.i))) c.self.view_is) in
     let within = signal_within library all.top c.args.i c.index.result.now c.args.k here first inside in
     let P : List ModelOf × ℕ → Type 0 = λ v. c.index.result.now + c.args.k < length (signals v.0 v.1) in
     subst P c.self.view_is within
@@ -45,9 +47,12 @@ returns-clause-signal c =
     let library = c.self.inside.calls in
     let here : c.args.i < length (paths library all.top) = omega (arith, c.requires.instance, ap (λ (v : List ModelOf × ℕ). length (paths v.0 v.1)) c.self.view_is) in
     let first = found_first library all.top (length (paths library all.top)) c.args.i c.index.result.now all.signals all.models.items all.firsts.items all.places.items h here c.index.ensures in
-    let inside : c.args.k < length (names_of (model_of library all.top c.args.i)) = omega (arith, c.requires.position, ap (λ (v : List ModelOf × ℕ). length (names_of (model_of v.0 v.1 c.args.i))) c.self.view_is) in
+    let inside : c.args.k < length (names_of (model_of library all.top c.args.i)) =
+    omega (arith, c.requires.position, ap (λ (v : List ModelOf × ℕ). length (names_of (model_of v.0 v.1 c.args.i))) c.self.view_is) in
     let within = signal_within library all.top c.args.i c.index.result.now c.args.k here first inside in
-    let P : List ModelOf × ℕ → Type 0 = λ v. signal_at v.0 v.1 (c.index.result.now + c.args.k) ≡ record { path = path_at v.0 v.1 c.args.i; name = slice_index_or (names_of (model_of v.0 v.1 c.args.i)) c.args.k [] } in
+    let P : List ModelOf × ℕ → Type 0 = λ v.
+    signal_at v.0 v.1 (c.index.result.now + c.args.k)
+    ≡ record { path = path_at v.0 v.1 c.args.i; name = slice_index_or (names_of (model_of v.0 v.1 c.args.i)) c.args.k [] } in
     subst P c.self.view_is (signal_is library all.top c.args.i c.index.result.now c.args.k (slice_index_or (names_of (model_of library all.top c.args.i)) c.args.k []) here first inside refl)
 
 pub returns-clause-small : goal.returns-clause-small
@@ -57,7 +62,8 @@ returns-clause-small c =
     let library = c.self.inside.calls in
     let here : c.args.i < length (paths library all.top) = omega (arith, c.requires.instance, ap (λ (v : List ModelOf × ℕ). length (paths v.0 v.1)) c.self.view_is) in
     let first = found_first library all.top (length (paths library all.top)) c.args.i c.index.result.now all.signals all.models.items all.firsts.items all.places.items h here c.index.ensures in
-    let inside : c.args.k < length (names_of (model_of library all.top c.args.i)) = omega (arith, c.requires.position, ap (λ (v : List ModelOf × ℕ). length (names_of (model_of v.0 v.1 c.args.i))) c.self.view_is) in
+    let inside : c.args.k < length (names_of (model_of library all.top c.args.i)) =
+    omega (arith, c.requires.position, ap (λ (v : List ModelOf × ℕ). length (names_of (model_of v.0 v.1 c.args.i))) c.self.view_is) in
     let within = signal_within library all.top c.args.i c.index.result.now c.args.k here first inside in
     let most = found_signals library all.top (length (paths library all.top)) all.signals all.models.items all.firsts.items all.places.items h refl in
     omega (arith, within, most, h.few)

@@ -4,7 +4,14 @@ use Rattle.eqc_hierarchy.proofs.CallLaws.{entry_at, entry_count}
 use Rattle.eqc_hierarchy.proofs.calls.Calls.callees.Goals as goal
 
 pub index-requires : goal.index-requires
-index-requires c = omega (arith, c.requires, entry_count _ (callees c.self.inside.library.now) c.self.inside.callees.items (length c.self.inside.library.now) c.self.invariant, c.self.inside.callees.ok.0, ap length c.self.view_is)
+index-requires c =
+    omega (
+      arith,
+      c.requires,
+      entry_count _ (callees c.self.inside.library.now) c.self.inside.callees.items (length c.self.inside.library.now) c.self.invariant,
+      c.self.inside.callees.ok.0,
+      ap length c.self.view_is,
+    )
 
 pub returns : goal.returns
 returns c =

@@ -14,10 +14,20 @@ index-requires c =
 
 pub get-requires : goal.get-requires
 get-requires c =
-    let size : length c.index.result.now ≡ length (names_of (model c.args.self.now c.args.m)) = ap length (let h : c.index.result.now ≡ names_of (model c.args.self.now c.args.m) = (set_is c.self.inside.library.now c.self.inside.sets.items c.args.m c.index.result.now c.self.invariant (let t = some_name c.args.self.now c.args.m c.args.k c.requires in omega (arith, t, ap length c.self.view_is)) c.index.ensures) ∙ ap (λ (l : List ModelOf). names_of (model l c.args.m)) c.self.view_is in h) in
+    let size : length c.index.result.now ≡ length (names_of (model c.args.self.now c.args.m)) =
+    ap length
+    (let h : c.index.result.now ≡ names_of (model c.args.self.now c.args.m) =
+    (set_is c.self.inside.library.now c.self.inside.sets.items c.args.m c.index.result.now c.self.invariant
+    (let t = some_name c.args.self.now c.args.m c.args.k c.requires in omega (arith, t, ap length c.self.view_is))
+    c.index.ensures)
+    ∙ ap (λ (l : List ModelOf). names_of (model l c.args.m)) c.self.view_is in
+    h) in
     omega (arith, size, c.requires)
 
 pub returns : goal.returns
 returns c =
-    let set : c.index.result.now ≡ names_of (model c.args.self.now c.args.m) = (set_is c.self.inside.library.now c.self.inside.sets.items c.args.m c.index.result.now c.self.invariant (let t = some_name c.args.self.now c.args.m c.args.k c.requires in omega (arith, t, ap length c.self.view_is)) c.index.ensures) ∙ ap (λ (l : List ModelOf). names_of (model l c.args.m)) c.self.view_is in
+    let set : c.index.result.now ≡ names_of (model c.args.self.now c.args.m) =
+    (set_is c.self.inside.library.now c.self.inside.sets.items c.args.m c.index.result.now c.self.invariant
+    (let t = some_name c.args.self.now c.args.m c.args.k c.requires in omega (arith, t, ap length c.self.view_is)) c.index.ensures)
+    ∙ ap (λ (l : List ModelOf). names_of (model l c.args.m)) c.self.view_is in
     c.get.ensures ∙ ap (λ (xs : List (List ℕ)). get_or xs c.args.k []) set

@@ -1,5 +1,0 @@
-use Rattle.std.proofs.Common.{◌≡◌, take}
-use Rattle.eqc_blif.proofs.many_names.ManyNames.of.Given as goal
-
-abbrev pub invariant-names : goal.invariant-names
-invariant-names l = l.set.keys ≡ take l.name-index l.names

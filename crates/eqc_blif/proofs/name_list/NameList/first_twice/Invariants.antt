@@ -1,9 +1,0 @@
-use Rattle.std.proofs.Common.{◌≡◌, ◌++◌, length}
-use Rattle.eqc_blif.specs.Words.{words}
-use Rattle.eqc_blif.proofs.name_list.NameList.first_twice.Given as goal
-
-abbrev pub invariant-words : goal.invariant-words
-invariant-words l = l.self ++ words l.rest ≡ l.fn.self ++ words l.line
-
-abbrev pub decreases-words : goal.decreases-words
-decreases-words l = length l.rest

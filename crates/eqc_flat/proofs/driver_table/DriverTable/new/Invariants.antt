@@ -1,6 +1,0 @@
-use Rattle.std.proofs.Common.{◌≡◌, replicate, Option, None}
-use Rattle.eqc_flat.specs.declared.stored_driver.StoredDriver.{StoredDriver}
-use Rattle.eqc_flat.proofs.driver_table.DriverTable.new.Given as goal
-
-abbrev pub invariant-loop-k : goal.invariant-loop-k
-invariant-loop-k l = l.slots.items ≡ replicate {A = Option StoredDriver} l._k None

@@ -1,6 +1,0 @@
-use Rattle.std.proofs.Common.{◌≡◌, ◌++◌, take, map}
-use Rattle.eqc_blif.specs.Netlist.{CoverOf}
-use Rattle.eqc_flat.proofs.row_table.push_rows.Given as goal
-
-abbrev pub invariant-covers : goal.invariant-covers
-invariant-covers l = l.all.items ≡ l.fn.all.items ++ map (λ (c : CoverOf). c.rows) (take l.cover-index l.covers)

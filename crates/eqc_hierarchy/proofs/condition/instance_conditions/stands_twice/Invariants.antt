@@ -1,0 +1,6 @@
+use Rattle.std.proofs.Common.{◌≡◌, false, take, map, ℕ, List}
+use Rattle.eqc_blif.specs.Names.{has_twice}
+use Rattle.eqc_hierarchy.proofs.condition.instance_conditions.stands_twice.Given as goal
+
+abbrev pub invariant-loop-k : goal.invariant-loop-k
+invariant-loop-k l = has_twice (map (λ (pair : List ℕ × List ℕ). pair.0) (take l.k l.pairs)) ≡ false

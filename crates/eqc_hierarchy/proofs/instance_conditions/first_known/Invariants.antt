@@ -1,9 +1,0 @@
-use Rattle.std.proofs.Common.{◌≡◌, false, take, map, ℕ, List}
-use Rattle.eqc_blif.specs.Names.{has_twice}
-use Rattle.eqc_hierarchy.proofs.instance_conditions.first_known.Given as goal
-
-abbrev pub invariant-loop-k : goal.invariant-loop-k
-invariant-loop-k l = record {
-  names : l.names ≡ map (λ (pair : List ℕ × List ℕ). pair.0) (take l.k l.pairs);
-  once : has_twice (map (λ (pair : List ℕ × List ℕ). pair.0) (take l.k l.pairs)) ≡ false;
-}

@@ -1,0 +1,215 @@
+//! Graphs in which equal nodes are one: which gates get a literal that is there, and what is found of two literals.
+ghost use Rattle.std.specs.Prelude.{IfOk};
+ghost use Rattle.eqc_graph.specs.Graph.{IsWithin, Extends};
+
+use crate::ends::same;
+use eqc_graph::negated;
+use eqc_sweep::{Comparison, Effort, Sweep};
+use std::alloc::{AllocError, Global};
+use std::process::Abort;
+
+/// What is found of two literals.
+#[derive(Clone, Copy, PartialEq, Eq, Debug)]
+enum Found {
+    /// They are equal.
+    Equal,
+    /// They differ under an assignment, and whether they do.
+    Apart(bool),
+    Unknown,
+}
+
+/// Whether just one of these variables is true in an assignment, or three, and so on.
+fn is_odd(variables: &[u32], model: &[(u32, bool)]) -> bool {
+    let mut odd = false;
+    for (variable, value) in model {
+        if *value && variables.contains(variable) {
+            odd = !odd;
+        }
+    }
+    odd
+}
+
+/// Whether an odd number of these variables is true.
+fn parity(sweep: &mut Sweep, variables: &[u32]) -> Result<u32, AllocError>
+    ensures within { IfOk result (λ l. IsWithin sweep.new l) }
+    ensures extends { Extends sweep.old sweep.new }
+{
+    let mut sum = sweep.constant(false);
+    for variable in variables {
+        let next = sweep.input(*variable)?;
+        sum = sweep.xor(sum, next)?;
+    }
+    Ok(sum)
+}
+
+/// Whether one of two literals is true.
+fn either(sweep: &mut Sweep, x: u32, y: u32) -> Result<u32, AllocError>
+    requires x { IsWithin sweep.old x }
+    requires y { IsWithin sweep.old y }
+    ensures within { IfOk result (λ l. IsWithin sweep.new l) }
+    ensures extends { Extends sweep.old sweep.new }
+{
+    let neither = sweep.and(negated(x), negated(y))?;
+    Ok(negated(neither))
+}
+
+/// The variables of parities, and the same but for one.
+const FORTH: &[u32] = &[0, 1, 2, 3, 4, 5, 6];
+
+const BACK: &[u32] = &[6, 5, 4, 3, 2, 1, 0];
+
+const WITHOUT_ONE: &[u32] = &[6, 5, 4, 2, 1, 0];
+
+/// How much is done to find nodes equal.
+fn effort(asks: bool) -> Effort {
+    if asks {
+        Effort::usual()
+    } else {
+        Effort::none()
+    }
+}
+
+/// Whether two parities have one literal, and what is found of them with so many conflicts.
+fn parities(
+    sweep: &mut Sweep,
+    first: &[u32],
+    second: &[u32],
+    conflicts: u64,
+) -> Result<(bool, Found), AllocError> {
+    let x = parity(sweep, first)?;
+    let y = parity(sweep, second)?;
+    let mut left = conflicts;
+    let found = match sweep.equal(x, y, &mut left)? {
+        Comparison::Equal => Found::Equal,
+        Comparison::Differs(model) => Found::Apart(is_odd(first, &model) != is_odd(second, &model)),
+        Comparison::Unknown => Found::Unknown,
+    };
+    Ok((x == y, found))
+}
+
+/// Parities: whether new nodes are asked about, the variables of both, conflicts, whether they have one literal, and what is found.
+#[rattlefmt::skip]
+static PARITIES: &[(&str, bool, &[u32], &[u32], u64, bool, Found)] = &[
+    ("made alike", false, FORTH, FORTH, 0, true, Found::Equal),
+    ("another order, by a search", false, FORTH, BACK, 10_000, false, Found::Equal),
+    ("another order, without a conflict", false, FORTH, BACK, 0, false, Found::Unknown),
+    ("another order, as it is made", true, FORTH, BACK, 0, true, Found::Equal),
+    ("one variable less, by a search", false, FORTH, WITHOUT_ONE, 10_000, false, Found::Apart(true)),
+    ("one variable less, by simulation", true, FORTH, WITHOUT_ONE, 0, false, Found::Apart(true)),
+    ("no variable", true, &[], &[], 0, true, Found::Equal),
+];
+
+#[test]
+fn parities_are_told_apart_or_equal(rt: HostRuntime) -> Result<(), AllocError> {
+    for (case, asks, first, second, conflicts, one, found) in PARITIES {
+        let mut sweep = Sweep::new(rt.alloc(), effort(*asks))?;
+        let tried = parities(&mut sweep, first, second, *conflicts);
+        same(&rt, tried, Ok((*one, *found)), case);
+    }
+    Ok(())
+}
+
+#[tactic(auto, using(eqc_graph::proofs::GraphLemmas::extends_along))]
+/// Whether x and y are true, or z and what is true where some are.
+fn carried(sweep: &mut Sweep, x: u32, y: u32, z: u32, some: u32) -> Result<u32, AllocError>
+    requires x { IsWithin sweep.old x }
+    requires y { IsWithin sweep.old y }
+    requires z { IsWithin sweep.old z }
+    requires some { IsWithin sweep.old some }
+    ensures within { IfOk result (λ l. IsWithin sweep.new l) }
+    ensures extends { Extends sweep.old sweep.new }
+{
+    let both = sweep.and(x, y)?;
+    let passed = sweep.and(z, some)?;
+    either(sweep, both, passed)
+}
+
+#[tactic(auto, using(eqc_graph::proofs::GraphLemmas::extends_along))]
+/// The carry of x, y and z, by their exclusive or.
+fn carry(sweep: &mut Sweep, x: u32, y: u32, z: u32) -> Result<u32, AllocError>
+    requires x { IsWithin sweep.old x }
+    requires y { IsWithin sweep.old y }
+    requires z { IsWithin sweep.old z }
+    ensures within { IfOk result (λ l. IsWithin sweep.new l) }
+    ensures extends { Extends sweep.old sweep.new }
+{
+    let some = sweep.xor(x, y)?;
+    carried(sweep, x, y, z, some)
+}
+
+#[tactic(auto, using(eqc_graph::proofs::GraphLemmas::extends_along))]
+/// The majority of x, y and z, by their disjunction.
+fn majority(sweep: &mut Sweep, x: u32, y: u32, z: u32) -> Result<u32, AllocError>
+    requires x { IsWithin sweep.old x }
+    requires y { IsWithin sweep.old y }
+    requires z { IsWithin sweep.old z }
+    ensures within { IfOk result (λ l. IsWithin sweep.new l) }
+    ensures extends { Extends sweep.old sweep.new }
+{
+    let some = either(sweep, x, y)?;
+    carried(sweep, x, y, z, some)
+}
+
+/// Whether a carry and a majority have one literal, and whether they are found equal.
+fn carries(sweep: &mut Sweep) -> Result<(bool, bool), AllocError> {
+    let x = sweep.input(0)?;
+    let y = sweep.input(1)?;
+    let z = sweep.input(2)?;
+    let carry = carry(sweep, x, y, z)?;
+    let majority = majority(sweep, x, y, z)?;
+    let mut conflicts = 1_000;
+    let found = sweep.equal(carry, majority, &mut conflicts)?;
+    Ok((carry == majority, matches!(found, Comparison::Equal)))
+}
+
+#[test]
+fn a_carry_is_a_majority(rt: HostRuntime) -> Result<(), AllocError> {
+    for asks in [false, true] {
+        let mut sweep = Sweep::new(rt.alloc(), effort(asks))?;
+        same(&rt, carries(&mut sweep), Ok((asks, true)), asks);
+    }
+    Ok(())
+}
+
+/// Whether gates of two variables are known that are made again, or in another form.
+fn are_known(sweep: &mut Sweep) -> Result<[bool; 3], AllocError> {
+    let x = sweep.input(0)?;
+    let y = sweep.input(1)?;
+    let both = sweep.and(x, y)?;
+    let swapped = sweep.and(y, x)?;
+    let differ = sweep.xor(x, y)?;
+    let agree = sweep.xor(x, negated(y))?;
+    Ok([both == swapped, differ == negated(agree), both != differ])
+}
+
+/// Whether gates of a variable with itself, with its complement and with a constant are constants or the variable.
+fn are_plain(sweep: &mut Sweep) -> Result<[bool; 4], AllocError> {
+    let x = sweep.input(1)?;
+    let itself = sweep.and(x, x)?;
+    let never = sweep.and(x, negated(x))?;
+    let always = sweep.xor(x, negated(x))?;
+    let with_true = sweep.and(sweep.constant(true), x)?;
+    Ok([
+        itself == x,
+        never == sweep.constant(false),
+        always == sweep.constant(true),
+        with_true == x,
+    ])
+}
+
+/// Whether a variable has one literal, and another one has another.
+fn have_one(sweep: &mut Sweep) -> Result<bool, AllocError> {
+    let x = sweep.input(0)?;
+    let y = sweep.input(1)?;
+    let again = sweep.input(0)?;
+    Ok(x == again && x != y)
+}
+
+#[test]
+fn what_is_made_again_has_one_literal(rt: HostRuntime) -> Result<(), AllocError> {
+    let mut sweep = Sweep::new(rt.alloc(), Effort::none())?;
+    same(&rt, are_known(&mut sweep), Ok([true; 3]), "gates");
+    same(&rt, are_plain(&mut sweep), Ok([true; 4]), "plain gates");
+    same(&rt, have_one(&mut sweep), Ok(true), "variables");
+    Ok(())
+}

@@ -1,3 +1,0 @@
-pub mod Driving
-pub mod Making
-pub mod Building

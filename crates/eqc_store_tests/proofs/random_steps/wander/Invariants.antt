@@ -1,5 +1,0 @@
-use Rattle.std.proofs.Common.{◌≡◌}
-use Rattle.eqc_store_tests.proofs.random_steps.wander.Given as goal
-
-abbrev pub invariant-loop : goal.invariant-loop
-invariant-loop g l = l.driver.worker.forest ≡ l.initial.driver.worker.forest

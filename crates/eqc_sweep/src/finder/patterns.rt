@@ -1,0 +1,198 @@
+//! Simulation: words of random patterns and of counterexamples, and each node's signature. Nothing is believed of it.
+
+use crate::finder::random::Random;
+use crate::finder::words::{share_of, word_at, word_by, word_of};
+use eqc_graph::{Graph, Node};
+use std::alloc::{AllocError, Global};
+
+/// How many rows of random patterns there are.
+const RANDOM: usize = 8;
+
+/// How many rows there may be, with those of counterexamples.
+const MOST: usize = 40;
+
+/// The words of all nodes, row by row, and the signatures.
+#[derive(Drop)]
+pub(crate) struct Patterns {
+    rows: Vec<Vec<u64>>,
+    signatures: Vec<u64>,
+    random: Random,
+    /// The row of counterexamples that is replaced next, once there are all.
+    oldest: usize,
+}
+
+impl Patterns {
+    /// The rows of random patterns, without nodes.
+    pub(crate) fn new(alloc: Global) -> Result<Patterns, AllocError> {
+        let mut rows = Vec::new(alloc);
+        for _ in 0..RANDOM {
+            rows.push(Vec::new(alloc))?;
+        }
+        Ok(Patterns {
+            rows,
+            signatures: Vec::new(alloc),
+            random: Random::new(),
+            oldest: RANDOM,
+        })
+    }
+
+    /// How many rows there are.
+    pub(crate) fn rows(&self) -> usize {
+        self.rows.len()
+    }
+
+    /// The signatures, by nodes.
+    pub(crate) fn signatures(&self) -> &[u64] {
+        self.signatures.as_slice()
+    }
+
+    /// The signature of a node: the same for its complement.
+    pub(crate) fn signature(&self, k: u32) -> u64 {
+        word_at(self.signatures.as_slice(), k)
+    }
+
+    /// What makes the first value of a node false: nothing, or the complement.
+    fn flip(&self, k: usize) -> u64 {
+        match self.rows.get(0) {
+            None => 0,
+            Some(row) => match row.get(k) {
+                None => 0,
+                Some(word) => if *word % 2 == 1 { u64::MAX } else { 0 },
+            },
+        }
+    }
+
+    /// The first simulated value of a node.
+    pub(crate) fn phase(&self, k: u32) -> bool {
+        self.flip(k as usize) != 0
+    }
+
+    /// The pattern under which two literals differ: the row, and the place in its words.
+    pub(crate) fn difference(&self, x: u32, y: u32) -> Option<(usize, u32)> {
+        for (at, row) in self.rows.iter().enumerate() {
+            let word = word_of(row.as_slice(), x) ^ word_of(row.as_slice(), y);
+            if word != 0 {
+                return Some((at, word.trailing_zeros()));
+            }
+        }
+        None
+    }
+
+    /// The value of a node in a pattern.
+    pub(crate) fn value(&self, row: usize, place: u32, k: u32) -> bool {
+        match self.rows.get(row) {
+            None => false,
+            Some(words) => (word_at(words.as_slice(), k) >> (place % 64)) % 2 == 1,
+        }
+    }
+
+    /// Simulates a new node.
+    pub(crate) fn push(&mut self, node: Node) -> Result<(), AllocError> {
+        let mut signature: u64 = 0;
+        let mut flip: u64 = 0;
+        for at in 0..self.rows.len() {
+            let input = self.random.next();
+            let row = &mut self.rows[at];
+            let word = word_by(row.as_slice(), node, input);
+            row.push(word)?;
+            if at == 0 && word % 2 == 1 {
+                flip = u64::MAX;
+            }
+            signature = signature.wrapping_add(share_of(at, word ^ flip));
+        }
+        self.signatures.push(signature)?;
+        Ok(())
+    }
+
+    /// Takes the last node back.
+    pub(crate) fn pop(&mut self) {
+        for at in 0..self.rows.len() {
+            self.rows[at].pop();
+        }
+        self.signatures.pop();
+    }
+
+    /// A word for each input, and 0 for each gate.
+    pub(crate) fn fresh_row(
+        &mut self,
+        alloc: Global,
+        graph: &Graph,
+    ) -> Result<Vec<u64>, AllocError> {
+        let mut row = Vec::new(alloc);
+        self.lengthen(graph, &mut row)?;
+        Ok(row)
+    }
+
+    /// Words for the nodes that came since a row was begun.
+    fn lengthen(&mut self, graph: &Graph, row: &mut Vec<u64>) -> Result<(), AllocError> {
+        for k in row.len()..graph.len() as usize {
+            let word = match graph.node(k as u32) {
+                Node::Input(_) => self.random.next(),
+                Node::Constant => 0,
+                Node::And(_, _) => 0,
+                Node::Xor(_, _) => 0,
+            };
+            row.push(word)?;
+        }
+        Ok(())
+    }
+
+    /// A word in which each place is set with one of eight, but for the first, which isn't.
+    pub(crate) fn neighbours(&mut self) -> u64 {
+        let flips = self.random.next() & self.random.next() & self.random.next();
+        flips & (u64::MAX - 1)
+    }
+
+    /// Simulates a row whose inputs have words, and puts it behind the others, or in place of the oldest of
+    /// counterexamples.
+    pub(crate) fn add_row(&mut self, graph: &Graph, mut row: Vec<u64>) -> Result<(), AllocError> {
+        self.lengthen(graph, &mut row)?;
+        for k in 0..graph.len() {
+            let word = word_by(row.as_slice(), graph.node(k), word_at(row.as_slice(), k));
+            if (k as usize) < row.len() {
+                row[k as usize] = word;
+            }
+        }
+        if self.rows.len() < MOST {
+            let at = self.rows.len();
+            self.rows.push(row)?;
+            self.count(at);
+            return Ok(());
+        }
+        let at = self.oldest;
+        self.oldest = if at < MOST - 1 { at + 1 } else { RANDOM };
+        self.discount(at);
+        if at < self.rows.len() {
+            self.rows[at] = row;
+        }
+        self.count(at);
+        Ok(())
+    }
+
+    /// Adds a row to the signatures.
+    fn count(&mut self, at: usize) {
+        for k in 0..self.signatures.len() {
+            let word = self.share(at, k);
+            self.signatures[k] = self.signatures[k].wrapping_add(word);
+        }
+    }
+
+    /// Takes a row out of the signatures.
+    fn discount(&mut self, at: usize) {
+        for k in 0..self.signatures.len() {
+            let word = self.share(at, k);
+            self.signatures[k] = self.signatures[k].wrapping_sub(word);
+        }
+    }
+
+    /// What a row adds to the signature of a node.
+    fn share(&self, at: usize, k: usize) -> u64 {
+        match self.rows.get(at) {
+            None => 0,
+            Some(row) => match row.get(k) {
+                None => 0,
+                Some(word) => share_of(at, *word ^ self.flip(k)),
+            },
+        }
+    }
+}

@@ -1,0 +1,24 @@
+//! Pseudo-random words, the same in each run.
+
+/// A generator of words (xorshift, with a multiplication at the end).
+#[derive(Clone, Copy, Debug)]
+pub(crate) struct Random {
+    state: u64,
+}
+
+impl Random {
+    pub(crate) fn new() -> Random {
+        Random {
+            state: 0x9E37_79B9_7F4A_7C15,
+        }
+    }
+
+    pub(crate) fn next(&mut self) -> u64 {
+        let mut x = self.state;
+        x ^= x << 13;
+        x ^= x >> 7;
+        x ^= x << 17;
+        self.state = x;
+        x.wrapping_mul(0x2545_F491_4F6C_DD1D)
+    }
+}

@@ -1,0 +1,6 @@
+pub mod BeginningLemmas
+pub mod BelowLemmas
+pub mod CopyLemmas
+pub mod ConeLemmas
+pub mod ValueLemmas
+pub mod WitnessLemmas

@@ -1,0 +1,7 @@
+use Rattle.eqc_witness.proofs.WitnessLemmas.{found_by_copy}
+use Rattle.eqc_witness.proofs.least.least_witness.Goals as goal
+
+pub returns : goal.returns
+returns c =
+    let cone = c.in_ok-cone.cone in
+    found_by_copy c.args.graph.now cone.graph c.args.literal cone.root cone.positions c.args.variables.now c.least_of-found.result c.in_ok-cone.ensures.positions c.in_ok-cone.ensures.copy c.least_of-found.ensures

@@ -1,0 +1,3 @@
+pub mod Witnesses
+pub mod Cones
+pub mod Completing

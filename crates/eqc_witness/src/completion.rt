@@ -1,0 +1,89 @@
+//! An assignment that begins with given values.
+ghost use Rattle.std.specs.Prelude.{◌≡◌, ◌≤◌, length, IfOk};
+ghost use Rattle.eqc_witness.specs.Cones.{holds_under};
+ghost use Rattle.eqc_witness.specs.Completing.{IsCompletion};
+
+use crate::cone::Cone;
+use eqc_search::{Answer, Budget, Search};
+use std::alloc::{AllocError, Global};
+
+/// What is known of the values that begin with some and make a cone's root true.
+#[derive(Drop)]
+pub(crate) enum Completion {
+    /// These do.
+    Found(Vec<bool>),
+    /// There are none.
+    Nothing,
+    /// It wasn't found out.
+    Unknown,
+}
+
+/// What a search may spend, and the memory that it needs.
+#[derive(Drop)]
+pub(crate) struct Means {
+    pub(crate) search: Search,
+    pub(crate) budget: Budget,
+}
+
+/// The values of positions in the assignment that a search found. What it leaves open is false.
+fn model_values(
+    alloc: Global,
+    positions: usize,
+    model: &[(u32, bool)],
+) -> Result<Vec<bool>, AllocError>
+    ensures { IfOk result (λ values. length values.items ≡ positions) }
+{
+    let mut values = vec![in alloc; false; positions]?;
+    for (node, value) in model {
+        // The input of position p is node p + 1.
+        let after = *node as usize;
+        if after > 0 && after <= values.len() {
+            values[after - 1] = *value;
+        }
+    }
+    Ok(values)
+}
+
+/// The assignment that the search found, if the root is true under it and it begins with the first values.
+fn found_by(
+    alloc: Global,
+    cone: &Cone,
+    first: &[bool],
+    search: &Search,
+) -> Result<Completion, AllocError>
+    requires { length first.now ≤ cone.now.positions }
+    ensures { IfOk result (IsCompletion cone.now.positions (holds_under cone.now.graph cone.now.root) first.now) }
+{
+    let values = model_values(alloc, cone.positions, search.model())?;
+    match cone.confirmed(alloc, first, &values)? {
+        Some(values) => Ok(Completion::Found(values)),
+        None => Ok(Completion::Unknown),
+    }
+}
+
+/// Finds values of the positions that begin with the first ones and make the root true, or that there are none. Tries the
+/// guess first, with the first values in place of its own. Fails where memory is refused.
+pub(crate) fn complete(
+    alloc: Global,
+    cone: &Cone,
+    first: &[bool],
+    guess: &[bool],
+    means: &mut Means,
+) -> Result<Completion, AllocError>
+    requires first { length first.now ≤ cone.now.positions }
+    requires guess { length guess.now ≡ cone.now.positions }
+    ensures { IfOk result (IsCompletion cone.now.positions (holds_under cone.now.graph cone.now.root) first.now) }
+{
+    if let Some(values) = cone.confirmed(alloc, first, guess)? {
+        return Ok(Completion::Found(values));
+    }
+    let assumptions = cone.assumptions(alloc, first)?;
+    match means
+        .search
+        .ask(&cone.graph, &assumptions, &mut means.budget)?
+    {
+        Answer::Refuted => Ok(Completion::Nothing),
+        Answer::GaveUp => Ok(Completion::Unknown),
+        Answer::Satisfied => found_by(alloc, cone, first, &means.search),
+    }
+}

@@ -1,0 +1,57 @@
+//! The graph below a literal, over positions.
+ghost use Rattle.std.specs.Prelude.{◌≡◌, ◌≤◌, length, IfOk};
+ghost use Rattle.eqc_graph.specs.Graph.{IsWithin};
+ghost use Rattle.eqc_witness.specs.Cones.{AreAssumptions, IsCone, IsCopy};
+
+use crate::below::below;
+use crate::copying::{copies, copy_of, inputs_alone};
+use eqc_graph::{Graph, negated_if};
+use std::alloc::{AllocError, Global};
+
+/// A graph that begins with the inputs of some positions, and a literal of it.
+#[derive(Drop)]
+pub(crate) struct Cone {
+    pub(crate) graph: Graph,
+    pub(crate) root: u32,
+    /// How many positions there are.
+    pub(crate) positions: usize,
+    ghost lawful: { IsCone graph root positions },
+}
+
+impl Cone {
+    /// What lies below a literal of a graph, over the positions of these variables. It takes time in proportion to the
+    /// graph, and to its inputs times the positions. Fails where memory is refused, or where there are 2^30 nodes.
+    pub(crate) fn of(
+        alloc: Global,
+        graph: &Graph,
+        literal: u32,
+        variables: &[u16],
+    ) -> Result<Cone, AllocError>
+        requires { IsWithin graph.now literal }
+        ensures positions { IfOk result (λ cone. cone.positions ≡ length variables.now) }
+        ensures copy { IfOk result (λ cone. IsCopy graph.now cone.graph variables.now literal cone.root) }
+    {
+        let marks = below(alloc, graph, literal)?;
+        let mut copy = inputs_alone(alloc, variables.len())?;
+        let table = copies(alloc, &mut copy, graph, &marks, variables)?;
+        Ok(Cone {
+            graph: copy,
+            root: copy_of(&table, literal),
+            positions: variables.len(),
+        })
+    }
+
+    /// Assumptions by which the root is true, and the first positions have these values. Fails where memory is refused.
+    pub(crate) fn assumptions(&self, alloc: Global, first: &[bool]) -> Result<Vec<u32>, AllocError>
+        requires { length first.now ≤ self.now.positions }
+        ensures { IfOk result (λ literals. AreAssumptions self.now.graph self.now.root first.now literals.items) }
+    {
+        let _ = self.graph.len();
+        let mut literals = Vec::with_capacity(alloc, first.len() + 1)?;
+        literals.push(self.root)?;
+        for (position, value) in first.iter().enumerate() {
+            literals.push(negated_if(2 * position as u32 + 2, !*value))?;
+        }
+        Ok(literals)
+    }
+}

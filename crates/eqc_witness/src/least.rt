@@ -1,0 +1,143 @@
+//! The least assignment under which a literal is true, position by position.
+ghost use Rattle.std.specs.Prelude.{◌≡◌, ◌∷◌, ◌++◌, [], ◌<◌, true, false, length, take, IfOk};
+ghost use Rattle.eqc_graph.specs.Graph.{IsWithin};
+ghost use Rattle.eqc_witness.specs.Cones.{holds_under};
+ghost use Rattle.eqc_witness.specs.Witnesses.{IsFoundOf, IsWitness};
+
+use crate::Witness;
+use crate::completion::{Completion, Means, complete};
+use crate::cone::Cone;
+use eqc_graph::Graph;
+use eqc_search::{Budget, Search};
+use std::alloc::{AllocError, Global};
+
+/// Literals that may be visited for each conflict, and conflicts' worth of them that there are without one.
+const VISITS: u64 = 1_000;
+
+const WITHOUT: u64 = 100;
+
+/// Visits of each node for each position, besides.
+const EACH: u64 = 16;
+
+/// What may be spent where there may be so many conflicts.
+fn budget_of(conflicts: u64, cone: &Cone) -> Budget {
+    let nodes = u64::from(cone.graph.len());
+    let questions = (cone.positions as u64).saturating_add(1);
+    Budget {
+        conflicts,
+        visits: conflicts
+            .saturating_add(WITHOUT)
+            .saturating_mul(VISITS)
+            .saturating_add(questions.saturating_mul(nodes).saturating_mul(EACH)),
+    }
+}
+
+/// The values of variables as values of their positions, false where none is told. The last that is told of a variable
+/// counts.
+fn values_told(
+    alloc: Global,
+    variables: &[u16],
+    told: &[(u32, bool)],
+) -> Result<Vec<bool>, AllocError>
+    ensures { IfOk result (λ values. length values.items ≡ length variables.now) }
+{
+    let mut by_variable = vec![in alloc; false; 65_536]?;
+    for (variable, value) in told {
+        let at = *variable as usize;
+        if at < by_variable.len() {
+            by_variable[at] = *value;
+        }
+    }
+    let mut values = Vec::with_capacity(alloc, variables.len())?;
+    for variable in variables {
+        let at = *variable as usize;
+        values.push(by_variable.get(at).copied().unwrap_or(false))?;
+    }
+    Ok(values)
+}
+
+/// Values before a position, and false there. Fails where memory is refused.
+fn lowered(alloc: Global, values: &[bool], position: usize) -> Result<Vec<bool>, AllocError>
+    requires { position < length values.now }
+    ensures { IfOk result (λ first. first.items ≡ take position values.now ++ false ∷ []) }
+{
+    let mut first = Vec::with_capacity(alloc, position + 1)?;
+    first.extend_from_slice(&values[..position])?;
+    first.push(false)?;
+    Ok(first)
+}
+
+/// The least values under which a cone's root is true, from some under which it is: each that is true is tried at false, with
+/// those before it as they are. Fails where memory is refused.
+fn least_from(
+    alloc: Global,
+    cone: &Cone,
+    values: Vec<bool>,
+    means: &mut Means,
+) -> Result<Witness, AllocError>
+    requires long { length values.items ≡ cone.now.positions }
+    requires holds { holds_under cone.now.graph cone.now.root values.items ≡ true }
+    ensures { IfOk result (IsFoundOf cone.now.positions (holds_under cone.now.graph cone.now.root)) }
+{
+    let mut values = values;
+    for position in 0..cone.positions {
+        if !values[position] {
+            continue;
+        }
+        let first = lowered(alloc, &values, position)?;
+        match complete(alloc, cone, &first, &values, means)? {
+            Completion::Found(lower) => values = lower,
+            Completion::Nothing => {}
+            Completion::Unknown => return Ok(Witness::Unknown(Some(values))),
+        }
+    }
+    Ok(Witness::Least(values))
+}
+
+/// The least values under which a cone's root is true. Tries a guess first. Fails where memory is refused.
+fn least_of(
+    alloc: Global,
+    cone: &Cone,
+    guess: &[bool],
+    means: &mut Means,
+) -> Result<Witness, AllocError>
+    requires { length guess.now ≡ cone.now.positions }
+    ensures { IfOk result (IsFoundOf cone.now.positions (holds_under cone.now.graph cone.now.root)) }
+{
+    match complete(alloc, cone, &[], guess, means)? {
+        Completion::Found(values) => least_from(alloc, cone, values, means),
+        Completion::Nothing => Ok(Witness::Never),
+        Completion::Unknown => Ok(Witness::Unknown(None)),
+    }
+}
+
+/// The least assignment under which a literal of a graph is true, in lexicographic order over `variables`, false before
+/// true, where every other variable is false; or that there is none; or, where the conflicts are used up, an assignment
+/// under which it is true, if one was seen.
+///
+/// `variables` has the variable of each position; where one stands twice, its first position counts. Of a literal that
+/// depends on others less may be found. `seen` are variables and their values in an assignment that is tried first; what isn't there is false, and nothing is promised of it.
+/// `conflicts` are those that all questions together may have, of which those are taken away that there were. Time and
+/// memory are in proportion to the graph and the conflicts, and to the nodes below the literal times the positions. Fails
+/// where memory is refused.
+pub fn least_witness(
+    alloc: Global,
+    graph: &Graph,
+    literal: u32,
+    variables: &[u16],
+    seen: &[(u32, bool)],
+    conflicts: &mut u64,
+) -> Result<Witness, AllocError>
+    requires { IsWithin graph.now literal }
+    ensures { IfOk result (IsWitness graph.now literal variables.now) }
+{
+    let cone = Cone::of(alloc, graph, literal, variables)?;
+    let guess = values_told(alloc, variables, seen)?;
+    let mut means = Means {
+        search: Search::new(alloc),
+        budget: budget_of(*conflicts, &cone),
+    };
+    let found = least_of(alloc, &cone, &guess, &mut means);
+    *conflicts = means.budget.conflicts;
+    found
+}

@@ -1,0 +1,188 @@
+//! Least assignments under which literals are true, worked out by hand, and what is found where the conflicts don't do.
+ghost use Rattle.std.specs.Prelude.{IsTrue};
+ghost use Rattle.eqc_graph.specs.Graph.{IsBelow};
+
+use crate::ends::same;
+use eqc_graph::{Graph, Node, node_of};
+use eqc_witness::{Witness, least_witness};
+use std::alloc::AllocError;
+use std::process::Abort;
+
+/// What is found, an assignment as a number whose highest digit is the first position's.
+#[derive(Clone, Copy, PartialEq, Eq, Debug)]
+enum Found {
+    Least(u32),
+    Never,
+    Unknown(Option<u32>),
+}
+
+/// A case: its name, the literal, the variables, what was seen, and what is found.
+type Case = (
+    &'static str,
+    u32,
+    &'static [u16],
+    &'static [(u32, bool)],
+    Found,
+);
+
+/// The literals of the first three variables.
+const X: u32 = 2;
+
+const Y: u32 = 4;
+
+const Z: u32 = 6;
+
+/// Three variables, and whether the first two differ, in the node with the literal 8; whether that differs from the third, in 10;
+/// whether neither of the first two is true, in 12; whether that is so and the first one is true, in 14.
+const NODES: &[Node] = &[
+    Node::Input(0),
+    Node::Input(1),
+    Node::Input(2),
+    Node::Xor(X, Y),
+    Node::Xor(8, Z),
+    Node::And(3, 5),
+    Node::And(12, X),
+];
+
+#[rattlefmt::skip]
+static CASES: &[Case] = &[
+    ("false", 0, &[0, 1, 2], &[], Found::Never),
+    ("true", 1, &[0, 1, 2], &[], Found::Least(0)),
+    ("a variable", Y, &[0, 1, 2], &[], Found::Least(0b010)),
+    ("its complement", 5, &[0, 1, 2], &[], Found::Least(0)),
+    ("one of two", 8, &[0, 1, 2], &[], Found::Least(0b010)),
+    ("both or none", 9, &[0, 1, 2], &[], Found::Least(0)),
+    ("one of three, or all", 10, &[0, 1, 2], &[], Found::Least(0b001)),
+    ("one of the first two", 13, &[0, 1, 2], &[], Found::Least(0b010)),
+    ("what is never so", 14, &[0, 1, 2], &[], Found::Never),
+    ("another order", 13, &[1, 0, 2], &[], Found::Least(0b010)),
+    ("a variable in another order", Y, &[2, 0, 1], &[], Found::Least(0b001)),
+    ("a variable that is nowhere", 8, &[0, 7, 1, 2], &[], Found::Least(0b0010)),
+    ("the first of two positions", Y, &[1, 1, 0], &[], Found::Least(0b100)),
+    ("from what was seen", 10, &[0, 1, 2], &[(0, true), (1, true), (2, true)], Found::Least(0b001)),
+    ("what was seen is wrong", 8, &[0, 1, 2], &[(0, true), (1, true)], Found::Least(0b010)),
+];
+
+/// The parity of seven variables, from the first one on and from the last one on; whether these differ; whether they don't and
+/// the first variable is false.
+const PARITIES: &[Node] = &[
+    Node::Input(0),
+    Node::Input(1),
+    Node::Input(2),
+    Node::Input(3),
+    Node::Input(4),
+    Node::Input(5),
+    Node::Input(6),
+    Node::Xor(2, 4),
+    Node::Xor(16, 6),
+    Node::Xor(18, 8),
+    Node::Xor(20, 10),
+    Node::Xor(22, 12),
+    Node::Xor(24, 14),
+    Node::Xor(14, 12),
+    Node::Xor(28, 10),
+    Node::Xor(30, 8),
+    Node::Xor(32, 6),
+    Node::Xor(34, 4),
+    Node::Xor(36, 2),
+    Node::Xor(26, 38),
+    Node::And(3, 41),
+];
+
+const APART: u32 = 40;
+
+const FIRST_OR_APART: u32 = 43;
+
+/// A case of the parities: its name, the literal, what was seen, the conflicts, and what is found.
+type Limit = (&'static str, u32, &'static [(u32, bool)], u64, Found);
+
+#[rattlefmt::skip]
+static LIMITS: &[Limit] = &[
+    ("parities that differ", APART, &[], 10_000, Found::Never),
+    ("without conflicts", APART, &[], 0, Found::Unknown(None)),
+    ("the first variable alone", FIRST_OR_APART, &[], 10_000, Found::Least(0b1000000)),
+    ("what was seen is true", FIRST_OR_APART, &[(0, true), (6, true)], 0, Found::Unknown(Some(0b1000001))),
+];
+
+/// Whether a node is made of nodes below this number.
+fn is_below(k: u32, node: Node) -> bool
+    ensures { IsTrue result → IsBelow k node }
+{
+    match node {
+        Node::Constant => true,
+        Node::Input(_) => true,
+        Node::And(x, y) => node_of(x) < k && node_of(y) < k,
+        Node::Xor(x, y) => node_of(x) < k && node_of(y) < k,
+    }
+}
+
+/// Puts nodes behind those of a graph.
+fn push_all(
+    rt: &(impl Abort + AllocGlobal),
+    graph: &mut Graph,
+    nodes: &[Node],
+) -> Result<(), AllocError> {
+    for node in nodes {
+        if !is_below(graph.len(), *node) {
+            panic!(rt; "a node is made of earlier ones");
+        }
+        graph.push(*node)?;
+    }
+    Ok(())
+}
+
+/// Values as the digits of a number.
+fn number_of(values: &[bool]) -> u32 {
+    let mut number: u32 = 0;
+    for value in values {
+        number = number.wrapping_mul(2).wrapping_add(u32::from(*value));
+    }
+    number
+}
+
+/// What is found of a literal of a graph of these nodes.
+fn witness_in(
+    rt: &(impl Abort + AllocGlobal),
+    nodes: &[Node],
+    literal: u32,
+    variables: &[u16],
+    seen: &[(u32, bool)],
+    conflicts: u64,
+) -> Result<Found, AllocError> {
+    let mut graph = Graph::new(rt.alloc())?;
+    push_all(rt, &mut graph, nodes)?;
+    if node_of(literal) >= graph.len() {
+        panic!(rt; "a literal is of a node");
+    }
+    let mut left = conflicts;
+    let witness = least_witness(rt.alloc(), &graph, literal, variables, seen, &mut left)?;
+    Ok(match witness {
+        Witness::Least(values) => Found::Least(number_of(&values)),
+        Witness::Never => Found::Never,
+        Witness::Unknown(None) => Found::Unknown(None),
+        Witness::Unknown(Some(values)) => Found::Unknown(Some(number_of(&values))),
+    })
+}
+
+#[test]
+fn least_assignments_are_found(rt: HostRuntime) {
+    for (case, literal, variables, seen, wanted) in CASES {
+        let witness = witness_in(&rt, NODES, *literal, variables, seen, 100);
+        same(&rt, witness, Ok(*wanted), case);
+    }
+}
+
+#[test]
+fn conflicts_are_a_limit(rt: HostRuntime) {
+    for (case, literal, seen, conflicts, wanted) in LIMITS {
+        let witness = witness_in(
+            &rt,
+            PARITIES,
+            *literal,
+            &[0, 1, 2, 3, 4, 5, 6],
+            seen,
+            *conflicts,
+        );
+        same(&rt, witness, Ok(*wanted), case);
+    }
+}
