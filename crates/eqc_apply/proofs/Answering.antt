@@ -20,10 +20,10 @@ use Rattle.eqc_apply.specs.declared.reference.Ref.{Ref}
 use Rattle.eqc_apply.specs.Extending.{Stays, Extends, entry_in, holding_of, holding_in}
 use Rattle.eqc_apply.specs.Referring.{entry_of}
 use Rattle.eqc_apply.specs.Before.{IsWorker}
-use Rattle.eqc_apply.specs.Spending.{Spends}
+use Rattle.eqc_plain.specs.Spending.{Spends}
 use Rattle.eqc_apply.specs.Answering.{IsReferenced, IsAnswer}
 use Rattle.eqc_apply.proofs.Once.{counted_held, seat_trans, seat_refl}
-use Rattle.eqc_apply.proofs.Spending.{spends_as, spends_trans}
+use Rattle.eqc_plain.proofs.Spending.{spends_as, spends_trans}
 use Rattle.eqc_arena.proofs.Asking.{held_is_named}
 use Rattle.eqc_apply.proofs.Holdings.{IsReferred, referred, keeps, counted_of}
 

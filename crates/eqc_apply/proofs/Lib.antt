@@ -2,7 +2,6 @@ pub mod Helping
 pub mod Receiving
 pub mod Withdrawing
 pub mod Handing
-pub mod Spending
 pub mod Once
 pub mod Reading
 pub mod Asked
@@ -20,3 +19,4 @@ pub mod Merging
 pub mod Absorbing
 pub mod Emptied
 pub mod Copying
+pub mod Telling

@@ -10,11 +10,11 @@ use Rattle.eqc_core.specs.Words.{times}
 use Rattle.eqc_guard.specs.Known.{Known, IsHeld, tree_of}
 use Rattle.eqc_apply.specs.declared.held.Held.{Held}
 use Rattle.eqc_apply.specs.Extending.{Extends}
-use Rattle.eqc_apply.specs.Spending.{Spends}
+use Rattle.eqc_plain.specs.Spending.{Spends}
 use Rattle.eqc_apply.specs.Combining.{IsNode, AreCofactors, IsResult}
 use Rattle.eqc_apply.specs.Meaning.{meaning_of, meaning_in, kept_of}
 use Rattle.eqc_apply.proofs.Once.{before_refl, before_trans, seat_refl, seat_trans, held_some}
-use Rattle.eqc_apply.proofs.Spending.{spends_refl, spends_trans}
+use Rattle.eqc_plain.proofs.Spending.{spends_refl, spends_trans}
 use Rattle.eqc_apply.proofs.Reading.{root_constant, starts_root}
 
 pub extends_refl : (n : Held) → Extends n n

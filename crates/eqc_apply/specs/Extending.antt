@@ -5,7 +5,7 @@ use Rattle.eqc_guard.specs.Known.{Known, tree_of}
 use Rattle.eqc_apply.specs.declared.held.Held.{Held}
 use Rattle.eqc_apply.specs.Names.{refs_of}
 use Rattle.eqc_apply.specs.Before.{IsBefore, IsSeat}
-use Rattle.eqc_apply.specs.Spending.{Spends}
+use Rattle.eqc_plain.specs.Spending.{Spends}
 
 -- a name, with its tree
 abbrev pub entry_in : Known → ℕ → Entry

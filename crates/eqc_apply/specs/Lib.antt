@@ -1,6 +1,5 @@
 pub mod Names
 pub mod Before
-pub mod Spending
 pub mod Meaning
 pub mod Combining
 pub mod Extending
@@ -14,3 +13,4 @@ pub mod Joining
 pub mod Stopping
 pub mod Handing
 pub mod Copying
+pub mod Closing

@@ -7,7 +7,7 @@ use Rattle.eqc_core.specs.Words.{times}
 use Rattle.eqc_guard.specs.Sharing.{number_of}
 use Rattle.eqc_guard.specs.Searching.{HasSeenAll}
 use Rattle.eqc_apply.specs.declared.held.Held.{Held}
-use Rattle.eqc_apply.specs.Spending.{IsSpent}
+use Rattle.eqc_plain.specs.Spending.{IsSpent}
 
 -- a stop of this kind came out of a box, since a lock was last won: another worker met it
 abbrev pub HasTaken : Stop → View → Type 0

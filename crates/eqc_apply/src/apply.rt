@@ -1,11 +1,11 @@
 //! The loop that applies an operation to two names.
 ghost use Rattle.std.specs.Prelude.{◌≡◌, ℕ, ◌<◌, ◌⊎◌, [], IfSome, IfNone, IfOk, IfErr};
 
-use crate::allowance::{FREE_TURNS, count_turn};
 use crate::applier::Applier;
 use crate::expansion::expand;
 use eqc_plain::task::{Task, Turn};
 use eqc_plain::terminal::decide;
+use eqc_plain::turns::{FREE_TURNS, count_turn};
 use eqc_tree::{Op, Stop};
 use std::snapshot::Snapshot;
 use std::sync::Wait;

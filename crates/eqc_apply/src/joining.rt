@@ -2,7 +2,7 @@
 ghost use Rattle.std.specs.Prelude.{◌≡◌, ℕ, ◌+◌, ◌<◌, ◌≤◌, ◌^◌, [], get_or, length};
 ghost use Rattle.eqc_apply.specs.Names.{Has};
 ghost use Rattle.eqc_apply.specs.Joining.{HasTwo, Merges, AreOrdered, IsMerged, HasTakenIn, both_refs};
-ghost use Rattle.eqc_apply.specs.Spending.{Spends};
+ghost use Rattle.eqc_plain.specs.Spending.{Spends};
 
 use crate::applier::Applier;
 use crate::held::Held;

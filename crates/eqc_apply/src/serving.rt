@@ -5,7 +5,7 @@ ghost use Rattle.eqc_guard.specs.Known.{IsHeld as IsName};
 ghost use Rattle.eqc_apply.specs.Before.{IsWorker};
 ghost use Rattle.eqc_apply.specs.Extending.{Stays, holding_in};
 ghost use Rattle.eqc_apply.specs.Referring.{entry_of};
-ghost use Rattle.eqc_apply.specs.Spending.{Spends};
+ghost use Rattle.eqc_plain.specs.Spending.{Spends};
 
 use crate::applier::Applier;
 use crate::reference::Ref;

@@ -8,6 +8,7 @@ use Rattle.eqc_build.specs.Listed.{listed, moment_in}
 use Rattle.eqc_build.specs.Steps.{StepsOf, AreSteps, steps_in, uses_of}
 use Rattle.eqc_build.specs.Schedule.{moment, end_of, AreLastMoments, AreUsedUntil, AreNoted, IsOpen}
 use Rattle.eqc_build.proofs.ListedLaws.{listed_size, listed_at}
+use Rattle.eqc_pair.proofs.AssumptionLemmas.{assumed_flat}
 use Rattle.eqc_build.proofs.StepLaws.{uses_before, uses_within}
 use Rattle.eqc_build.proofs.WantedLaws.{open_none, open_here, open_kept, open_popped, open_pushed, open_top}
 
@@ -79,16 +80,6 @@ noted_more steps at old old_items mid mid_items new new_items n a one = record {
     | inr w ↦ (let zero : w.0 ≡ 0 = omega (arith, w.1) in inr (n, omega arith, ap (λ k. get_or (get_or steps n 0 ∷ []) k 0) (sym zero) ∙ w.2))
   ];
 }
-
--- two steps
-pub noted_two : (s t at : ℕ) (old : ℕ → ℕ) (old_items : List ℕ) (mid : ℕ → ℕ) (mid_items : List ℕ) (new : ℕ → ℕ) (new_items : List ℕ) → AreNoted (s ∷ []) at old old_items mid mid_items 1 → AreNoted (t ∷ []) at mid mid_items new new_items 1 → AreNoted (s ∷ t ∷ []) at old old_items new new_items 2
-noted_two s t at old old_items mid mid_items new new_items first second = noted_more (s ∷ t ∷ []) at old old_items mid mid_items new new_items 1 (record {
-  stays = first.stays;
-  there = λ k h. (let zero : k ≡ 0 = omega arith in rw zero (first.there 0 (omega arith)));
-  fresh = first.fresh;
-  still = first.still;
-  only = λ x h. elim (first.only x h) [ inl before ↦ inl before | inr w ↦ (let zero : w.0 ≡ 0 = omega (arith, w.1) in inr (0, omega arith, ap (λ k. get_or (s ∷ []) k 0) (sym zero) ∙ w.2)) ];
-}) second
 
 -- ---- the walk
 
@@ -169,7 +160,7 @@ module _ (g : StepsOf) (roots : List ℕ) (last : ℕ → ℕ) (items : List ℕ
     size = listed_size (steps_in g.pair) last;
     closed = λ k c output lt within some late.
         let noted = listed_at (steps_in g.pair) last k 0 lt in
-        let one : output ≡ 1 = omega (arith, some, late, noted, w.few k, lawful.lawful.first_flat.few_signals, lawful.lawful.second_flat.few_signals) in
+        let one : output ≡ 1 = omega (arith, some, late, noted, w.few k, lawful.lawful.first_flat.few_signals, lawful.lawful.second_flat.few_signals, (assumed_flat g.pair lawful.lawful).few_signals) in
         elim (w.closed k c lt within (omega (arith, some, late, noted))) [
           | inl o ↦ absurd (open_none k (subst (λ xs. IsOpen xs k) empty o))
           | inr le ↦ omega (arith, one, le, listed_at (steps_in g.pair) last (get_or (uses_of g k) c 0) 0 (uses_within g k c lawful lt within))

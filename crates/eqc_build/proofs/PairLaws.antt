@@ -1,13 +1,14 @@
--- A pair's netlists are matched.
+-- A pair's netlists are matched, and its assumption with them.
 use Rattle.std.proofs.Common.{◌≡◌, ℕ, ◌<◌, [], List, length, get_or, sym, ◌∙◌, ap, arith}
 use Rattle.std.proofs.lemmas.List.{get_or-map, length-map}
 use Rattle.std.proofs.lemmas.List.FromFn.{length-map-range_with_len, get_or-map-range_with_len}
 use Rattle.eqc_pair.specs.Matched.{position_of}
 use Rattle.eqc_tree.specs.Assigned.{AreDistinct}
-use Rattle.eqc_pair.specs.PairOf.{PairOf, IsPair, variable_in, variables_in, first_variables, second_variables, second_signals, output_signal}
+use Rattle.eqc_pair.specs.PairOf.{PairOf, IsPair, assumed, variable_in, variables_in, first_variables, second_variables, assumed_variables, second_signals, output_signal}
 use Rattle.eqc_build.specs.Building.{AreVariables}
 use Rattle.eqc_pair.proofs.PlaceLemmas.{place_below, all_named}
 use Rattle.eqc_pair.proofs.OrderedLemmas.{both_ways}
+use Rattle.eqc_pair.proofs.AssumptionLemmas.{assumed_known}
 
 pub variables_at : (n i : ℕ) (order : List ℕ) → i < n → get_or (variables_in n order) i 0 ≡ variable_in order i
 variables_at n i order h = get_or-map-range_with_len (variable_in order) 0 n i i 0 h (omega arith)
@@ -65,3 +66,28 @@ pair_matched p h = record {
 
     signal_at : (o : ℕ) → o < length p.first.outputs → get_or (second_signals p) o 0 ≡ get_or p.second.output_signals (position_of p.second.outputs (get_or p.first.outputs o [])) 0
     signal_at o inside = get_or-map (output_signal p.second) p.first.outputs o [] 0 inside
+
+-- each input of the assumption has the variable of the first's input of its name
+pub record IsAssumptionMatched (p : PairOf) : Type 0 where
+  pub size : length (assumed_variables p) ≡ length (assumed p).inputs
+  pub below : (i : ℕ) → i < length (assumed_variables p) → get_or (assumed_variables p) i 0 < length p.first.inputs
+  pub inputs : (i : ℕ) → i < length (assumed p).inputs → position_of p.first.inputs (get_or (assumed p).inputs i []) < length p.first.inputs
+  pub same : (i : ℕ) → i < length (assumed p).inputs → get_or (assumed_variables p) i 0 ≡ get_or (first_variables p) (position_of p.first.inputs (get_or (assumed p).inputs i [])) 0
+
+pub assumption_matched : (p : PairOf) → IsPair p → IsAssumptionMatched p
+unfolding first_variables assumed_variables
+assumption_matched p h = record {
+  size = long;
+  below = λ i lt. (let inside : i < length (assumed p).inputs = omega (arith, long) in rw (at i inside) (h.ordered.variable_within (position_of p.first.inputs (get_or (assumed p).inputs i [])) (input_below i inside)));
+  inputs = input_below;
+  same = λ i inside. at i inside ∙ sym (variables_at (length p.first.inputs) (position_of p.first.inputs (get_or (assumed p).inputs i [])) p.order (input_below i inside));
+}
+  where
+    long : length (assumed_variables p) ≡ length (assumed p).inputs
+    long = length-map (assumed p).inputs (λ name. variable_in p.order (position_of p.first.inputs name))
+
+    at : (i : ℕ) → i < length (assumed p).inputs → get_or (assumed_variables p) i 0 ≡ variable_in p.order (position_of p.first.inputs (get_or (assumed p).inputs i []))
+    at i inside = get_or-map (λ name. variable_in p.order (position_of p.first.inputs name)) (assumed p).inputs i [] 0 inside
+
+    input_below : (i : ℕ) → i < length (assumed p).inputs → position_of p.first.inputs (get_or (assumed p).inputs i []) < length p.first.inputs
+    input_below i inside = place_below p.first.inputs (get_or (assumed p).inputs i []) (all_named p.first.inputs (assumed p).inputs (assumed_known p h) i inside)

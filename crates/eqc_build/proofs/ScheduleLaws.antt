@@ -1,9 +1,9 @@
 -- The last moments at which steps are used.
-use Rattle.std.proofs.Common.{◌≡◌, ◌⊎◌, ℕ, zero, suc, ◌+◌, ◌<◌, ◌≤◌, Bool, true, false, true≢false, List, [], ◌∷◌, length, get_or, set, refl, sym, ◌∙◌, ap, arith, inl, inr, subst}
+use Rattle.std.proofs.Common.{◌≡◌, ℕ, ◌+◌, ◌<◌, ◌≤◌, Bool, true, false, true≢false, List, length, get_or, set, refl, sym, ◌∙◌, ap, arith, inl, inr, subst}
 use Rattle.std.proofs.lemmas.List.{get_or-set_same, get_or-set_other}
 use Rattle.std.proofs.lemmas.Bool.{cases_eq}
 use Rattle.std.proofs.Math.ListN.{length-set}
-use Rattle.eqc_build.specs.Steps.{StepsOf, AreSteps, roots_of, steps_in, uses_of}
+use Rattle.eqc_build.specs.Steps.{StepsOf, AreSteps, goals_of, steps_in, uses_of}
 use Rattle.eqc_build.specs.Schedule.{moment, end_of, AreLastMoments, AreUsedUntil, IsRaised}
 use Rattle.eqc_build.specs.Turns.{is_marked}
 use Rattle.eqc_build.proofs.StepLaws.{uses_before}
@@ -55,24 +55,19 @@ raised_more old mid signals n at inside early r = record {
 -- the first outputs that are not marked use their steps until they are compared
 pub record AreEnded (g : StepsOf) (marks : List Bool) (last : List ℕ) (outputs : ℕ) : Type 0 where
   pub size : length last ≡ steps_in g.pair
-  pub each : (o : ℕ) → o < outputs → is_marked marks o ≡ false → AreUsedUntil last (roots_of g o) (end_of g (o + 1))
+  pub each : (o : ℕ) → o < outputs → is_marked marks o ≡ false → AreUsedUntil last (goals_of g o) (end_of g (o + 1))
 
 pub ended_none : (g : StepsOf) (marks : List Bool) (last : List ℕ) → length last ≡ steps_in g.pair → AreEnded g marks last 0
 ended_none g marks last size = record { size = size; each = λ o lt unmarked. absurd (omega arith) }
 
 -- moments that are no earlier
-later_ended : (g : StepsOf) (marks : List Bool) (last new : List ℕ) (outputs : ℕ) → length new ≡ length last → ((s : ℕ) → (get_or last s 0 ≤ get_or new s 0) ⊎ (end_of g (outputs + 1) ≤ get_or new s 0)) → AreEnded g marks last outputs → AreEnded g marks new outputs
+later_ended : (g : StepsOf) (marks : List Bool) (last new : List ℕ) (outputs : ℕ) → length new ≡ length last → ((s : ℕ) → get_or last s 0 ≤ get_or new s 0) → AreEnded g marks last outputs → AreEnded g marks new outputs
 later_ended g marks last new outputs size late e = record {
   size = size ∙ e.size;
-  each = λ o lt unmarked. record {
-    each = λ k h. elim (late (get_or (roots_of g o) k 0)) [
-      | inl more ↦ omega (arith, more, (e.each o lt unmarked).each k h)
-      | inr end ↦ omega (arith, end, lt)
-    ];
-  };
+  each = λ o lt unmarked. record { each = λ k h. omega (arith, late (get_or (goals_of g o) k 0), (e.each o lt unmarked).each k h) };
 }
 
--- one output more, that is marked, or whose two steps are noted
+-- one output more, that is marked, or whose steps are noted
 pub ended_marked : (g : StepsOf) (marks : List Bool) (last : List ℕ) (outputs : ℕ) → is_marked marks outputs ≡ true → AreEnded g marks last outputs → AreEnded g marks last (outputs + 1)
 ended_marked g marks last outputs marked e = record {
   size = e.size;
@@ -82,46 +77,20 @@ ended_marked g marks last outputs marked e = record {
   ];
 }
 
-pub ended_more : (g : StepsOf) (marks : List Bool) (last : List ℕ) (outputs s t at : ℕ) → roots_of g outputs ≡ s ∷ t ∷ [] → at ≡ end_of g (outputs + 1) → s < length last → t < length last → AreEnded g marks last outputs → AreEnded g marks (set (set last s at) t at) (outputs + 1)
-ended_more g marks last outputs s t at roots is s_in t_in e = record {
+pub ended_more : (g : StepsOf) (marks : List Bool) (last new : List ℕ) (outputs : ℕ) (goals : List ℕ) (at : ℕ) → goals ≡ goals_of g outputs → at ≡ end_of g (outputs + 1) → IsRaised last new goals (length goals) at → AreEnded g marks last outputs → AreEnded g marks new (outputs + 1)
+ended_more g marks last new outputs goals at are is r e = record {
   size = more.size;
   each = λ o lt unmarked. elim (cases_eq o outputs) [
-    | inl same ↦ subst (λ i. AreUsedUntil (set (set last s at) t at) (roots_of g i) (end_of g (i + 1))) (sym same) (rw roots here)
+    | inl same ↦ subst (λ i. AreUsedUntil new (goals_of g i) (end_of g (i + 1))) (sym same) (subst (λ xs. AreUsedUntil new xs (end_of g (outputs + 1))) are here)
     | inr apart ↦ more.each o (omega arith) unmarked
   ];
 }
   where
-    size : length (set (set last s at) t at) ≡ length last
-    size = length-set (set last s at) t at ∙ length-set last s at
+    more : AreEnded g marks new outputs
+    more = later_ended g marks last new outputs r.size r.grown e
 
-    at_t : get_or (set (set last s at) t at) t 0 ≡ at
-    at_t = get_or-set_same (set last s at) t at 0 (omega (arith, t_in, length-set last s at))
-
-    at_s : get_or (set (set last s at) t at) s 0 ≡ at
-    at_s = elim (cases_eq s t) [
-      | inl same ↦ ap (λ i. get_or (set (set last s at) t at) i 0) same ∙ at_t
-      | inr apart ↦ get_or-set_other (set last s at) t s at 0 apart ∙ get_or-set_same last s at 0 s_in
-    ]
-
-    late : (i : ℕ) → (get_or last i 0 ≤ get_or (set (set last s at) t at) i 0) ⊎ (end_of g (outputs + 1) ≤ get_or (set (set last s at) t at) i 0)
-    late i = elim (cases_eq i t) [
-      | inl same ↦ inr (omega (arith, is, ap (λ j. get_or (set (set last s at) t at) j 0) same, at_t))
-      | inr apart ↦ elim (cases_eq i s) [
-        | inl same ↦ inr (omega (arith, is, ap (λ j. get_or (set (set last s at) t at) j 0) same, at_s))
-        | inr other ↦ inl (omega (arith, get_or-set_other (set last s at) t i at 0 apart, get_or-set_other last s i at 0 other))
-      ]
-    ]
-
-    more : AreEnded g marks (set (set last s at) t at) outputs
-    more = later_ended g marks last (set (set last s at) t at) outputs size late e
-
-    here : AreUsedUntil (set (set last s at) t at) (s ∷ t ∷ []) (end_of g (outputs + 1))
-    here = record { each = each }
-      where
-        each : (k : ℕ) → k < length (s ∷ t ∷ []) → end_of g (outputs + 1) ≤ get_or (set (set last s at) t at) (get_or (s ∷ t ∷ []) k 0) 0
-        each zero lt = omega (arith, is, at_s)
-        each (suc zero) lt = omega (arith, is, at_t)
-        each (suc (suc k)) lt = absurd (omega arith)
+    here : AreUsedUntil new goals (end_of g (outputs + 1))
+    here = record { each = λ k h. omega (arith, is, r.noted k h) }
 
 -- the steps from k on have their moments
 pub record AreMomentsFrom (g : StepsOf) (marks : List Bool) (last : List ℕ) (outputs k : ℕ) : Type 0 where
@@ -142,7 +111,7 @@ moments_skip g marks last outputs k none m = record {
 
 pub moments_raised : (g : StepsOf) (marks : List Bool) (last new : List ℕ) (outputs k start : ℕ) → AreSteps g → k < steps_in g.pair → ((output : ℕ) → moment output 0 ≤ get_or last k 0 → moment output 0 ≤ start) → AreMomentsFrom g marks last outputs (k + 1) → IsRaised last new (uses_of g k) (length (uses_of g k)) (start + (k + 1)) → AreMomentsFrom g marks new outputs k
 moments_raised g marks last new outputs k start h inside starts m r = record {
-  ended = later_ended g marks last new outputs r.size (λ s. inl (r.grown s)) m.ended;
+  ended = later_ended g marks last new outputs r.size r.grown m.ended;
   closed = λ j c output le lt within some late. elim (cases_eq j k) [
     | inl same ↦ here j c output same within (omega (arith, late, same_at j le))
     | inr apart ↦ omega (arith, m.closed j c output (omega arith) lt within some (omega (arith, late, same_at j le)), r.grown (get_or (uses_of g j) c 0))

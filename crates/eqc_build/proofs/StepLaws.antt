@@ -1,17 +1,21 @@
 -- The steps of a pair: what they use comes before them, and their values are those of signals.
-use Rattle.std.proofs.Common.{◌≡◌, ℕ, zero, suc, ◌+◌, ◌-◌, ◌<◌, ◌≤◌, Bool, List, [], ◌∷◌, length, map, get_or, refl, sym, ◌∙◌, ap, arith, inl, inr, subst}
+use Rattle.std.proofs.Common.{◌≡◌, ℕ, zero, suc, ◌+◌, ◌-◌, ◌<◌, ◌≤◌, Bool, List, [], ◌∷◌, length, map, get_or, refl, sym, ◌∙◌, ap, arith, inl, inr, subst, Option, Some, None, IfSome}
+use Rattle.std.specs.Option.{option_map_or, option_copied, unwrap_or}
+use Rattle.std.specs.Borrow.{Bor}
 use Rattle.std.proofs.lemmas.List.{get_or-map, length-map}
 use Rattle.std.proofs.lemmas.Bool.{lt-ltb, le-ltb, cases_lt}
 use Rattle.eqc_flat.specs.Graph.{FlatOf, IsFlat, FollowsDrivers, DriverOf, input, tie, cover, driver_at, dependencies, driven, value_of}
 use Rattle.eqc_flat.proofs.EvaluationLaws.{dep_before}
-use Rattle.eqc_pair.specs.PairOf.{PairOf, ArePlaces, first_variables, second_variables, second_signals}
-use Rattle.eqc_build.specs.Steps.{StepsOf, AreSteps, IsChoice, inputs_under, steps_in, value_at, chosen_for, step_in, uses_in, uses_of, first_root, second_root, roots_of}
+use Rattle.eqc_pair.specs.PairOf.{PairOf, IsPair, IsAssumption, ArePlaces, no_netlist, assumed, first_variables, second_variables, assumed_variables, second_signals}
+use Rattle.eqc_pair.proofs.AssumptionLemmas.{assumed_flat}
+use Rattle.eqc_build.specs.Schedule.{AreWithin}
+use Rattle.eqc_build.specs.Steps.{StepsOf, AreSteps, IsChoice, IsSide, inputs_under, assumed_start, steps_in, value_at, chosen_for, step_in, uses_in, uses_of, first_root, second_root, roots_of, assumed_root, goals_of}
 use Rattle.eqc_build.specs.StepDrivers.{IsDriverIn, IsMadeBy}
 use Rattle.eqc_build.specs.declared.steps.StepDriver.{StepDriver}
 use Rattle.eqc_build.specs.declared.steps.StepDriver.TheVariants.{Variable, Copy, Cover}
-use Rattle.eqc_build.proofs.PairLaws.{pair_matched}
+use Rattle.eqc_build.proofs.PairLaws.{pair_matched, assumption_matched}
 
--- ---- steps of the first netlist and of the second
+-- ---- steps of the first netlist, of the second and of the assumption
 
 pub value_first : (p : PairOf) (a : ℕ → Bool) (k : ℕ) → k < length p.first.drivers → value_at p a k ≡ value_of p.first (inputs_under (first_variables p) a) (get_or p.first.steps k 0)
 unfolding value_at
@@ -20,17 +24,39 @@ value_first p a k lt = rw (lt-ltb k (length p.first.drivers) lt) refl
 behind : (n j : ℕ) → n + j - n ≡ j
 behind n j = omega arith
 
-pub value_second : (p : PairOf) (a : ℕ → Bool) (j : ℕ) → value_at p a (length p.first.drivers + j) ≡ value_of p.second (inputs_under (second_variables p) a) (get_or p.second.steps j 0)
+pub value_second : (p : PairOf) (a : ℕ → Bool) (j : ℕ) → j < length p.second.drivers → value_at p a (length p.first.drivers + j) ≡ value_of p.second (inputs_under (second_variables p) a) (get_or p.second.steps j 0)
 unfolding value_at
-value_second p a j = rw (le-ltb (length p.first.drivers + j) (length p.first.drivers) (omega arith)) (ap (λ i. value_of p.second (inputs_under (second_variables p) a) (get_or p.second.steps i 0)) (behind (length p.first.drivers) j))
+value_second p a j lt = rw (le-ltb (length p.first.drivers + j) (length p.first.drivers) (omega arith), lt-ltb (length p.first.drivers + j) (assumed_start p) (omega (arith, lt)))
+    (ap (λ i. value_of p.second (inputs_under (second_variables p) a) (get_or p.second.steps i 0)) (behind (length p.first.drivers) j))
+
+pub value_assumed : (p : PairOf) (a : ℕ → Bool) (j : ℕ) → value_at p a (assumed_start p + j) ≡ value_of (assumed p) (inputs_under (assumed_variables p) a) (get_or (assumed p).steps j 0)
+unfolding value_at
+value_assumed p a j = rw (le-ltb (assumed_start p + j) (length p.first.drivers) (omega arith), le-ltb (assumed_start p + j) (assumed_start p) (omega arith))
+    (ap (λ i. value_of (assumed p) (inputs_under (assumed_variables p) a) (get_or (assumed p).steps i 0)) (behind (assumed_start p) j))
 
 pub uses_first : (g : StepsOf) (k : ℕ) → k < length g.pair.first.drivers → uses_of g k ≡ uses_in g.pair.first g.chosen g.places 0 k
 unfolding uses_of
 uses_first g k lt = rw (lt-ltb k (length g.pair.first.drivers) lt) refl
 
-pub uses_second : (g : StepsOf) (j : ℕ) → uses_of g (length g.pair.first.drivers + j) ≡ uses_in g.pair.second g.chosen g.others (length g.pair.first.drivers) j
+pub uses_second : (g : StepsOf) (j : ℕ) → j < length g.pair.second.drivers → uses_of g (length g.pair.first.drivers + j) ≡ uses_in g.pair.second g.chosen g.others (length g.pair.first.drivers) j
 unfolding uses_of
-uses_second g j = rw (le-ltb (length g.pair.first.drivers + j) (length g.pair.first.drivers) (omega arith)) (ap (uses_in g.pair.second g.chosen g.others (length g.pair.first.drivers)) (behind (length g.pair.first.drivers) j))
+uses_second g j lt = rw (le-ltb (length g.pair.first.drivers + j) (length g.pair.first.drivers) (omega arith), lt-ltb (length g.pair.first.drivers + j) (assumed_start g.pair) (omega (arith, lt)))
+    (ap (uses_in g.pair.second g.chosen g.others (length g.pair.first.drivers)) (behind (length g.pair.first.drivers) j))
+
+pub uses_assumed : (g : StepsOf) (j : ℕ) → uses_of g (assumed_start g.pair + j) ≡ uses_in (assumed g.pair) g.chosen g.further (assumed_start g.pair) j
+unfolding uses_of
+uses_assumed g j = rw (le-ltb (assumed_start g.pair + j) (length g.pair.first.drivers) (omega arith), le-ltb (assumed_start g.pair + j) (assumed_start g.pair) (omega arith))
+    (ap (uses_in (assumed g.pair) g.chosen g.further (assumed_start g.pair)) (behind (assumed_start g.pair) j))
+
+-- what holds of a step of each of the three holds of each step
+pub for_each_step : (p : PairOf) (P : ℕ → Type 0) → ((k : ℕ) → k < length p.first.drivers → P k) → ((j : ℕ) → j < length p.second.drivers → P (length p.first.drivers + j)) → ((j : ℕ) → j < length (assumed p).drivers → P (assumed_start p + j)) → (k : ℕ) → k < steps_in p → P k
+for_each_step p P first second third k inside = elim (cases_lt k (length p.first.drivers)) [
+  | inl lt ↦ first k lt
+  | inr past ↦ elim (cases_lt k (assumed_start p)) [
+    | inl lt ↦ subst P (let e : length p.first.drivers + (k - length p.first.drivers) ≡ k = omega (arith, past) in e) (second (k - length p.first.drivers) (omega (arith, past, lt)))
+    | inr behind_both ↦ subst P (let e : assumed_start p + (k - assumed_start p) ≡ k = omega (arith, behind_both) in e) (third (k - assumed_start p) (omega (arith, behind_both, inside)))
+  ]
+]
 
 -- ---- what a step uses
 
@@ -52,15 +78,11 @@ side_before f chosen places start k c flat p early inside within =
 
 -- it comes before the step
 pub uses_before : (g : StepsOf) (k c : ℕ) → AreSteps g → k < steps_in g.pair → c < length (uses_of g k) → get_or (uses_of g k) c 0 < k
-uses_before g k c h inside within = elim (cases_lt k (length g.pair.first.drivers)) [
-  | inl lt ↦ subst (λ us. c < length us → get_or us c 0 < k) (sym (uses_first g k lt)) (λ w. omega (arith, side_before g.pair.first g.chosen g.places 0 k c h.lawful.first_flat h.places (λ i less. h.choice.early i (omega (arith, less))) lt w)) within
-  | inr past ↦
-      let n = length g.pair.first.drivers in
-      let is : n + (k - n) ≡ k = omega (arith, past) in
-      let second : n + (k - n) < steps_in g.pair → c < length (uses_of g (n + (k - n))) → get_or (uses_of g (n + (k - n))) c 0 < n + (k - n) =
-      λ less. subst (λ us. c < length us → get_or us c 0 < n + (k - n)) (sym (uses_second g (k - n))) (side_before g.pair.second g.chosen g.others n (k - n) c h.lawful.second_flat h.others (λ i low. h.choice.early i low) (omega (arith, inside, past))) in
-      subst (λ i. i < steps_in g.pair → c < length (uses_of g i) → get_or (uses_of g i) c 0 < i) is second inside within
-]
+uses_before g k c h inside = for_each_step g.pair (λ i. c < length (uses_of g i) → get_or (uses_of g i) c 0 < i)
+    (λ i lt. subst (λ us. c < length us → get_or us c 0 < i) (sym (uses_first g i lt)) (λ w. omega (arith, side_before g.pair.first g.chosen g.places 0 i c h.lawful.first_flat h.places (λ x less. h.choice.early x (omega (arith, less))) lt w)))
+    (λ j lt. subst (λ us. c < length us → get_or us c 0 < length g.pair.first.drivers + j) (sym (uses_second g j lt)) (side_before g.pair.second g.chosen g.others (length g.pair.first.drivers) j c h.lawful.second_flat h.others (λ x low. h.choice.early x (omega (arith, low))) lt))
+    (λ j lt. subst (λ us. c < length us → get_or us c 0 < assumed_start g.pair + j) (sym (uses_assumed g j)) (side_before (assumed g.pair) g.chosen g.further (assumed_start g.pair) j c (assumed_flat g.pair h.lawful) h.further (λ x low. h.choice.early x low) lt))
+    k inside
 
 pub uses_within : (g : StepsOf) (k c : ℕ) → AreSteps g → k < steps_in g.pair → c < length (uses_of g k) → get_or (uses_of g k) c 0 < steps_in g.pair
 uses_within g k c h inside within = omega (arith, uses_before g k c h inside within, inside)
@@ -83,8 +105,16 @@ second_made g a t h inside =
     let n = length g.pair.first.drivers in
     let lt : get_or g.others t 0 < length g.pair.second.drivers = omega (arith, h.others.within t inside, h.lawful.second_flat.step_count) in
     h.choice.same (n + get_or g.others t 0) a (omega (arith, lt))
-    ∙ (value_second g.pair a (get_or g.others t 0)
+    ∙ (value_second g.pair a (get_or g.others t 0) lt
     ∙ ap (value_of g.pair.second (inputs_under (second_variables g.pair) a)) (h.others.at t inside))
+
+pub assumed_made : (g : StepsOf) (a : ℕ → Bool) (t : ℕ) → AreSteps g → t < length (assumed g.pair).drivers → value_at g.pair a (step_in g.chosen g.further (assumed_start g.pair) t) ≡ value_of (assumed g.pair) (inputs_under (assumed_variables g.pair) a) t
+unfolding step_in
+assumed_made g a t h inside =
+    let lt : get_or g.further t 0 < length (assumed g.pair).drivers = omega (arith, h.further.within t inside, (assumed_flat g.pair h.lawful).step_count) in
+    h.choice.same (assumed_start g.pair + get_or g.further t 0) a (omega (arith, lt))
+    ∙ (value_assumed g.pair a (get_or g.further t 0)
+    ∙ ap (value_of (assumed g.pair) (inputs_under (assumed_variables g.pair) a)) (h.further.at t inside))
 
 -- the steps of an output's two signals
 pub first_root_within : (g : StepsOf) (output : ℕ) → AreSteps g → output < length g.pair.first.outputs → first_root g output < steps_in g.pair
@@ -121,6 +151,71 @@ roots_within g output zero h inside lt = first_root_within g output h inside
 roots_within g output (suc zero) h inside lt = second_root_within g output h inside
 roots_within g output (suc (suc k)) h inside lt = absurd (omega arith)
 
+-- the assumption that a call lends, or none
+pub lent_none : (p : PairOf) (lent : Option (Bor FlatOf)) → option_copied lent ≡ p.assumes → lent ≡ None → p.assumes ≡ None
+lent_none p lent is none = sym is ∙ ap option_copied none
+
+pub lent_some : (p : PairOf) (lent : Option (Bor FlatOf)) (netlist : Bor FlatOf) → option_copied lent ≡ p.assumes → lent ≡ Some netlist → p.assumes ≡ Some netlist.now
+lent_some p lent netlist is some = sym is ∙ ap option_copied some
+
+pub assumed_of : (p : PairOf) (netlist : FlatOf) → p.assumes ≡ Some netlist → assumed p ≡ netlist
+assumed_of p netlist is = ap (λ o. unwrap_or o no_netlist) is
+
+pub nothing_assumed : (p : PairOf) → p.assumes ≡ None → length (assumed p).drivers ≡ 0
+nothing_assumed p none = ap (λ o. length (unwrap_or o no_netlist).drivers) none
+
+pub assumption_of_pair : (p : PairOf) (netlist : FlatOf) → IsPair p → p.assumes ≡ Some netlist → IsAssumption p.first.inputs netlist
+assumption_of_pair p netlist h is = subst (λ o. IfSome o (IsAssumption p.first.inputs)) is h.assuming
+
+-- the step of the assumption's output, which is listed where there is an assumption
+module _ (g : StepsOf) (h : AreSteps g) (netlist : FlatOf) (is : g.pair.assumes ≡ Some netlist) where
+  pub output_assumed : get_or netlist.output_signals 0 0 < length (assumed g.pair).drivers
+  output_assumed =
+      let one = assumption_of_pair g.pair netlist h.lawful is in
+      subst (λ (f : FlatOf). get_or netlist.output_signals 0 0 < length f.drivers) (sym (assumed_of g.pair netlist is)) (one.flat.outputs_within 0 (omega (arith, one.one_output)))
+
+  pub assumed_root_is : assumed_root g ≡ step_in g.chosen g.further (assumed_start g.pair) (get_or netlist.output_signals 0 0) ∷ []
+  unfolding assumed_root
+  assumed_root_is = ap (λ o. option_map_or (λ (f : FlatOf). step_in g.chosen g.further (assumed_start g.pair) (get_or f.output_signals 0 0) ∷ []) o []) is
+
+  pub assumed_step_within : step_in g.chosen g.further (assumed_start g.pair) (get_or netlist.output_signals 0 0) < steps_in g.pair
+  unfolding step_in
+  assumed_step_within =
+      let t = get_or netlist.output_signals 0 0 in
+      let place = h.further.within t output_assumed in
+      omega (arith, place, (assumed_flat g.pair h.lawful).step_count, h.choice.early (assumed_start g.pair + get_or g.further t 0) (omega (arith, place, (assumed_flat g.pair h.lawful).step_count)))
+
+-- there is none without an assumption
+pub no_assumed_root : (g : StepsOf) → g.pair.assumes ≡ None → assumed_root g ≡ []
+unfolding assumed_root
+no_assumed_root g none = ap (λ o. option_map_or (λ (f : FlatOf). step_in g.chosen g.further (assumed_start g.pair) (get_or f.output_signals 0 0) ∷ []) o []) none
+
+pub assumed_root_within : (g : StepsOf) → AreSteps g → AreWithin g (assumed_root g)
+assumed_root_within g h = by g.pair.assumes refl
+  where
+    by : (o : Option FlatOf) → g.pair.assumes ≡ o → AreWithin g (assumed_root g)
+    by None is = rw (no_assumed_root g is) (record { each = λ k lt. absurd (omega arith) })
+    by (Some f) is = rw (assumed_root_is g h f is) (record { each = λ k lt. (let zero : k ≡ 0 = omega arith in rw zero (assumed_step_within g h f is)) })
+
+-- what a comparison of an output needs: two steps, or three with that of the assumption
+pub goals_two : (g : StepsOf) (output : ℕ) (roots : List ℕ) → roots ≡ roots_of g output → [] ≡ assumed_root g → get_or roots 0 0 ∷ get_or roots 1 0 ∷ [] ≡ goals_of g output
+unfolding roots_of
+goals_two g output roots is none = rw (is, sym none) refl
+
+pub goals_three : (g : StepsOf) (output third : ℕ) (roots : List ℕ) → roots ≡ roots_of g output → third ∷ [] ≡ assumed_root g → get_or roots 0 0 ∷ get_or roots 1 0 ∷ third ∷ [] ≡ goals_of g output
+unfolding roots_of
+goals_three g output third roots is one = rw (is, sym one) refl
+
+-- they are steps
+pub goals_within : (g : StepsOf) (output : ℕ) → AreSteps g → output < length g.pair.first.outputs → AreWithin g (goals_of g output)
+unfolding roots_of
+goals_within g output h inside = record { each = each }
+  where
+    each : (k : ℕ) → k < length (goals_of g output) → get_or (goals_of g output) k 0 < steps_in g.pair
+    each zero lt = first_root_within g output h inside
+    each (suc zero) lt = second_root_within g output h inside
+    each (suc (suc k)) lt = (assumed_root_within g h).each k (omega arith)
+
 -- ---- what makes a step's value
 
 -- values of steps that are those of signals
@@ -130,16 +225,6 @@ values_mapped v w t (s ∷ signals) same =
     let here : v (t s) ≡ w s = same 0 (omega arith) in
     let others = values_mapped v w t signals (λ k h. same (suc k) (omega arith)) in
     cc
-
--- number k of a netlist's own steps is a step of a pair, and the pair's steps for the netlist's signals have their values
-pub record IsSide (g : StepsOf) (f : FlatOf) (variables places : List ℕ) (start k at : ℕ) : Type 0 where
-  pub lawful : IsFlat f
-  pub follows : FollowsDrivers f
-  pub inside : k < length f.drivers
-  pub below : (position : ℕ) → position < length f.inputs → get_or variables position 0 < length g.pair.first.inputs
-  pub uses : uses_of g at ≡ uses_in f g.chosen places start k
-  pub value : (a : ℕ → Bool) → value_at g.pair a at ≡ value_of f (inputs_under variables a) (get_or f.steps k 0)
-  pub signal : (a : ℕ → Bool) (s : ℕ) → s < length f.drivers → value_at g.pair a (step_in g.chosen places start s) ≡ value_of f (inputs_under variables a) s
 
 -- what a driver makes is the value of its signal
 driven_value : (f : FlatOf) (b : ℕ → Bool) (s : ℕ) (driver : DriverOf) → FollowsDrivers f → s < length f.drivers → driver_at f s ≡ driver → driven f.rows b (value_of f b) driver ≡ value_of f b s
@@ -173,26 +258,43 @@ pub side_first : (g : StepsOf) (k : ℕ) → AreSteps g → k < length g.pair.fi
 side_first g k h lt = record {
   lawful = h.lawful.first_flat;
   follows = h.first_follows;
+  places_are = h.places;
+  begins = omega arith;
   inside = lt;
+  size = (pair_matched g.pair h.lawful).first.size;
   below = λ position inside. (let m = (pair_matched g.pair h.lawful).first in m.below position (omega (arith, inside, m.size)));
   uses = uses_first g k lt;
   value = λ a. value_first g.pair a k lt;
   signal = λ a s inside. first_made g a s h inside;
 }
 
-pub side_second : (g : StepsOf) (k : ℕ) → AreSteps g → length g.pair.first.drivers ≤ k → k < steps_in g.pair → IsSide g g.pair.second (second_variables g.pair) g.others (length g.pair.first.drivers) (k - length g.pair.first.drivers) k
-side_second g k h past lt = record {
+pub side_second : (g : StepsOf) (k j : ℕ) → AreSteps g → k ≡ length g.pair.first.drivers + j → j < length g.pair.second.drivers → IsSide g g.pair.second (second_variables g.pair) g.others (length g.pair.first.drivers) j k
+side_second g k j h is lt = rw is (record {
   lawful = h.lawful.second_flat;
   follows = h.second_follows;
-  inside = omega (arith, lt, past);
+  places_are = h.others;
+  begins = omega (arith, h.lawful.first_flat.few_signals);
+  inside = lt;
+  size = (pair_matched g.pair h.lawful).second.size;
   below = λ position inside. (let m = (pair_matched g.pair h.lawful).second in m.below position (omega (arith, inside, m.size)));
-  uses = ap (uses_of g) (sym is) ∙ uses_second g (k - length g.pair.first.drivers);
-  value = λ a. ap (value_at g.pair a) (sym is) ∙ value_second g.pair a (k - length g.pair.first.drivers);
+  uses = uses_second g j lt;
+  value = λ a. value_second g.pair a j lt;
   signal = λ a s inside. second_made g a s h inside;
-}
-  where
-    is : length g.pair.first.drivers + (k - length g.pair.first.drivers) ≡ k
-    is = omega (arith, past)
+})
+
+pub side_assumed : (g : StepsOf) (k j : ℕ) → AreSteps g → k ≡ assumed_start g.pair + j → j < length (assumed g.pair).drivers → IsSide g (assumed g.pair) (assumed_variables g.pair) g.further (assumed_start g.pair) j k
+side_assumed g k j h is lt = rw is (record {
+  lawful = assumed_flat g.pair h.lawful;
+  follows = h.assumed_follows;
+  places_are = h.further;
+  begins = omega (arith, h.lawful.first_flat.few_signals, h.lawful.second_flat.few_signals);
+  inside = lt;
+  size = (assumption_matched g.pair h.lawful).size;
+  below = λ position inside. (let m = assumption_matched g.pair h.lawful in m.below position (omega (arith, inside, m.size)));
+  uses = uses_assumed g j;
+  value = λ a. value_assumed g.pair a j;
+  signal = λ a s inside. assumed_made g a s h inside;
+})
 
 -- steps each of which is made
 pub each_choice : (p : PairOf) → IsChoice p []

@@ -132,14 +132,6 @@ opened_more table steps old mid new n o one = record {
   ];
 }
 
--- two steps
-pub opened_two : {X : Type 0} (table : List (Option X)) (s t : ℕ) (old mid new : List ℕ) → AreOpened table (s ∷ []) old mid 1 → AreOpened table (t ∷ []) mid new 1 → AreOpened table (s ∷ t ∷ []) old new 2
-opened_two table s t old mid new first second = opened_more table (s ∷ t ∷ []) old mid new 1 (record {
-  kept = first.kept;
-  there = λ k h. (let zero : k ≡ 0 = omega arith in rw zero (first.there 0 (omega arith)));
-  only = λ x h. elim (first.only x h) [ inl before ↦ inl before | inr w ↦ (let zero : w.0 ≡ 0 = omega (arith, w.1) in inr (0, omega arith, ap (λ k. get_or (s ∷ []) k 0) (sym zero) ∙ w.2)) ];
-}) second
-
 -- the steps that are wanted so far, and the open ones, which are all below them
 pub record AreWantedFrom {X : Type 0} (g : StepsOf) (last : List ℕ) (table : List (Option X)) (output : ℕ) (roots wanted items : List ℕ) (below : ℕ) : Type 0 where
   pub small : below ≤ steps_in g.pair

@@ -41,6 +41,10 @@ pub record AreWanted {X : Type 0} (g : StepsOf) (last : List ℕ) (table : List 
 pub record AreReached {X : Type 0} (table : List (Option X)) (wanted steps : List ℕ) : Type 0 where
   pub each : (k : ℕ) → k < length steps → IsSome (reference_of table (slice_index steps k)) ⊎ IsBehind wanted 0 (slice_index steps k)
 
+-- these are steps of the pair
+pub record AreWithin (g : StepsOf) (steps : List ℕ) : Type 0 where
+  pub each : (k : ℕ) → k < length steps → slice_index steps k < steps_in g.pair
+
 -- each of these steps is used until a moment, or later
 pub record AreUsedUntil (last steps : List ℕ) (at : ℕ) : Type 0 where
   pub each : (k : ℕ) → k < length steps → at ≤ slice_index last (slice_index steps k)

@@ -3,23 +3,24 @@ use Rattle.std.specs.Prelude.{◌≡◌, ℕ, ◌+◌, ◌<◌, ◌≤◌, Bool,
 use Rattle.eqc_tree.specs.Holding.{Entry, Holding}
 use Rattle.eqc_pair.specs.PairOf.{PairOf}
 use Rattle.eqc_build.specs.Building.{IsBuilt, OwnsTable, Moves}
-use Rattle.eqc_build.specs.Steps.{roots_of}
-use Rattle.eqc_build.specs.Schedule.{end_of, AreLastMoments, AreUsedUntil}
+use Rattle.eqc_build.specs.Steps.{goals_of}
+use Rattle.eqc_build.specs.Schedule.{end_of, AreLastMoments, AreUsedUntil, AreWithin}
 use Rattle.eqc_build.specs.declared.plan.Plan.{Plan}
 
 -- whether an output is marked
 abbrev pub is_marked : List Bool → ℕ → Bool
 is_marked marks output = slice_index_or marks output false
 
--- an output's turn, counted from 1: the steps of its signals are used until then, or later
-pub record IsTurn (plan : Plan) (output turn : ℕ) : Type 0 where
+-- the turn, counted from 1, of some steps: they are used until then, or later
+pub record IsTurn (plan : Plan) (goals : List ℕ) (turn : ℕ) : Type 0 where
   pub some : 1 ≤ turn
+  pub within : AreWithin plan.steps goals
   pub moments : AreLastMoments plan.steps plan.last
-  pub ends : AreUsedUntil plan.last (roots_of plan.steps output) (end_of plan.steps turn)
+  pub ends : AreUsedUntil plan.last goals (end_of plan.steps turn)
 
 -- every output that is not marked has its turn, in the order of the outputs, whose turns 32 bits number
 pub record AreTurns (plan : Plan) (marks : List Bool) : Type 0 where
-  pub each : (o : ℕ) → o < length plan.steps.pair.first.outputs → is_marked marks o ≡ false → IsTurn plan o (o + 1)
+  pub each : (o : ℕ) → o < length plan.steps.pair.first.outputs → is_marked marks o ≡ false → IsTurn plan (goals_of plan.steps o) (o + 1)
   pub few : length plan.steps.pair.first.outputs ≤ 4294967295
 
 -- what is kept for a pair: references that are held, of its steps
@@ -36,5 +37,5 @@ pub record MovesKept {X : Type 0} (entry : X → Entry) (p : PairOf) (old : Hold
 -- an output may be compared in its turn, with what is kept
 pub record IsComparable {X : Type 0} (entry : X → Entry) (plan : Plan) (d : Holding) (table : List (Option X)) (output n : ℕ) : Type 0 where
   pub within : output < length plan.steps.pair.first.outputs
-  pub turn : IsTurn plan output n
+  pub turn : IsTurn plan (goals_of plan.steps output) n
   pub kept : AreKept entry plan.steps.pair d table

@@ -1,9 +1,9 @@
-//! The building of the diagrams of an output's two signals: step by step, and each is given back after its last use.
+//! The building of the diagrams of some steps: step by step, and each is given back after its last use.
 ghost use Rattle.std.specs.Prelude.{◌≡◌, ◌≢◌, ℕ, ◌+◌, ◌<◌, length, IfOk, IfErr, OnOk, OnErr, IsSome, Some, map, slice_index};
 ghost use Rattle.eqc_tree.specs.Holding.{Keeps};
 ghost use Rattle.eqc_cover.specs.Making.{Makes};
 ghost use Rattle.eqc_build.specs.Building.{IsBuilt, AreReady, Adds, Advances, Moves, reference_of};
-ghost use Rattle.eqc_build.specs.Steps.{roots_of, steps_in, uses_of, value_at};
+ghost use Rattle.eqc_build.specs.Steps.{steps_in, uses_of, value_at};
 ghost use Rattle.eqc_build.specs.Schedule.{moment, end_of};
 ghost use Rattle.eqc_build.specs.Turns.{AreKept, IsTurn};
 
@@ -108,7 +108,7 @@ fn advance<R, D: Diagrams<R>>(
     Ok(())
 }
 
-/// Notes a step that is used later than all steps of an output, so that it is given back then.
+/// Notes a step that is used later than all steps of a turn, so that it is given back then.
 fn note_due(
     due: &mut BinaryHeap<Reverse<(u64, u32)>>,
     last: u64,
@@ -126,28 +126,27 @@ fn note_due(
     }
 }
 
-/// Brings the diagrams of an output's two signals into the table, where they aren't there yet, in the output's turn, counted
-/// from 1. Outputs come in rising order. Each step that the two need is made once, unless it is kept, and no other; it stays
-/// where a later output needs it, and is else given back after its last use.
+/// Brings the diagrams of these steps into the table, where they aren't there yet, in their turn, counted from 1. Turns come in
+/// rising order. Each step that they need is made once, unless it is kept, and no other; it stays where a later turn needs it,
+/// and is else given back after its last use.
 pub fn complete<R, D: Diagrams<R>>(
     alloc: Global,
     rt: &R,
     d: &mut D,
     plan: &Plan<'_>,
     kept: &mut Kept<D::Ref>,
-    output: usize,
+    goals: &[u32],
     turn: u32,
 ) -> Result<(), Stop>
-    requires output { output < length plan.now.steps.pair.first.outputs }
-    requires turn { IsTurn plan.now output turn }
+    requires turn { IsTurn plan.now goals.now turn }
     requires kept { AreKept D.entry plan.now.steps.pair (D.holding d.old) kept.old.table }
     ensures moves { Moves D.entry (D.holding d.old) kept.old.table (D.holding d.new) kept.new.table }
     ensures built { IsBuilt D.entry plan.now.steps.pair kept.new.table }
-    ensures ready { OnOk result (AreReady kept.new.table (roots_of plan.now.steps output)) }
+    ensures ready { OnOk result (AreReady kept.new.table goals.now) }
     ensures kept { (s : ℕ) → end_of plan.now.steps turn < slice_index plan.now.last s → IsSome (reference_of kept.old.table s) → IsSome (reference_of kept.new.table s) }
     ensures only { IfErr result (λ s. s ≢ Stop.Threads) }
 {
-    let Ok(mut steps) = wanted(alloc, plan, &kept.table, output, turn) else {
+    let Ok(mut steps) = wanted(alloc, plan, &kept.table, goals, turn) else {
         return Err(Stop::Memory);
     };
     let end = moment(turn, plan.steps.len());

@@ -1,10 +1,9 @@
-//! When each step that one output needs is used for the last time, where that output alone is compared.
+//! When each step that others need is used for the last time, where nothing else is needed.
 ghost use Rattle.std.specs.Prelude.{◌+◌, ◌<◌, ◌≤◌, ◌∷◌, [], length, IfOk, OnOk};
 ghost use Rattle.std.specs.Ordering.{nat_cmp};
 ghost use Rattle.std.specs.BinaryHeap.{heap_items, IsHeap};
 ghost use Rattle.eqc_build.specs.Listed.{moment_in};
-ghost use Rattle.eqc_build.specs.Steps.{roots_of};
-ghost use Rattle.eqc_build.specs.Schedule.{end_of, AreLastMoments, AreNoted, AreUsedUntil};
+ghost use Rattle.eqc_build.specs.Schedule.{end_of, AreLastMoments, AreNoted, AreUsedUntil, AreWithin};
 
 use crate::moments::{Moments, moment_in};
 use crate::schedule::moment;
@@ -51,23 +50,39 @@ fn note_all(
     Ok(())
 }
 
-/// The last moments of the steps that an output needs, where it alone is compared. They are gone through from the highest one
-/// down, so that the first use that is met is the last of all. It takes time in proportion to what the output needs.
+/// Notes a moment for those of these steps that have none, and opens them.
+fn note_goals(
+    last: &mut IndexMap<u32, u64>,
+    heap: &mut BinaryHeap<u32>,
+    goals: &[u32],
+    at: u64,
+) -> Result<(), AllocError>
+    requires heap { IsHeap nat_cmp (heap_items heap.old) }
+    requires some { 1 ≤ at }
+    ensures heap { OnOk result (IsHeap nat_cmp (heap_items heap.new)) }
+    ensures noted { OnOk result (AreNoted goals.now at (moment_in last.old) (heap_items heap.old) (moment_in last.new) (heap_items heap.new) (length goals.now)) }
+{
+    for k in 0..goals.len() {
+        note(last, heap, goals[k], at)?;
+    }
+    Ok(())
+}
+
+/// The last moments of the steps that some need, where nothing else is needed. They are gone through from the highest one down,
+/// so that the first use that is met is the last of all. It takes time in proportion to what is needed.
 pub(crate) fn moments_below(
     alloc: Global,
     steps: &Steps<'_>,
-    output: usize,
+    goals: &[u32],
 ) -> Result<Moments, AllocError>
-    requires output { output < length steps.now.pair.first.outputs }
+    requires within { AreWithin steps.now goals.now }
     ensures last { IfOk result (AreLastMoments steps.now) }
-    ensures roots { IfOk result (λ last. AreUsedUntil last (roots_of steps.now output) (end_of steps.now 1)) }
+    ensures roots { IfOk result (λ last. AreUsedUntil last goals.now (end_of steps.now 1)) }
 {
-    let roots = steps.roots(output);
     let mut last = IndexMap::new(alloc);
     let mut heap = BinaryHeap::new(alloc);
     let end = moment(1, steps.len() + 1);
-    note(&mut last, &mut heap, roots[0], end)?;
-    note(&mut last, &mut heap, roots[1], end)?;
+    note_goals(&mut last, &mut heap, goals, end)?;
     // All open steps are below it.
     let mut below = steps.len();
     while let Some(step) = heap.pop() {

@@ -38,7 +38,8 @@ pub fn nothing_built<D: References>(
     ensures { IfOk result (λ kept. (d : Holding) → length pair.now.first.inputs ≤ d.variables → AreKept D.entry pair.now d kept.table × Moves D.entry d [] d kept.table) }
 {
     pair.recall_laws();
-    let count = pair.first().steps().len() + pair.second().steps().len();
+    let netlists = pair.first_places().len() + pair.second_places().len();
+    let count = netlists + pair.assumed_places().len();
     let kept = nothing_kept(alloc, count)?;
     Ok(kept)
 }
@@ -76,7 +77,7 @@ pub fn release_due<D: References>(d: &mut D, kept: &mut Kept<D::Ref>, last: &Mom
 /// Gives back all references that are kept.
 pub fn clear<D: References>(d: &mut D, kept: &mut Kept<D::Ref>)
     requires owned { OwnsTable D.entry (D.holding d.old) kept.old.table }
-    requires few { length kept.old.table ≤ 2097152 }
+    requires few { length kept.old.table ≤ 3145728 }
     ensures moves { Moves D.entry (D.holding d.old) kept.old.table (D.holding d.new) kept.new.table }
     ensures size { length kept.new.table ≡ length kept.old.table }
     ensures none { (s : ℕ) → reference_of kept.new.table s ≡ None }

@@ -4,15 +4,17 @@
 //! When a table of diagrams is right is said in `specs/Building.antt`, and what comparing the outputs in turn asks of it and
 //! leaves in `specs/Turns.antt`. Read the modules in this order:
 //!
-//! - `building`, the diagrams of an output's two signals; `plan`, what they are built by
-//! - `steps`, both netlists in one row, and what makes each value; `wanted`, the steps that an output still needs
-//! - `schedule`, when each step is used for the last time, where all outputs are compared; `cone`, where one is; `moments`, how
-//!   that is noted
+//! - `building`, the diagrams of some steps; `plan`, what they are built by
+//! - `steps`, both netlists and the assumption in one row, and what makes each value; `goals`, the steps that are needed together;
+//!   `wanted`, those that are still needed for them
+//! - `schedule`, when each step is used for the last time, where all outputs are compared; `cone`, where some steps are made alone;
+//!   `moments`, how that is noted
 //! - `kept`, what stays from one output to the next; `table`, the references of steps
 #![tactic(auto, using(eqc_tree::proofs::HoldingLemmas::counts_itself))]
 
 mod building;
 mod cone;
+mod goals;
 mod kept;
 mod moments;
 mod plan;
@@ -22,6 +24,7 @@ mod table;
 mod wanted;
 
 pub use building::complete;
+pub use goals::Goals;
 pub use kept::{Kept, clear, give_back_kept, nothing_built, nothing_kept_of_few, release_due};
 pub use moments::Moments;
 pub use plan::{Plan, plan_below, plan_of};

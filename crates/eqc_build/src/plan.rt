@@ -1,5 +1,6 @@
-//! Plans of a comparison, of all outputs or of one: the steps of the pair, and when each is used for the last time.
+//! Plans of a comparison of all outputs, or of what some steps need: the steps of the pair, and when each is used for the last time.
 ghost use Rattle.std.specs.Prelude.{◌≡◌, ◌<◌, length, IfOk};
+ghost use Rattle.eqc_build.specs.Schedule.{AreWithin};
 ghost use Rattle.eqc_build.specs.Turns.{IsTurn, AreTurns};
 
 use crate::cone::moments_below;
@@ -30,16 +31,16 @@ pub fn plan_of<'a>(alloc: Global, steps: Steps<'a>, marks: &[bool]) -> Result<Pl
     Ok(Plan { steps, last })
 }
 
-/// The plan of a comparison of one output.
+/// The plan of the building of some steps in the only turn. Fails where memory is refused.
 pub fn plan_below<'a>(
     alloc: Global,
     steps: Steps<'a>,
-    output: usize,
+    goals: &[u32],
 ) -> Result<Plan<'a>, AllocError>
-    requires output { output < length steps.pair.first.outputs }
-    ensures turn { IfOk result (λ plan. IsTurn plan output 1) }
+    requires within { AreWithin steps goals.now }
+    ensures turn { IfOk result (λ plan. IsTurn plan goals.now 1) }
     ensures steps { IfOk result (λ plan. plan.steps ≡ steps.entry) }
 {
-    let last = moments_below(alloc, &steps, output)?;
+    let last = moments_below(alloc, &steps, goals)?;
     Ok(Plan { steps, last })
 }

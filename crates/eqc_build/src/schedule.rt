@@ -1,6 +1,6 @@
 //! When each step is used for the last time, where the outputs that are not marked are compared in their order.
 ghost use Rattle.std.specs.Prelude.{◌≡◌, ℕ, ◌+◌, ◌<◌, ◌≤◌, false, length, IfOk, slice_index};
-ghost use Rattle.eqc_build.specs.Steps.{roots_of, steps_in};
+ghost use Rattle.eqc_build.specs.Steps.{goals_of, steps_in};
 ghost use Rattle.eqc_build.specs.Schedule.{moment, end_of, AreLastMoments, AreUsedUntil, IsRaised};
 ghost use Rattle.eqc_build.specs.Turns.{is_marked};
 
@@ -37,6 +37,19 @@ fn raise(last: &mut Vec<u64>, steps: &Uses<'_>, at: u64)
     }
 }
 
+/// Notes a moment for those of these steps that have an earlier one.
+fn raise_goals(last: &mut Vec<u64>, goals: &[u32], at: u64)
+    requires { (k : ℕ) → k < length goals.now → slice_index goals.now k < length last.old.items }
+    ensures { IsRaised last.old.items last.new.items goals.now (length goals.now) at }
+{
+    for k in 0..goals.len() {
+        let s = goals[k] as usize;
+        if last[s] < at {
+            last[s] = at;
+        }
+    }
+}
+
 /// Whether an output is marked.
 pub fn is_marked(marks: &[bool], output: usize) -> bool
     ensures { result ≡ is_marked marks.now output }
@@ -53,16 +66,14 @@ fn output_moments(
 ) -> Result<Vec<u64>, AllocError>
     requires outputs { outputs ≡ length steps.now.pair.first.outputs }
     ensures size { IfOk result (λ last. length last.items ≡ steps_in steps.now.pair) }
-    ensures roots { IfOk result (λ last. (o : ℕ) → o < outputs → is_marked marks.now o ≡ false → AreUsedUntil last.items (roots_of steps.now o) (end_of steps.now (o + 1))) }
+    ensures roots { IfOk result (λ last. (o : ℕ) → o < outputs → is_marked marks.now o ≡ false → AreUsedUntil last.items (goals_of steps.now o) (end_of steps.now (o + 1))) }
 {
     let end = steps.len() + 1;
     let mut last = vec![in alloc; 0u64; steps.len() as usize]?;
     for o in 0..outputs {
         if !is_marked(marks, o as usize) {
-            let roots = steps.roots(o as usize);
-            let at = moment(o + 1, end);
-            last[roots[0] as usize] = at;
-            last[roots[1] as usize] = at;
+            let goals = steps.goals(o as usize);
+            raise_goals(&mut last, goals.as_slice(), moment(o + 1, end));
         }
     }
     Ok(last)
@@ -77,7 +88,7 @@ fn last_moments(
 ) -> Result<Vec<u64>, AllocError>
     requires outputs { outputs ≡ length steps.now.pair.first.outputs }
     ensures last { IfOk result (λ last. AreLastMoments steps.now last.items) }
-    ensures roots { IfOk result (λ last. (o : ℕ) → o < outputs → is_marked marks.now o ≡ false → AreUsedUntil last.items (roots_of steps.now o) (end_of steps.now (o + 1))) }
+    ensures roots { IfOk result (λ last. (o : ℕ) → o < outputs → is_marked marks.now o ≡ false → AreUsedUntil last.items (goals_of steps.now o) (end_of steps.now (o + 1))) }
 {
     let mut last = output_moments(alloc, steps, outputs, marks)?;
     let mut k = steps.len();
@@ -101,7 +112,7 @@ pub(crate) fn moments_of(
 ) -> Result<Moments, AllocError>
     requires outputs { outputs ≡ length steps.now.pair.first.outputs }
     ensures last { IfOk result (AreLastMoments steps.now) }
-    ensures roots { IfOk result (λ last. (o : ℕ) → o < outputs → is_marked marks.now o ≡ false → AreUsedUntil last (roots_of steps.now o) (end_of steps.now (o + 1))) }
+    ensures roots { IfOk result (λ last. (o : ℕ) → o < outputs → is_marked marks.now o ≡ false → AreUsedUntil last (goals_of steps.now o) (end_of steps.now (o + 1))) }
 {
     Ok(Moments::of_each(last_moments(alloc, steps, outputs, marks)?))
 }

@@ -1,10 +1,12 @@
-//! The steps of a pair, in one row: those of the first netlist, then those of the second. Each makes a signal's value out of
-//! values of steps before it.
-ghost use Rattle.std.specs.Prelude.{◌≡◌, ◌+◌, ◌<◌, ◌≤◌, [], length, slice_index};
+//! The steps of a pair, in one row: those of the first netlist, those of the second, and those of the assumption, if there is one.
+//! Each makes a signal's value out of values of steps before it.
+ghost use Rattle.std.specs.Prelude.{◌≡◌, ◌+◌, ◌<◌, ◌≤◌, [], length, option_to_list, slice_index};
 ghost use Rattle.eqc_pair.specs.PairOf.{ArePlaces};
-ghost use Rattle.eqc_build.specs.Steps.{AreSteps, IsChoice, chosen_for, roots_of, step_in, steps_in, uses_in, uses_of};
+ghost use Rattle.eqc_build.specs.Steps.{AreSteps, IsChoice, IsSide, assumed_root, chosen_for, goals_of, roots_of, step_in, steps_in, uses_in, uses_of};
+ghost use Rattle.eqc_build.specs.Schedule.{AreWithin};
 ghost use Rattle.eqc_build.specs.StepDrivers.{IsDriverIn, IsMadeBy};
 
+use crate::goals::Goals;
 use eqc_blif::Rows;
 use eqc_flat::{Driver, Flat, Signals};
 use eqc_pair::{Pair, recall_laws};
@@ -19,6 +21,8 @@ pub struct Steps<'a> {
     places: &'a [u32],
     /// The step of each signal of the second netlist, counted from 0 there.
     others: &'a [u32],
+    /// The step of each signal of the assumption, counted from 0 there.
+    further: &'a [u32],
     /// The step that is chosen in place of each, itself where none is listed.
     chosen: Vec<u32>,
 }
@@ -28,9 +32,9 @@ impl<'a> Model for Steps<'a> {
 
     ghost Value = { StepsOf };
 
-    ghost view = { λ a. record { pair = a.pair.now; places = a.places.now; others = a.others.now; chosen = a.chosen.items } };
+    ghost view = { λ a. record { pair = a.pair.now; places = a.places.now; others = a.others.now; further = a.further.now; chosen = a.chosen.items } };
 
-    ghost invariant = { λ a. AreSteps (record { pair = a.pair.now; places = a.places.now; others = a.others.now; chosen = a.chosen.items }) };
+    ghost invariant = { λ a. AreSteps (record { pair = a.pair.now; places = a.places.now; others = a.others.now; further = a.further.now; chosen = a.chosen.items }) };
 }
 
 /// Steps that a step uses, in order and with repeats. Contracts see their list.
@@ -67,6 +71,19 @@ pub enum StepDriver<'a> {
         columns: Uses<'a>,
         rows: &'a Rows<'a>,
     },
+}
+
+/// A netlist of a pair, and the number of a step among its own.
+#[derive(Drop)]
+struct Side<'a> {
+    flat: &'a Flat<'a>,
+    /// The variable of each of its inputs.
+    variables: &'a [u16],
+    /// The step of each of its signals, counted from 0.
+    places: &'a [u32],
+    /// Its first step among those of the pair.
+    start: u32,
+    step: u32,
 }
 
 /// The step that is chosen in place of one.
@@ -112,7 +129,7 @@ fn uses_in<'a>(
     step: u32,
 ) -> Uses<'a>
     requires places { ArePlaces flat.now places.now }
-    requires room { start ≤ 1048576 }
+    requires room { start ≤ 2097152 }
     requires step { step < length flat.now.drivers }
     ensures { result ≡ uses_in flat.now chosen.now places.now start step }
 {
@@ -136,7 +153,7 @@ fn driver_in<'a>(
 ) -> StepDriver<'a>
     requires variables { length variables.now ≡ length flat.now.inputs }
     requires places { ArePlaces flat.now places.now }
-    requires room { start ≤ 1048576 }
+    requires room { start ≤ 2097152 }
     requires step { step < length flat.now.drivers }
     ensures { IsDriverIn flat.now variables.now chosen.now places.now start step result }
 {
@@ -165,10 +182,14 @@ impl<'a> Steps<'a> {
     {
         recall_laws(pair.first());
         recall_laws(pair.second());
+        if let Some(assumption) = pair.assumption() {
+            recall_laws(assumption);
+        }
         Steps {
             pair,
             places: pair.first_places(),
             others: pair.second_places(),
+            further: pair.assumed_places(),
             chosen,
         }
     }
@@ -191,12 +212,11 @@ impl<'a> Steps<'a> {
     /// Their number.
     pub fn len(&self) -> u32
         ensures count { result ≡ steps_in self.now.pair }
-        ensures few { result ≤ 2097152 }
+        ensures few { result ≤ 3145728 }
         ensures lawful { AreSteps self.now }
     {
         self.pair.recall_laws();
-        let first = self.pair.first().steps().len() as u32;
-        first + self.pair.second().steps().len() as u32
+        (self.places.len() + self.others.len() + self.further.len()) as u32
     }
 
     /// The steps of an output's two signals.
@@ -216,19 +236,81 @@ impl<'a> Steps<'a> {
         ]
     }
 
+    /// The step of the assumption's output, if there is an assumption.
+    pub fn assumed_root(&self) -> Option<u32>
+        ensures { option_to_list result ≡ assumed_root self.now }
+    {
+        self.pair.recall_laws();
+        match self.pair.assumption() {
+            None => None,
+            Some(assumption) => {
+                let start = (self.places.len() + self.others.len()) as u32;
+                let output = assumption.output_signals()[0];
+                Some(step_in(&self.chosen, self.further, start, output))
+            }
+        }
+    }
+
+    /// The steps whose diagrams a comparison of an output needs: those of its two signals and, if there is an assumption, that of
+    /// its output. `output` is below the number of outputs.
+    pub fn goals(&self, output: usize) -> Goals
+        requires { output < length self.now.pair.first.outputs }
+        ensures goals { result ≡ goals_of self.now output }
+        ensures within { AreWithin self.now result }
+    {
+        let _count = self.len();
+        let [first, second] = self.roots(output);
+        match self.assumed_root() {
+            None => Goals::of([first, second, first], 2),
+            Some(third) => Goals::of([first, second, third], 3),
+        }
+    }
+
+    /// The netlist that a step is of, which is below their number.
+    fn side(&self, step: u32) -> Side<'a>
+        requires { step < steps_in self.now.pair }
+        ensures { IsSide self.now result.flat.now result.variables.now result.places.now result.start result.step step }
+    {
+        self.pair.recall_laws();
+        let second_start = self.places.len() as u32;
+        if step < second_start {
+            return Side {
+                flat: self.pair.first(),
+                variables: self.pair.variables(),
+                places: self.places,
+                start: 0,
+                step,
+            };
+        }
+        let assumed_start = second_start + self.others.len() as u32;
+        if step < assumed_start {
+            return Side {
+                flat: self.pair.second(),
+                variables: self.pair.second_variables(),
+                places: self.others,
+                start: second_start,
+                step: step - second_start,
+            };
+        }
+        let Some(assumption) = self.pair.assumption() else {
+            unreachable!()
+        };
+        Side {
+            flat: assumption,
+            variables: self.pair.assumed_variables(),
+            places: self.further,
+            start: assumed_start,
+            step: step - assumed_start,
+        }
+    }
+
     /// The steps that a step uses: each comes before it. `step` is below their number.
     pub fn uses(&self, step: u32) -> Uses<'_>
         requires { step < steps_in self.now.pair }
         ensures { result ≡ uses_of self.now step }
     {
-        self.pair.recall_laws();
-        let first = self.pair.first();
-        let count = first.steps().len() as u32;
-        if step < count {
-            return uses_in(first, &self.chosen, self.places, 0, step);
-        }
-        let second = self.pair.second();
-        uses_in(second, &self.chosen, self.others, count, step - count)
+        let side = self.side(step);
+        uses_in(side.flat, &self.chosen, side.places, side.start, side.step)
     }
 
     /// What makes the value of a step. `step` is below their number.
@@ -236,22 +318,14 @@ impl<'a> Steps<'a> {
         requires { step < steps_in self.now.pair }
         ensures { IsMadeBy self.now step result }
     {
-        self.pair.recall_laws();
-        let first = self.pair.first();
-        let count = first.steps().len() as u32;
-        if step < count {
-            let variables = self.pair.variables();
-            return driver_in(first, variables, &self.chosen, self.places, 0, step);
-        }
-        let second = self.pair.second();
-        let variables = self.pair.second_variables();
+        let side = self.side(step);
         driver_in(
-            second,
-            variables,
+            side.flat,
+            side.variables,
             &self.chosen,
-            self.others,
-            count,
-            step - count,
+            side.places,
+            side.start,
+            side.step,
         )
     }
 }

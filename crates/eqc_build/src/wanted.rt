@@ -1,8 +1,8 @@
-//! The steps that an output still needs: those without a reference that its two signals depend on.
+//! The steps that are still needed for others: those without a reference that these depend on.
 ghost use Rattle.std.specs.Prelude.{◌≡◌, ℕ, ◌<◌, ◌≤◌, ◌∷◌, [], length, IfOk, OnOk, slice_index};
 ghost use Rattle.std.specs.Ordering.{nat_cmp};
 ghost use Rattle.std.specs.BinaryHeap.{heap_items, IsHeap};
-ghost use Rattle.eqc_build.specs.Steps.{roots_of, steps_in};
+ghost use Rattle.eqc_build.specs.Steps.{steps_in};
 ghost use Rattle.eqc_build.specs.Schedule.{AreWanted, AreReached, AreOpened, IsOpen};
 ghost use Rattle.eqc_build.specs.Turns.{IsTurn};
 
@@ -59,28 +59,42 @@ fn open_missing<X>(
     Ok(())
 }
 
-/// The steps that are still to be made for the diagrams of an output's two signals, in the output's turn, counted from 1:
-/// highest first, so that the last one can be made at once. It takes time in proportion to what they use.
+/// Opens those of these steps that have no reference.
+fn open_goals<X>(
+    heap: &mut BinaryHeap<u32>,
+    table: &Table<X>,
+    goals: &[u32],
+) -> Result<(), AllocError>
+    requires heap { IsHeap nat_cmp (heap_items heap.old) }
+    requires table { (k : ℕ) → k < length goals.now → slice_index goals.now k < length table.now }
+    ensures heap { OnOk result (IsHeap nat_cmp (heap_items heap.new)) }
+    ensures opened { OnOk result (AreOpened table.now goals.now (heap_items heap.old) (heap_items heap.new) (length goals.now)) }
+{
+    for k in 0..goals.len() {
+        open_one(heap, table, goals[k])?;
+    }
+    Ok(())
+}
+
+/// The steps that are still to be made for the diagrams of some, in their turn, counted from 1: highest first, so that the last
+/// one can be made at once. It takes time in proportion to what they use.
 pub(crate) fn wanted<X>(
     alloc: Global,
     plan: &Plan<'_>,
     table: &Table<X>,
-    output: usize,
+    goals: &[u32],
     turn: u32,
 ) -> Result<Vec<u32>, AllocError>
-    requires output { output < length plan.now.steps.pair.first.outputs }
-    requires turn { IsTurn plan.now output turn }
+    requires turn { IsTurn plan.now goals.now turn }
     requires table { length table.now ≡ steps_in plan.now.steps.pair }
     ensures wanted { IfOk result (λ wanted. AreWanted plan.now.steps plan.now.last table.now turn wanted.items) }
-    ensures roots { IfOk result (λ wanted. AreReached table.now wanted.items (roots_of plan.now.steps output)) }
+    ensures roots { IfOk result (λ wanted. AreReached table.now wanted.items goals.now) }
 {
-    let roots = plan.steps.roots(output);
     let mut wanted = Vec::new(alloc);
     let mut heap = BinaryHeap::new(alloc);
-    open_one(&mut heap, table, roots[0])?;
-    open_one(&mut heap, table, roots[1])?;
     // All open steps are below it.
     let mut below = plan.steps.len();
+    open_goals(&mut heap, table, goals)?;
     while let Some(step) = heap.pop() {
         drop_repeats(&mut heap, step);
         wanted.push(step)?;

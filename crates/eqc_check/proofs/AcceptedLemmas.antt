@@ -1,5 +1,5 @@
 -- Two netlists are accepted exactly where all checks pass.
-use Rattle.std.proofs.Common.{◌≡◌, ℕ, zero, suc, ◌^◌, ◌==◌, ◌<◌, ◌≤◌, Bool, true, false, not, List, [], ◌∷◌, ◌++◌, length, get_or, Option, Some, None, IfSome, Result, Ok, Err, sym, ap, refl, ◌∙◌, arith, subst, zero-add}
+use Rattle.std.proofs.Common.{◌≡◌, ℕ, zero, suc, ◌^◌, ◌==◌, ◌<◌, ◌≤◌, Bool, true, false, not, List, [], ◌∷◌, ◌++◌, length, get_or, Option, Some, None, IfSome, All, Result, Ok, Err, sym, ap, refl, ◌∙◌, arith, subst, zero-add}
 use Rattle.std.specs.List.{range_with_len}
 use Rattle.std.proofs.lemmas.Option.{none-some}
 use Rattle.std.proofs.lemmas.Bool.{not-false, not_from_true, and_from, and_parts, le-leb, leb-true, ltb-false, le-ltb, eqb-true, eq-eqb}
@@ -14,8 +14,8 @@ use Rattle.eqc_pair.specs.declared.refused.Side.{Side}
 use Rattle.eqc_pair.specs.declared.refused.Side.TheVariants as side
 use Rattle.eqc_check.specs.Options.{is_between, is_cell_count}
 use Rattle.eqc_pair.specs.Matched.{position_of, has_all, same_names, order_words}
-use Rattle.eqc_check.specs.Answer.{TextsOf, MainOf, first_found, second_found, inputs_of}
-use Rattle.eqc_check.specs.AnswerLaws.{first_main, AreInRange, IsFound, HaveSameNames, IsOrderOf, IsAccepted, refused_if, refused_by_code, refused_by_fault, option_checks, text_checks, order_checks, checks}
+use Rattle.eqc_check.specs.Answer.{GivenOf, MainOf, first_found, second_found, inputs_of, outputs_of, assumption_found}
+use Rattle.eqc_check.specs.AnswerLaws.{first_main, assumption_main, AreInRange, IsFound, HaveSameNames, IsOrderOf, IsAssumptionOver, IsAccepted, refused_if, refused_by_code, refused_by_fault, option_checks, text_checks, order_checks, assumption_checks, checks}
 use Rattle.eqc_pair.proofs.PlaceLemmas.{place_below, name_at, named_index, all_named}
 use Rattle.eqc_pair.proofs.OrderedLemmas.{both_ways}
 use Rattle.eqc_check.proofs.CheckLemmas.{PassAll, pass_none, pass_more, pass_each, pass_both}
@@ -107,6 +107,10 @@ same_passes xs ys same = not_from_true (same_names xs ys) (and_from _ _ (has_all
 passed_same : (xs ys : List (List ℕ)) → not (same_names xs ys) ≡ false → HaveSameNames xs ys
 passed_same xs ys e = let both = both_ways xs ys (not-false (same_names xs ys) e) in have_same xs ys both.0 both.1
 
+-- names that are all among others
+all_in : (names others : List (List ℕ)) → has_all names others ≡ true → All (λ name. is_named names name ≡ true) others
+all_in names others all = All-from_get_or (λ name. is_named names name ≡ true) others [] (λ i inside. all_named names others all i inside)
+
 -- ---- order texts
 
 pub order_passes : (inputs : List (List ℕ)) (order : Option (List ℕ)) → IfSome order (IsOrderOf inputs) → PassAll (order_checks inputs order)
@@ -128,21 +132,50 @@ passed_order inputs (Some text) pass = record {
 
 -- ---- texts
 
-texts_pass : (texts : TextsOf) (order : Option (List ℕ)) (options : Options) → IsAccepted texts order options → PassAll (text_checks texts)
-texts_pass texts order options is =
+texts_pass : (given : GivenOf) → IsAccepted given → PassAll (text_checks given.texts given.outputs)
+texts_pass given is =
+    let texts = given.texts in
     let first = ap (refused_by_code side.First) is.first_hierarchy in
     let second = ap (refused_by_code side.Second) is.second_hierarchy in
     let inputs = if_passes _ side.Pair 41 (same_passes _ _ is.inputs) in
     let outputs = if_passes _ side.Pair 42 (same_passes _ _ is.outputs) in
-    pass_each (text_checks texts) (fault_passes side.First (first_found texts) is.readable.0, (fault_passes side.Second (second_found texts) is.readable.1, (first, (second, (inputs, (outputs, tt))))))
+    let chosen = if_passes _ side.Pair 43 (not_from_true _ (list_all-from_AllPass (λ name. is_named (outputs_of (first_main texts)) name) given.outputs is.chosen)) in
+    pass_each (text_checks texts given.outputs) (fault_passes side.First (first_found texts) is.readable.0, (fault_passes side.Second (second_found texts) is.readable.1, (first, (second, (inputs, (outputs, (chosen, tt)))))))
+
+-- ---- assumptions
+
+pub assumption_passes : (inputs : List (List ℕ)) (assume : Option (List ℕ)) → IfSome assume (IsAssumptionOver inputs) → PassAll (assumption_checks inputs assume)
+assumption_passes inputs None h = pass_none
+assumption_passes inputs (Some text) h =
+    let main = assumption_main text in
+    let hierarchy = ap (refused_by_code side.Assume) h.hierarchy in
+    let known = if_passes _ side.Assume 61 (not_from_true _ (list_all-from_AllPass (λ name. is_named inputs name) (inputs_of main) h.known)) in
+    let one = if_passes _ side.Assume 62 (not_from_true _ (eq-eqb (length (outputs_of main)) 1 h.one_output)) in
+    pass_each (assumption_checks inputs (Some text)) (fault_passes side.Assume (assumption_found text) h.readable, (hierarchy, (known, (one, tt))))
+
+passed_assumption : (inputs : List (List ℕ)) (assume : Option (List ℕ)) → PassAll (assumption_checks inputs assume) → IfSome assume (IsAssumptionOver inputs)
+passed_assumption inputs None pass = tt
+passed_assumption inputs (Some text) pass =
+    let main = assumption_main text in
+    record {
+      readable = fault_passed side.Assume (assumption_found text) (pass 0);
+      hierarchy = code_passed side.Assume _ (pass 1);
+      known = all_in inputs (inputs_of main) (not-false _ (passed_if _ side.Assume 61 (pass 2)));
+      one_output = eqb-true (length (outputs_of main)) 1 (not-false _ (passed_if _ side.Assume 62 (pass 3)));
+    }
 
 -- ---- all
 
-pub accepted_passes : (texts : TextsOf) (order : Option (List ℕ)) (options : Options) → IsAccepted texts order options → PassAll (checks texts order options)
-accepted_passes texts order options is =
-    let orders = order_checks (inputs_of (first_main texts)) order in
-    pass_both (option_checks options) (text_checks texts ++ orders) (range_passes options is.range)
-    (pass_both (text_checks texts) orders (texts_pass texts order options is) (order_passes (inputs_of (first_main texts)) order is.ordered))
+pub accepted_passes : (given : GivenOf) → IsAccepted given → PassAll (checks given)
+accepted_passes given is =
+    let inputs = inputs_of (first_main given.texts) in
+    let options = option_checks given.options in
+    let texts = text_checks given.texts given.outputs in
+    let orders = order_checks inputs given.order in
+    let assumptions = assumption_checks inputs given.assume in
+    pass_both options (texts ++ orders ++ assumptions) (range_passes given.options is.range)
+    (pass_both texts (orders ++ assumptions) (texts_pass given is)
+    (pass_both orders assumptions (order_passes inputs given.order is.ordered) (assumption_passes inputs given.assume is.assumed)))
 
 -- what passes behind some checks
 passed_from : (xs ys : List (Option Refused)) → PassAll (xs ++ ys) → PassAll ys
@@ -154,17 +187,25 @@ passed_to : (xs ys : List (Option Refused)) → PassAll (xs ++ ys) → PassAll x
 passed_to [] ys pass = pass_none
 passed_to (x ∷ xs) ys pass = pass_more x xs (pass zero) (passed_to xs ys (λ k. pass (suc k)))
 
-pub passed_accepted : (texts : TextsOf) (order : Option (List ℕ)) (options : Options) → PassAll (checks texts order options) → IsAccepted texts order options
-passed_accepted texts order options pass =
-    let orders = order_checks (inputs_of (first_main texts)) order in
-    let behind = passed_from (option_checks options) (text_checks texts ++ orders) pass in
-    let read = passed_to (text_checks texts) orders behind in
+pub passed_accepted : (given : GivenOf) → PassAll (checks given) → IsAccepted given
+passed_accepted given pass =
+    let first = first_main given.texts in
+    let inputs = inputs_of first in
+    let options = option_checks given.options in
+    let texts = text_checks given.texts given.outputs in
+    let orders = order_checks inputs given.order in
+    let assumptions = assumption_checks inputs given.assume in
+    let behind = passed_from options (texts ++ orders ++ assumptions) pass in
+    let last = passed_from texts (orders ++ assumptions) behind in
+    let read = passed_to texts (orders ++ assumptions) behind in
     record {
-      range = passed_range options (passed_to (option_checks options) (text_checks texts ++ orders) pass);
-      readable = (fault_passed side.First (first_found texts) (read 0), fault_passed side.Second (second_found texts) (read 1));
+      range = passed_range given.options (passed_to options (texts ++ orders ++ assumptions) pass);
+      readable = (fault_passed side.First (first_found given.texts) (read 0), fault_passed side.Second (second_found given.texts) (read 1));
       first_hierarchy = code_passed side.First _ (read 2);
       second_hierarchy = code_passed side.Second _ (read 3);
       inputs = passed_same _ _ (passed_if _ side.Pair 41 (read 4));
       outputs = passed_same _ _ (passed_if _ side.Pair 42 (read 5));
-      ordered = passed_order (inputs_of (first_main texts)) order (passed_from (text_checks texts) orders behind);
+      chosen = all_in (outputs_of first) given.outputs (not-false _ (passed_if _ side.Pair 43 (read 6)));
+      ordered = passed_order inputs given.order (passed_to orders assumptions last);
+      assumed = passed_assumption inputs given.assume (passed_from orders assumptions last);
     }

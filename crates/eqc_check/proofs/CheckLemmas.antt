@@ -1,18 +1,19 @@
--- The answer is the first refusal of a list of checks, or the comparison where all pass.
-use Rattle.std.proofs.Common.{◌≡◌, ◌⊎◌, inl, inr, ℕ, zero, suc, ◌<◌, Bool, true, false, not, List, [], ◌∷◌, ◌++◌, length, get_or, Option, Some, None, Result, Ok, Err, sym, ap, refl, ◌∙◌, arith, subst, suc-le-suc, nat_lt, if◌then◌else◌}
+-- The answer is the first refusal of a list of checks, or the report behind them where all pass.
+use Rattle.std.proofs.Common.{◌≡◌, ◌⊎◌, inl, inr, ℕ, zero, suc, ◌<◌, Bool, true, false, not, List, [], ◌∷◌, ◌++◌, length, map, get_or, ◌==◌, Option, Some, None, Result, Ok, Err, sym, ap, refl, ◌∙◌, arith, subst, suc-le-suc, nat_lt, if◌then◌else◌}
 use Rattle.std.proofs.lemmas.Option.{none-some}
 use Rattle.std.proofs.lemmas.List.{get_or_past}
 use Rattle.eqc_blif.specs.Names.{has_twice}
 use Rattle.eqc_hierarchy.specs.Codes.{flat_code}
-use Rattle.eqc_check.specs.declared.options.Options.{Options}
 use Rattle.eqc_pair.specs.declared.refused.Refused.{Refused}
 use Rattle.eqc_pair.specs.declared.refused.Side.TheVariants as side
 use Rattle.eqc_check.specs.Options.{is_between, is_cell_count, options_code}
 use Rattle.eqc_pair.specs.Matched.{has_all, same_names, order_words}
-use Rattle.eqc_compare.specs.Verdict.{NetlistOf, first_difference}
-use Rattle.eqc_check.specs.Report.{ReportOf, refused, stopped, difference_report, comparison}
-use Rattle.eqc_check.specs.Answer.{TextsOf, first_found, second_found, MainOf, inputs_of, outputs_of, netlist_of_model, order_answer, code_of_order, pair_answer, or_code, models_answer, found_answer, texts_answer, options_answer, answer, IsComparison}
-use Rattle.eqc_check.specs.AnswerLaws.{main_or_none, first_main, second_main, refused_if, refused_by_code, refused_by_fault, text_checks, order_checks, checks, IsFirstRefusal}
+use Rattle.std.specs.Option.{option_map}
+use Rattle.eqc_compare.specs.Verdict.{NetlistOf, VerdictOf, vacuous}
+use Rattle.eqc_compare.specs.Verdict.{compared as found}
+use Rattle.eqc_check.specs.Report.{DifferenceOf, ReportOf, refused, stopped, shown, differences_report, verdict_report}
+use Rattle.eqc_check.specs.Answer.{GivenOf, first_found, second_found, MainOf, inputs_of, outputs_of, netlist_of_model, compared, assumption_found, assumption_answer, assumed_answer, code_of_order, pair_answer, or_code, models_answer, found_answer, texts_answer, options_answer, answer, IsAccepting}
+use Rattle.eqc_check.specs.AnswerLaws.{main_or_none, first_main, second_main, assumption_main, refused_if, refused_by_code, refused_by_fault, text_checks, order_checks, assumption_checks, checks, IsFirstRefusal}
 
 -- the first refusal of a list, or else a report
 abbrev pub verdict : List (Option Refused) → ReportOf → ReportOf
@@ -76,8 +77,8 @@ unfolding refusal_in
 same_refusal r s e = ap (refusal_in r) e
 
 -- what is refused is the first refusal
-pub refused_first : (all : List (Option Refused)) (rest : ReportOf) (r : Refused) → IsComparison rest → verdict all rest ≡ refused r.side r.line r.code → IsFirstRefusal all r
-refused_first [] rest r c e = absurd (subst IsComparison e c)
+pub refused_first : (all : List (Option Refused)) (rest : ReportOf) (r : Refused) → IsAccepting rest → verdict all rest ≡ refused r.side r.line r.code → IsFirstRefusal all r
+refused_first [] rest r c e = absurd (subst IsAccepting e c)
 refused_first (None ∷ all) rest r c e =
     let first = refused_first all rest r c e in
     record { position = suc first.position; refuses = first.refuses; before = more first.position first.before }
@@ -96,29 +97,31 @@ refused_at (x ∷ all) rest r (suc p) e before = ap (λ c. verdict (c ∷ all) r
 pub first_refused : (all : List (Option Refused)) (rest : ReportOf) (r : Refused) → IsFirstRefusal all r → verdict all rest ≡ refused r.side r.line r.code
 first_refused all rest r first = refused_at all rest r first.position first.refuses first.before
 
--- where netlists are compared, all pass
-pub compared_passed : (all : List (Option Refused)) (rest : ReportOf) → IsComparison (verdict all rest) → PassAll all
+-- where the report is none of theirs, all pass
+pub compared_passed : (all : List (Option Refused)) (rest : ReportOf) → IsAccepting (verdict all rest) → PassAll all
 compared_passed [] rest c = pass_none
 compared_passed (None ∷ all) rest c = pass_more None all refl (compared_passed all rest c)
 compared_passed (Some r ∷ all) rest c = absurd c
 
-pub never_stopped : (all : List (Option Refused)) (rest : ReportOf) (code : ℕ) → IsComparison rest → verdict all rest ≡ stopped code → ⊥
-never_stopped [] rest code c e = subst IsComparison e c
+pub never_stopped : (all : List (Option Refused)) (rest : ReportOf) (code : ℕ) → IsAccepting rest → verdict all rest ≡ stopped code → ⊥
+never_stopped [] rest code c e = subst IsAccepting e c
 never_stopped (None ∷ all) rest code c e = never_stopped all rest code c e
 never_stopped (Some r ∷ all) rest code c e = let clash : refused r.side r.line r.code ≡ stopped code = e in cc
 
 -- ---- the answer's checks
 
--- the comparison of the main models
-abbrev pub compared : TextsOf → ReportOf
-compared texts = comparison (netlist_of_model (first_main texts)) (netlist_of_model (second_main texts))
+-- the report behind all checks
+abbrev pub decided : GivenOf → ReportOf
+decided given =
+    compared given (netlist_of_model (first_main given.texts)) (netlist_of_model (second_main given.texts)) (option_map (λ text. netlist_of_model (assumption_main text)) given.assume)
 
-pub is_comparison : (f g : NetlistOf) → IsComparison (comparison f g)
-is_comparison f g = by (first_difference f g f.outputs)
+pub is_accepting : (f g : NetlistOf) (v : VerdictOf) → IsAccepting (verdict_report f g v)
+is_accepting f g vacuous = tt
+is_accepting f g (found ds) = by (map (shown f g) ds)
   where
-    by : (d : Option (List ℕ × List Bool)) → IsComparison (difference_report f g d)
-    by None = tt
-    by (Some d) = tt
+    by : (all : List DifferenceOf) → IsAccepting (differences_report all)
+    by [] = tt
+    by (d ∷ ds) = tt
 
 options_checked : (a b c d : Bool) (all : List (Option Refused)) (rest : ReportOf) →
     options_answer (if not a then Some 81 else if not b then Some 82 else if not c then Some 83 else if not d then Some 84 else None) (verdict all rest)
@@ -129,56 +132,101 @@ options_checked true true false d all rest = refl
 options_checked true true true false all rest = refl
 options_checked true true true true all rest = refl
 
-order_checked : (m n : MainOf) (order : Option (List ℕ)) → order_answer m n (code_of_order (inputs_of m) order) ≡ verdict (order_checks (inputs_of m) order) (comparison (netlist_of_model m) (netlist_of_model n))
-order_checked m n None = refl
-order_checked m n (Some text) = by (nat_lt 16777216 (length text)) (has_all (inputs_of m) (order_words text)) (has_twice (order_words text)) (has_all (order_words text) (inputs_of m))
+-- of an assumption
+assumption_checked : (given : GivenOf) (f g : NetlistOf) (assume : Option (List ℕ)) →
+    assumed_answer given f g assume ≡ verdict (assumption_checks f.inputs assume) (compared given f g (option_map (λ text. netlist_of_model (assumption_main text)) assume))
+assumption_checked given f g None = refl
+assumption_checked given f g (Some text) = by (assumption_found text)
   where
-    by : (long all twice back : Bool) →
-        order_answer m n (if long then Some 2 else if not all then Some 51 else if twice then Some 52 else if not back then Some 53 else None)
-        ≡ verdict (refused_if long side.Order 2 ∷ refused_if (not all) side.Order 51 ∷ refused_if twice side.Order 52 ∷ refused_if (not back) side.Order 53 ∷ []) (comparison (netlist_of_model m) (netlist_of_model n))
-    by true all twice back = refl
+    parts : (code : Option ℕ) (a b : Bool) (rest : ReportOf) →
+        or_code side.Assume code (or_code side.Assume (if not a then Some 61 else if not b then Some 62 else None) rest)
+        ≡ verdict (refused_by_code side.Assume code ∷ refused_if (not a) side.Assume 61 ∷ refused_if (not b) side.Assume 62 ∷ []) rest
+    parts (Some code) a b rest = refl
+    parts None false b rest = refl
+    parts None true false rest = refl
+    parts None true true rest = refl
+
+    by : (h : Result MainOf (ℕ × ℕ)) →
+        assumption_answer given f g h
+        ≡ verdict (refused_by_fault side.Assume h ∷ refused_by_code side.Assume (flat_code (main_or_none h).0 (main_or_none h).1)
+        ∷ refused_if (not (has_all f.inputs (inputs_of (main_or_none h)))) side.Assume 61 ∷ refused_if (not (length (outputs_of (main_or_none h)) == 1)) side.Assume 62 ∷ [])
+        (compared given f g (Some (netlist_of_model (main_or_none h))))
+    by (Err fault) = refl
+    by (Ok h) = parts (flat_code h.0 h.1) (has_all f.inputs (inputs_of h)) (length (outputs_of h) == 1) (compared given f g (Some (netlist_of_model h)))
+
+-- of an order text, before others
+order_checked : (inputs : List (List ℕ)) (order : Option (List ℕ)) (all : List (Option Refused)) (rest : ReportOf) →
+    or_code side.Order (code_of_order inputs order) (verdict all rest) ≡ verdict (order_checks inputs order ++ all) rest
+order_checked inputs None all rest = refl
+order_checked inputs (Some text) all rest = by (nat_lt 16777216 (length text)) (has_all inputs (order_words text)) (has_twice (order_words text)) (has_all (order_words text) inputs)
+  where
+    by : (long known twice back : Bool) →
+        or_code side.Order (if long then Some 2 else if not known then Some 51 else if twice then Some 52 else if not back then Some 53 else None) (verdict all rest)
+        ≡ verdict (refused_if long side.Order 2 ∷ refused_if (not known) side.Order 51 ∷ refused_if twice side.Order 52 ∷ refused_if (not back) side.Order 53 ∷ all) rest
+    by true known twice back = refl
     by false false twice back = refl
     by false true true back = refl
     by false true false false = refl
     by false true false true = refl
 
--- the checks of two main models and an order text
-abbrev pair_checks : MainOf → MainOf → Option (List ℕ) → List (Option Refused)
-pair_checks m n order = refused_if (not (same_names (inputs_of m) (inputs_of n))) side.Pair 41 ∷ refused_if (not (same_names (outputs_of m) (outputs_of n))) side.Pair 42 ∷ order_checks (inputs_of m) order
+-- of an order text and an assumption
+abbrev last_checks : MainOf → GivenOf → List (Option Refused)
+last_checks m given = order_checks (inputs_of m) given.order ++ assumption_checks (inputs_of m) given.assume
 
-pair_checked : (m n : MainOf) (order : Option (List ℕ)) → pair_answer m n order ≡ verdict (pair_checks m n order) (comparison (netlist_of_model m) (netlist_of_model n))
-pair_checked m n order = by (same_names (inputs_of m) (inputs_of n)) (same_names (outputs_of m) (outputs_of n))
+-- the report on two main models behind them
+abbrev on_models : MainOf → MainOf → GivenOf → ReportOf
+on_models m n given = compared given (netlist_of_model m) (netlist_of_model n) (option_map (λ text. netlist_of_model (assumption_main text)) given.assume)
+
+-- of two main models
+abbrev pair_checks : MainOf → MainOf → GivenOf → List (Option Refused)
+pair_checks m n given =
+    refused_if (not (same_names (inputs_of m) (inputs_of n))) side.Pair 41 ∷ refused_if (not (same_names (outputs_of m) (outputs_of n))) side.Pair 42
+    ∷ refused_if (not (has_all (outputs_of m) given.outputs)) side.Pair 43 ∷ last_checks m given
+
+pair_checked : (m n : MainOf) (given : GivenOf) → pair_answer m n given ≡ verdict (pair_checks m n given) (on_models m n given)
+pair_checked m n given =
+    ap (λ (rest : ReportOf). if not (same_names (inputs_of m) (inputs_of n)) then refused side.Pair 0 41 else if not (same_names (outputs_of m) (outputs_of n)) then refused side.Pair 0 42
+    else if not (has_all (outputs_of m) given.outputs) then refused side.Pair 0 43 else rest)
+    (ap (or_code side.Order (code_of_order (inputs_of m) given.order)) (assumption_checked given (netlist_of_model m) (netlist_of_model n) given.assume)
+    ∙ order_checked (inputs_of m) given.order (assumption_checks (inputs_of m) given.assume) (on_models m n given))
+    ∙ by (same_names (inputs_of m) (inputs_of n)) (same_names (outputs_of m) (outputs_of n)) (has_all (outputs_of m) given.outputs) (last_checks m given) (on_models m n given)
   where
-    by : (a b : Bool) →
-        (if not a then refused side.Pair 0 41 else if not b then refused side.Pair 0 42 else order_answer m n (code_of_order (inputs_of m) order))
-        ≡ verdict (refused_if (not a) side.Pair 41 ∷ refused_if (not b) side.Pair 42 ∷ order_checks (inputs_of m) order) (comparison (netlist_of_model m) (netlist_of_model n))
-    by false b = refl
-    by true false = refl
-    by true true = order_checked m n order
+    by : (a b c : Bool) (all : List (Option Refused)) (rest : ReportOf) →
+        (if not a then refused side.Pair 0 41 else if not b then refused side.Pair 0 42 else if not c then refused side.Pair 0 43 else verdict all rest)
+        ≡ verdict (refused_if (not a) side.Pair 41 ∷ refused_if (not b) side.Pair 42 ∷ refused_if (not c) side.Pair 43 ∷ all) rest
+    by false b c all rest = refl
+    by true false c all rest = refl
+    by true true false all rest = refl
+    by true true true all rest = refl
 
-abbrev models_checks : MainOf → MainOf → Option (List ℕ) → List (Option Refused)
-models_checks m n order = refused_by_code side.First (flat_code m.0 m.1) ∷ refused_by_code side.Second (flat_code n.0 n.1) ∷ pair_checks m n order
+abbrev models_checks : MainOf → MainOf → GivenOf → List (Option Refused)
+models_checks m n given = refused_by_code side.First (flat_code m.0 m.1) ∷ refused_by_code side.Second (flat_code n.0 n.1) ∷ pair_checks m n given
 
-models_checked : (m n : MainOf) (order : Option (List ℕ)) → models_answer m n order ≡ verdict (models_checks m n order) (comparison (netlist_of_model m) (netlist_of_model n))
-models_checked m n order = by (flat_code m.0 m.1) (flat_code n.0 n.1)
+models_checked : (m n : MainOf) (given : GivenOf) → models_answer m n given ≡ verdict (models_checks m n given) (on_models m n given)
+models_checked m n given = by (flat_code m.0 m.1) (flat_code n.0 n.1)
   where
-    by : (x y : Option ℕ) → or_code side.First x (or_code side.Second y (pair_answer m n order)) ≡ verdict (refused_by_code side.First x ∷ refused_by_code side.Second y ∷ pair_checks m n order) (comparison (netlist_of_model m) (netlist_of_model n))
+    by : (x y : Option ℕ) → or_code side.First x (or_code side.Second y (pair_answer m n given)) ≡ verdict (refused_by_code side.First x ∷ refused_by_code side.Second y ∷ pair_checks m n given) (on_models m n given)
     by (Some x) y = refl
     by None (Some y) = refl
-    by None None = pair_checked m n order
+    by None None = pair_checked m n given
 
-found_checked : (first second : Result MainOf (ℕ × ℕ)) (order : Option (List ℕ)) →
-    found_answer first second order
-    ≡ verdict (refused_by_fault side.First first ∷ refused_by_fault side.Second second ∷ models_checks (main_or_none first) (main_or_none second) order) (comparison (netlist_of_model (main_or_none first)) (netlist_of_model (main_or_none second)))
-found_checked (Err fault) second order = refl
-found_checked (Ok m) (Err fault) order = refl
-found_checked (Ok m) (Ok n) order = models_checked m n order
+found_checked : (first second : Result MainOf (ℕ × ℕ)) (given : GivenOf) →
+    found_answer first second given
+    ≡ verdict (refused_by_fault side.First first ∷ refused_by_fault side.Second second ∷ models_checks (main_or_none first) (main_or_none second) given) (on_models (main_or_none first) (main_or_none second) given)
+found_checked (Err fault) second given = refl
+found_checked (Ok m) (Err fault) given = refl
+found_checked (Ok m) (Ok n) given = models_checked m n given
 
-texts_checked : (texts : TextsOf) (order : Option (List ℕ)) → texts_answer texts order ≡ verdict (text_checks texts ++ order_checks (inputs_of (first_main texts)) order) (compared texts)
-texts_checked texts order = found_checked (first_found texts) (second_found texts) order
+-- the checks behind those of the options
+abbrev pub read_checks : GivenOf → List (Option Refused)
+read_checks given = text_checks given.texts given.outputs ++ order_checks (inputs_of (first_main given.texts)) given.order ++ assumption_checks (inputs_of (first_main given.texts)) given.assume
 
--- the answer is the first refusal of all checks, or the comparison
-pub answer_checked : (texts : TextsOf) (order : Option (List ℕ)) (options : Options) → answer texts order options ≡ verdict (checks texts order options) (compared texts)
-answer_checked texts order options =
-    ap (options_answer (options_code options)) (texts_checked texts order)
-    ∙ options_checked (is_between 1 64 options.workers) (is_between 1 1048574 options.nodes) (is_cell_count options.cells) (is_between 0 16 options.forks) (text_checks texts ++ order_checks (inputs_of (first_main texts)) order) (compared texts)
+texts_checked : (given : GivenOf) → texts_answer given ≡ verdict (read_checks given) (decided given)
+texts_checked given = found_checked (first_found given.texts) (second_found given.texts) given
+
+-- the answer is the first refusal of all checks, or the report behind them
+pub answer_checked : (given : GivenOf) → answer given ≡ verdict (checks given) (decided given)
+answer_checked given =
+    let options = given.options in
+    ap (options_answer (options_code options)) (texts_checked given)
+    ∙ options_checked (is_between 1 64 options.workers) (is_between 1 1048574 options.nodes) (is_cell_count options.cells) (is_between 0 16 options.forks) (read_checks given) (decided given)

@@ -1,5 +1,6 @@
 pub mod OptionsLemmas
 pub mod KnownBytes
+pub mod SpoolLemmas
 pub mod ReportLemmas
 pub mod FoundLaws
 pub mod ReportsLaws

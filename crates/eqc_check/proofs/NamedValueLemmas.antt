@@ -1,5 +1,7 @@
 -- Values of outputs where each input has the value that is assigned to its name, and where a list has the values.
-use Rattle.std.proofs.Common.{◌≡◌, ℕ, zero, suc, ◌<◌, nat_lt, if◌then◌else◌, Bool, true, false, List, [], ◌∷◌, length, map, zip, get_or, sym, ap, refl, ◌∙◌, arith, Option, Ok, Err}
+use Rattle.std.proofs.Common.{◌≡◌, ℕ, zero, suc, ◌<◌, nat_lt, if◌then◌else◌, Bool, true, false, List, [], ◌∷◌, length, map, zip, get_or, sym, ap, refl, ◌∙◌, arith, Option, Some, None, IfSome, All, Ok, Err}
+use Rattle.std.specs.Option.{option_map}
+use Rattle.std.proofs.lemmas.List.Elements.{All-from_get_or, All-get_or}
 use Rattle.std.specs.Prelude.{unwrap_or}
 use Rattle.std.proofs.lemmas.Bool.{not-true, and_parts, true≢false}
 use Rattle.std.proofs.lemmas.List.{length-map, get_or-map, get_or_default, same_lists}
@@ -12,10 +14,9 @@ use Rattle.eqc_hierarchy.specs.Hierarchy.{model}
 use Rattle.eqc_hierarchy.specs.Signals.{signals, output_value}
 use Rattle.eqc_flat.proofs.InputLaws.{values_depend_on_inputs_alone}
 use Rattle.eqc_pair.specs.Matched.{position_of}
-use Rattle.eqc_compare.specs.Verdict.{is_different, values_for, first_value, second_value}
-use Rattle.eqc_compare.specs.VerdictLaws.{NeverDiffers}
-use Rattle.eqc_check.specs.Answer.{TextsOf, one_text, two_texts, MainOf, chosen_number, chosen, main_of, inputs_of, netlist_of_model}
-use Rattle.eqc_check.specs.AnswerLaws.{main_or_none, first_main, HaveSameNames, value_under}
+use Rattle.eqc_compare.specs.Verdict.{NetlistOf, is_different, values_for, first_value, second_value, is_allowed}
+use Rattle.eqc_check.specs.Answer.{TextsOf, one_text, two_texts, MainOf, chosen_number, chosen, main_of, inputs_of, outputs_of, netlist_of_model}
+use Rattle.eqc_check.specs.AnswerLaws.{main_or_none, first_main, assumption_main, HaveSameNames, value_under, IsAllowedBy}
 use Rattle.eqc_pair.proofs.PlaceLemmas.{place_itself, place_below, name_at, named_index}
 
 -- no input of a model stands twice
@@ -54,10 +55,17 @@ first_under m assigned output =
     value_same m (values_for (inputs_of m) (map assigned (inputs_of m)) (inputs_of m)) (λ i. assigned (get_or (inputs_of m) i [])) output
     (λ k inside. named_value (inputs_of m) (inputs_of m) assigned k (named_index (inputs_of m) k inside))
 
+-- of a netlist whose inputs are among those of the first
+pub named_under : (m n : MainOf) (assigned : List ℕ → Bool) (output : List ℕ) → All (λ name. is_named (inputs_of m) name ≡ true) (inputs_of n)
+    → second_value (netlist_of_model m) (netlist_of_model n) output (map assigned (inputs_of m)) ≡ value_under n assigned output
+named_under m n assigned output known =
+    value_same n (values_for (inputs_of m) (map assigned (inputs_of m)) (inputs_of n)) (λ i. assigned (get_or (inputs_of n) i [])) output
+    (λ k inside. named_value (inputs_of m) (inputs_of n) assigned k (All-get_or (λ name. is_named (inputs_of m) name ≡ true) (inputs_of n) k [] inside known))
+
 pub second_under : (m n : MainOf) (assigned : List ℕ → Bool) (output : List ℕ) → HaveSameNames (inputs_of m) (inputs_of n) → second_value (netlist_of_model m) (netlist_of_model n) output (map assigned (inputs_of m)) ≡ value_under n assigned output
 second_under m n assigned output same =
-    value_same n (values_for (inputs_of m) (map assigned (inputs_of m)) (inputs_of n)) (λ i. assigned (get_or (inputs_of n) i [])) output
-    (λ k inside. named_value (inputs_of m) (inputs_of n) assigned k (same (get_or (inputs_of n) k []) ∙ named_index (inputs_of n) k inside))
+    named_under m n assigned output
+    (All-from_get_or (λ name. is_named (inputs_of m) name ≡ true) (inputs_of n) [] (λ k inside. same (get_or (inputs_of n) k []) ∙ named_index (inputs_of n) k inside))
 
 -- the assignment of names that a list of the inputs' values gives
 abbrev pub by_position : List (List ℕ) → List Bool → List ℕ → Bool
@@ -90,13 +98,22 @@ same_value true false e = absurd (true≢false e)
 same_value false true e = absurd (true≢false (sym e))
 same_value false false e = refl
 
--- an output that never differs is equal under every assignment
-pub never_always : (m n : MainOf) (output : List ℕ) → HaveSameNames (inputs_of m) (inputs_of n) → NeverDiffers (netlist_of_model m) (netlist_of_model n) output → (assigned : List ℕ → Bool) → value_under m assigned output ≡ value_under n assigned output
-never_always m n output same never assigned =
-    sym (first_under m assigned output)
-    ∙ not_different _ _ (never (map assigned (inputs_of m)) (length-map (inputs_of m) assigned))
-    ∙ second_under m n assigned output same
+-- ---- what is allowed
 
--- and the other way round
-pub always_never : (m n : MainOf) (output : List ℕ) → ((assigned : List ℕ → Bool) → value_under m assigned output ≡ value_under n assigned output) → NeverDiffers (netlist_of_model m) (netlist_of_model n) output
-always_never m n output always a long = same_value _ _ (always (by_position (inputs_of m) a))
+-- the assumption as a netlist
+abbrev pub assumed : Option (List ℕ) → Option NetlistOf
+assumed assume = option_map (λ text. netlist_of_model (assumption_main text)) assume
+
+-- its inputs are among those of a model
+abbrev pub AreKnown : MainOf → Option (List ℕ) → Type 0
+AreKnown m assume = IfSome assume (λ text. All (λ name. is_named (inputs_of m) name ≡ true) (inputs_of (assumption_main text)))
+
+pub allowed_from : (m : MainOf) (assume : Option (List ℕ)) (assigned : List ℕ → Bool) → AreKnown m assume
+    → is_allowed (netlist_of_model m) (assumed assume) (map assigned (inputs_of m)) ≡ true → IsAllowedBy assume assigned
+allowed_from m None assigned known e = tt
+allowed_from m (Some text) assigned known e = sym (named_under m (assumption_main text) assigned (get_or (outputs_of (assumption_main text)) 0 []) known) ∙ e
+
+pub allowed_to : (m : MainOf) (assume : Option (List ℕ)) (assigned : List ℕ → Bool) → AreKnown m assume
+    → IsAllowedBy assume assigned → is_allowed (netlist_of_model m) (assumed assume) (map assigned (inputs_of m)) ≡ true
+allowed_to m None assigned known e = refl
+allowed_to m (Some text) assigned known e = named_under m (assumption_main text) assigned (get_or (outputs_of (assumption_main text)) 0 []) known ∙ e

@@ -1,13 +1,10 @@
 -- Numbers of two digits, and the bytes of a report that stopped or tells of a difference.
-use Rattle.std.proofs.Common.{◌≡◌, ℕ, ◌+◌, ◌/◌, ◌%◌, ◌<◌, ◌≤◌, List, [], ◌∷◌, ◌++◌, ap, sym, ◌∙◌, decimal, codes, arith, Result, Ok, Err, IfOk, String, string_bytes, append_assoc, append-nil, length, take, get_or, Bool, Global}
-use Rattle.std.specs.List.{flat_map}
+use Rattle.std.proofs.Common.{◌≡◌, ℕ, ◌+◌, ◌/◌, ◌%◌, ◌<◌, ◌≤◌, List, [], ◌∷◌, ◌++◌, ap, sym, ◌∙◌, decimal, codes, arith, Result, Ok, Err, IfOk, String, string_bytes, append_assoc, Global}
 use Rattle.std.proofs.lemmas.Fmt.{decimal_digit, decimal_step}
-use Rattle.std.proofs.lemmas.List.{take_more, take_all}
-use Rattle.std.proofs.lemmas.Grind.{flat_map-append}
 use Rattle.eqc_tree.specs.Stopping.{code_of}
 use Rattle.eqc_tree.specs.declared.stopping.Stop.{Stop}
 use Rattle.eqc_tree.specs.declared.stopping.Stop.TheVariants.{NodeLimit, Memory, References, Threads}
-use Rattle.eqc_check.specs.Report.{text, stopped, refused, line, value_line}
+use Rattle.eqc_check.specs.Report.{text, stopped, refused}
 use Rattle.eqc_pair.specs.Side.{side_word}
 use Rattle.eqc_pair.specs.declared.refused.Side.{Side}
 
@@ -41,22 +38,3 @@ refused_bytes (Ok s) side word number code e h =
     let right : codes "refused " ++ (side_word side ++ (32 ∷ (decimal number ++ (32 ∷ (decimal code ++ 10 ∷ []))))) ≡ text (refused side number code) = sym (simp append_assoc) in
     rw e at h ∙ right
 refused_bytes (Err x) side word number code e h = h
-
--- the first line of a report on a difference
-pub begun : (start added ended name bytes : List ℕ) → start ≡ codes "differs at " → added ≡ start ++ bytes → bytes ≡ name → ended ≡ added ++ 10 ∷ [] → ended ≡ line (codes "differs at " ++ name) ++ []
-begun start added ended name bytes s a b e = e ∙ (ap (λ l. l ++ 10 ∷ []) (a ∙ (ap (λ l. start ++ l) b ∙ ap (λ l. l ++ name) s)) ∙ sym (append-nil (line (codes "differs at " ++ name))))
-
-module _ (head : List ℕ) (inputs : List (List ℕ × Bool)) (k : ℕ) (now : List ℕ) (so_far : now ≡ head ++ flat_map value_line (take k inputs)) where
-  -- a line for one more input
-  pub values_more : (more bytes : List ℕ) (p : List ℕ × Bool) → k < length inputs → more ≡ now ++ value_line (bytes, p.1) → bytes ≡ p.0 → p ≡ get_or inputs k p → more ≡ head ++ flat_map value_line (take (k + 1) inputs)
-  values_more more bytes p inside grown is at =
-      grown ∙ (ap (λ b. now ++ value_line (b, p.1)) is ∙ (ap (λ l. l ++ value_line p) so_far ∙ (append_assoc head (flat_map value_line (take k inputs)) (value_line p) ∙ ap (λ l. head ++ l) (sym all))))
-    where
-      all : flat_map value_line (take (k + 1) inputs) ≡ flat_map value_line (take k inputs) ++ value_line p
-      all =
-          ap (flat_map value_line) (take_more inputs k p inside) ∙ (flat_map-append value_line (take k inputs) (get_or inputs k p ∷ [])
-          ∙ (ap (λ q. flat_map value_line (take k inputs) ++ flat_map value_line (q ∷ [])) (sym at) ∙ ap (λ l. flat_map value_line (take k inputs) ++ l) (append-nil (value_line p))))
-
-  -- the lines for all of them, and two more
-  pub values_all : (once twice one two : List ℕ) → length inputs ≤ k → once ≡ now ++ one → twice ≡ once ++ two → twice ≡ ((head ++ flat_map value_line inputs) ++ one) ++ two
-  values_all once twice one two whole a b = b ∙ ap (λ l. l ++ two) (a ∙ ap (λ l. l ++ one) (so_far ∙ ap (λ l. head ++ flat_map value_line l) (take_all k inputs whole)))

@@ -1,5 +1,5 @@
 -- Reports with warnings on the models that are chosen.
-use Rattle.std.proofs.Common.{◌≡◌, ◌⊎◌, inl, inr, ℕ, Bool, true, not, ◌&&◌, List, map, refl, sym, ◌∙◌, ap, subst, Option, Some, None, Result, Ok, Err, IfOk, IfErr, MatchResult}
+use Rattle.std.proofs.Common.{◌≡◌, ◌⊎◌, inl, inr, ℕ, Bool, true, not, ◌&&◌, List, map, refl, sym, ◌∙◌, ap, subst, Option, Some, None, Result, Ok, Err, IfOk, IfErr}
 use Rattle.std.specs.declared.alloc.AllocError.{AllocError}
 use Rattle.eqc_tree.specs.declared.stopping.Stop.{Stop}
 use Rattle.eqc_blif.specs.declared.refusal.Refusal.{Refusal}
@@ -18,75 +18,73 @@ use Rattle.eqc_blif.specs.Names.{is_named}
 use Rattle.eqc_flat.proofs.NameSetLaws.{any_mapped}
 use Rattle.std.specs.Option.{option_copied}
 use Rattle.eqc_blif.specs.Netlist.{ModelOf}
+use Rattle.eqc_blif.specs.Reading.{outcome}
 use Rattle.eqc_hierarchy.specs.Hierarchy.{model_number}
-use Rattle.eqc_check.specs.Answer.{NamesOf, MainOf, TextsOf, one_text, two_texts, read_texts, chosen_number, first_found, second_found, models_answer, found_answer, texts_answer, IsComparison, MayStop, Answers, as_wanted, was_stopped}
+use Rattle.eqc_check.specs.Answer.{NamesOf, MainOf, GivenOf, one_text, two_texts, read_texts, main_of, chosen_number, first_found, second_found, models_answer, found_answer, texts_answer, IsComparison, MayStop, Answers, as_wanted, was_stopped}
 use Rattle.eqc_check.specs.Telling.{IsToldRefusal, IsToldWith, WarnsOf, Tells}
 use Rattle.eqc_check.specs.Warning.{contains, is_container, warnings_in_one, warnings_in_two, warnings_on}
 
 -- a side that is refused, or want of memory
-refusal_tells : (s : Side) (refusal : Refusal) (result : Result Told Stop) (texts : TextsOf) (order : Option (List ℕ)) → IsToldRefusal s refusal result → (refusal ≡ record { line = 0; code = 72 }) ⊎ (refused s refusal.line refusal.code ≡ texts_answer texts order) → Tells texts order result
-refusal_tells s refusal (Err stop) texts order h e = subst (MayStop (texts_answer texts order)) (sym h.1) tt
-refusal_tells s refusal (Ok told) texts order h e = elim e [
+refusal_tells : (s : Side) (refusal : Refusal) (result : Result Told Stop) (given : GivenOf) → IsToldRefusal s refusal result → (refusal ≡ record { line = 0; code = 72 }) ⊎ (refused s refusal.line refusal.code ≡ texts_answer given) → Tells given result
+refusal_tells s refusal (Err stop) given h e = subst (MayStop (texts_answer given)) (sym h.1) tt
+refusal_tells s refusal (Ok told) given h e = elim e [
   | inl none ↦ absurd (h.0 (ap (λ (x : Refusal). x.code) none))
   | inr is ↦ (ap report_of h.1 ∙ is, λ compares. absurd (subst IsComparison (ap report_of h.1) compares))
 ]
 
-first_refused : (first second : Result MainOf (ℕ × ℕ)) (line code : ℕ) (order : Option (List ℕ)) → first ≡ Err (line, code) → refused side.First line code ≡ found_answer first second order
-first_refused first second line code order e = sym (ap (λ x. found_answer x second order) e)
+first_refused : (first second : Result MainOf (ℕ × ℕ)) (line code : ℕ) (given : GivenOf) → first ≡ Err (line, code) → refused side.First line code ≡ found_answer first second given
+first_refused first second line code given e = sym (ap (λ x. found_answer x second given) e)
 
-second_refused : (first second : Result MainOf (ℕ × ℕ)) (m : MainOf) (line code : ℕ) (order : Option (List ℕ)) → first ≡ Ok m → second ≡ Err (line, code) → refused side.Second line code ≡ found_answer first second order
-second_refused first second m line code order e h = sym (ap (λ x. found_answer x second order) e ∙ ap (λ x. found_answer (Ok m) x order) h)
+second_refused : (first second : Result MainOf (ℕ × ℕ)) (m : MainOf) (line code : ℕ) (given : GivenOf) → first ≡ Ok m → second ≡ Err (line, code) → refused side.Second line code ≡ found_answer first second given
+second_refused first second m line code given e h = sym (ap (λ x. found_answer x second given) e ∙ ap (λ x. found_answer (Ok m) x given) h)
 
-both_compared : (first second : Result MainOf (ℕ × ℕ)) (m n : MainOf) (order : Option (List ℕ)) → first ≡ Ok m → second ≡ Ok n → models_answer m n order ≡ found_answer first second order
-both_compared first second m n order e h = sym (ap (λ x. found_answer x second order) e ∙ ap (λ x. found_answer (Ok m) x order) h)
+both_compared : (first second : Result MainOf (ℕ × ℕ)) (m n : MainOf) (given : GivenOf) → first ≡ Ok m → second ≡ Ok n → models_answer m n given ≡ found_answer first second given
+both_compared first second m n given e h = sym (ap (λ x. found_answer x second given) e ∙ ap (λ x. found_answer (Ok m) x given) h)
 
-pub first_tells : (refusal : Refusal) (result : Result Told Stop) (texts : TextsOf) (order : Option (List ℕ)) → IsToldRefusal side.First refusal result → (refusal ≡ record { line = 0; code = 72 }) ⊎ (first_found texts ≡ Err (refusal.line, refusal.code)) → Tells texts order result
-first_tells refusal result texts order h e = refusal_tells side.First refusal result texts order h (elim e [
+pub first_tells : (refusal : Refusal) (result : Result Told Stop) (given : GivenOf) → IsToldRefusal side.First refusal result → (refusal ≡ record { line = 0; code = 72 }) ⊎ (first_found given.texts ≡ Err (refusal.line, refusal.code)) → Tells given result
+first_tells refusal result given h e = refusal_tells side.First refusal result given h (elim e [
   | inl none ↦ inl none
-  | inr is ↦ inr (first_refused (first_found texts) (second_found texts) refusal.line refusal.code order is)
+  | inr is ↦ inr (first_refused (first_found given.texts) (second_found given.texts) refusal.line refusal.code given is)
 ])
 
-pub second_tells : (refusal : Refusal) (result : Result Told Stop) (texts : TextsOf) (order : Option (List ℕ)) (m : MainOf) → first_found texts ≡ Ok m → IsToldRefusal side.Second refusal result → (refusal ≡ record { line = 0; code = 72 }) ⊎ (second_found texts ≡ Err (refusal.line, refusal.code)) → Tells texts order result
-second_tells refusal result texts order m there h e = refusal_tells side.Second refusal result texts order h (elim e [
+pub second_tells : (refusal : Refusal) (result : Result Told Stop) (given : GivenOf) (m : MainOf) → first_found given.texts ≡ Ok m → IsToldRefusal side.Second refusal result → (refusal ≡ record { line = 0; code = 72 }) ⊎ (second_found given.texts ≡ Err (refusal.line, refusal.code)) → Tells given result
+second_tells refusal result given m there h e = refusal_tells side.Second refusal result given h (elim e [
   | inl none ↦ inl none
-  | inr is ↦ inr (second_refused (first_found texts) (second_found texts) m refusal.line refusal.code order there is)
+  | inr is ↦ inr (second_refused (first_found given.texts) (second_found given.texts) m refusal.line refusal.code given there is)
 ])
 
 -- two models that are compared
-both_tell : (texts : TextsOf) (order : Option (List ℕ)) (wanted : ReportOf) (report : Result Report Stop) (warnings : Result Warnings AllocError) (result : Result Told Stop) → wanted ≡ texts_answer texts order → IfOk report (λ r. report_of r ≡ wanted) → IfErr report (MayStop wanted) → IfOk warnings (λ w. w ≡ warnings_on texts) → IsToldWith report warnings result → Tells texts order result
-both_tell texts order wanted (Ok report) (Ok warnings) result is r s w told = subst (Tells texts order) (sym told) (r ∙ is, λ compares. w)
-both_tell texts order wanted (Ok report) (Err error) result is r s w told = subst (Tells texts order) (sym told) tt
-both_tell texts order wanted (Err stop) warnings result is r s w told = subst (Tells texts order) (sym told) (subst (λ (a : ReportOf). MayStop a stop) is s)
+both_tell : (given : GivenOf) (wanted : ReportOf) (report : Result Report Stop) (warnings : Result Warnings AllocError) (result : Result Told Stop) → wanted ≡ texts_answer given → IfOk report (λ r. report_of r ≡ wanted) → IfErr report (MayStop wanted) → IfOk warnings (λ w. w ≡ warnings_on given.texts) → IsToldWith report warnings result → Tells given result
+both_tell given wanted (Ok report) (Ok warnings) result is r s w told = subst (Tells given) (sym told) (r ∙ is, λ compares. w)
+both_tell given wanted (Ok report) (Err error) result is r s w told = subst (Tells given) (sym told) tt
+both_tell given wanted (Err stop) warnings result is r s w told = subst (Tells given) (sym told) (subst (λ (a : ReportOf). MayStop a stop) is s)
 
 if_alike : {E : Type 0} (result : Result Warnings E) (a b : Warnings) → a ≡ b → IfOk result (λ w. w ≡ a) → IfOk result (λ w. w ≡ b)
 if_alike (Ok w) a b e h = h ∙ e
 if_alike (Err error) a b e h = tt
 
-pub one_tells : (names : NamesOf) (text : List ℕ) (order : Option (List ℕ)) (m n : MainOf) (report : Result Report Stop) (warnings : Result Warnings AllocError) (result : Result Told Stop) → first_found (one_text names text) ≡ Ok m → second_found (one_text names text) ≡ Ok n → IfOk report (λ r. report_of r ≡ models_answer m n order) → IfErr report (MayStop (models_answer m n order)) → IfOk warnings (λ w. w ≡ warnings_in_one m n) → IsToldWith report warnings result → Tells (one_text names text) order result
-one_tells names text order m n report warnings result e h r s w told =
-    both_tell (one_text names text) order (models_answer m n order) report warnings result (both_compared (first_found (one_text names text)) (second_found (one_text names text)) m n order e h) r s
-    (if_alike warnings (warnings_in_one m n) (warnings_on (one_text names text)) (sym (rw (e, h) refl)) w) told
+-- the models are compared, and these are the warnings on them
+pub models_tell : (given : GivenOf) (m n : MainOf) (warned : Warnings) (report : Result Report Stop) (warnings : Result Warnings AllocError) (result : Result Told Stop) → first_found given.texts ≡ Ok m → second_found given.texts ≡ Ok n
+    → warned ≡ warnings_on given.texts → IfOk report (λ r. report_of r ≡ models_answer m n given) → IfErr report (MayStop (models_answer m n given)) → IfOk warnings (λ w. w ≡ warned) → IsToldWith report warnings result → Tells given result
+models_tell given m n warned report warnings result e h same r s w told =
+    both_tell given (models_answer m n given) report warnings result (both_compared (first_found given.texts) (second_found given.texts) m n given e h) r s (if_alike warnings warned (warnings_on given.texts) same w) told
 
-pub two_tell : (names : NamesOf) (first second : List ℕ) (order : Option (List ℕ)) (m n : MainOf) (report : Result Report Stop) (warnings : Result Warnings AllocError) (result : Result Told Stop) → first_found (two_texts names first second) ≡ Ok m → second_found (two_texts names first second) ≡ Ok n → IfOk report (λ r. report_of r ≡ models_answer m n order) → IfErr report (MayStop (models_answer m n order)) → IfOk warnings (λ w. w ≡ warnings_in_two m n) → IsToldWith report warnings result → Tells (two_texts names first second) order result
-two_tell names first second order m n report warnings result e h r s w told =
-    both_tell (two_texts names first second) order (models_answer m n order) report warnings result (both_compared (first_found (two_texts names first second)) (second_found (two_texts names first second)) m n order e h) r s
-    (if_alike warnings (warnings_in_two m n) (warnings_on (two_texts names first second)) (sym (rw (e, h) refl)) w) told
+-- the warnings on the models of one text, and of two
+pub one_warned : (names : NamesOf) (text : List ℕ) (m n : MainOf) → first_found (one_text names text) ≡ Ok m → second_found (one_text names text) ≡ Ok n → warnings_in_one m n ≡ warnings_on (one_text names text)
+one_warned names text m n e h = sym (rw (e, h) refl)
 
--- what is told answers the texts, and warns of them
-pub told_answers : (texts : TextsOf) (order : Option (List ℕ)) (result : Result Told Stop) (got : Told) → Tells texts order result → MatchResult result (λ t. got ≡ t) (λ stop. got.report ≡ kind.Stopped stop) → Answers (texts_answer texts order) (report_of got.report)
-told_answers texts order (Ok told) got tells is = rw (is, tells.0) as_wanted
-told_answers texts order (Err stop) got tells is = rw is (was_stopped stop tells)
+pub two_warned : (names : NamesOf) (first second : List ℕ) (m n : MainOf) → first_found (two_texts names first second) ≡ Ok m → second_found (two_texts names first second) ≡ Ok n → warnings_in_two m n ≡ warnings_on (two_texts names first second)
+two_warned names first second m n e h = sym (rw (e, h) refl)
 
-pub told_warns : (texts : TextsOf) (order : Option (List ℕ)) (result : Result Told Stop) (got : Told) → Tells texts order result → MatchResult result (λ t. got ≡ t) (λ stop. got.report ≡ kind.Stopped stop) → WarnsOf texts (report_of got.report) got.warnings
-told_warns texts order (Ok told) got tells is = rw is tells.1
-told_warns texts order (Err stop) got tells is = λ compares. absurd (subst (λ (r : Report). IsComparison (report_of r)) is compares)
+-- what is told answers what is given, and warns of it
+pub told_answers : (given : GivenOf) (told : Told) → Tells given (Ok told) → Answers (texts_answer given) (report_of told.report)
+told_answers given told tells = rw tells.0 as_wanted
 
--- the texts of one, and of two
-pub texts_none : (names : NamesOf) (first : List ℕ) (second : Option (Bor (List ℕ))) → second ≡ None → one_text names first ≡ read_texts names first (option_copied second)
-texts_none names first second e = sym (ap (λ (s : Option (Bor (List ℕ))). read_texts names first (option_copied s)) e)
+pub stop_answers : (given : GivenOf) (stop : Stop) (told : Told) → Tells given (Err stop) → told.report ≡ kind.Stopped stop → Answers (texts_answer given) (report_of told.report)
+stop_answers given stop told tells is = rw is (was_stopped stop tells)
 
-pub texts_some : (names : NamesOf) (first : List ℕ) (second : Option (Bor (List ℕ))) (text : Bor (List ℕ)) → second ≡ Some text → two_texts names first text.now ≡ read_texts names first (option_copied second)
-texts_some names first second text e = sym (ap (λ (s : Option (Bor (List ℕ))). read_texts names first (option_copied s)) e)
+pub stop_warns : (given : GivenOf) (stop : Stop) (told : Told) → told.report ≡ kind.Stopped stop → WarnsOf given (report_of told.report) told.warnings
+stop_warns given stop told is = λ compares. absurd (subst (λ (r : Report). IsComparison (report_of r)) is compares)
 
 -- ---- the choice of a model
 
@@ -101,3 +99,16 @@ is_compared compared name bytes found is same = is ∙ (sym (any_mapped (bytes_e
 
 pub contains_alone : (compared : List (List ℕ)) (name : List ℕ) (m : ModelOf) (holds found : Bool) → holds ≡ contains name m → holds ≡ true → found ≡ is_named compared m.name → not found ≡ is_container compared name m
 contains_alone compared name m holds found e is named = ap not named ∙ sym (ap (λ (b : Bool). b && not (is_named compared m.name)) (sym e ∙ is))
+
+-- ---- what was read
+
+-- the first model is that of the first text, and so is the second where there is no second text
+pub first_of_read : (names : NamesOf) (first : List ℕ) (second : Option (List ℕ)) → first_found (read_texts names first second) ≡ main_of (outcome first) names.first 0
+first_of_read names first None = refl
+first_of_read names first (Some second) = refl
+
+pub second_of_one : (names : NamesOf) (first : List ℕ) (second : Option (List ℕ)) → second ≡ None → second_found (read_texts names first second) ≡ main_of (outcome first) names.second 1
+second_of_one names first second e = ap (λ (s : Option (List ℕ)). second_found (read_texts names first s)) e
+
+pub second_of_two : (names : NamesOf) (first : List ℕ) (second : Option (List ℕ)) (text : List ℕ) → second ≡ Some text → second_found (read_texts names first second) ≡ main_of (outcome text) names.second 0
+second_of_two names first second text e = ap (λ (s : Option (List ℕ)). second_found (read_texts names first s)) e

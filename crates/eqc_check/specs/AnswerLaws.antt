@@ -1,6 +1,6 @@
--- What a report promises, without the definition of the answer: the two main models, the checks in their order, and
--- the values of outputs where each input has the value that is assigned to its name.
-use Rattle.std.specs.Prelude.{◌≡◌, ◌≢◌, ◌↔◌, ℕ, ◌^◌, ◌≤◌, ◌<◌, Bool, false, not, List, [], ◌∷◌, ◌++◌, length, map, nat_lt, slice_index_or, Option, Some, None, IfSome, Result, Ok, Err, if◌then◌else◌}
+-- What a report promises, without the definition of the answer: the two main models and the assumption, the checks in their
+-- order, and the values of outputs where each input has the value that is assigned to its name.
+use Rattle.std.specs.Prelude.{◌≡◌, ◌≢◌, ◌↔◌, ℕ, ◌==◌, true, ◌^◌, ◌≤◌, ◌<◌, Bool, false, not, List, [], ◌∷◌, ◌++◌, length, map, nat_lt, slice_index_or, Option, Some, None, IfSome, Result, Ok, Err, if◌then◌else◌}
 use Rattle.std.specs.List.{All}
 use Rattle.eqc_blif.specs.Names.{is_named, has_twice}
 use Rattle.eqc_hierarchy.specs.Signals.{output_value}
@@ -9,16 +9,16 @@ use Rattle.eqc_check.specs.declared.options.Options.{Options}
 use Rattle.eqc_pair.specs.declared.refused.Refused.{Refused}
 use Rattle.eqc_pair.specs.declared.refused.Side.{Side}
 use Rattle.eqc_pair.specs.declared.refused.Side.TheVariants as side
-use Rattle.eqc_check.specs.Options.{is_between, is_cell_count, options_code}
-use Rattle.eqc_pair.specs.Matched.{has_all, same_names, order_words}
+use Rattle.eqc_check.specs.Options.{is_between, is_cell_count}
+use Rattle.eqc_pair.specs.Matched.{has_all, same_names, chosen_outputs, order_words}
 use Rattle.eqc_compare.specs.VerdictLaws.{IsBelow}
-use Rattle.eqc_check.specs.Report.{ReportOf, equivalent, differs, refused, stopped}
+use Rattle.eqc_check.specs.Report.{DifferenceOf, ReportOf, equivalent, differs, vacuous, refused, stopped}
 use Rattle.eqc_blif.specs.Netlist.{ModelOf}
 use Rattle.eqc_blif.specs.Reading.{outcome}
 use Rattle.eqc_hierarchy.specs.Hierarchy.{model}
-use Rattle.eqc_check.specs.Answer.{NamesOf, TextsOf, main_of, first_found, second_found, MainOf, inputs_of, outputs_of, answer, IsComparison, Answers}
-use Rattle.eqc_check.specs.Running.{known_texts, known_order, IsReportFor}
-use Rattle.eqc_check.specs.declared.running.Texts.{Texts}
+use Rattle.eqc_check.specs.Answer.{TextsOf, GivenOf, main_of, first_found, second_found, MainOf, inputs_of, outputs_of, assumption_found, answer, IsAccepting, Answers}
+use Rattle.eqc_check.specs.Running.{known_given, IsReportFor}
+use Rattle.eqc_check.specs.declared.given.Given.{Given}
 
 -- ---- the main models
 
@@ -33,6 +33,10 @@ first_main texts = main_or_none (first_found texts)
 
 abbrev pub second_main : TextsOf → MainOf
 second_main texts = main_or_none (second_found texts)
+
+-- the assumption: the first model of its text
+abbrev pub assumption_main : List ℕ → MainOf
+assumption_main text = main_or_none (assumption_found text)
 
 -- a model of a text is the one of a name or, without a name, the one at a place
 abbrev pub IsChoice : List ModelOf → Option (List ℕ) → ℕ → MainOf → Type 0
@@ -68,15 +72,25 @@ pub record IsOrderOf (inputs : List (List ℕ)) (text : List ℕ) : Type 0 where
   pub words : HaveSameNames (order_words text) inputs
   pub once : has_twice (order_words text) ≡ false
 
--- two netlists are accepted: options, texts, hierarchies, names and the order text are as they have to be
-pub record IsAccepted (texts : TextsOf) (order : Option (List ℕ)) (options : Options) : Type 0 where
-  pub range : AreInRange options
-  pub readable : AreReadable texts
-  pub first_hierarchy : flat_code (first_main texts).0 (first_main texts).1 ≡ None
-  pub second_hierarchy : flat_code (second_main texts).0 (second_main texts).1 ≡ None
-  pub inputs : HaveSameNames (inputs_of (first_main texts)) (inputs_of (second_main texts))
-  pub outputs : HaveSameNames (outputs_of (first_main texts)) (outputs_of (second_main texts))
-  pub ordered : IfSome order (IsOrderOf (inputs_of (first_main texts)))
+-- an assumption over these inputs: a netlist without a fault, whose inputs are among them, with one output
+pub record IsAssumptionOver (inputs : List (List ℕ)) (text : List ℕ) : Type 0 where
+  pub readable : IsFound (assumption_found text)
+  pub hierarchy : flat_code (assumption_main text).0 (assumption_main text).1 ≡ None
+  pub known : All (λ name. is_named inputs name ≡ true) (inputs_of (assumption_main text))
+  pub one_output : length (outputs_of (assumption_main text)) ≡ 1
+
+-- two netlists are accepted, and the assumption, if there is one: options, texts, hierarchies, names and the order text are
+-- as they have to be
+pub record IsAccepted (given : GivenOf) : Type 0 where
+  pub range : AreInRange given.options
+  pub readable : AreReadable given.texts
+  pub first_hierarchy : flat_code (first_main given.texts).0 (first_main given.texts).1 ≡ None
+  pub second_hierarchy : flat_code (second_main given.texts).0 (second_main given.texts).1 ≡ None
+  pub inputs : HaveSameNames (inputs_of (first_main given.texts)) (inputs_of (second_main given.texts))
+  pub outputs : HaveSameNames (outputs_of (first_main given.texts)) (outputs_of (second_main given.texts))
+  pub chosen : All (λ name. is_named (outputs_of (first_main given.texts)) name ≡ true) given.outputs
+  pub ordered : IfSome given.order (IsOrderOf (inputs_of (first_main given.texts)))
+  pub assumed : IfSome given.assume (IsAssumptionOver (inputs_of (first_main given.texts)))
 
 -- ---- values
 
@@ -88,27 +102,70 @@ value_under main assigned output = output_value main.0 main.1 (λ i. assigned (s
 abbrev pub IsEqualUnder : TextsOf → (List ℕ → Bool) → List ℕ → Type 0
 IsEqualUnder texts assigned output = value_under (first_main texts) assigned output ≡ value_under (second_main texts) assigned output
 
--- under every assignment
-abbrev pub IsAlwaysEqual : TextsOf → List ℕ → Type 0
-IsAlwaysEqual texts output = (assigned : List ℕ → Bool) → IsEqualUnder texts assigned output
+-- an assignment is allowed: the output of the assumption, if there is one, is 1 under it
+abbrev pub IsAllowedBy : Option (List ℕ) → (List ℕ → Bool) → Type 0
+IsAllowedBy None assigned = Unit {0}
+IsAllowedBy (Some text) assigned = value_under (assumption_main text) assigned (slice_index_or (outputs_of (assumption_main text)) 0 []) ≡ true
+
+abbrev pub IsAllowed : GivenOf → (List ℕ → Bool) → Type 0
+IsAllowed given assigned = IsAllowedBy given.assume assigned
+
+-- no assignment is
+abbrev pub AllowsNone : GivenOf → Type 0
+AllowsNone given = (assigned : List ℕ → Bool) → IsAllowed given assigned → ⊥
+
+-- some are
+abbrev pub AllowsSome : GivenOf → Type 0
+AllowsSome given = (assigned : List ℕ → Bool) × IsAllowed given assigned
+
+-- an output is equal under every allowed assignment
+abbrev pub IsAlwaysEqual : GivenOf → List ℕ → Type 0
+IsAlwaysEqual given output = (assigned : List ℕ → Bool) → IsAllowed given assigned → IsEqualUnder given.texts assigned output
+
+-- the outputs that are compared: those of the names that are given, or all
+abbrev pub compared_outputs : GivenOf → List (List ℕ)
+compared_outputs given = chosen_outputs given.outputs (outputs_of (first_main given.texts))
+
+-- some assignment is allowed, and all of these are equal under every one that is
+pub record AreAlwaysEqual (given : GivenOf) : Type 0 where
+  pub some : AllowsSome given
+  pub each : All (IsAlwaysEqual given) (compared_outputs given)
 
 -- one assignment is below another: at the first of these inputs where they differ it is 0
 abbrev pub IsSmaller : List (List ℕ) → (List ℕ → Bool) → (List ℕ → Bool) → Type 0
 IsSmaller inputs assigned other = IsBelow (map assigned inputs) (map other inputs)
 
--- an output is the first of the first main model's outputs that differs, shown by the least assignment under which
--- it does: the inputs in the order of that model with their values, and the output's two values under them
-pub record IsFirstToDiffer (texts : TextsOf) (output : List ℕ) (inputs : List (List ℕ × Bool)) (first second : Bool) : Type 0 where
-  pub position : ℕ
-  pub within : position < length (outputs_of (first_main texts))
-  pub there : slice_index_or (outputs_of (first_main texts)) position [] ≡ output
-  pub before : (k : ℕ) → k < position → IsAlwaysEqual texts (slice_index_or (outputs_of (first_main texts)) k [])
+-- an output differs, shown by the least allowed assignment under which it does: the inputs in the order of the first main
+-- model with their values, and the output's two values under them
+pub record IsShown (given : GivenOf) (output : List ℕ) (d : DifferenceOf) : Type 0 where
+  pub named : d.output ≡ output
   pub assigned : List ℕ → Bool
-  pub shown : map (λ name. (name, assigned name)) (inputs_of (first_main texts)) ≡ inputs
-  pub first_value : value_under (first_main texts) assigned output ≡ first
-  pub second_value : value_under (second_main texts) assigned output ≡ second
-  pub different : first ≢ second
-  pub least : (smaller : List ℕ → Bool) → IsSmaller (inputs_of (first_main texts)) smaller assigned → IsEqualUnder texts smaller output
+  pub allowed : IsAllowed given assigned
+  pub inputs : map (λ name. (name, assigned name)) (inputs_of (first_main given.texts)) ≡ d.inputs
+  pub first_value : value_under (first_main given.texts) assigned output ≡ d.first
+  pub second_value : value_under (second_main given.texts) assigned output ≡ d.second
+  pub different : d.first ≢ d.second
+  pub least : (smaller : List ℕ → Bool) → IsSmaller (inputs_of (first_main given.texts)) smaller assigned → IsAllowed given smaller → IsEqualUnder given.texts smaller output
+
+-- the first of the compared outputs that differs is shown, alone
+pub record IsFirstToDiffer (given : GivenOf) (differences : List DifferenceOf) : Type 0 where
+  pub difference : DifferenceOf
+  pub alone : differences ≡ difference ∷ []
+  pub position : ℕ
+  pub within : position < length (compared_outputs given)
+  pub before : (k : ℕ) → k < position → IsAlwaysEqual given (slice_index_or (compared_outputs given) k [])
+  pub shown : IsShown given (slice_index_or (compared_outputs given) position []) difference
+
+-- each of these outputs that differs is shown, in their order, and no other
+pub data AreShown (given : GivenOf) : List (List ℕ) → List DifferenceOf → Type 0 where
+  none_left : AreShown given [] []
+  equal : (output : List ℕ) (outputs : List (List ℕ)) (ds : List DifferenceOf) → IsAlwaysEqual given output → AreShown given outputs ds → AreShown given (output ∷ outputs) ds
+  differing : (output : List ℕ) (outputs : List (List ℕ)) (d : DifferenceOf) (ds : List DifferenceOf) → IsShown given output d → AreShown given outputs ds → AreShown given (output ∷ outputs) (d ∷ ds)
+
+-- what is told of outputs that differ, of which there is one at least: each, or the first alone
+abbrev pub AreTold : Bool → GivenOf → List DifferenceOf → Type 0
+AreTold true given ds = (ds ≢ []) × AreShown given (compared_outputs given) ds
+AreTold false given ds = IsFirstToDiffer given ds
 
 -- ---- the checks
 
@@ -129,7 +186,8 @@ abbrev pub order_fails : Option (List ℕ) → (List ℕ → Bool) → Bool
 order_fails None test = false
 order_fails (Some text) test = test text
 
--- the checks of the options, of the texts and their main models, and of the order text
+-- the checks of the options, of the texts and their main models with the names of chosen outputs, of the order text, and of the
+-- assumption
 abbrev pub option_checks : Options → List (Option Refused)
 option_checks options =
     refused_if (not (is_between 1 64 options.workers)) side.Options 81
@@ -138,14 +196,15 @@ option_checks options =
     ∷ refused_if (not (is_between 0 16 options.forks)) side.Options 84
     ∷ []
 
-abbrev pub text_checks : TextsOf → List (Option Refused)
-text_checks texts =
+abbrev pub text_checks : TextsOf → List (List ℕ) → List (Option Refused)
+text_checks texts outputs =
     refused_by_fault side.First (first_found texts)
     ∷ refused_by_fault side.Second (second_found texts)
     ∷ refused_by_code side.First (flat_code (first_main texts).0 (first_main texts).1)
     ∷ refused_by_code side.Second (flat_code (second_main texts).0 (second_main texts).1)
     ∷ refused_if (not (same_names (inputs_of (first_main texts)) (inputs_of (second_main texts)))) side.Pair 41
     ∷ refused_if (not (same_names (outputs_of (first_main texts)) (outputs_of (second_main texts)))) side.Pair 42
+    ∷ refused_if (not (has_all (outputs_of (first_main texts)) outputs)) side.Pair 43
     ∷ []
 
 abbrev pub order_checks : List (List ℕ) → Option (List ℕ) → List (Option Refused)
@@ -156,10 +215,21 @@ order_checks inputs order =
     ∷ refused_if (order_fails order (λ text. not (has_all (order_words text) inputs))) side.Order 53
     ∷ []
 
+abbrev pub assumption_checks : List (List ℕ) → Option (List ℕ) → List (Option Refused)
+assumption_checks inputs None = []
+assumption_checks inputs (Some text) =
+    refused_by_fault side.Assume (assumption_found text)
+    ∷ refused_by_code side.Assume (flat_code (assumption_main text).0 (assumption_main text).1)
+    ∷ refused_if (not (has_all inputs (inputs_of (assumption_main text)))) side.Assume 61
+    ∷ refused_if (not (length (outputs_of (assumption_main text)) == 1)) side.Assume 62
+    ∷ []
+
 -- all checks, in their order. A check looks at main models that earlier checks found, and says nothing of its own
 -- where one of these refuses
-abbrev pub checks : TextsOf → Option (List ℕ) → Options → List (Option Refused)
-checks texts order options = option_checks options ++ text_checks texts ++ order_checks (inputs_of (first_main texts)) order
+abbrev pub checks : GivenOf → List (Option Refused)
+checks given =
+    option_checks given.options ++ text_checks given.texts given.outputs
+    ++ order_checks (inputs_of (first_main given.texts)) given.order ++ assumption_checks (inputs_of (first_main given.texts)) given.assume
 
 -- a check of a list refuses, and all before it pass
 pub record IsFirstRefusal (all : List (Option Refused)) (refusal : Refused) : Type 0 where
@@ -170,51 +240,56 @@ pub record IsFirstRefusal (all : List (Option Refused)) (refusal : Refused) : Ty
 -- ---- the laws. Where one says `exactly where`, what follows does not cite the answer: together they leave one report
 -- for each run
 
--- an order text, where there is one, names the inputs, wherever two netlists are accepted without it
-abbrev pub FitsInputs : TextsOf → Option (List ℕ) → Options → Type 0
-FitsInputs texts order options = IsAccepted texts None options → IfSome order (IsOrderOf (inputs_of (first_main texts)))
+-- the same with neither order text nor assumption, and with another order text and other options
+abbrev pub alone : GivenOf → GivenOf
+alone given = record given { order = None; assume = None }
 
--- the answer is one for all options in their ranges and all orders that name the inputs; texts that are refused are
--- refused alike whatever order there is
+abbrev pub with_others : GivenOf → Option (List ℕ) → Options → GivenOf
+with_others given order options = record given { order = order; options = options }
+
+-- an order text, where there is one, names the inputs, wherever two netlists are accepted without it and the assumption
+abbrev pub FitsInputs : GivenOf → Type 0
+FitsInputs given = IsAccepted (alone given) → IfSome given.order (IsOrderOf (inputs_of (first_main given.texts)))
+
+-- the answer is one for all options in their ranges that want as many differences, and all orders that name the inputs; what is
+-- refused is refused alike whatever order there is
 abbrev pub AnswerIsOne : Type 0
 AnswerIsOne =
-    (texts : TextsOf) (order other : Option (List ℕ)) (options others : Options) → AreInRange options → AreInRange others
-    → FitsInputs texts order options → FitsInputs texts other others → answer texts order options ≡ answer texts other others
+    (given : GivenOf) (order : Option (List ℕ)) (options : Options) → AreInRange given.options → AreInRange options → given.options.every ≡ options.every
+    → FitsInputs given → FitsInputs (with_others given order options) → answer given ≡ answer (with_others given order options)
 
--- it is `equivalent` exactly where two netlists are accepted and each output is equal under every assignment
+-- it is `vacuous` exactly where two netlists and an assumption are accepted and no assignment is allowed
+abbrev pub AnswerIsVacuous : Type 0
+AnswerIsVacuous = (given : GivenOf) → (answer given ≡ vacuous) ↔ (IsAccepted given × AllowsNone given)
+
+-- it is `equivalent` exactly where two netlists are accepted, some assignment is allowed, and each output that is compared is
+-- equal under every allowed assignment
 abbrev pub AnswerIsEquivalent : Type 0
-AnswerIsEquivalent =
-    (texts : TextsOf) (order : Option (List ℕ)) (options : Options)
-    → (answer texts order options ≡ equivalent) ↔ (IsAccepted texts order options × All (IsAlwaysEqual texts) (outputs_of (first_main texts)))
+AnswerIsEquivalent = (given : GivenOf) → (answer given ≡ equivalent) ↔ (IsAccepted given × AreAlwaysEqual given)
 
--- it says that an output differs exactly where two netlists are accepted and it is the first that does, with the
--- least assignment
+-- it says that outputs differ exactly where two netlists are accepted and these are the outputs that differ, each with the least
+-- allowed assignment, or the first of them alone, where not each is wanted
 abbrev pub AnswerDiffers : Type 0
 AnswerDiffers =
-    (texts : TextsOf) (order : Option (List ℕ)) (options : Options) (output : List ℕ) (inputs : List (List ℕ × Bool)) (first second : Bool)
-    → (answer texts order options ≡ differs output inputs first second) ↔ (IsAccepted texts order options × IsFirstToDiffer texts output inputs first second)
+    (given : GivenOf) (differences : List DifferenceOf)
+    → (answer given ≡ differs differences) ↔ (IsAccepted given × AreTold given.options.every given differences)
 
 -- it is a refusal exactly where that is the first among the checks
 abbrev pub AnswerIsFirstRefusal : Type 0
 AnswerIsFirstRefusal =
-    (texts : TextsOf) (order : Option (List ℕ)) (options : Options) (refusal : Refused)
-    → (answer texts order options ≡ refused refusal.side refusal.line refusal.code) ↔ IsFirstRefusal (checks texts order options) refusal
+    (given : GivenOf) (refusal : Refused) → (answer given ≡ refused refusal.side refusal.line refusal.code) ↔ IsFirstRefusal (checks given) refusal
 
--- it says how two netlists compare exactly where all checks pass
+-- it is `vacuous` or says how two netlists compare exactly where all checks pass
 abbrev pub AnswerCompares : Type 0
-AnswerCompares =
-    (texts : TextsOf) (order : Option (List ℕ)) (options : Options)
-    → IsComparison (answer texts order options) ↔ ((k : ℕ) → slice_index_or (checks texts order options) k None ≡ None)
+AnswerCompares = (given : GivenOf) → IsAccepting (answer given) ↔ ((k : ℕ) → slice_index_or (checks given) k None ≡ None)
 
 -- which is exactly where two netlists are accepted
 abbrev pub ChecksAccept : Type 0
-ChecksAccept =
-    (texts : TextsOf) (order : Option (List ℕ)) (options : Options)
-    → ((k : ℕ) → slice_index_or (checks texts order options) k None ≡ None) ↔ IsAccepted texts order options
+ChecksAccept = (given : GivenOf) → ((k : ℕ) → slice_index_or (checks given) k None ≡ None) ↔ IsAccepted given
 
 -- it is no stop
 abbrev pub AnswerIsNoStop : Type 0
-AnswerIsNoStop = (texts : TextsOf) (order : Option (List ℕ)) (options : Options) (code : ℕ) → answer texts order options ≢ stopped code
+AnswerIsNoStop = (given : GivenOf) (code : ℕ) → answer given ≢ stopped code
 
 -- the model that is chosen of a text without a fault is the one of the name or at the place, and it is chosen wherever it
 -- is there
@@ -226,6 +301,4 @@ ModelIsChosen =
 -- a report that answers a run, over readers whose bytes are known, is the answer on these, or says why the run was stopped
 abbrev pub IsAnswerOfRuns : {R : Type 0} → (R → Option (List ℕ)) → Type 0
 IsAnswerOfRuns {R} remaining =
-    (names : NamesOf) (texts : Texts R) (order : Option R) (options : Options) (known : TextsOf) (order_text : Option (List ℕ)) (report : ReportOf)
-    → known_texts names remaining texts ≡ Some known → known_order remaining order ≡ Some order_text
-    → IsReportFor (options_code options) names remaining texts order report → Answers (answer known order_text options) report
+    (given : Given R) (known : GivenOf) (report : ReportOf) → known_given remaining given ≡ Some known → IsReportFor remaining given report → Answers (answer known) report

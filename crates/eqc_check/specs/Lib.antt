@@ -1,5 +1,6 @@
 pub mod Options
 pub mod Ends
+pub mod Spooling
 pub mod Report
 pub mod ReportView
 pub mod Refusing

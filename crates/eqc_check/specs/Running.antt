@@ -1,17 +1,18 @@
 -- A run over readers whose bytes are known, and what it has written.
-use Rattle.std.specs.Prelude.{◌≡◌, ℕ, List, Option, Some, None, IfSome, ◌⊎◌}
+use Rattle.std.specs.Prelude.{◌≡◌, ℕ, List, [], Option, Some, None, IfSome, ◌⊎◌}
 use Rattle.std.specs.Option.{option_map}
 use Rattle.std.specs.Io.KnownBytes.{Appends}
 use Rattle.eqc_check.specs.declared.report.Status.{Status}
-use Rattle.eqc_check.specs.declared.running.Texts.{Texts}
-use Rattle.eqc_check.specs.declared.running.Texts.TheVariants.{One, Two}
+use Rattle.eqc_check.specs.declared.given.Given.{Given}
+use Rattle.eqc_check.specs.declared.given.Texts.{Texts}
+use Rattle.eqc_check.specs.declared.given.Texts.TheVariants.{One, Two}
 use Rattle.eqc_check.specs.Ends.{AppendsPrefix}
 use Rattle.eqc_check.specs.Report.{ReportOf, text, stopped, refused}
 use Rattle.eqc_check.specs.Options.{options_code}
 use Rattle.eqc_check.specs.declared.options.Options.{Options}
 use Rattle.eqc_pair.specs.declared.refused.Side.TheVariants as side
 use Rattle.eqc_check.specs.ReportView.{status_of}
-use Rattle.eqc_check.specs.Answer.{NamesOf, TextsOf, one_text, two_texts, texts_answer, Answers}
+use Rattle.eqc_check.specs.Answer.{NamesOf, no_names, TextsOf, one_text, two_texts, GivenOf, texts_answer, Answers}
 
 abbrev pub two_known : NamesOf → Option (List ℕ) → Option (List ℕ) → Option TextsOf
 two_known names None second = None
@@ -23,15 +24,29 @@ abbrev pub known_texts : {R : Type 0} → NamesOf → (R → Option (List ℕ)) 
 known_texts names remaining (One text) = option_map (one_text names) (remaining text)
 known_texts names remaining (Two first second) = two_known names (remaining first) (remaining second)
 
--- the order text, where there is one
-abbrev pub known_order : {R : Type 0} → (R → Option (List ℕ)) → Option R → Option (Option (List ℕ))
-known_order remaining None = Some None
-known_order remaining (Some text) = option_map Some (remaining text)
+-- a text that may be missing
+abbrev pub known_some : {R : Type 0} → (R → Option (List ℕ)) → Option R → Option (Option (List ℕ))
+known_some remaining None = Some None
+known_some remaining (Some text) = option_map Some (remaining text)
 
--- a report answers the texts, where their bytes are known
-abbrev pub IsReport : {R : Type 0} → NamesOf → (R → Option (List ℕ)) → Texts R → Option R → ReportOf → Type 0
-IsReport names remaining texts order report =
-    IfSome (known_texts names remaining texts) (λ known. IfSome (known_order remaining order) (λ order_text. Answers (texts_answer known order_text) report))
+abbrev pub all_known : List (List ℕ) → Options → Option TextsOf → Option (Option (List ℕ)) → Option (Option (List ℕ)) → Option GivenOf
+all_known outputs options None order assume = None
+all_known outputs options (Some texts) None assume = None
+all_known outputs options (Some texts) (Some order) None = None
+all_known outputs options (Some texts) (Some order) (Some assume) = Some (record { texts = texts; order = order; assume = assume; outputs = outputs; options = options })
+
+-- what a run is given, where the bytes of all its readers are known
+abbrev pub known_given : {R : Type 0} → (R → Option (List ℕ)) → Given R → Option GivenOf
+known_given remaining given =
+    all_known given.outputs given.options (known_texts given.names remaining given.texts) (known_some remaining given.order) (known_some remaining given.assume)
+
+-- what a run is given without names of models and outputs
+abbrev pub unnamed : {R : Type 0} → Texts R → Option R → Option R → Options → Given R
+unnamed texts order assume options = record { texts = texts; names = no_names; order = order; assume = assume; outputs = []; options = options }
+
+-- a report answers what a run is given, where that is known
+abbrev pub IsReport : {R : Type 0} → (R → Option (List ℕ)) → Given R → ReportOf → Type 0
+IsReport remaining given report = IfSome (known_given remaining given) (λ known. Answers (texts_answer known) report)
 
 -- a report was written whole, and the status is its kind
 pub record IsShown (report : ReportOf) (old new : Option (List ℕ)) (status : Status) : Type 0 where
@@ -51,19 +66,22 @@ pub record IsCutShort (report : ReportOf) (old new : Option (List ℕ)) : Type 0
   pub one_of : (shown ≡ report) ⊎ (shown ≡ stopped 72)
   pub written : AppendsPrefix old new (text shown)
 
+abbrev pub IsReportBehind : {R : Type 0} → Option ℕ → (R → Option (List ℕ)) → Given R → ReportOf → Type 0
+IsReportBehind (Some code) remaining given report = report ≡ refused side.Options 0 code
+IsReportBehind None remaining given report = IsReport remaining given report
+
 -- a report is the refusal of the options, or answers the texts
-abbrev pub IsReportFor : {R : Type 0} → Option ℕ → NamesOf → (R → Option (List ℕ)) → Texts R → Option R → ReportOf → Type 0
-IsReportFor (Some code) names remaining texts order report = report ≡ refused side.Options 0 code
-IsReportFor None names remaining texts order report = IsReport names remaining texts order report
+abbrev pub IsReportFor : {R : Type 0} → (R → Option (List ℕ)) → Given R → ReportOf → Type 0
+IsReportFor remaining given report = IsReportBehind (options_code given.options) remaining given report
 
 -- a report that answers the run was written
-pub record IsAnswered {R : Type 0} (names : NamesOf) (remaining : R → Option (List ℕ)) (texts : Texts R) (order : Option R) (options : Options) (old new : Option (List ℕ)) (status : Status) : Type 0 where
+pub record IsAnswered {R : Type 0} (remaining : R → Option (List ℕ)) (given : Given R) (old new : Option (List ℕ)) (status : Status) : Type 0 where
   pub report : ReportOf
-  pub answers : IsReportFor (options_code options) names remaining texts order report
+  pub answers : IsReportFor remaining given report
   pub written : IsWritten report old new status
 
 -- a part of one was
-pub record IsCutOff {R : Type 0} (names : NamesOf) (remaining : R → Option (List ℕ)) (texts : Texts R) (order : Option R) (options : Options) (old new : Option (List ℕ)) : Type 0 where
+pub record IsCutOff {R : Type 0} (remaining : R → Option (List ℕ)) (given : Given R) (old new : Option (List ℕ)) : Type 0 where
   pub report : ReportOf
-  pub answers : IsReportFor (options_code options) names remaining texts order report
+  pub answers : IsReportFor remaining given report
   pub written : IsCutShort report old new

@@ -1,11 +1,11 @@
 -- Reports with warnings.
-use Rattle.std.specs.Prelude.{◌≡◌, ℕ, List, Option, Result, Ok, Err}
+use Rattle.std.specs.Prelude.{◌≡◌, Result, Ok, Err}
 use Rattle.eqc_blif.specs.declared.refusal.Refusal.{Refusal}
 use Rattle.eqc_check.specs.declared.decide.Told.{Told}
 use Rattle.eqc_check.specs.declared.report.Report.{Report}
 use Rattle.eqc_pair.specs.declared.refused.Side.{Side}
 use Rattle.eqc_check.specs.declared.warning.Warnings.{Warnings}
-use Rattle.eqc_check.specs.Answer.{TextsOf, texts_answer, IsComparison, MayStop}
+use Rattle.eqc_check.specs.Answer.{GivenOf, texts_answer, IsComparison, MayStop}
 use Rattle.eqc_check.specs.Refusing.{IsRefused}
 use Rattle.eqc_check.specs.Report.{ReportOf}
 use Rattle.eqc_check.specs.ReportView.{report_of}
@@ -26,10 +26,10 @@ IsToldWith (Ok report) (Err error) result = result ≡ Err Memory
 IsToldWith (Err stop) warnings result = result ≡ Err stop
 
 -- where a report says how netlists compare, its warnings are those on the texts
-abbrev pub WarnsOf : TextsOf → ReportOf → Warnings → Type 0
-WarnsOf texts report warnings = IsComparison report → warnings ≡ warnings_on texts
+abbrev pub WarnsOf : GivenOf → ReportOf → Warnings → Type 0
+WarnsOf given report warnings = IsComparison report → warnings ≡ warnings_on given.texts
 
 -- the answer on the texts with its warnings, or why the run was stopped
-abbrev pub Tells : TextsOf → Option (List ℕ) → Result Told Stop → Type 0
-Tells texts order (Ok told) = (report_of told.report ≡ texts_answer texts order) × WarnsOf texts (report_of told.report) told.warnings
-Tells texts order (Err stop) = MayStop (texts_answer texts order) stop
+abbrev pub Tells : GivenOf → Result Told Stop → Type 0
+Tells given (Ok told) = (report_of told.report ≡ texts_answer given) × WarnsOf given (report_of told.report) told.warnings
+Tells given (Err stop) = MayStop (texts_answer given) stop

@@ -7,11 +7,11 @@ use Rattle.eqc_blif.specs.Names.{is_named}
 use Rattle.eqc_blif.specs.Netlist.{ModelOf, InstanceOf}
 use Rattle.eqc_hierarchy.specs.Hierarchy.{model}
 use Rattle.eqc_check.specs.declared.report.Status.{Status}
-use Rattle.eqc_check.specs.declared.report.Status.TheVariants.{Equivalent, Differs, Refused, Stopped}
-use Rattle.eqc_check.specs.declared.running.Texts.{Texts}
+use Rattle.eqc_check.specs.declared.report.Status.TheVariants.{Equivalent, Differs, Vacuous, Refused, Stopped}
+use Rattle.eqc_check.specs.declared.given.Given.{Given}
 use Rattle.eqc_check.specs.declared.warning.Contained.{Contained}
 use Rattle.eqc_check.specs.declared.warning.Warnings.{Warnings}
-use Rattle.eqc_check.specs.Answer.{NamesOf, TextsOf, one_text, two_texts, MainOf, IsComparison}
+use Rattle.eqc_check.specs.Answer.{TextsOf, one_text, two_texts, MainOf, IsComparison}
 use Rattle.eqc_check.specs.Report.{ReportOf}
 use Rattle.eqc_check.specs.AnswerLaws.{first_main, second_main}
 use Rattle.eqc_check.specs.Running.{known_texts}
@@ -51,17 +51,18 @@ abbrev pub no_warnings : Warnings
 no_warnings = record { first = None; second = None }
 
 -- where a report on texts whose bytes are known says how netlists compare, its warnings are those on the texts
-abbrev pub WarnsOfKnown : {R : Type 0} → NamesOf → (R → Option (List ℕ)) → Texts R → ReportOf → Warnings → Type 0
-WarnsOfKnown names remaining texts report found = IsComparison report → IfSome (known_texts names remaining texts) (λ known. found ≡ warnings_on known)
+abbrev pub WarnsOfKnown : {R : Type 0} → (R → Option (List ℕ)) → Given R → ReportOf → Warnings → Type 0
+WarnsOfKnown remaining given report found = IsComparison report → IfSome (known_texts given.names remaining given.texts) (λ known. found ≡ warnings_on known)
 
--- there are warnings where a verdict is given, and none where the input is refused or the comparison stopped
+-- there are warnings where a verdict is given, and none where nothing was compared or the comparison stopped
 abbrev pub warnings_at : Status → Warnings → Warnings
 warnings_at Equivalent warnings = warnings
 warnings_at Differs warnings = warnings
+warnings_at Vacuous warnings = no_warnings
 warnings_at Refused warnings = no_warnings
 warnings_at Stopped warnings = no_warnings
 
 -- what is warned of after a run with this status, over texts whose bytes may be known
-pub record IsWarned {R : Type 0} (names : NamesOf) (remaining : R → Option (List ℕ)) (texts : Texts R) (status : Status) (found : Warnings) : Type 0 where
+pub record IsWarned {R : Type 0} (remaining : R → Option (List ℕ)) (given : Given R) (status : Status) (found : Warnings) : Type 0 where
   pub verdict : warnings_at status found ≡ found
-  pub known : IfSome (known_texts names remaining texts) (λ known. found ≡ warnings_at status (warnings_on known))
+  pub known : IfSome (known_texts given.names remaining given.texts) (λ known. found ≡ warnings_at status (warnings_on known))

@@ -1,14 +1,14 @@
 //! The report on a pair, by one thread, and how what a comparison found becomes a report.
-ghost use Rattle.std.specs.Prelude.{◌≡◌, ◌≢◌, ◌<◌, ◌≤◌, Bool, true, false, List, length, Some, IfOk, IfErr, slice_index_or, not, []};
+ghost use Rattle.std.specs.Prelude.{◌≡◌, ◌≢◌, ◌<◌, ◌≤◌, length, map, All, IfOk, IfErr, slice_index_or, not, []};
 ghost use Rattle.std.specs.List.{zip};
-ghost use Rattle.eqc_compare.specs.Verdict.{first_value, differs_under};
-ghost use Rattle.eqc_check.specs.Report.{difference_report, comparison, differs};
-ghost use Rattle.eqc_check.specs.ReportView.{report_of};
-ghost use Rattle.eqc_compare.specs.Comparing.{netlist_of, IsFirstFound};
+ghost use Rattle.eqc_compare.specs.Verdict.{first_value};
+ghost use Rattle.eqc_check.specs.ReportView.{difference_of, report_of};
+ghost use Rattle.eqc_check.specs.Refusing.{pair_report, shown_of, IsFoundOf};
+ghost use Rattle.eqc_compare.specs.Comparing.{netlist_of, IsOutcome};
 
-use crate::report::Report;
+use crate::report::{Difference, Report};
 use eqc_blif::Name;
-use eqc_compare::compare_outputs;
+use eqc_compare::{Difference as Found, Outcome, compare_outputs};
 use eqc_flat::{Flat, eval};
 use eqc_pair::{Pair, recall_laws};
 use eqc_plain::Plain;
@@ -49,21 +49,24 @@ fn output_value(
     }
 }
 
-/// The report on an output that differs under these values of the first netlist's inputs.
-fn differs_report(
+/// An output that differs under these values of the first netlist's inputs.
+pub(crate) fn shown(
     alloc: Global,
     first: &Flat<'_>,
     output: usize,
     values: &[bool],
-) -> Result<Report, AllocError>
+) -> Result<Difference, AllocError>
     requires within { output < length first.now.outputs }
     requires size { length values.now ≡ length first.now.inputs }
-    ensures { IfOk result (λ report. report_of report ≡ differs (slice_index_or first.now.outputs output []) (zip first.now.inputs values.now)
-        (first_value (netlist_of first.now) (slice_index_or first.now.outputs output []) values.now)
-        (not (first_value (netlist_of first.now) (slice_index_or first.now.outputs output []) values.now))) }
+    ensures { IfOk result (λ d. difference_of d ≡ record {
+      output = slice_index_or first.now.outputs output [];
+      inputs = zip first.now.inputs values.now;
+      first = first_value (netlist_of first.now) (slice_index_or first.now.outputs output []) values.now;
+      second = not (first_value (netlist_of first.now) (slice_index_or first.now.outputs output []) values.now);
+    }) }
 {
     let value = output_value(alloc, first, output, values)?;
-    Ok(Report::Differs {
+    Ok(Difference {
         name: Name::new(alloc, first.outputs()[output].as_bytes())?,
         inputs: with_values(alloc, first.inputs(), values)?,
         first: value,
@@ -71,52 +74,77 @@ fn differs_report(
     })
 }
 
-/// The report on what was found: the first output that differs, by its position, with its least assignment, or none.
+/// The outputs of a pair that were found to differ, with their names.
+fn all_shown(alloc: Global, pair: &Pair<'_>, found: &[Found]) -> Result<Vec<Difference>, AllocError>
+    requires each { All (IsFoundOf pair.now) found.now }
+    ensures { IfOk result (λ all. map difference_of all.items ≡ map (shown_of pair.now) found.now) }
+{
+    let mut all = Vec::with_capacity(alloc, found.len())?;
+    for Found { output, values } in found {
+        all.push(shown(alloc, pair.first(), *output, values)?)?;
+    }
+    Ok(all)
+}
+
+/// The report on what was found.
 pub(crate) fn found_report(
     alloc: Global,
     pair: &Pair<'_>,
-    found: Option<(usize, Vec<bool>)>,
+    every: bool,
+    outcome: Outcome,
 ) -> Result<Report, Stop>
-    requires { IsFirstFound pair.now found }
-    ensures report { IfOk result (λ report. report_of report ≡ comparison (netlist_of pair.now.first) (netlist_of pair.now.second)) }
+    requires { IsOutcome pair.now every outcome }
+    ensures report { IfOk result (λ report. report_of report ≡ pair_report every pair.now) }
     ensures only { IfErr result (λ s. s ≡ Stop.Memory) }
 {
-    match found {
-        None => Ok(Report::Equivalent),
-        Some((output, values)) => match differs_report(alloc, pair.first(), output, &values) {
-            Ok(report) => Ok(report),
-            Err(_) => Err(Stop::Memory),
-        },
+    match outcome {
+        Outcome::Vacuous => Ok(Report::Vacuous),
+        Outcome::Compared(found) => {
+            if found.is_empty() {
+                return Ok(Report::Equivalent);
+            }
+            match all_shown(alloc, pair, &found) {
+                Ok(differences) => Ok(Report::Differs(differences)),
+                Err(_) => Err(Stop::Memory),
+            }
+        }
     }
 }
 
-/// The first output of a pair that differs, by its position, with its least assignment, found over a new store of
-/// `nodes` nodes.
+/// What is found of a pair over a new store of `nodes` nodes.
 fn compare_plain<R>(
     rt: &R,
     alloc: Global,
     pair: &Pair<'_>,
+    every: bool,
     nodes: u32,
-) -> Result<Option<(usize, Vec<bool>)>, Stop>
+) -> Result<Outcome, Stop>
     requires some { 1 ≤ nodes }
     requires few { nodes ≤ 1048574 }
-    ensures found { IfOk result (IsFirstFound pair.now) }
+    ensures found { IfOk result (IsOutcome pair.now every) }
     ensures only { IfErr result (λ s. s ≢ Stop.Threads) }
 {
     pair.recall_laws();
     let inputs = pair.first().inputs().len() as u16;
     let mut d = Plain::new(alloc, inputs, nodes)?;
-    compare_outputs(alloc, rt, &mut d, pair)
+    compare_outputs(alloc, rt, &mut d, pair, every)
 }
 
 /// Compares a pair on this thread with a store of `nodes` nodes, 1 to 1,048,574: the report, or why it stopped:
-/// the node limit 71, want of memory 72, the limit of references 73.
-pub fn check_plain<R>(rt: &R, alloc: Global, pair: &Pair<'_>, nodes: u32) -> Result<Report, Stop>
+/// the node limit 71, want of memory 72, the limit of references 73. Whether the assumption, if there is one, allows an
+/// assignment is asked first. With `every` each output that differs is told, and else the first alone.
+pub fn check_plain<R>(
+    rt: &R,
+    alloc: Global,
+    pair: &Pair<'_>,
+    every: bool,
+    nodes: u32,
+) -> Result<Report, Stop>
     requires some { 1 ≤ nodes }
     requires few { nodes ≤ 1048574 }
-    ensures report { IfOk result (λ report. report_of report ≡ comparison (netlist_of pair.now.first) (netlist_of pair.now.second)) }
+    ensures report { IfOk result (λ report. report_of report ≡ pair_report every pair.now) }
     ensures only { IfErr result (λ s. s ≢ Stop.Threads) }
 {
-    let found = compare_plain(rt, alloc, pair, nodes)?;
-    found_report(alloc, pair, found)
+    let outcome = compare_plain(rt, alloc, pair, every, nodes)?;
+    found_report(alloc, pair, every, outcome)
 }

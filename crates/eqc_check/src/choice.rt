@@ -1,8 +1,8 @@
-//! Which models of texts are compared.
-ghost use Rattle.std.specs.Prelude.{◌≡◌, ◌⊎◌, ◌<◌, length, IfOk, IfErr, Ok, Err};
+//! Which models of texts are compared, and which outputs of these.
+ghost use Rattle.std.specs.Prelude.{◌≡◌, ◌⊎◌, ◌<◌, [], length, IfOk, IfErr, Ok, Err};
 ghost use Rattle.std.specs.Option.{option_copied};
 ghost use Rattle.eqc_blif.specs.Reading.{outcome};
-ghost use Rattle.eqc_check.specs.Answer.{chosen_number, chosen, main_of, unnamed};
+ghost use Rattle.eqc_check.specs.Answer.{chosen_number, chosen, main_of, no_names};
 
 use eqc_blif::{Library, Name, Refusal, Rule, read};
 use std::alloc::Global;
@@ -27,12 +27,35 @@ impl<'a> Model for ModelNames<'a> {
 impl<'a> ModelNames<'a> {
     /// No name: the first two models of one text are compared, or the first of each of two.
     pub fn none() -> ModelNames<'a>
-        ensures { result ≡ unnamed }
+        ensures { result ≡ no_names }
     {
         ModelNames {
             first: None,
             second: None,
         }
+    }
+}
+
+/// The names of the outputs that are compared; without a name, all are.
+#[derive(Drop)]
+pub struct OutputNames<'a> {
+    pub names: &'a [&'a [u8]],
+}
+
+impl<'a> Model for OutputNames<'a> {
+    ghost use Rattle.std.specs.Prelude.{ℕ, List, map};
+
+    ghost Value = { List (List ℕ) };
+
+    ghost view = { λ a. map (λ name. name.now) a.names.now };
+}
+
+impl<'a> OutputNames<'a> {
+    /// No name: all outputs are compared.
+    pub fn none() -> OutputNames<'a>
+        ensures { result ≡ [] }
+    {
+        OutputNames { names: &[] }
     }
 }
 

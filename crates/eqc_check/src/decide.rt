@@ -1,105 +1,33 @@
-//! Which report the texts of a run get: the refusal by the first check that fails, or the comparison of two models.
-ghost use Rattle.std.specs.Prelude.{◌≡◌, ◌<◌, ◌⊎◌, length, None, IfOk, IfErr, Ok, MatchResult};
+//! Which report a case gets: the refusal by the first check that fails, or the comparison of two models. The functions stand in
+//! the order of the checks: the texts and the choice of their models, the hierarchies, the pair with the names of outputs and the
+//! order text, the assumption.
+ghost use Rattle.std.specs.Prelude.{◌≡◌, ◌≢◌, ◌<◌, length, None, Some, IfOk, IfErr, Ok, MatchResult};
 ghost use Rattle.std.specs.Option.{option_copied};
+ghost use Rattle.eqc_blif.specs.Reading.{outcome};
 ghost use Rattle.eqc_hierarchy.specs.Codes.{flat_code};
 ghost use Rattle.eqc_flat.specs.Flattened.{IsFlatOf};
-ghost use Rattle.eqc_check.specs.Refusing.{IsRefused, flat_answer};
+ghost use Rattle.eqc_check.specs.Refusing.{IsRefused, flat_answer, flat_assumed, pair_report};
+ghost use Rattle.eqc_compare.specs.Comparing.{netlist_of};
 ghost use Rattle.eqc_check.specs.ReportView.{report_of};
 ghost use Rattle.eqc_check.specs.Options.{options_code};
-ghost use Rattle.eqc_check.specs.Answer.{MainOf, one_text, two_texts, models_answer, read_texts, texts_answer, Answers, MayStop};
+ghost use Rattle.eqc_check.specs.Answer.{MainOf, first_found, assumption_found, assumption_answer, models_answer, texts_answer, Answers, MayStop};
+ghost use Rattle.eqc_check.specs.Sources.{given_of, IsSecond};
 ghost use Rattle.eqc_check.specs.Telling.{IsToldRefusal, IsToldWith, Tells, WarnsOf};
 
-use crate::choice::{Main, ModelNames, choose, read_main};
+use crate::choice::{Main, choose, read_main};
 use crate::course::check_alike;
-use crate::options::Options;
+use crate::given::{Case, bytes_of};
 use crate::report::Report;
 use crate::undecided::Undecided;
 use crate::warning::{Warnings, warnings_in_one, warnings_in_two};
+use crate::workers::Comparison;
 use eqc_blif::{Library, Refusal};
 use eqc_flat::{Fault, Flat, flatten};
-use eqc_pair::{Refused, Side, pair, recall_laws};
+use eqc_pair::{Pair, Refused, Side, pair_choosing, recall_laws};
 use eqc_tree::Stop;
 use std::alloc::{AllocError, Global};
 use std::sync::Wait;
 use std::thread::Threads;
-
-/// A refusal of a side as a report, or the stop for want of memory.
-fn refused(side: Side, refusal: Refusal) -> Result<Report, Stop>
-    ensures { IsRefused side refusal result }
-{
-    if refusal.is_memory() {
-        return Err(Stop::Memory);
-    }
-    let Refusal { line, code } = refusal;
-    Ok(Report::Refused(Refused { side, line, code }))
-}
-
-/// The report on two flat netlists.
-fn flat_report<R: Threads + Wait + Sync>(
-    alloc: Global,
-    rt: &R,
-    first: &Flat<'_>,
-    second: &Flat<'_>,
-    order: Option<&[u8]>,
-    options: &Options,
-    left: &mut Undecided,
-) -> Result<Report, Stop>
-    requires options { options_code options.now ≡ None }
-    ensures report { IfOk result (λ report. report_of report ≡ flat_answer first.now second.now (option_copied order.entry)) }
-    ensures stop { IfErr result (MayStop (flat_answer first.now second.now (option_copied order.entry))) }
-{
-    match pair(alloc, first, second, order) {
-        Ok(pair) => check_alike(rt, alloc, &pair, options, left),
-        Err(Refused { side, line, code }) => refused(side, Refusal { line, code }),
-    }
-}
-
-/// The report on a flat netlist, whatever model it is of, and a model of a library.
-fn second_report<R: Threads + Wait + Sync>(
-    alloc: Global,
-    rt: &R,
-    first: &Flat<'_>,
-    second: (&Library, usize),
-    order: Option<&[u8]>,
-    options: &Options,
-    left: &mut Undecided,
-) -> Result<Report, Stop>
-    requires options { options_code options.now ≡ None }
-    requires n { second.1 < length second.0.now }
-    ensures report { (m : MainOf) → flat_code m.0 m.1 ≡ None → IsFlatOf m.0 m.1 first.now → IfOk result (λ report. report_of report ≡ models_answer m (second.entry.0.now, second.entry.1) (option_copied order.entry)) }
-    ensures stop { (m : MainOf) → flat_code m.0 m.1 ≡ None → IsFlatOf m.0 m.1 first.now → IfErr result (MayStop (models_answer m (second.entry.0.now, second.entry.1) (option_copied order.entry))) }
-{
-    recall_laws(first);
-    match flatten(alloc, second.0, second.1) {
-        Ok(g) => {
-            recall_laws(&g);
-            flat_report(alloc, rt, first, &g, order, options, left)
-        }
-        Err(Fault { code }) => refused(Side::Second, Refusal { line: 0, code }),
-    }
-}
-
-/// The report on model `m` of one library and model `n` of another.
-fn models_report<R: Threads + Wait + Sync>(
-    alloc: Global,
-    rt: &R,
-    first: (&Library, usize),
-    second: (&Library, usize),
-    order: Option<&[u8]>,
-    options: &Options,
-    left: &mut Undecided,
-) -> Result<Report, Stop>
-    requires options { options_code options.now ≡ None }
-    requires m { first.1 < length first.0.now }
-    requires n { second.1 < length second.0.now }
-    ensures report { IfOk result (λ report. report_of report ≡ models_answer (first.entry.0.now, first.entry.1) (second.entry.0.now, second.entry.1) (option_copied order.entry)) }
-    ensures stop { IfErr result (MayStop (models_answer (first.entry.0.now, first.entry.1) (second.entry.0.now, second.entry.1) (option_copied order.entry))) }
-{
-    match flatten(alloc, first.0, first.1) {
-        Ok(f) => second_report(alloc, rt, &f, second, order, options, left),
-        Err(Fault { code }) => refused(Side::First, Refusal { line: 0, code }),
-    }
-}
 
 /// A report, and the warnings on the models that were compared for it.
 #[derive(Drop)]
@@ -118,6 +46,210 @@ impl Told {
             warnings: Warnings::none(),
         }
     }
+}
+
+/// A case that is decided on.
+#[derive(Drop)]
+struct Decision<'x, R> {
+    rt: &'x R,
+    alloc: Global,
+    case: &'x Case<'x>,
+}
+
+impl<'x, R: Threads + Wait + Sync> Decision<'x, R> {
+    /// The report behind the reading of the first text and the choice of its model.
+    fn on_texts(&self, left: &mut Undecided) -> Result<Told, Stop>
+        requires options { options_code self.now.case.now.options ≡ None }
+        ensures { Tells (given_of self.now.case.now) result }
+    {
+        let case = self.case;
+        let first = match read_main(self.alloc, &case.first, case.names.first, 0) {
+            Ok(first) => first,
+            Err(refusal) => return told_refusal(Side::First, refusal),
+        };
+        match &case.second {
+            None => self.on_one(&first, left),
+            Some(second) => self.on_two(&first, second, left),
+        }
+    }
+
+    /// The report behind the choice of the second model in a single text.
+    fn on_one(&self, first: &Main, left: &mut Undecided) -> Result<Told, Stop>
+        requires options { options_code self.now.case.now.options ≡ None }
+        requires m { first.now.model < length first.now.library }
+        requires first { first_found (given_of self.now.case.now).texts ≡ Ok (first.now.library, first.now.model) }
+        requires read { outcome self.now.case.now.first.items ≡ Ok first.now.library }
+        requires one { self.now.case.now.second ≡ None }
+        ensures { Tells (given_of self.now.case.now) result }
+    {
+        let case = self.case;
+        let Main { library, model } = first;
+        match choose(self.alloc, library, case.names.second, 1) {
+            Ok(other) => with_warnings(
+                self.on_models((library, *model), (library, other), left),
+                warnings_in_one(self.alloc, library, *model, other),
+            ),
+            Err(refusal) => told_refusal(Side::Second, refusal),
+        }
+    }
+
+    /// The report behind the reading of the second text and the choice of its model.
+    fn on_two(&self, first: &Main, second: &[u8], left: &mut Undecided) -> Result<Told, Stop>
+        requires options { options_code self.now.case.now.options ≡ None }
+        requires m { first.now.model < length first.now.library }
+        requires first { first_found (given_of self.now.case.now).texts ≡ Ok (first.now.library, first.now.model) }
+        requires two { IsSecond self.now.case.now second.now }
+        ensures { Tells (given_of self.now.case.now) result }
+    {
+        let case = self.case;
+        match read_main(self.alloc, second, case.names.second, 0) {
+            Ok(second) => {
+                let (f, g) = (
+                    (&first.library, first.model),
+                    (&second.library, second.model),
+                );
+                with_warnings(
+                    self.on_models(f, g, left),
+                    warnings_in_two(self.alloc, f, g),
+                )
+            }
+            Err(refusal) => told_refusal(Side::Second, refusal),
+        }
+    }
+
+    /// The report behind the flattening of the first model.
+    fn on_models(
+        &self,
+        first: (&Library, usize),
+        second: (&Library, usize),
+        left: &mut Undecided,
+    ) -> Result<Report, Stop>
+        requires options { options_code self.now.case.now.options ≡ None }
+        requires m { first.1 < length first.0.now }
+        requires n { second.1 < length second.0.now }
+        ensures report { IfOk result (λ report. report_of report ≡ models_answer (first.entry.0.now, first.entry.1) (second.entry.0.now, second.entry.1) (given_of self.now.case.now)) }
+        ensures stop { IfErr result (MayStop (models_answer (first.entry.0.now, first.entry.1) (second.entry.0.now, second.entry.1) (given_of self.now.case.now))) }
+    {
+        match flatten(self.alloc, first.0, first.1) {
+            Ok(f) => self.on_second(&f, second, left),
+            Err(Fault { code }) => refused(Side::First, Refusal { line: 0, code }),
+        }
+    }
+
+    /// The report behind the flattening of the second model, whatever model the first flat netlist is of.
+    fn on_second(
+        &self,
+        first: &Flat<'_>,
+        second: (&Library, usize),
+        left: &mut Undecided,
+    ) -> Result<Report, Stop>
+        requires options { options_code self.now.case.now.options ≡ None }
+        requires n { second.1 < length second.0.now }
+        ensures report { (m : MainOf) → flat_code m.0 m.1 ≡ None → IsFlatOf m.0 m.1 first.now → IfOk result (λ report. report_of report ≡ models_answer m (second.entry.0.now, second.entry.1) (given_of self.now.case.now)) }
+        ensures stop { (m : MainOf) → flat_code m.0 m.1 ≡ None → IsFlatOf m.0 m.1 first.now → IfErr result (MayStop (models_answer m (second.entry.0.now, second.entry.1) (given_of self.now.case.now))) }
+    {
+        recall_laws(first);
+        match flatten(self.alloc, second.0, second.1) {
+            Ok(g) => {
+                recall_laws(&g);
+                self.on_flats(first, &g, left)
+            }
+            Err(Fault { code }) => refused(Side::Second, Refusal { line: 0, code }),
+        }
+    }
+
+    /// The report behind the checks of the pair, of the names of outputs and of the order text.
+    fn on_flats(
+        &self,
+        first: &Flat<'_>,
+        second: &Flat<'_>,
+        left: &mut Undecided,
+    ) -> Result<Report, Stop>
+        requires options { options_code self.now.case.now.options ≡ None }
+        ensures report { IfOk result (λ report. report_of report ≡ flat_answer first.now second.now (given_of self.now.case.now)) }
+        ensures stop { IfErr result (MayStop (flat_answer first.now second.now (given_of self.now.case.now))) }
+    {
+        let case = self.case;
+        let order = bytes_of(&case.order);
+        match pair_choosing(self.alloc, first, second, case.outputs.names, order) {
+            Ok(pair) => match &case.assume {
+                None => self.compare(&pair, left),
+                Some(text) => self.on_assumption(pair, text, left),
+            },
+            Err(Refused { side, line, code }) => refused(side, Refusal { line, code }),
+        }
+    }
+
+    /// The report behind the reading of the assumption and the flattening of its first model.
+    fn on_assumption(
+        &self,
+        pair: Pair<'_>,
+        text: &[u8],
+        left: &mut Undecided,
+    ) -> Result<Report, Stop>
+        requires options { options_code self.now.case.now.options ≡ None }
+        requires outputs { pair.chosen ≡ self.now.case.now.outputs }
+        ensures report { IfOk result (λ report. report_of report ≡ assumption_answer (given_of self.now.case.now) (netlist_of pair.entry.first) (netlist_of pair.entry.second) (assumption_found text.now)) }
+        ensures stop { IfErr result (MayStop (assumption_answer (given_of self.now.case.now) (netlist_of pair.entry.first) (netlist_of pair.entry.second) (assumption_found text.now))) }
+    {
+        let Main { library, model } = match read_main(self.alloc, text, None, 0) {
+            Ok(main) => main,
+            Err(refusal) => return refused(Side::Assume, refusal),
+        };
+        match flatten(self.alloc, &library, model) {
+            Ok(assumed) => {
+                recall_laws(&assumed);
+                self.on_assumed(pair, &assumed, left)
+            }
+            Err(Fault { code }) => refused(Side::Assume, Refusal { line: 0, code }),
+        }
+    }
+
+    /// The report behind what is asked of an assumption, whatever model it is of.
+    fn on_assumed(
+        &self,
+        pair: Pair<'_>,
+        assumed: &Flat<'_>,
+        left: &mut Undecided,
+    ) -> Result<Report, Stop>
+        requires options { options_code self.now.case.now.options ≡ None }
+        requires outputs { pair.chosen ≡ self.now.case.now.outputs }
+        ensures report { IfOk result (λ report. report_of report ≡ flat_assumed (given_of self.now.case.now) pair.entry.first pair.entry.second assumed.now) }
+        ensures stop { IfErr result (MayStop (flat_assumed (given_of self.now.case.now) pair.entry.first pair.entry.second assumed.now)) }
+    {
+        match pair.assuming(self.alloc, assumed) {
+            Ok(pair) => self.compare(&pair, left),
+            Err(refusal) => {
+                let Refused { side, line, code } = refusal;
+                refused(side, Refusal { line, code })
+            }
+        }
+    }
+
+    /// The report behind all checks.
+    fn compare(&self, pair: &Pair<'_>, left: &mut Undecided) -> Result<Report, Stop>
+        requires options { options_code self.now.case.now.options ≡ None }
+        ensures { IfOk result (λ report. report_of report ≡ pair_report self.now.case.now.options.every pair.now) }
+    {
+        let comparison = Comparison {
+            rt: self.rt,
+            alloc: self.alloc,
+            pair,
+            options: &self.case.options,
+        };
+        check_alike(&comparison, left)
+    }
+}
+
+/// A refusal of a side as a report, or the stop for want of memory.
+fn refused(side: Side, refusal: Refusal) -> Result<Report, Stop>
+    ensures { IsRefused side refusal result }
+{
+    if refusal.is_memory() {
+        return Err(Stop::Memory);
+    }
+    let Refusal { line, code } = refusal;
+    Ok(Report::Refused(Refused { side, line, code }))
 }
 
 /// A refusal of a side, without warnings.
@@ -141,102 +273,20 @@ fn with_warnings(
     }
 }
 
-/// The report on two models of a text.
-fn one_report<R: Threads + Wait + Sync>(
-    alloc: Global,
+/// The report on what was read, with the warnings where it is a comparison. Where that is given up, the outputs that are left
+/// are taken.
+pub(crate) fn decide<R: Threads + Wait + Sync>(
     rt: &R,
-    text: &[u8],
-    names: &ModelNames<'_>,
-    order: Option<&[u8]>,
-    options: &Options,
-    left: &mut Undecided,
-) -> Result<Told, Stop>
-    requires options { options_code options.now ≡ None }
-    ensures { Tells (one_text names.now text.now) (option_copied order.entry) result }
-{
-    let Main { library, model } = match read_main(alloc, text, names.first, 0) {
-        Ok(main) => main,
-        Err(refusal) => return told_refusal(Side::First, refusal),
-    };
-    let other = match choose(alloc, &library, names.second, 1) {
-        Ok(other) => other,
-        Err(refusal) => return told_refusal(Side::Second, refusal),
-    };
-    with_warnings(
-        models_report(
-            alloc,
-            rt,
-            (&library, model),
-            (&library, other),
-            order,
-            options,
-            left,
-        ),
-        warnings_in_one(alloc, &library, model, other),
-    )
-}
-
-/// The report on a model of one text and one of another.
-fn two_report<R: Threads + Wait + Sync>(
     alloc: Global,
-    rt: &R,
-    first: &[u8],
-    second: &[u8],
-    names: &ModelNames<'_>,
-    order: Option<&[u8]>,
-    options: &Options,
-    left: &mut Undecided,
-) -> Result<Told, Stop>
-    requires options { options_code options.now ≡ None }
-    ensures { Tells (two_texts names.now first.now second.now) (option_copied order.entry) result }
-{
-    let first = match read_main(alloc, first, names.first, 0) {
-        Ok(main) => main,
-        Err(refusal) => return told_refusal(Side::First, refusal),
-    };
-    let second = match read_main(alloc, second, names.second, 0) {
-        Ok(main) => main,
-        Err(refusal) => return told_refusal(Side::Second, refusal),
-    };
-    let (f, g) = (
-        (&first.library, first.model),
-        (&second.library, second.model),
-    );
-    with_warnings(
-        models_report(alloc, rt, f, g, order, options, left),
-        warnings_in_two(alloc, f, g),
-    )
-}
-
-/// The report with its warnings, or that of the stop.
-fn or_stopped(told: Result<Told, Stop>) -> Told
-    ensures { MatchResult told (λ t. result ≡ t) (λ stop. (result.report ≡ Report.Stopped stop)) }
-{
-    match told {
-        Ok(told) => told,
-        Err(stop) => Told::alone(Report::Stopped(stop)),
-    }
-}
-
-/// The report on texts that were read, with the warnings where it is a comparison.
-pub(crate) fn texts_report<R: Threads + Wait + Sync>(
-    alloc: Global,
-    rt: &R,
-    first: &[u8],
-    second: Option<&[u8]>,
-    names: &ModelNames<'_>,
-    order: Option<&[u8]>,
-    options: &Options,
+    case: &Case<'_>,
     left: &mut Undecided,
 ) -> Told
-    requires options { options_code options.now ≡ None }
-    ensures report { Answers (texts_answer (read_texts names.now first.now (option_copied second.entry)) (option_copied order.entry)) (report_of result.report) }
-    ensures warned { WarnsOf (read_texts names.now first.now (option_copied second.entry)) (report_of result.report) result.warnings }
+    requires options { options_code case.now.options ≡ None }
+    ensures report { Answers (texts_answer (given_of case.now)) (report_of result.report) }
+    ensures warned { WarnsOf (given_of case.now) (report_of result.report) result.warnings }
 {
-    match second {
-        None => or_stopped(one_report(alloc, rt, first, names, order, options, left)),
-        Some(second) => or_stopped(two_report(
-            alloc, rt, first, second, names, order, options, left,
-        )),
+    match (Decision { rt, alloc, case }).on_texts(left) {
+        Ok(told) => told,
+        Err(stop) => Told::alone(Report::Stopped(stop)),
     }
 }

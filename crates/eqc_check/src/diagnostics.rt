@@ -17,8 +17,11 @@ pub trait Diagnostics {
     /// The hierarchy of this side was refused.
     fn hierarchy(&mut self, side: Side, library: &Library, finding: &eqc_flat::Finding<'_>);
 
-    /// The two netlists make no pair, or the order text is refused.
+    /// The two netlists make no pair, or the names of outputs, the order text or the assumption are refused for them.
     fn pair(&mut self, finding: &Finding<'_>);
+
+    /// No assignment of the inputs meets the assumption.
+    fn vacuous(&mut self);
 
     /// An option was refused by this code, 81 to 84.
     fn option(&mut self, code: u8);
@@ -48,6 +51,8 @@ impl Diagnostics for NoDiagnostics {
     fn hierarchy(&mut self, _side: Side, _library: &Library, _finding: &eqc_flat::Finding<'_>) {}
 
     fn pair(&mut self, _finding: &Finding<'_>) {}
+
+    fn vacuous(&mut self) {}
 
     fn option(&mut self, _code: u8) {}
 

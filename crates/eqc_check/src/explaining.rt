@@ -1,11 +1,12 @@
 //! What is at fault in texts that are refused: the checks are made once more, in their order, up to the first that fails.
 ghost use Rattle.std.specs.Prelude.{◌<◌, length, IfOk, IfSome};
 
-use crate::choice::{Main, ModelNames, choose, read_main};
+use crate::choice::{Main, choose, read_main};
 use crate::diagnostics::Diagnostics;
+use crate::given::{Case, bytes_of};
 use eqc_blif::{Library, Refusal, read};
 use eqc_flat::{Flat, flatten};
-use eqc_pair::{Side, explain_pair};
+use eqc_pair::{Side, explain_assumption, explain_pair};
 use std::alloc::{AllocError, Global};
 
 /// Tells of a text that is refused, or in which a model isn't there. Fails where memory is refused.
@@ -65,18 +66,23 @@ fn tell_hierarchy<T: Diagnostics>(
     }
 }
 
-/// Tells of two netlists that make no pair with an order text. Fails where memory is refused.
+/// Tells of two netlists that make no pair with these names of outputs and an order text, and answers whether it did. Fails
+/// where memory is refused.
 fn tell_pair<T: Diagnostics>(
     alloc: Global,
     first: &Flat<'_>,
     second: &Flat<'_>,
+    outputs: &[&[u8]],
     order: Option<&[u8]>,
     told: &mut T,
-) -> Result<(), AllocError> {
-    if let Some(finding) = explain_pair(alloc, first, second, order)? {
-        told.pair(&finding);
+) -> Result<bool, AllocError> {
+    match explain_pair(alloc, first, second, outputs, order)? {
+        Some(finding) => {
+            told.pair(&finding);
+            Ok(true)
+        }
+        None => Ok(false),
     }
-    Ok(())
 }
 
 /// Tells of two models whose comparison is refused. Fails where memory is refused.
@@ -84,7 +90,7 @@ fn tell_models<T: Diagnostics>(
     alloc: Global,
     first: (&Library, usize),
     second: (&Library, usize),
-    order: Option<&[u8]>,
+    case: &Case<'_>,
     told: &mut T,
 ) -> Result<(), AllocError>
     requires m { first.1 < length first.0.now }
@@ -96,50 +102,112 @@ fn tell_models<T: Diagnostics>(
     if tell_hierarchy(alloc, Side::Second, second, told)? {
         return Ok(());
     }
-    let (Ok(f), Ok(g)) = (
-        flatten(alloc, first.0, first.1),
-        flatten(alloc, second.0, second.1),
-    ) else {
-        return Ok(());
-    };
-    tell_pair(alloc, &f, &g, order, told)
+    match flatten(alloc, first.0, first.1) {
+        Ok(f) => tell_second(alloc, &f, second, case, told),
+        Err(_) => Ok(()),
+    }
 }
 
-/// Tells of a text of which two models are compared. Fails where memory is refused.
-fn tell_of_one<T: Diagnostics>(
+/// The same, where the first model is flat, and the second has no fault of its own.
+fn tell_second<T: Diagnostics>(
     alloc: Global,
-    text: &[u8],
-    names: &ModelNames<'_>,
-    order: Option<&[u8]>,
+    first: &Flat<'_>,
+    second: (&Library, usize),
+    case: &Case<'_>,
+    told: &mut T,
+) -> Result<(), AllocError>
+    requires { second.1 < length second.0.now }
+{
+    match flatten(alloc, second.0, second.1) {
+        Ok(g) => tell_flats(alloc, first, &g, case, told),
+        Err(_) => Ok(()),
+    }
+}
+
+/// The same, where both are flat.
+fn tell_flats<T: Diagnostics>(
+    alloc: Global,
+    first: &Flat<'_>,
+    second: &Flat<'_>,
+    case: &Case<'_>,
     told: &mut T,
 ) -> Result<(), AllocError> {
-    let Some(Main { library, model }) = main_or_told(alloc, Side::First, text, names.first, told)?
-    else {
+    let order = bytes_of(&case.order);
+    if tell_pair(alloc, first, second, case.outputs.names, order, told)? {
+        return Ok(());
+    }
+    match &case.assume {
+        Some(text) => tell_assumption(alloc, first, text, told),
+        None => Ok(()),
+    }
+}
+
+/// Tells of a flat netlist that is refused as an assumption for the first netlist's inputs. Fails where memory is refused.
+fn tell_assumed<T: Diagnostics>(
+    alloc: Global,
+    first: &Flat<'_>,
+    assumed: &Flat<'_>,
+    told: &mut T,
+) -> Result<(), AllocError> {
+    if let Some(finding) = explain_assumption(alloc, first, assumed)? {
+        told.pair(&finding);
+    }
+    Ok(())
+}
+
+/// Tells of an assumption that is refused for the first netlist's inputs. Fails where memory is refused.
+fn tell_assumption<T: Diagnostics>(
+    alloc: Global,
+    first: &Flat<'_>,
+    text: &[u8],
+    told: &mut T,
+) -> Result<(), AllocError> {
+    let Some(main) = main_or_told(alloc, Side::Assume, text, None, told)? else {
         return Ok(());
     };
-    match choose(alloc, &library, names.second, 1) {
-        Ok(other) => tell_models(alloc, (&library, model), (&library, other), order, told),
+    if tell_hierarchy(alloc, Side::Assume, (&main.library, main.model), told)? {
+        return Ok(());
+    }
+    match flatten(alloc, &main.library, main.model) {
+        Ok(assumed) => tell_assumed(alloc, first, &assumed, told),
+        Err(_) => Ok(()),
+    }
+}
+
+/// Tells of what stands behind the first text's model, where there is one text. Fails where memory is refused.
+fn tell_of_one<T: Diagnostics>(
+    alloc: Global,
+    first: &Main,
+    case: &Case<'_>,
+    told: &mut T,
+) -> Result<(), AllocError>
+    requires { first.now.model < length first.now.library }
+{
+    let Main { library, model } = first;
+    match choose(alloc, library, case.names.second, 1) {
+        Ok(other) => tell_models(alloc, (library, *model), (library, other), case, told),
         Err(refusal) => {
             if refusal.is_memory() {
                 return Err(AllocError);
             }
-            told.models(Side::Second, &library);
+            told.models(Side::Second, library);
             Ok(())
         }
     }
 }
 
-/// Tells of two texts. Fails where memory is refused.
-fn tell_of_two<T: Diagnostics>(
+/// Tells what is at fault in a case whose report is a refusal. Fails where memory is refused.
+pub(crate) fn tell_of_case<T: Diagnostics>(
     alloc: Global,
-    first: &[u8],
-    second: &[u8],
-    names: &ModelNames<'_>,
-    order: Option<&[u8]>,
+    case: &Case<'_>,
     told: &mut T,
 ) -> Result<(), AllocError> {
-    let Some(f) = main_or_told(alloc, Side::First, first, names.first, told)? else {
+    let names = &case.names;
+    let Some(f) = main_or_told(alloc, Side::First, &case.first, names.first, told)? else {
         return Ok(());
+    };
+    let Some(second) = &case.second else {
+        return tell_of_one(alloc, &f, case, told);
     };
     let Some(g) = main_or_told(alloc, Side::Second, second, names.second, told)? else {
         return Ok(());
@@ -148,22 +216,7 @@ fn tell_of_two<T: Diagnostics>(
         alloc,
         (&f.library, f.model),
         (&g.library, g.model),
-        order,
+        case,
         told,
     )
-}
-
-/// Tells what is at fault in texts whose report is a refusal. Fails where memory is refused.
-pub(crate) fn tell_of_texts<T: Diagnostics>(
-    alloc: Global,
-    first: &[u8],
-    second: Option<&[u8]>,
-    names: &ModelNames<'_>,
-    order: Option<&[u8]>,
-    told: &mut T,
-) -> Result<(), AllocError> {
-    match second {
-        None => tell_of_one(alloc, first, names, order, told),
-        Some(second) => tell_of_two(alloc, first, second, names, order, told),
-    }
 }

@@ -12,7 +12,7 @@ const MAX_CELLS: u32 = 1_048_576;
 
 const MAX_FORKS: u32 = 16;
 
-/// What a comparison may use. None of it changes the answer.
+/// What a comparison may use, none of which changes the answer, and what it is to tell.
 #[derive(Clone, Copy, Debug, PartialEq, Eq)]
 pub struct Options {
     /// Workers, each with a thread of its own, 1 to 64.
@@ -25,6 +25,8 @@ pub struct Options {
     pub forks: u32,
     /// Conflicts of a search for each output that diagrams leave, 0 for diagrams alone.
     pub conflicts: u32,
+    /// Whether each output that differs is told, and not the first alone.
+    pub every: bool,
 }
 
 /// The code of the first option that is out of its range: 81 workers, 82 nodes, 83 cells, 84 forks.

@@ -8,18 +8,24 @@ use eqc_blif::Name;
 use eqc_pair::Refused;
 use eqc_tree::Stop;
 
+/// An output that differs, the first netlist's inputs in order with the least allowed values under which it does, and its value
+/// in the two netlists.
+#[derive(Drop)]
+pub struct Difference {
+    pub name: Name,
+    pub inputs: Vec<(Name, bool)>,
+    pub first: bool,
+    pub second: bool,
+}
+
 /// The answer of a run.
 #[derive(Drop)]
 pub enum Report {
     Equivalent,
-    /// The first output that differs, the first netlist's inputs in order with the least values under which
-    /// it does, and its value in the two netlists.
-    Differs {
-        name: Name,
-        inputs: Vec<(Name, bool)>,
-        first: bool,
-        second: bool,
-    },
+    /// The first output that differs or, where each is wanted, all of them in the first netlist's order.
+    Differs(Vec<Difference>),
+    /// No assignment of the inputs is allowed, so nothing was compared.
+    Vacuous,
     Refused(Refused),
     Stopped(Stop),
 }
@@ -29,6 +35,7 @@ pub enum Report {
 pub enum Status {
     Equivalent,
     Differs,
+    Vacuous,
     Refused,
     Stopped,
 }
@@ -40,7 +47,8 @@ impl Report {
     {
         match self {
             Report::Equivalent => Status::Equivalent,
-            Report::Differs { .. } => Status::Differs,
+            Report::Differs(_) => Status::Differs,
+            Report::Vacuous => Status::Vacuous,
             Report::Refused(_) => Status::Refused,
             Report::Stopped(_) => Status::Stopped,
         }

@@ -1,17 +1,20 @@
 //! The outputs that are left where a comparison is given up.
 
+use crate::report::Difference;
 use eqc_pair::Pair;
 use std::alloc::Global;
 
 /// So many names are kept.
 const KEPT: usize = 10;
 
-/// The outputs that a comparison left undecided: the names of the first of them, and how many there are.
+/// The outputs that a comparison left undecided: the names of the first of them, and how many there are; and what was seen of
+/// the one at which it gave up.
 #[derive(Drop)]
 pub struct Undecided {
     alloc: Global,
     names: Vec<Vec<u8>>,
     count: usize,
+    seen: Option<Difference>,
 }
 
 impl Undecided {
@@ -21,6 +24,7 @@ impl Undecided {
             alloc,
             names: Vec::new(alloc),
             count: 0,
+            seen: None,
         }
     }
 
@@ -34,13 +38,24 @@ impl Undecided {
         }
     }
 
-    /// Takes the names of the outputs of a pair that are not marked.
+    /// Takes the names of the chosen outputs of a pair that are not marked.
     pub(crate) fn add_unmarked(&mut self, pair: &Pair<'_>, marks: &[bool]) {
         for (output, name) in pair.first().outputs().iter().enumerate() {
-            if !marks.get(output).copied().unwrap_or(false) {
+            if pair.is_chosen(output) && !marks.get(output).copied().unwrap_or(false) {
                 self.add(name.as_bytes());
             }
         }
+    }
+
+    /// Takes what was seen of an output that differs.
+    pub(crate) fn see(&mut self, difference: Difference) {
+        self.seen = Some(difference);
+    }
+
+    /// An output that is left undecided though it differs, under an allowed assignment that was seen: maybe not the least, and
+    /// maybe an output before it differs too. None where none was seen.
+    pub fn seen(&self) -> Option<&Difference> {
+        self.seen.as_ref()
     }
 
     /// The names of the first, at most ten.

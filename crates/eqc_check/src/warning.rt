@@ -40,7 +40,7 @@ impl Warnings {
     {
         match status {
             Status::Equivalent | Status::Differs => self,
-            Status::Refused | Status::Stopped => Warnings::none(),
+            Status::Vacuous | Status::Refused | Status::Stopped => Warnings::none(),
         }
     }
 }

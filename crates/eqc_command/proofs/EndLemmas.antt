@@ -15,7 +15,7 @@ use Rattle.eqc_command.specs.Sources.{source_remaining, AreAskedFor}
 use Rattle.eqc_command.specs.declared.command_line.Request.{Request}
 use Rattle.eqc_command.specs.declared.ending.End.TheVariants.{Failed}
 use Rattle.eqc_command.specs.declared.source.Sources.{Sources}
-use Rattle.eqc_command.specs.Ends.{Grows, names_of, MayBeExplained, IsRunEnd, IsShowing, fault_text}
+use Rattle.eqc_command.specs.Ends.{Grows, given_by, MayBeExplained, IsRunEnd, IsShowing, fault_text}
 use Rattle.eqc_command.specs.Warnings.{warning_line, IsToldOf}
 use Rattle.eqc_check.specs.declared.warning.Contained.{Contained}
 use Rattle.eqc_check.proofs.ReportLemmas.{two_digits}
@@ -61,7 +61,7 @@ write_line = sym (ap (λ ds. codes "fault " ++ ds ++ 10 ∷ []) (two_digits 92 (
 -- a run that failed
 pub run_failed : {R F : Type 0} (input_remaining : R → Option (List ℕ)) (file_remaining : F → Option (List ℕ)) (request : Request) (input : R)
     (old new err_old err_new : Option (List ℕ)) (fault : RunFault) (sources : Sources R F) → AreAskedFor request input sources
-    → (fault ≡ Write → IsCutOff (names_of request) (source_remaining input_remaining file_remaining) sources.texts sources.order request.options old new)
+    → (fault ≡ Write → IsCutOff (source_remaining input_remaining file_remaining) (given_by request sources) old new)
     → (fault ≡ Read → new ≡ old) → fault ≢ Memory → MayBeExplained request.explain err_old err_new → IsRunEnd input_remaining file_remaining request input old new err_old err_new (Failed fault)
 run_failed input_remaining file_remaining request input old new err_old err_new Memory sources opened cut kept never explained = absurd (never refl)
 run_failed input_remaining file_remaining request input old new err_old err_new Read sources opened cut kept never explained = (kept refl, explained)

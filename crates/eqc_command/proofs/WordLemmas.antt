@@ -1,21 +1,24 @@
 -- From a parse of the command line to what its words ask for.
 use Rattle.std.proofs.Common.{◌≡◌, ◌∙◌, ap, ap₂, sym, subst, refl, true, false, Bool, codes, ℕ, List, [], Option, Some, None, option_map}
-use Rattle.std.specs.Prelude.{Result, Ok, IfSome}
+use Rattle.std.specs.Prelude.{Result, Ok, IfSome, find, unwrap_or}
+use Rattle.std.specs.Option.{option_map_or}
+use Rattle.std.specs.Str.{bytes_eq}
 use Rattle.std.specs.Str.Parse.{ParsesUnsigned, digits_value, without_leading_plus}
 use Rattle.clap.specs.Faults.{fault_of, is_simple_and_free}
 use Rattle.clap.specs.Built.{AddsArg}
 use Rattle.clap.specs.Kinds.{HasKind}
 use Rattle.clap.specs.declared.error.Error.{Error}
-use Rattle.clap.specs.Matches.{found_of, one_text, ReadsOne}
+use Rattle.clap.specs.Matches.{found_of, matched_of, one_text, raw_values, ReadsOne}
+use Rattle.clap.specs.Facts.{Entry}
 use Rattle.clap.specs.Simple.{App, HasMatchesOf, app_of, is_simple, matches_of, with_rule}
-use Rattle.clap.specs.Walk.{Rule, Text, rows_of, rule_of, one_of}
+use Rattle.clap.specs.Walk.{Row, Rule, Text, row_of, rows_of, rule_of, one_of}
 use Rattle.clap.specs.declared.builder.arg.Arg.{Arg}
 use Rattle.clap.specs.declared.builder.command.Command.{Command}
 use Rattle.clap.specs.declared.parser.matches.ArgMatches.{ArgMatches}
 use Rattle.clap.specs.declared.parser.matches.Found.{Found}
 use Rattle.clap.proofs.OnLiterals.{clap_on_literals}
-use Rattle.clap.proofs.WalkLemmas.{one_text-rows}
-use Rattle.eqc_command.specs.CommandLine.{eqc_app, number_of, rows_asked, IsAsked, IsFlag}
+use Rattle.clap.proofs.WalkLemmas.{find_row, one_text-rows}
+use Rattle.eqc_command.specs.CommandLine.{eqc_app, number_of, all_of, rows_asked, IsAsked, IsFlag}
 use Rattle.eqc_command.specs.declared.command_line.Request.{Request}
 
 -- clap's definitions say what the command line's matches are
@@ -77,3 +80,14 @@ flag_read f name given none true_is false_is = subst (λ (o : Option Text). IsFl
     go : (o : Option Text) → one_text f name ≡ o → IsFlag o given
     go None e = none e
     go (Some t) e = (λ is. true_is (e ∙ ap Some is), λ is. false_is (e ∙ ap Some is))
+
+-- all values of an option, by its row
+all_by_rows : (f : Found) (name : List ℕ) → all_of name (rows_of f) ≡ unwrap_or (option_map raw_values (matched_of f name)) []
+all_by_rows f name = ap (λ (o : Option Row). option_map_or (λ (r : Row). r.values) o []) (find_row f.entries.items name) ∙ go (find (λ (e : Entry). bytes_eq e.0.now name) f.entries.items)
+  where
+    go : (o : Option Entry) → option_map_or (λ (r : Row). r.values) (option_map row_of o) [] ≡ unwrap_or (option_map raw_values (option_map (λ e. e.1) o)) []
+    go None = refl
+    go (Some e) = refl
+
+pub all_read : (f : Found) (name : List ℕ) (given : Option (List (List ℕ))) → given ≡ option_map raw_values (matched_of f name) → unwrap_or given [] ≡ all_of name (rows_of f)
+all_read f name given e = ap (λ (o : Option (List (List ℕ))). unwrap_or o []) e ∙ sym (all_by_rows f name)

@@ -1,5 +1,5 @@
 -- How the program ends, by its words and its input, and what it has written.
-use Rattle.std.specs.Prelude.{◌≡◌, ◌⊎◌, ℕ, Bool, true, false, List, [], ◌++◌, ◌∷◌, codes, Option, option_map}
+use Rattle.std.specs.Prelude.{◌≡◌, ◌⊎◌, ℕ, Bool, true, false, List, [], ◌++◌, ◌∷◌, map, codes, Option, option_map}
 use Rattle.std.specs.Fmt.{decimal}
 use Rattle.std.specs.Io.KnownBytes.{Appends}
 use Rattle.clap.specs.Walk.{Text}
@@ -11,10 +11,9 @@ use Rattle.clap.specs.declared.error.kind.ErrorKind.TheVariants.{DisplayHelp, Di
 use Rattle.clap.specs.declared.error.Error.{Error}
 use Rattle.eqc_check.specs.declared.io.fault.RunFault.{RunFault}
 use Rattle.eqc_check.specs.declared.io.fault.RunFault.TheVariants as run_fault
-use Rattle.eqc_check.specs.declared.options.Options.{Options}
 use Rattle.eqc_check.specs.declared.report.Status.{Status}
-use Rattle.eqc_check.specs.declared.report.Status.TheVariants.{Equivalent, Differs, Refused, Stopped}
-use Rattle.eqc_check.specs.declared.running.Texts.{Texts}
+use Rattle.eqc_check.specs.declared.report.Status.TheVariants.{Equivalent, Differs, Vacuous, Refused, Stopped}
+use Rattle.eqc_check.specs.declared.given.Given.{Given}
 use Rattle.eqc_check.specs.Ends.{AppendsPrefix, fault_code}
 use Rattle.eqc_check.specs.Running.{IsAnswered, IsCutOff}
 use Rattle.eqc_check.specs.Answer.{NamesOf}
@@ -35,6 +34,7 @@ status_code (Reported Equivalent) = 0
 status_code (Reported Differs) = 1
 status_code (Reported Refused) = 2
 status_code (Reported Stopped) = 3
+status_code (Reported Vacuous) = 6
 status_code Helped = 0
 status_code (Failed fault) = 4
 status_code (BadWords error) = 5
@@ -54,15 +54,20 @@ IsTold Helped old new = new ≡ old
 IsTold (Failed fault) old new = AppendsPrefix old new (fault_text fault)
 IsTold (BadWords error) old new = Grows old new
 
--- the sources that are asked for were opened, and the run on them wrote
-pub record IsRunOn {R F : Type 0} (request : Request) (input : R) (Writes : Texts (Source R F) → Option (Source R F) → Options → Type 0) : Type 0 where
-  pub sources : Sources R F
-  pub opened : AreAskedFor request input sources
-  pub writes : Writes sources.texts sources.order request.options
-
 -- the names that are asked for
 abbrev pub names_of : Request → NamesOf
 names_of request = record { first = option_map (λ s. s.now) request.first_model; second = option_map (λ s. s.now) request.second_model }
+
+-- what a run is given by a request and its sources
+abbrev pub given_by : {R F : Type 0} → Request → Sources R F → Given (Source R F)
+given_by request sources =
+    record { texts = sources.texts; names = names_of request; order = sources.order; assume = sources.assume; outputs = map (λ s. s.now) request.outputs.items; options = request.options }
+
+-- the sources that are asked for were opened, and the run on them wrote
+pub record IsRunOn {R F : Type 0} (request : Request) (input : R) (Writes : Given (Source R F) → Type 0) : Type 0 where
+  pub sources : Sources R F
+  pub opened : AreAskedFor request input sources
+  pub writes : Writes (given_by request sources)
 
 -- standard error got some text, where an explanation is asked for
 abbrev pub MayBeExplained : Bool → Option (List ℕ) → Option (List ℕ) → Type 0
@@ -70,10 +75,10 @@ MayBeExplained false old new = new ≡ old
 MayBeExplained true old new = Grows old new
 
 -- a run wrote its report, and standard error got its warnings, and behind them what is explained
-pub record IsReported {R : Type 0} (remaining : R → Option (List ℕ)) (request : Request) (texts : Texts R) (order : Option R) (options : Options) (old new err_old err_new : Option (List ℕ)) (status : Status) : Type 0 where
-  pub answered : IsAnswered (names_of request) remaining texts order options old new status
+pub record IsReported {R : Type 0} (remaining : R → Option (List ℕ)) (request : Request) (given : Given R) (old new err_old err_new : Option (List ℕ)) (status : Status) : Type 0 where
+  pub answered : IsAnswered remaining given old new status
   pub warnings : Warnings
-  pub warned : IsWarned (names_of request) remaining texts status warnings
+  pub warned : IsWarned remaining given status warnings
   pub err : Option (List ℕ)
   pub told : IsToldOf (warnings_text request warnings) err_old err
   pub explained : MayBeExplained request.explain err err_new
@@ -82,12 +87,12 @@ pub record IsReported {R : Type 0} (remaining : R → Option (List ℕ)) (reques
 -- fails
 abbrev pub IsRunEnd : {R F : Type 0} → (R → Option (List ℕ)) → (F → Option (List ℕ)) → Request → R → Option (List ℕ) → Option (List ℕ) → Option (List ℕ) → Option (List ℕ) → End → Type 0
 IsRunEnd input_remaining file_remaining request input old new err_old err_new (Reported status) =
-    IsRunOn request input (λ texts order options. IsReported (source_remaining input_remaining file_remaining) request texts order options old new err_old err_new status)
+    IsRunOn request input (λ given. IsReported (source_remaining input_remaining file_remaining) request given old new err_old err_new status)
 IsRunEnd input_remaining file_remaining request input old new err_old err_new Helped = ⊥
 IsRunEnd input_remaining file_remaining request input old new err_old err_new (Failed run_fault.Memory) = ⊥
 IsRunEnd input_remaining file_remaining request input old new err_old err_new (Failed run_fault.Read) = (new ≡ old) × MayBeExplained request.explain err_old err_new
 IsRunEnd input_remaining file_remaining request input old new err_old err_new (Failed run_fault.Write) =
-    IsRunOn request input (λ texts order options. IsCutOff (names_of request) (source_remaining input_remaining file_remaining) texts order options old new) × MayBeExplained request.explain err_old err_new
+    IsRunOn request input (λ given. IsCutOff (source_remaining input_remaining file_remaining) given old new) × MayBeExplained request.explain err_old err_new
 IsRunEnd input_remaining file_remaining request input old new err_old err_new (BadWords error) = ⊥
 
 -- a request for help or for the version

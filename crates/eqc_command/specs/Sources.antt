@@ -1,8 +1,8 @@
 -- Which texts are opened for what a command line asks for.
 use Rattle.std.specs.Prelude.{◌≡◌, ℕ, List, Option, Some, None}
 use Rattle.std.specs.Borrow.{Bor}
-use Rattle.eqc_check.specs.declared.running.Texts.{Texts}
-use Rattle.eqc_check.specs.declared.running.Texts.TheVariants.{One, Two}
+use Rattle.eqc_check.specs.declared.given.Texts.{Texts}
+use Rattle.eqc_check.specs.declared.given.Texts.TheVariants.{One, Two}
 use Rattle.eqc_command.specs.declared.command_line.Request.{Request}
 use Rattle.eqc_command.specs.declared.source.Source.{Source}
 use Rattle.eqc_command.specs.declared.source.Source.TheVariants.{Input, File}
@@ -37,7 +37,8 @@ abbrev pub AreTextsOf : {R F : Type 0} → Option (Bor (List ℕ)) → Option (B
 AreTextsOf None second input texts = texts ≡ One (Input input)
 AreTextsOf (Some first) second input texts = AreFilesOf first second texts
 
--- the texts and the order text are those that are asked for
+-- the texts, the order text and the assumption's are those that are asked for
 pub record AreAskedFor {R F : Type 0} (request : Request) (input : R) (sources : Sources R F) : Type 0 where
   pub texts : AreTextsOf request.first request.second input sources.texts
   pub order : MayBeFileOf request.order sources.order
+  pub assume : MayBeFileOf request.assume sources.assume

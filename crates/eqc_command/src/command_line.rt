@@ -1,15 +1,15 @@
 //! The command line: which words it takes, and what they ask for.
-ghost use Rattle.std.specs.Prelude.{◌≡◌, false, map, [], Some, IfOk, IfErr, IfSome, string_bytes};
+ghost use Rattle.std.specs.Prelude.{◌≡◌, false, map, [], codes, Some, IfOk, IfErr, IfSome, string_bytes};
 ghost use Rattle.clap.specs.Faults.{fault_of};
 ghost use Rattle.clap.specs.Kinds.{HasKind};
 ghost use Rattle.clap.specs.Matches.{found_of};
 ghost use Rattle.clap.specs.Simple.{app_of};
 ghost use Rattle.clap.specs.Walk.{rows_of, rule_of};
-ghost use Rattle.eqc_command.specs.CommandLine.{eqc_app, number_rule, text_rule, flag_rule, path_rule, number_of, rows_asked, IsAsked};
+ghost use Rattle.eqc_command.specs.CommandLine.{eqc_app, number_rule, text_rule, names_rule, flag_rule, path_rule, number_of, all_of, rows_asked, IsAsked};
 
 use crate::help::{
-    ABOUT, CELLS, CONFLICTS, EXPLAIN, FIRST, FIRST_MODEL, FORKS, NODES, ORDER, SECOND,
-    SECOND_MODEL, USAGE, WORKERS,
+    ABOUT, ALL, ASSUME, CELLS, CONFLICTS, EXPLAIN, FIRST, FIRST_MODEL, FORKS, NODES, ORDER, OUTPUT,
+    SECOND, SECOND_MODEL, USAGE, WORKERS,
 };
 use crate::version::VERSION;
 use clap::{Arg, ArgAction, ArgMatches, Command, Error, value_parser};
@@ -24,6 +24,10 @@ pub struct Request<'a> {
     pub explain: bool,
     /// The path of the order text.
     pub order: Option<&'a str>,
+    /// The path of the assumption's text; without it, all assignments count.
+    pub assume: Option<&'a str>,
+    /// The names of the outputs that are compared; without one, all are.
+    pub outputs: Vec<&'a [u8]>,
     /// The name of the first model that is compared; without it, the place decides.
     pub first_model: Option<&'a str>,
     /// The name of the second.
@@ -66,6 +70,14 @@ fn text<'a>(alloc: Global, name: &'a str, shown: &'a str, help: &'a str) -> Arg<
         .help(help)
 }
 
+/// An option with a name, which may be given as often as wanted.
+fn names<'a>(alloc: Global, name: &'a str, help: &'a str) -> Arg<'a>
+    ensures rule { rule_of result ≡ names_rule name.now }
+    ensures own { result.global ≡ false }
+{
+    text(alloc, name, "NAME", help).action(ArgAction::Append)
+}
+
 /// An option without a value.
 fn flag<'a>(alloc: Global, name: &'a str, help: &'a str) -> Arg<'a>
     ensures rule { rule_of result ≡ flag_rule name.now }
@@ -92,6 +104,9 @@ fn command<'a>(alloc: Global, answers: &'a str) -> Result<Command<'a>, AllocErro
         .arg(number(alloc, "forks", "0", FORKS))?
         .arg(number(alloc, "conflicts", "100000", CONFLICTS))?
         .arg(text(alloc, "order", "FILE", ORDER))?
+        .arg(text(alloc, "assume", "FILE", ASSUME))?
+        .arg(flag(alloc, "all", ALL))?
+        .arg(names(alloc, "output", OUTPUT))?
         .arg(text(alloc, "first-model", "NAME", FIRST_MODEL))?
         .arg(text(alloc, "second-model", "NAME", SECOND_MODEL))?
         .arg(flag(alloc, "explain", EXPLAIN))?
@@ -106,8 +121,34 @@ fn number_given(matches: &ArgMatches<'_>, name: &str) -> Option<u32>
     matches.get_one(name)
 }
 
-/// What the words ask for.
-fn request_of<'a>(matches: &ArgMatches<'a>) -> Option<Request<'a>>
+/// The bytes of texts. Fails where memory is refused.
+fn bytes_of_all<'a>(alloc: Global, given: &[&'a str]) -> Result<Vec<&'a [u8]>, AllocError>
+    ensures { IfOk result (λ all. map (λ s. s.now) all.items ≡ map (λ s. s.now) given.now) }
+{
+    let mut all = Vec::with_capacity(alloc, given.len())?;
+    for value in given {
+        all.push(value.as_bytes())?;
+    }
+    Ok(all)
+}
+
+/// All values of an option. Fails where memory is refused.
+fn all_given<'a>(
+    alloc: Global,
+    matches: &ArgMatches<'a>,
+    name: &str,
+) -> Result<Vec<&'a [u8]>, AllocError>
+    ensures { IfOk result (λ all. map (λ s. s.now) all.items ≡ all_of name.now (rows_of (found_of matches.now))) }
+{
+    match matches.get_strs(name) {
+        Some(given) => bytes_of_all(alloc, given),
+        None => Ok(Vec::new(alloc)),
+    }
+}
+
+/// What the words ask for, with these names of outputs.
+fn request_of<'a>(matches: &ArgMatches<'a>, outputs: Vec<&'a [u8]>) -> Option<Request<'a>>
+    requires { map (λ s. s.now) outputs.items ≡ all_of (codes "output") (rows_of (found_of matches.now)) }
     ensures { IfSome result (IsAsked (rows_of (found_of matches.now))) }
 {
     Some(Request {
@@ -117,9 +158,12 @@ fn request_of<'a>(matches: &ArgMatches<'a>) -> Option<Request<'a>>
             cells: number_given(matches, "cells")?,
             forks: number_given(matches, "forks")?,
             conflicts: number_given(matches, "conflicts")?,
+            every: matches.get_flag("all"),
         },
         explain: matches.get_flag("explain"),
         order: matches.get_str("order"),
+        assume: matches.get_str("assume"),
+        outputs,
         first_model: matches.get_str("first-model"),
         second_model: matches.get_str("second-model"),
         first: matches.get_str("first"),
@@ -139,7 +183,8 @@ pub fn read_words<'a>(
     ensures refused { IfErr result (HasKind (fault_of eqc_app (map string_bytes words.now))) }
 {
     let matches = command(alloc, answers)?.try_get_matches_from(words)?;
-    match request_of(&matches) {
+    let outputs = all_given(alloc, &matches, "output")?;
+    match request_of(&matches, outputs) {
         Some(request) => Ok(request),
         // Each number has a default and has passed its parser, so none is missing.
         None => Err(Error::from(AllocError)),

@@ -21,7 +21,7 @@ pub enum End {
 }
 
 impl End {
-    /// The exit status: 0 to 3 for the kinds of report, 0 for help, 4 for a fault, 5 for a bad command line.
+    /// The exit status: 0 to 3 and 6 for the kinds of report, 0 for help, 4 for a fault, 5 for a bad command line.
     pub fn status(&self) -> u8
         ensures { result ≡ status_code self.now }
     {
@@ -30,6 +30,7 @@ impl End {
             End::Reported(Status::Differs) => 1,
             End::Reported(Status::Refused) => 2,
             End::Reported(Status::Stopped) => 3,
+            End::Reported(Status::Vacuous) => 6,
             End::Helped => 0,
             End::Failed(_) => 4,
             End::BadWords(_) => 5,

@@ -7,7 +7,7 @@ use crate::command_line::Request;
 use crate::warning::{first_source, second_source};
 use eqc_blif::{Finding as TextFinding, Library};
 use eqc_check::{
-    Diagnostics, Finding as PairFinding, Options, RunFault, Side, Undecided, Unmatched,
+    Diagnostics, Difference, Finding as PairFinding, Options, RunFault, Side, Undecided, Unmatched,
 };
 use eqc_flat::{Circle, Finding, FoundFormal, FoundInstance, HierarchicalName};
 use eqc_tree::Stop;
@@ -31,9 +31,12 @@ const MOST_NODES: u32 = 1_048_574;
 /// The fewest nodes with which equal signals are looked for inside the netlists.
 const SWEPT_NODES: u32 = 1_024;
 
+/// What is said where nothing was compared.
+const VACUOUS: &str = "no assignment of the inputs meets the assumption, so nothing was compared";
+
 /// What to do about a signal without a driver.
 const UNDRIVEN_HINT: &str =
-    "yosys leaves such nets open; 'setundef -undriven -zero' before 'techmap' ties them to 0";
+    "'opt_clean -purge', 'write_blif -noalias' or scripts/prepare --unused leaves such a name out; what an output needs 'setundef -undriven -zero' before 'techmap' ties to 0";
 
 /// What the texts are called, and the lines on what is at fault in them. Where memory is refused lines are left out.
 #[derive(Drop)]
@@ -43,8 +46,19 @@ pub struct Explanation<'a> {
     second: &'a str,
     /// Empty where there is no order text.
     order: &'a str,
+    /// Empty where there is no assumption.
+    assume: &'a str,
     options: Options,
     lines: String,
+}
+
+/// Puts a byte, as `\xNN` where it doesn't print.
+fn put_byte<W: fmt::Write>(f: &mut Formatter<W>, byte: u8) -> fmt::Result {
+    if (32..127).contains(&byte) {
+        write!(f, "{}", char::from(byte))
+    } else {
+        write!(f, "\\x{byte:02x}")
+    }
 }
 
 /// Bytes of a name or a row, cut to a readable length, with `\xNN` for those that don't print.
@@ -54,14 +68,23 @@ struct Shown<'a>(&'a [u8]);
 impl<'a> Display for Shown<'a> {
     fn fmt<W: fmt::Write>(&self, f: &mut Formatter<W>) -> fmt::Result {
         for byte in self.0.iter().take(SHOWN) {
-            if (32..127).contains(byte) {
-                write!(f, "{}", char::from(*byte))?;
-            } else {
-                write!(f, "\\x{:02x}", *byte)?;
-            }
+            put_byte(f, *byte)?;
         }
         if self.0.len() > SHOWN {
             f.write_str("..")?;
+        }
+        Ok(())
+    }
+}
+
+/// Bytes of a name, all of them, with `\xNN` for those that don't print.
+#[derive(Clone, Copy)]
+struct Whole<'a>(&'a [u8]);
+
+impl<'a> Display for Whole<'a> {
+    fn fmt<W: fmt::Write>(&self, f: &mut Formatter<W>) -> fmt::Result {
+        for byte in self.0 {
+            put_byte(f, *byte)?;
         }
         Ok(())
     }
@@ -331,6 +354,10 @@ fn pair_said(alloc: Global, finding: &PairFinding<'_>) -> Result<String, AllocEr
             Names(first),
             Names(second)
         ),
+        PairFinding::UnknownOutputs(names) => format!(in alloc;
+            "names of --output that are no outputs, {} (43)",
+            Names(names)
+        ),
         PairFinding::OrderTooLong { bytes, limit } => format!(in alloc;
             "the order text has {bytes} bytes at least, and may have {limit} (2)"
         ),
@@ -345,6 +372,13 @@ fn pair_said(alloc: Global, finding: &PairFinding<'_>) -> Result<String, AllocEr
         PairFinding::InputsLeftOut(names) => format!(in alloc;
             "inputs that the order text leaves out, {} (53)",
             Names(names)
+        ),
+        PairFinding::UnknownInputs(names) => format!(in alloc;
+            "inputs of the assumption that the netlists don't have, {} (61)",
+            Names(names)
+        ),
+        PairFinding::OutputCount(count) => format!(in alloc;
+            "the assumption has {count} outputs, and has to have one (62)"
         ),
     }
 }
@@ -404,7 +438,7 @@ fn inside_hint(options: Options) -> &'static str {
 fn stop_said(alloc: Global, options: Options, stop: Stop) -> Result<String, AllocError> {
     if stop == Stop::NodeLimit {
         return format!(in alloc;
-            "the diagrams want more than --nodes {} (71); try {}",
+            "the diagrams want more than --nodes {}, or too many turns (71); try {}",
             options.nodes,
             way_on(options)
         );
@@ -427,6 +461,26 @@ fn undecided_said(alloc: Global, left: &Undecided) -> Result<String, AllocError>
     Ok(said)
 }
 
+/// What is said of an output that was seen to differ, before the assignment under which it does.
+const SEEN: &str =
+    "this output differs all the same, under these values; they may not be the least, and an output before it may differ too";
+
+/// An output that was seen to differ, as a report has it: a line for its name, one for each input, and one for each netlist.
+fn seen_said(alloc: Global, seen: &Difference) -> Result<String, AllocError> {
+    let mut said = format!(in alloc; "{SEEN}\ndiffers at {}", Whole(seen.name.as_bytes()))?;
+    for (input, value) in &seen.inputs {
+        let line = format!(in alloc; "\n{}={}", Whole(input.as_bytes()), u8::from(*value))?;
+        said.push_str(&line)?;
+    }
+    let ends = format!(in alloc;
+        "\nfirst={}\nsecond={}",
+        u8::from(seen.first),
+        u8::from(seen.second)
+    )?;
+    said.push_str(&ends)?;
+    Ok(said)
+}
+
 /// No explanation yet, of what is asked for.
 pub fn explanation_for<'a>(alloc: Global, request: &Request<'a>) -> Explanation<'a> {
     Explanation {
@@ -434,6 +488,7 @@ pub fn explanation_for<'a>(alloc: Global, request: &Request<'a>) -> Explanation<
         first: first_source(request),
         second: second_source(request),
         order: request.order.unwrap_or(""),
+        assume: request.assume.unwrap_or(""),
         options: request.options,
         lines: String::new(alloc),
     }
@@ -448,9 +503,10 @@ impl<'a> Explanation<'a> {
     /// What the text of a side is called.
     fn name(&self, side: Side) -> &'a str {
         match side {
+            Side::First | Side::Pair | Side::Options => self.first,
             Side::Second => self.second,
             Side::Order => self.order,
-            _ => self.first,
+            Side::Assume => self.assume,
         }
     }
 
@@ -545,6 +601,10 @@ impl<'a> Diagnostics for Explanation<'a> {
         let _ = self.tell(pair_said(self.alloc, finding));
     }
 
+    fn vacuous(&mut self) {
+        let _ = self.tell_of(self.assume, String::from_str(self.alloc, VACUOUS));
+    }
+
     fn option(&mut self, code: u8) {
         let _ = self.tell(option_said(self.alloc, self.options, code));
     }
@@ -559,6 +619,9 @@ impl<'a> Diagnostics for Explanation<'a> {
     fn undecided(&mut self, left: &Undecided) {
         if left.count() > 0 {
             let _ = self.tell(undecided_said(self.alloc, left));
+        }
+        if let Some(seen) = left.seen() {
+            let _ = self.tell(seen_said(self.alloc, seen));
         }
     }
 

@@ -9,8 +9,8 @@ pub const ABOUT: &str =
 
 pub const USAGE: &str = "\
 eqc [--workers N] [--nodes N] [--cells N] [--forks N] [--conflicts N]
-           [--order FILE] [--first-model NAME] [--second-model NAME] [--explain]
-           [FILE [FILE]]";
+           [--order FILE] [--assume FILE] [--all] [--output NAME]..
+           [--first-model NAME] [--second-model NAME] [--explain] [FILE [FILE]]";
 
 pub const WORKERS: &str = "Compares outputs on this many threads, 1 to 64";
 
@@ -29,6 +29,12 @@ pub const CONFLICTS: &str =
 pub const ORDER: &str =
     "Takes the variables in this file's order, a word for each input of the first netlist";
 
+pub const ASSUME: &str = "Counts only assignments under which the one output of this netlist is 1";
+
+pub const ALL: &str = "Reports each output that differs, and not the first alone";
+
+pub const OUTPUT: &str = "Compares the output of this name, and no other that is not named so";
+
 pub const FIRST_MODEL: &str = "Compares the model of this name of the first netlist's text";
 
 pub const SECOND_MODEL: &str = "Compares the model of this name of the second netlist's text";
@@ -43,7 +49,8 @@ pub const SECOND: &str = "The second netlist";
 const REPORTS: &str = "\
 Without a FILE the first two models of standard input are compared, with one FILE its first two models,
 with two the first model of each. --first-model and --second-model choose a model by its name instead; with one
-text both choose from it. A warning on standard error says that a model was compared which another model of its
+text both choose from it. --assume takes the first model of its text, whose inputs are inputs of the netlists; where no
+assignment meets it, nothing is compared. A warning on standard error says that a model was compared which another model of its
 text contains, as where a tool wrote a part of a design first. --explain names what is at fault where there is no
 verdict. `--` ends the options. Numbers go from 0 to 4294967295.
 Each worker has a thread. All build in one store of --nodes nodes with one operation cache of --cells cells; nodes
@@ -55,11 +62,16 @@ conflicts in all. Neither comes with --conflicts 0, or where --nodes is below 10
 
 Statuses and reports:
   0  equivalent              each output has equal values under every assignment of the inputs
-  1  differs at NAME         the first output that differs, the least assignment that shows it, and its two values
-  2  refused SIDE LINE CODE  SIDE is first, second, pair, order or options; LINE is 0 where there is none
+  1  differs at NAME         the first output that differs, the least assignment that shows it, and its two values;
+                             with --all so for each output that differs
+  2  refused SIDE LINE CODE  SIDE is first, second, pair, order, assume or options; LINE is 0 where there is none
   3  stopped CODE            the comparison was given up
   4  fault CODE              a file could not be opened, or a read or a write failed; told on standard error
-  5                          a bad command line, or want of memory in reading it; told on standard error";
+  5                          a bad command line, or want of memory in reading it; told on standard error
+  6  vacuous                 no assignment of the inputs meets the assumption, so nothing was compared";
+
+/// What ends a comparison with 71. The store's own word for it knows nothing of turns, which a comparison counts.
+const NODE_LIMIT: &str = "the store of diagrams is full, or operations on them take too many turns";
 
 /// Appends the line of a number.
 fn push_code<M: Display>(
@@ -87,17 +99,13 @@ fn push_netlist_codes(alloc: Global, text: &mut String) -> Result<(), AllocError
 
 /// Appends the numbers of a pair that is refused, and of a comparison that stops.
 fn push_pair_codes(alloc: Global, text: &mut String) -> Result<(), AllocError> {
-    text.push_str("\n\nCodes of the pair and of the order text:")?;
+    text.push_str("\n\nCodes of the pair, of the order text and of the assumption:")?;
     for rule in &eqc_check::PAIR_RULES {
         push_code(alloc, text, rule.code(), rule)?;
     }
     text.push_str("\n\nCodes of a stop:")?;
-    for stop in &[
-        Stop::NodeLimit,
-        Stop::Memory,
-        Stop::References,
-        Stop::Threads,
-    ] {
+    push_code(alloc, text, Stop::NodeLimit.code(), &NODE_LIMIT)?;
+    for stop in &[Stop::Memory, Stop::References, Stop::Threads] {
         push_code(alloc, text, stop.code(), stop)?;
     }
     Ok(())

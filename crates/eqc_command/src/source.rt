@@ -27,11 +27,12 @@ impl<'a, R: Read, F: Read> Read for Source<'a, R, F> {
     }
 }
 
-/// The texts of a run and its order text, all of them open.
+/// The texts of a run, its order text and its assumption's, all of them open.
 #[derive(Drop)]
 pub struct Sources<'a, R, F> {
     pub texts: Texts<Source<'a, R, F>>,
     pub order: Option<Source<'a, R, F>>,
+    pub assume: Option<Source<'a, R, F>>,
 }
 
 /// A file that could not be opened.
@@ -82,7 +83,7 @@ fn open_texts<'a, RT: Files, R: Drop>(
     }
 }
 
-/// Opens all files that are asked for, the first text, the second and the order text, before any is read. Without
+/// Opens all files that are asked for, the first text, the second, the order text and the assumption's, before any is read. Without
 /// a file, the text is the input.
 pub fn open<'a, RT: Files, R: Drop>(
     rt: &RT,
@@ -96,5 +97,10 @@ pub fn open<'a, RT: Files, R: Drop>(
         Some(first) => open_texts(rt, first, request.second)?,
     };
     let order = open_some(rt, request.order)?;
-    Ok(Sources { texts, order })
+    let assume = open_some(rt, request.assume)?;
+    Ok(Sources {
+        texts,
+        order,
+        assume,
+    })
 }

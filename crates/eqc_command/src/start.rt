@@ -2,17 +2,17 @@
 ghost use Rattle.std.specs.Prelude.{◌≡◌, ◌↔◌, IsTrue, map, string_bytes};
 ghost use Rattle.std.specs.Option.{option_copied, option_map};
 ghost use Rattle.clap.specs.Values.{kind_of};
-ghost use Rattle.eqc_command.specs.Ends.{names_of, IsRunEnd, MayBeExplained, IsShowing, IsHelpEnd, IsEnd, IsDone};
+ghost use Rattle.eqc_command.specs.Ends.{names_of, given_by, IsRunEnd, MayBeExplained, IsShowing, IsHelpEnd, IsEnd, IsDone};
 
 use crate::command_line::{Request, read_words};
 use crate::ending::{End, tell};
 use crate::explanation::{Explanation, explanation_for};
 use crate::help::answers;
-use crate::source::{Unopened, open};
+use crate::source::{Source, Sources, Unopened, open};
 use crate::warning::warn;
 use clap::Error;
 use clap::error::ErrorKind;
-use eqc_check::{ModelNames, RunFault, run_explained, write_text};
+use eqc_check::{Given, ModelNames, OutputNames, RunFault, run_explained, write_text};
 use std::alloc::{AllocError, Global};
 use std::io::{Read, Write};
 use std::rt::Files;
@@ -57,6 +57,25 @@ fn names_of<'a>(request: &Request<'a>) -> ModelNames<'a>
     ModelNames {
         first: bytes_of(request.first_model),
         second: bytes_of(request.second_model),
+    }
+}
+
+/// What a run is given by a request and its sources.
+fn given_by<'x, 'a, R, F>(
+    request: &'x Request<'a>,
+    sources: Sources<'a, R, F>,
+) -> Given<'x, Source<'a, R, F>>
+    ensures { result ≡ given_by request.now sources.entry }
+{
+    Given {
+        texts: sources.texts,
+        names: names_of(request),
+        order: sources.order,
+        assume: sources.assume,
+        outputs: OutputNames {
+            names: &request.outputs,
+        },
+        options: request.options,
     }
 }
 
@@ -107,10 +126,7 @@ fn compare<RT: Files + AllocGlobal + Threads + Wait + Sync, R: Read + Drop, W: W
     let finished = run_explained(
         rt,
         rt.alloc(),
-        sources.texts,
-        &names_of(request),
-        sources.order,
-        &request.options,
+        given_by(request, sources),
         out,
         if_asked(request, &mut explanation),
     );
@@ -159,14 +175,14 @@ fn perform<RT: Files + AllocGlobal + Threads + Wait + Sync, R: Read + Drop, W: W
 /// Does all that the program does, and answers its exit status.
 ///
 /// The words are those of the command line, the program's name first; `input`, `out` and `err` are standard input,
-/// output and error. The options are `--workers N`, `--nodes N`, `--cells N`, `--forks N`, `--conflicts N` and
-/// `--order FILE`, `--first-model NAME`, `--second-model NAME` and `--explain`, and up to two files are compared. All files
-/// are opened before one is read. The report is written to `out`. Where it is a verdict on a model that a model of its text contains
+/// output and error. The options are `--workers N`, `--nodes N`, `--cells N`, `--forks N`, `--conflicts N`, `--order FILE`,
+/// `--assume FILE`, `--all`, `--output NAME` as often as wanted, `--first-model NAME`, `--second-model NAME` and `--explain`, and
+/// up to two files are compared. All files are opened before one is read. The report is written to `out`. Where it is a verdict on a model that a model of its text contains
 /// which isn't compared, `err` gets a warning on it. Where there is no verdict and `--explain` is given, `err` gets lines
 /// on what is at fault.
 ///
 /// The status is 0 where the netlists are equivalent, 1 where they differ, 2 where the input is refused and 3 where
-/// the comparison was stopped. It is 4 where a read or a write failed, and then `err` gets `fault 91` for a read, or
+/// the comparison was stopped, and 6 where no assignment meets the assumption. It is 4 where a read or a write failed, and then `err` gets `fault 91` for a read, or
 /// a file that can't be opened, and `fault 92` for a write. It is 5 for a bad command line and for want of memory in
 /// reading it; `err` gets a text on it. For `--help` and `--version` what they ask for is written to `out`, and the
 /// status is 0. The call may wait, for the threads that compare.

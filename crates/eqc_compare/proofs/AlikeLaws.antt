@@ -1,6 +1,6 @@
 -- Outputs whose two signals have one structure, and steps of one structure: classes tell them, and they never differ.
-use Rattle.std.proofs.Common.{◌≡◌, ◌⊎◌, ◌↔◌, ℕ, ◌+◌, ◌-◌, ◌<◌, ◌≤◌, Bool, true, false, List, [], ◌∷◌, ◌++◌, length, map, get_or, set, min, ◌==◌, refl, sym, ◌∙◌, ap, subst, arith, inl, inr, None}
-use Rattle.std.proofs.lemmas.List.{get_or_append_left, get_or-append_right, get_or-map, get_or-set_same, get_or-set_other, get_or_default, length-append, length-map}
+use Rattle.std.proofs.Common.{◌≡◌, ◌⊎◌, ◌↔◌, ℕ, ◌+◌, ◌-◌, ◌<◌, ◌≤◌, Bool, true, false, true≢false, ◌&&◌, List, [], ◌∷◌, ◌++◌, length, map, get_or, set, min, ◌==◌, refl, sym, ◌∙◌, ap, subst, arith, inl, inr, None}
+use Rattle.std.proofs.lemmas.List.{get_or_append_left, get_or-append_right, get_or-map, get_or-set_same, get_or-set_other, get_or_default, get_or_past, length-append, length-map}
 use Rattle.std.proofs.Math.ListN.{length-set}
 use Rattle.std.proofs.Math.Nat.{min-eq_left, min-eq_right}
 use Rattle.std.proofs.Math.Seq.{get_or-append_seam}
@@ -10,11 +10,11 @@ use Rattle.eqc_class.specs.Structure.{structure_of}
 use Rattle.eqc_class.proofs.ValueLaws.{equal_values}
 use Rattle.eqc_class.specs.Classes.{ClassesOf, AreClasses, HaveOneValueEach, TellStructures}
 use Rattle.eqc_pair.specs.PairOf.{PairOf, IsPair, first_variables, second_variables, second_signals}
-use Rattle.eqc_build.specs.Steps.{IsChoice, chosen_for, inputs_under, steps_in, value_at}
+use Rattle.eqc_build.specs.Steps.{IsChoice, assumed_start, chosen_for, inputs_under, value_at}
 use Rattle.eqc_compare.specs.Verdict.{is_different}
-use Rattle.eqc_compare.specs.Comparing.{differs_at, difference_at}
+use Rattle.eqc_compare.specs.Comparing.{allowed_at, values_differ_at, differs_at, difference_at, told_at, is_chosen_at}
 use Rattle.eqc_build.specs.Turns.{is_marked}
-use Rattle.eqc_compare.specs.Alike.{IsAlike, TellAlike, TellShared, AreEqual, AreFirst, step_structure}
+use Rattle.eqc_compare.specs.Alike.{IsAlike, TellAlike, TellShared, AreEqual, AreSettled, AreFirst, step_structure}
 use Rattle.eqc_build.proofs.PairLaws.{pair_matched}
 use Rattle.eqc_compare.proofs.DifferenceLaws.{none_is}
 use Rattle.eqc_build.proofs.StepLaws.{value_first, value_second}
@@ -73,9 +73,14 @@ never true false e = e
 never false true e = sym e
 never false false e = refl
 
+-- wherever that is asked
+pub never_where : (b x y : Bool) → x ≡ y → (b && is_different x y) ≡ false
+never_where true x y e = never x y e
+never_where false x y e = refl
+
 -- an output that is alike never differs
 pub alike_equal : (p : PairOf) (c : ClassesOf) (marks : List Bool) → IsPair p → ArePairClasses p c → HaveOneValueEach p.first p.second (first_variables p) (second_variables p) c → TellAlike p marks → AreEqual p marks
-unfolding differs_at
+unfolding differs_at values_differ_at
 alike_equal p c marks h classes values tell = record { each = each }
   where
     each : (o : ℕ) → o < length p.first.outputs → is_marked marks o ≡ true → difference_at p o ≡ None
@@ -84,8 +89,45 @@ alike_equal p c marks h classes values tell = record { each = each }
         let t = get_or (second_signals p) o 0 in
         let same : get_or c.first s 0 ≡ get_or c.second t 0 = (told p c o h classes inside).1 ((tell.each o inside).0 marked) in
         none_is p o (differs_at p o) h inside (record { each = λ a. refl })
-        (λ a. never (value_of p.first (inputs_under (first_variables p) a) s) (value_of p.second (inputs_under (second_variables p) a) t)
+        (λ a. never_where (allowed_at p a) (value_of p.first (inputs_under (first_variables p) a) s) (value_of p.second (inputs_under (second_variables p) a) t)
         (values.across a s t (h.first_flat.outputs_within o inside) ((pair_matched p h).within o inside) same))
+
+-- ---- outputs of which nothing is to be told
+
+pub none_equal : (p : PairOf) → AreEqual p []
+none_equal p = record { each = λ o inside marked. absurd (true≢false (sym marked)) }
+
+-- of the first n outputs nothing is to be told of those that are marked, and all others are chosen
+pub record AreSettledBelow (p : PairOf) (marks : List Bool) (n : ℕ) : Type 0 where
+  pub size : length marks ≡ n
+  pub none : (o : ℕ) → o < n → is_marked marks o ≡ true → told_at p o ≡ None
+  pub chosen : (o : ℕ) → o < n → is_marked marks o ≡ false → is_chosen_at p o ≡ true
+
+-- one mark more
+pub settled_more : (p : PairOf) (marks : List Bool) (mark : Bool) (n : ℕ) → AreSettledBelow p marks n → (mark ≡ true → told_at p n ≡ None) → (mark ≡ false → is_chosen_at p n ≡ true) → AreSettledBelow p (marks ++ mark ∷ []) (n + 1)
+settled_more p marks mark n s none chosen = record {
+  size = omega (arith, s.size, length-append marks (mark ∷ []));
+  none = λ o less marked. elim (cases_eq o n) [
+    | inl e ↦ ap (told_at p) e ∙ none (sym (at o e) ∙ marked)
+    | inr other ↦ s.none o (omega (arith, less, other)) (sym (old o (omega (arith, less, other))) ∙ marked)
+  ];
+  chosen = λ o less unmarked. elim (cases_eq o n) [
+    | inl e ↦ ap (is_chosen_at p) e ∙ chosen (sym (at o e) ∙ unmarked)
+    | inr other ↦ s.chosen o (omega (arith, less, other)) (sym (old o (omega (arith, less, other))) ∙ unmarked)
+  ];
+}
+  where
+    at : (o : ℕ) → o ≡ n → is_marked (marks ++ mark ∷ []) o ≡ mark
+    at o e = ap (is_marked (marks ++ mark ∷ [])) (e ∙ sym s.size) ∙ get_or-append_seam marks mark [] false
+
+    old : (o : ℕ) → o < n → is_marked (marks ++ mark ∷ []) o ≡ is_marked marks o
+    old o less = get_or_append_left marks (mark ∷ []) false o (omega (arith, less, s.size))
+
+pub settled_all : (p : PairOf) (marks : List Bool) (n : ℕ) → length p.first.outputs ≤ n → AreSettledBelow p marks n → AreSettled p marks
+settled_all p marks n whole s = record {
+  none = λ o inside marked. s.none o (omega (arith, inside, whole)) marked;
+  chosen = λ o inside unmarked. s.chosen o (omega (arith, inside, whole)) unmarked;
+}
 
 -- ---- steps of one structure
 
@@ -121,7 +163,7 @@ structure_second : (p : PairOf) (k : ℕ) → length p.first.drivers ≤ k → s
 unfolding step_structure
 structure_second p k past = rw (le-ltb k (length p.first.drivers) past) refl
 
-pub of_signal : (p : PairOf) (c : ClassesOf) (k : ℕ) → IsPair p → k < steps_in p → (side : Bool) × (s : ℕ) × IsOf p c k side s
+pub of_signal : (p : PairOf) (c : ClassesOf) (k : ℕ) → IsPair p → k < assumed_start p → (side : Bool) × (s : ℕ) × IsOf p c k side s
 of_signal p c k h lt = elim (cases_lt k (length p.first.drivers)) [
   | inl low ↦
       let s = get_or p.first.steps k 0 in
@@ -148,7 +190,7 @@ of_signal p c k h lt = elim (cases_lt k (length p.first.drivers)) [
         record {
           inside = h.second_flat.steps_within j step;
           structure = structure_second p k past;
-          value = λ a. ap (value_at p a) (sym is) ∙ value_second p a j;
+          value = λ a. ap (value_at p a) (sym is) ∙ value_second p a j (omega (arith, lt, past));
           number = get_or-append_right (map (λ s. get_or c.first s 0) p.first.steps) (map (λ s. get_or c.second s 0) p.second.steps) n k 0 size past ∙ get_or-map (λ s. get_or c.second s 0) p.second.steps j 0 0 step;
         },
       )
@@ -172,7 +214,7 @@ numbered p c true s h inside = omega (arith, inside, h.first_size)
 numbered p c false s h inside = omega (arith, inside, h.second_size)
 
 -- two steps have one number in the row exactly where they have one structure
-pub row_tells : (p : PairOf) (c : ClassesOf) (j k : ℕ) → IsPair p → ArePairClasses p c → j < steps_in p → k < steps_in p → (get_or (row_of p c) j 0 ≡ get_or (row_of p c) k 0) ↔ (step_structure p j ≡ step_structure p k)
+pub row_tells : (p : PairOf) (c : ClassesOf) (j k : ℕ) → IsPair p → ArePairClasses p c → j < assumed_start p → k < assumed_start p → (get_or (row_of p c) j 0 ≡ get_or (row_of p c) k 0) ↔ (step_structure p j ≡ step_structure p k)
 row_tells p c j k h classes inside within =
     let x = of_signal p c j h inside in
     let y = of_signal p c k h within in
@@ -187,7 +229,7 @@ number_below : (p : PairOf) (c : ClassesOf) (side : Bool) (s : ℕ) → ArePairC
 number_below p c true s h inside = h.first_within s (omega (arith, inside, h.first_size))
 number_below p c false s h inside = h.second_within s (omega (arith, inside, h.second_size))
 
-row_size : (p : PairOf) (c : ClassesOf) → IsPair p → length (row_of p c) ≡ steps_in p
+row_size : (p : PairOf) (c : ClassesOf) → IsPair p → length (row_of p c) ≡ assumed_start p
 row_size p c h =
     length-append (map (λ s. get_or c.first s 0) p.first.steps) (map (λ s. get_or c.second s 0) p.second.steps)
     ∙ omega (arith, length-map p.first.steps (λ s. get_or c.first s 0), length-map p.second.steps (λ s. get_or c.second s 0), h.first_flat.step_count, h.second_flat.step_count)
@@ -207,7 +249,7 @@ follows_on p true first second = first
 follows_on p false first second = second
 
 -- steps of one structure have one value
-same_value : (p : PairOf) (c : ClassesOf) (j k : ℕ) (a : ℕ → Bool) → IsPair p → FollowsDrivers p.first → FollowsDrivers p.second → j < steps_in p → k < steps_in p → step_structure p j ≡ step_structure p k → value_at p a j ≡ value_at p a k
+same_value : (p : PairOf) (c : ClassesOf) (j k : ℕ) (a : ℕ → Bool) → IsPair p → FollowsDrivers p.first → FollowsDrivers p.second → j < assumed_start p → k < assumed_start p → step_structure p j ≡ step_structure p k → value_at p a j ≡ value_at p a k
 same_value p c j k a h first second inside within e =
     let x = of_signal p c j h inside in
     let y = of_signal p c k h within in
@@ -218,13 +260,23 @@ same_value p c j k a h first second inside within e =
 -- a step that is chosen for those of its structure has their value
 pub shared_choice : (p : PairOf) (c : ClassesOf) (chosen : List ℕ) → IsPair p → FollowsDrivers p.first → FollowsDrivers p.second → TellShared p chosen → IsChoice p chosen
 shared_choice p c chosen h first second shared = record {
-  early = shared.early;
-  same = λ k a lt. same_value p c (chosen_for chosen k) k a h first second (omega (arith, shared.early k lt, lt)) lt (shared.same k lt);
+  early = λ k lt. elim (cases_lt k (assumed_start p)) [
+    | inl low ↦ shared.early k low
+    | inr past ↦ omega (arith, itself k past)
+  ];
+  same = λ k a lt. elim (cases_lt k (assumed_start p)) [
+    | inl low ↦ same_value p c (chosen_for chosen k) k a h first second (omega (arith, shared.early k low, low)) low (shared.same k low)
+    | inr past ↦ ap (value_at p a) (itself k past)
+  ];
 }
+  where
+    itself : (k : ℕ) → assumed_start p ≤ k → chosen_for chosen k ≡ k
+    itself k past = get_or_past chosen k k (omega (arith, shared.size, past))
 
 -- the first places in a row of classes are the first steps of each structure
 pub first_shared : (p : PairOf) (c : ClassesOf) (row chosen : List ℕ) → IsPair p → ArePairClasses p c → row ≡ row_of p c → AreFirst row chosen → TellShared p chosen
 first_shared p c row chosen h classes is f = record {
+  size = f.size ∙ (ap length is ∙ size);
   early = λ k lt. omega (arith, chosen_is k lt, f.early k (long k lt));
   same = λ k lt. (
       let e : get_or (row_of p c) (chosen_for chosen k) 0 ≡ get_or (row_of p c) k 0 = ap (λ i. get_or (row_of p c) i 0) (chosen_is k lt) ∙ (sym (ap (λ r. get_or r (get_or chosen k 0) 0) is) ∙ (f.same k (long k lt) ∙ ap (λ r. get_or r k 0) is)) in
@@ -234,13 +286,13 @@ first_shared p c row chosen h classes is f = record {
       ∙ sym (chosen_is k within));
 }
   where
-    size : length (row_of p c) ≡ steps_in p
+    size : length (row_of p c) ≡ assumed_start p
     size = row_size p c h
 
-    long : (k : ℕ) → k < steps_in p → k < length row
+    long : (k : ℕ) → k < assumed_start p → k < length row
     long k lt = omega (arith, lt, size, ap length is)
 
-    chosen_is : (k : ℕ) → k < steps_in p → chosen_for chosen k ≡ get_or chosen k 0
+    chosen_is : (k : ℕ) → k < assumed_start p → chosen_for chosen k ≡ get_or chosen k 0
     chosen_is k lt = get_or_default chosen k k 0 (omega (arith, long k lt, f.size))
 
 -- the classes of the first n places are met: each has its first place, and others have a number above all places

@@ -1,5 +1,5 @@
 -- Steps of one literal are chosen for one another, and outputs whose two steps have one literal never differ.
-use Rattle.std.proofs.Common.{◌≡◌, ◌≢◌, ◌⊎◌, ℕ, ◌+◌, ◌-◌, ◌<◌, ◌≤◌, Bool, true, false, List, [], ◌∷◌, ◌++◌, length, get_or, set, min, refl, sym, ◌∙◌, ap, subst, arith, inl, inr, None}
+use Rattle.std.proofs.Common.{◌≡◌, ◌≢◌, ◌⊎◌, ℕ, ◌+◌, ◌<◌, ◌≤◌, Bool, true, false, List, [], ◌∷◌, ◌++◌, length, get_or, set, min, refl, sym, ◌∙◌, ap, subst, arith, inl, inr, None}
 use Rattle.std.proofs.lemmas.List.{get_or_append_left, get_or-set_same, get_or-set_other, get_or_default, get_or_past, length-append}
 use Rattle.std.proofs.Math.ListN.{length-set}
 use Rattle.std.proofs.Math.Nat.{min-eq_left, min-eq_right}
@@ -11,7 +11,7 @@ use Rattle.eqc_build.specs.Steps.{StepsOf, AreSteps, IsChoice, chosen_for, first
 use Rattle.eqc_build.specs.Turns.{is_marked}
 use Rattle.eqc_build.proofs.PairLaws.{pair_matched}
 use Rattle.eqc_build.proofs.StepLaws.{first_made, second_made, first_root_within, second_root_within, root_first, root_second}
-use Rattle.eqc_compare.specs.Comparing.{differs_at, difference_at}
+use Rattle.eqc_compare.specs.Comparing.{allowed_at, values_differ_at, differs_at, difference_at}
 use Rattle.eqc_compare.specs.Alike.{AreEqual}
 use Rattle.std.specs.Prelude.{Option, Some}
 use Rattle.std.specs.Option.{unwrap_or}
@@ -21,7 +21,7 @@ use Rattle.eqc_gates.specs.Entering.{AreLiterals}
 use Rattle.eqc_compare.specs.Inside.{HaveOneLiteral, IsInside, TellEqual, literal_of}
 use Rattle.eqc_graph.specs.declared.node.Node.{Node}
 use Rattle.eqc_graph.specs.Graph.{literal_value, IsWithin}
-use Rattle.eqc_compare.proofs.AlikeLaws.{never}
+use Rattle.eqc_compare.proofs.AlikeLaws.{never_where}
 use Rattle.eqc_compare.proofs.DifferenceLaws.{none_is}
 
 -- ---- steps
@@ -143,13 +143,13 @@ chosen_all p literals firsts more m = record { early = m.early; same = m.same }
 
 -- where the steps of an output's two signals have one value under all assignments, it never differs
 pub never_differs : (g : StepsOf) (o : ℕ) → AreSteps g → o < length g.pair.first.outputs → ((a : ℕ → Bool) → value_at g.pair a (first_root g o) ≡ value_at g.pair a (second_root g o)) → difference_at g.pair o ≡ None
-unfolding differs_at
+unfolding differs_at values_differ_at
 never_differs g o h inside same =
     let p = g.pair in
     let s = get_or p.first.output_signals o 0 in
     let t = get_or (second_signals p) o 0 in
     none_is p o (differs_at p o) h.lawful inside (record { each = λ a. refl })
-    (λ a. never (value_of p.first (inputs_under (first_variables p) a) s) (value_of p.second (inputs_under (second_variables p) a) t)
+    (λ a. never_where (allowed_at p a) (value_of p.first (inputs_under (first_variables p) a) s) (value_of p.second (inputs_under (second_variables p) a) t)
     (sym (first_made g a s h (h.lawful.first_flat.outputs_within o inside)) ∙ (same a ∙ second_made g a t h ((pair_matched p h.lawful).within o inside))))
 
 -- the steps of an output's two signals, as `Steps::roots` gives them

@@ -2,7 +2,10 @@ pub mod LeastLemmas
 pub mod VerdictLemmas
 pub mod MatchedLemmas
 pub mod CompareLaws
+pub mod AllowingLaws
 pub mod DifferenceLaws
+pub mod ToldLaws
+pub mod OutcomeLaws
 pub mod InputLemmas
 pub mod TicketCounts
 pub mod TicketSteps

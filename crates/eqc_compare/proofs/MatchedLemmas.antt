@@ -1,5 +1,5 @@
 -- Inputs that are matched by name, and the variables of declared inputs.
-use Rattle.std.proofs.Common.{◌≡◌, ℕ, ◌<◌, Bool, false, List, [], length, find, None, get_or, sym, ap, ◌∙◌}
+use Rattle.std.proofs.Common.{◌≡◌, ℕ, ◌<◌, Bool, false, List, [], length, find, Option, None, get_or, sym, ap, ◌∙◌}
 use Rattle.eqc_blif.specs.Names.{has_twice}
 use Rattle.eqc_tree.specs.Assigned.{assigned, AreDistinct, assignments}
 use Rattle.eqc_pair.specs.Matched.{position_of}
@@ -18,16 +18,16 @@ pub assigned_value : (variables : List ℕ) (declared names : List (List ℕ)) (
 assigned_value variables declared names a p distinct h = assigned_at variables a (position_of declared (get_or names p [])) distinct h
 
 -- a function of variables is true under the assignments under which an output differs
-pub record IsDifference (f g : NetlistOf) (output : List ℕ) (variables : List ℕ) (r : (ℕ → Bool) → Bool) : Type 0 where
+pub record IsDifference (f g : NetlistOf) (h : Option NetlistOf) (output : List ℕ) (variables : List ℕ) (r : (ℕ → Bool) → Bool) : Type 0 where
   pub size : length variables ≡ length f.inputs
-  pub agrees : (a : List Bool) → length a ≡ length f.inputs → r (assigned variables a) ≡ differs_under f g output a
+  pub agrees : (a : List Bool) → length a ≡ length f.inputs → r (assigned variables a) ≡ differs_under f g h output a
 
 -- its least assignment is the least difference
-pub least_of_difference : (f g : NetlistOf) (output : List ℕ) (variables : List ℕ) (r : (ℕ → Bool) → Bool) → IsDifference f g output variables r → find (λ a. r (assigned variables a)) (assignments (length variables)) ≡ least_difference f g output
-least_of_difference f g output variables r is =
-    rw is.size (find_agrees (length f.inputs) (λ a. r (assigned variables a)) (differs_under f g output) is.agrees)
+pub least_of_difference : (f g : NetlistOf) (h : Option NetlistOf) (output : List ℕ) (variables : List ℕ) (r : (ℕ → Bool) → Bool) → IsDifference f g h output variables r → find (λ a. r (assigned variables a)) (assignments (length variables)) ≡ least_difference f g h output
+least_of_difference f g h output variables r is =
+    rw is.size (find_agrees (length f.inputs) (λ a. r (assigned variables a)) (differs_under f g h output) is.agrees)
 
 -- where it is always false the output never differs
-pub none_of_difference : (f g : NetlistOf) (output : List ℕ) (variables : List ℕ) (r : (ℕ → Bool) → Bool) → IsDifference f g output variables r → ((a : ℕ → Bool) → r a ≡ false) → least_difference f g output ≡ None
-none_of_difference f g output variables r is never =
-    find_none (length f.inputs) (differs_under f g output) (λ a long. sym (is.agrees a long) ∙ never (assigned variables a))
+pub none_of_difference : (f g : NetlistOf) (h : Option NetlistOf) (output : List ℕ) (variables : List ℕ) (r : (ℕ → Bool) → Bool) → IsDifference f g h output variables r → ((a : ℕ → Bool) → r a ≡ false) → least_difference f g h output ≡ None
+none_of_difference f g h output variables r is never =
+    find_none (length f.inputs) (differs_under f g h output) (λ a long. sym (is.agrees a long) ∙ never (assigned variables a))

@@ -1,9 +1,8 @@
 -- What a member's draws come to, and two shares put together.
-use Rattle.std.proofs.Common.{◌≡◌, ◌≢◌, ℕ, zero, suc, ◌+◌, ◌-◌, ◌<◌, ◌≤◌, Bool, false, true≢false, IsTrue, List, [], ◌∷◌, ◌++◌, length, Option, Some, None, Vec, Global, All, eqb, ltb, if◌then◌else◌, eq-eqb, ne_eqb, lt-ltb, le-ltb, refl, sym, ap, ap₂, subst, ◌∙◌, arith}
+use Rattle.std.proofs.Common.{◌≡◌, ◌≢◌, ℕ, zero, suc, ◌+◌, ◌-◌, ◌<◌, ◌≤◌, Bool, true, false, true≢false, not, ◌&&◌, IsTrue, List, [], ◌∷◌, ◌++◌, length, Option, Some, None, Vec, Global, All, eqb, ltb, if◌then◌else◌, eq-eqb, ne_eqb, lt-ltb, le-ltb, refl, sym, ap, ap₂, subst, ◌∙◌, arith}
 use native.Mathlib.Decide.{dec_le}
 use Rattle.std.specs.Option.{option_map}
 use Rattle.std.proofs.lemmas.List.{append-nil, map-append}
-use Rattle.std.proofs.lemmas.List.Elements.{All-nil}
 use Rattle.std.proofs.lemmas.Option.{none-some}
 use Rattle.atomic_table.specs.Seated.{TableId}
 use Rattle.atomic_table.specs.declared.shared.Seat.{Seat}
@@ -11,10 +10,10 @@ use Rattle.eqc_compare.specs.declared.ticket.View.{View}
 use Rattle.eqc_compare.specs.declared.verdict.Finding.{Finding}
 use Rattle.eqc_compare.specs.declared.verdict.Finding.TheVariants.{Equal, Differs, Behind}
 use Rattle.eqc_compare.specs.declared.verdict.Verdict.{Verdict}
-use Rattle.eqc_pair.specs.PairOf.{PairOf}
 use Rattle.eqc_compare.specs.Ticket.{drew, both, IsSeat, IsAbove, strangers, times, once_below}
-use Rattle.eqc_compare.specs.Comparing.{difference_at}
-use Rattle.eqc_compare.specs.Verdicts.{DiffersBefore, IsFoundAt, tells_difference, insiders, IsRight, IsShare, IsWork}
+use Rattle.eqc_compare.specs.Comparing.{difference_at, is_chosen_at}
+use Rattle.eqc_compare.proofs.ToldLaws.{told_chosen}
+use Rattle.eqc_compare.specs.Verdicts.{Question, DiffersBefore, IsFoundAt, tells_difference, insiders, IsRight, IsShare, IsWork}
 use Rattle.eqc_compare.proofs.TicketCounts.{times-append, strangers-append}
 
 pub insiders-append : (m : ℕ) (xs ys : List ℕ) → insiders m (xs ++ ys) ≡ insiders m xs ++ insiders m ys
@@ -29,36 +28,30 @@ times-one : (x : ℕ) → times x (x ∷ []) ≡ 1
 times-one x = rw (eq-eqb x x refl) refl
 
 -- a difference before an output is one before each later output
-pub differs_later : (p : PairOf) (o n : ℕ) → o ≤ n → DiffersBefore p o → DiffersBefore p n
-differs_later p o n le d = (d.0, omega (arith, d.1), d.2)
+pub differs_later : (q : Question) (o n : ℕ) → o ≤ n → DiffersBefore q o → DiffersBefore q n
+differs_later q o n le d = (d.0, (d.1.0, omega (arith, d.1.1), d.1.2))
 
--- what was found at an output tells of a difference up to there
-pub knows_more : (p : PairOf) (o : ℕ) (found : Finding) → IsFoundAt p o found → IsTrue (tells_difference found) → DiffersBefore p (o + 1)
-knows_more p o Equal is tells = absurd (true≢false (sym tells))
-knows_more p o (Differs values) is tells = (o, omega arith, λ none. none-some values.items (sym none ∙ is))
-knows_more p o Behind is tells = differs_later p o (o + 1) (omega arith) is
+-- what was found at an output tells of a difference up to there, where the first alone is asked for
+pub knows_more : (q : Question) (o : ℕ) (found : Finding) → q.every ≡ false → IsFoundAt q o found → IsTrue (tells_difference found) → DiffersBefore q (o + 1)
+knows_more q o Equal one is tells = absurd (true≢false (sym tells))
+knows_more q o (Differs values) one is tells = (one, (o, omega arith, λ none. none-some values.items (sym none ∙ is)))
+knows_more q o Behind one is tells = differs_later q o (o + 1) (omega arith) is
 
--- what a comparison answers is what is found
-pub none_found_at : (p : PairOf) (o : ℕ) (found : Option (Vec Bool Global)) → option_map (λ v. v.items) found ≡ difference_at p o → found ≡ None → IsFoundAt p o Equal
-none_found_at p o found e none = sym e ∙ ap (option_map (λ v. v.items)) none
+pub knows_of : (q : Question) (o : ℕ) (found : Finding) → IsFoundAt q o found → IsTrue (not q.every && tells_difference found) → DiffersBefore q (o + 1)
+knows_of q o found is tells = by q.every refl
+  where
+    by : (b : Bool) → q.every ≡ b → DiffersBefore q (o + 1)
+    by true e = absurd (true≢false (sym (rw e at tells)))
+    by false e = knows_more q o found e is (rw e at tells)
 
-pub some_found_at : (p : PairOf) (o : ℕ) (found : Option (Vec Bool Global)) (values : Vec Bool Global) → option_map (λ v. v.items) found ≡ difference_at p o → found ≡ Some values → IsFoundAt p o (Differs values)
-some_found_at p o found values e is = sym e ∙ ap (option_map (λ v. v.items)) is
+-- what a comparison answers of a chosen output is what is found
+pub none_found_at : (q : Question) (o : ℕ) (found : Option (Vec Bool Global)) → is_chosen_at q.pair o ≡ true → option_map (λ v. v.items) found ≡ difference_at q.pair o → found ≡ None → IsFoundAt q o Equal
+none_found_at q o found chosen e none = told_chosen q.pair o chosen ∙ (sym e ∙ ap (option_map (λ v. v.items)) none)
 
--- before a member's first draw
-starts : (p : PairOf) (id : TableId) (behind : Bool) (seat : Seat ℕ View) (vs : List Verdict) → vs ≡ [] → behind ≡ false → IsSeat id seat → seat.me.0.seats ≡ 1 → seat.me.0.drawn ≡ [] → IsWork p id 0 behind seat vs
-starts p id behind seat vs empty not_yet own one none = record {
-  own = own;
-  seats = one;
-  going = rw none refl;
-  each = rw (none, empty) refl;
-  right = rw empty (All-nil (IsRight p));
-  below = omega arith;
-  last = λ x e. absurd (omega arith);
-  knows = λ is. absurd (true≢false (sym is ∙ not_yet));
-}
+pub some_found_at : (q : Question) (o : ℕ) (found : Option (Vec Bool Global)) (values : Vec Bool Global) → is_chosen_at q.pair o ≡ true → option_map (λ v. v.items) found ≡ difference_at q.pair o → found ≡ Some values → IsFoundAt q o (Differs values)
+some_found_at q o found values chosen e is = told_chosen q.pair o chosen ∙ (sym e ∙ ap (option_map (λ v. v.items)) is)
 
-module _ (p : PairOf) (id : TableId) (least n : ℕ) (behind : Bool) (seat after : Seat ℕ View) (vs : List Verdict) (h : IsWork p id least behind seat vs) where
+module _ (q : Question) (id : TableId) (least n : ℕ) (behind : Bool) (seat after : Seat ℕ View) (vs : List Verdict) (h : IsWork q id least behind seat vs) where
   -- a member's draws rise
   pub lower : IsAbove n seat.me.0.drawn → least ≤ n
   lower above = go least h.last
@@ -68,51 +61,51 @@ module _ (p : PairOf) (id : TableId) (least n : ℕ) (behind : Bool) (seat after
       go (suc x) last = let a = above x (last x (omega arith)) in omega arith
 
   -- so what it knows holds of its next draw
-  pub knows_on : IsAbove n seat.me.0.drawn → IsTrue behind → DiffersBefore p n
-  knows_on above is = differs_later p least n (lower above) (h.knows is)
+  pub knows_on : IsAbove n seat.me.0.drawn → IsTrue behind → DiffersBefore q n
+  knows_on above is = differs_later q least n (lower above) (h.knows is)
 
   -- an output was drawn, and has its verdict
-  pub goes : IsSeat id after → after.me.0 ≡ drew seat.me.0 n → n < length p.first.outputs → (v : Verdict) → v.output ≡ n → IsRight p v → All (IsRight p) (vs ++ v ∷ []) → IsWork p id (n + 1) (tells_difference v.finding) after (vs ++ v ∷ [])
+  pub goes : IsSeat id after → after.me.0 ≡ drew seat.me.0 n → n < length q.pair.first.outputs → (v : Verdict) → v.output ≡ n → IsRight q v → All (IsRight q) (vs ++ v ∷ []) → IsWork q id (n + 1) (not q.every && tells_difference v.finding) after (vs ++ v ∷ [])
   goes own is lt v at right all = record {
     own = own;
     seats = ap (λ (u : View). u.seats) is ∙ h.seats;
-    going = rw is (omega (arith, strangers-append (length p.first.outputs) seat.me.0.drawn (n ∷ []), inside, h.going));
-    each = rw is (map-append (λ (u : Verdict). u.output) vs (v ∷ []) ∙ ap₂ ◌++◌ h.each (ap (λ (k : ℕ). k ∷ []) at ∙ sym one) ∙ sym (insiders-append (length p.first.outputs) seat.me.0.drawn (n ∷ [])));
+    going = rw is (omega (arith, strangers-append (length q.pair.first.outputs) seat.me.0.drawn (n ∷ []), inside, h.going));
+    each = rw is (map-append (λ (u : Verdict). u.output) vs (v ∷ []) ∙ ap₂ ◌++◌ h.each (ap (λ (k : ℕ). k ∷ []) at ∙ sym one) ∙ sym (insiders-append (length q.pair.first.outputs) seat.me.0.drawn (n ∷ [])));
     right = all;
     below = omega arith;
     last = λ x e. let q : n ≡ x = omega arith in rw is (subst (λ (k : ℕ). 0 < times k (seat.me.0.drawn ++ n ∷ [])) q (omega (arith, times-append n seat.me.0.drawn (n ∷ []), times-one n)));
-    knows = λ tells. subst (λ (o : ℕ). DiffersBefore p (o + 1)) at (knows_more p v.output v.finding right tells);
+    knows = λ tells. subst (λ (o : ℕ). DiffersBefore q (o + 1)) at (knows_of q v.output v.finding right tells);
   }
     where
-      inside : strangers (length p.first.outputs) (n ∷ []) ≡ 0
-      inside = rw (lt-ltb n (length p.first.outputs) lt) refl
+      inside : strangers (length q.pair.first.outputs) (n ∷ []) ≡ 0
+      inside = rw (lt-ltb n (length q.pair.first.outputs) lt) refl
 
-      one : insiders (length p.first.outputs) (n ∷ []) ≡ n ∷ []
-      one = rw (lt-ltb n (length p.first.outputs) lt) refl
+      one : insiders (length q.pair.first.outputs) (n ∷ []) ≡ n ∷ []
+      one = rw (lt-ltb n (length q.pair.first.outputs) lt) refl
 
   -- a number was drawn that is no output
-  pub ends : IsSeat id after → after.me.0 ≡ drew seat.me.0 n → length p.first.outputs ≤ n → IsShare p id 1 after vs
+  pub ends : IsSeat id after → after.me.0 ≡ drew seat.me.0 n → length q.pair.first.outputs ≤ n → IsShare q id 1 after vs
   ends own is le = record {
     own = own;
     seats = ap (λ (u : View). u.seats) is ∙ h.seats;
-    done = rw is (omega (arith, strangers-append (length p.first.outputs) seat.me.0.drawn (n ∷ []), outside, h.going));
-    each = rw is (h.each ∙ sym (insiders-append (length p.first.outputs) seat.me.0.drawn (n ∷ []) ∙ (ap (λ l. insiders (length p.first.outputs) seat.me.0.drawn ++ l) none ∙ append-nil (insiders (length p.first.outputs) seat.me.0.drawn))));
+    done = rw is (omega (arith, strangers-append (length q.pair.first.outputs) seat.me.0.drawn (n ∷ []), outside, h.going));
+    each = rw is (h.each ∙ sym (insiders-append (length q.pair.first.outputs) seat.me.0.drawn (n ∷ []) ∙ (ap (λ l. insiders (length q.pair.first.outputs) seat.me.0.drawn ++ l) none ∙ append-nil (insiders (length q.pair.first.outputs) seat.me.0.drawn))));
     right = h.right;
   }
     where
-      outside : strangers (length p.first.outputs) (n ∷ []) ≡ 1
-      outside = rw (le-ltb n (length p.first.outputs) le) refl
+      outside : strangers (length q.pair.first.outputs) (n ∷ []) ≡ 1
+      outside = rw (le-ltb n (length q.pair.first.outputs) le) refl
 
-      none : insiders (length p.first.outputs) (n ∷ []) ≡ []
-      none = rw (le-ltb n (length p.first.outputs) le) refl
+      none : insiders (length q.pair.first.outputs) (n ∷ []) ≡ []
+      none = rw (le-ltb n (length q.pair.first.outputs) le) refl
 
 -- two shares put together
-pub joined : (p : PairOf) (id : TableId) (a b : ℕ) (seat other after : Seat ℕ View) (vs ws : List Verdict) → IsShare p id a seat vs → IsShare p id b other ws → IsSeat id after → after.me.0 ≡ both seat.me.0 other.me.0 → All (IsRight p) (vs ++ ws) → IsShare p id (a + b) after (vs ++ ws)
-joined p id a b seat other after vs ws h k own is all = record {
+pub joined : (q : Question) (id : TableId) (a b : ℕ) (seat other after : Seat ℕ View) (vs ws : List Verdict) → IsShare q id a seat vs → IsShare q id b other ws → IsSeat id after → after.me.0 ≡ both seat.me.0 other.me.0 → All (IsRight q) (vs ++ ws) → IsShare q id (a + b) after (vs ++ ws)
+joined q id a b seat other after vs ws h k own is all = record {
   own = own;
   seats = ap (λ (u : View). u.seats) is ∙ ap₂ ◌+◌ h.seats k.seats;
-  done = rw is (strangers-append (length p.first.outputs) seat.me.0.drawn other.me.0.drawn ∙ ap₂ ◌+◌ h.done k.done);
-  each = rw is (map-append (λ (u : Verdict). u.output) vs ws ∙ (ap₂ ◌++◌ h.each k.each ∙ sym (insiders-append (length p.first.outputs) seat.me.0.drawn other.me.0.drawn)));
+  done = rw is (strangers-append (length q.pair.first.outputs) seat.me.0.drawn other.me.0.drawn ∙ ap₂ ◌+◌ h.done k.done);
+  each = rw is (map-append (λ (u : Verdict). u.output) vs ws ∙ (ap₂ ◌++◌ h.each k.each ∙ sym (insiders-append (length q.pair.first.outputs) seat.me.0.drawn other.me.0.drawn)));
   right = all;
 }
 

@@ -1,15 +1,11 @@
--- Each verdict in its place, and the first place that differs.
-use Rattle.std.proofs.Common.{◌≡◌, ◌≢◌, ℕ, zero, suc, ◌+◌, ◌<◌, ◌≤◌, List, [], ◌∷◌, ◌++◌, Bool, true≢false, true, is_some, length, set, get_or, replicate, Option, Some, None, Vec, Global, eq-eqb, ne_eqb, lt-ltb, le-ltb, get_or-set_same, refl, sym, ap, subst, ◌∙◌, arith, suc-le-suc}
+-- Each verdict in its place.
+use Rattle.std.proofs.Common.{◌≡◌, ◌≢◌, ℕ, zero, suc, ◌+◌, ◌<◌, ◌≤◌, List, [], ◌∷◌, ◌++◌, true≢false, true, is_some, length, set, get_or, replicate, Option, Some, None, eq-eqb, ne_eqb, lt-ltb, le-ltb, get_or-set_same, refl, sym, ap, subst, ◌∙◌, arith}
 use native.Mathlib.Decide.{ℕ_discrete, dec_le}
-use Rattle.std.specs.Option.{option_map, option_or}
 use Rattle.std.proofs.lemmas.List.{map-append}
 use Rattle.eqc_compare.specs.declared.verdict.Finding.{Finding}
 use Rattle.eqc_compare.specs.declared.verdict.Verdict.{Verdict}
-use Rattle.eqc_compare.specs.Verdict.{NetlistOf, least_difference, first_difference}
-use Rattle.eqc_pair.specs.PairOf.{PairOf}
-use Rattle.eqc_compare.specs.Comparing.{difference_at, netlist_of, found_at}
 use Rattle.eqc_compare.specs.Ticket.{times, once_below}
-use Rattle.eqc_compare.specs.Verdicts.{IsFoundAt, IsRight, named, Stands}
+use Rattle.eqc_compare.specs.Verdicts.{Question, IsFoundAt, IsRight, named, Stands}
 use Rattle.eqc_compare.proofs.TicketCounts.{times-append}
 
 none_there : (n o : ℕ) → get_or (replicate {A = Option Finding} n None) o None ≡ None
@@ -41,59 +37,37 @@ once_small x m = go (dec_le (suc x) m)
     go (no nl) = rw (le-ltb x m (omega arith)) (omega arith)
 
 -- with all verdicts still to be placed nothing stands anywhere
-pub begins : (p : PairOf) (m : ℕ) (vs : List Verdict) → ((x : ℕ) → times x (named vs) ≡ once_below x m) → (o : ℕ) → o < m → Stands p vs o (get_or (replicate {A = Option Finding} m None) o None)
-begins p m vs once o lt = rw (none_there m o) (let q : once_below o m ≡ 1 = rw (lt-ltb o m lt) refl in let r = once o in omega arith)
+pub begins : (q : Question) (m : ℕ) (vs : List Verdict) → ((x : ℕ) → times x (named vs) ≡ once_below x m) → (o : ℕ) → o < m → Stands q vs o (get_or (replicate {A = Option Finding} m None) o None)
+begins q m vs once o lt = rw (none_there m o) (let one_there : once_below o m ≡ 1 = rw (lt-ltb o m lt) refl in let r = once o in omega arith)
 
 -- v is placed, of verdicts that name each of m outputs at most once
-module _ (p : PairOf) (m : ℕ) (rest : List Verdict) (v : Verdict) (few : (x : ℕ) → times x (named (rest ++ v ∷ [])) ≤ once_below x m) where
+module _ (q : Question) (m : ℕ) (rest : List Verdict) (v : Verdict) (few : (x : ℕ) → times x (named (rest ++ v ∷ [])) ≤ once_below x m) where
   pub is_output : v.output < m
   is_output = go (dec_le (suc v.output) m)
     where
       go : Dec (suc v.output ≤ m) → v.output < m
       go (yes lt) = lt
-      go (no nl) = absurd (let q : once_below v.output m ≡ 0 = rw (le-ltb v.output m (omega arith)) refl in let f = few v.output in omega (arith, more v.output rest v, one v.output))
+      go (no nl) = absurd (let none : once_below v.output m ≡ 0 = rw (le-ltb v.output m (omega arith)) refl in let f = few v.output in omega (arith, more v.output rest v, one v.output))
 
   pub fewer : (x : ℕ) → times x (named rest) ≤ once_below x m
   fewer x = let f = few x in omega (arith, more x rest v)
 
-  stays : (o : ℕ) (s : Option Finding) → v.output ≢ o → Stands p (rest ++ v ∷ []) o s → Stands p rest o s
+  stays : (o : ℕ) (s : Option Finding) → v.output ≢ o → Stands q (rest ++ v ∷ []) o s → Stands q rest o s
   stays o None n h = omega (arith, more o rest v, other o v.output n)
   stays o (Some w) n h = (h.0, (let z = h.1 in omega (arith, more o rest v)))
 
-  pub placed : (row : List (Option Finding)) → length row ≡ m → IsRight p v → ((o : ℕ) → o < m → Stands p (rest ++ v ∷ []) o (get_or row o None)) → (o : ℕ) → o < m → Stands p rest o (get_or (set row v.output (Some v.finding)) o None)
+  pub placed : (row : List (Option Finding)) → length row ≡ m → IsRight q v → ((o : ℕ) → o < m → Stands q (rest ++ v ∷ []) o (get_or row o None)) → (o : ℕ) → o < m → Stands q rest o (get_or (set row v.output (Some v.finding)) o None)
   placed row len right h o lt = go (ℕ_discrete v.output o)
     where
-      go : Dec (v.output ≡ o) → Stands p rest o (get_or (set row v.output (Some v.finding)) o None)
-      go (yes e) = subst (λ (k : ℕ). Stands p rest k (get_or (set row v.output (Some v.finding)) k None)) e (rw (get_or-set_same row v.output (Some v.finding) None (rw len is_output)) (right, (let f = few v.output in omega (arith, more v.output rest v, one v.output, once_small v.output m))))
+      go : Dec (v.output ≡ o) → Stands q rest o (get_or (set row v.output (Some v.finding)) o None)
+      go (yes e) = subst (λ (k : ℕ). Stands q rest k (get_or (set row v.output (Some v.finding)) k None)) e (rw (get_or-set_same row v.output (Some v.finding) None (rw len is_output)) (right, (let f = few v.output in omega (arith, more v.output rest v, one v.output, once_small v.output m))))
       go (no n) = rw (get_else row v.output o (Some v.finding) (λ e. n (sym e))) (stays o (get_or row o None) n (h o lt))
 
   -- its place is free
-  pub no_double : (s : Option Finding) → is_some s ≡ true → Stands p (rest ++ v ∷ []) v.output s → ⊥
+  pub no_double : (s : Option Finding) → is_some s ≡ true → Stands q (rest ++ v ∷ []) v.output s → ⊥
   no_double None e h = true≢false (sym e)
   no_double (Some w) e h = let z = h.1 in omega (arith, more v.output rest v, one v.output)
 
 -- what stands at a place with nothing left to be placed
-pub stood : (p : PairOf) (o : ℕ) (s : Option Finding) (found : Finding) → s ≡ Some found → Stands p [] o s → IsFoundAt p o found
-stood p o s found e h = let both : Stands p [] o (Some found) = subst (Stands p [] o) e h in both.0
-
-none_first : (f g : NetlistOf) (outputs : List (List ℕ)) → ((k : ℕ) → k < length outputs → least_difference f g (get_or outputs k []) ≡ None) → first_difference f g outputs ≡ None
-none_first f g [] never = refl
-none_first f g (o ∷ outputs) never =
-    ap (λ l. option_or (option_map (λ a. (o, a)) l) (first_difference f g outputs)) (never zero (omega arith))
-    ∙ none_first f g outputs (λ k lt. never (suc k) (suc-le-suc lt))
-
-at_first : (f g : NetlistOf) (outputs : List (List ℕ)) (o : ℕ) (a : List Bool) → o < length outputs → ((k : ℕ) → k < o → least_difference f g (get_or outputs k []) ≡ None) → least_difference f g (get_or outputs o []) ≡ Some a → first_difference f g outputs ≡ Some (get_or outputs o [], a)
-at_first f g [] o a lt before here = absurd (omega arith)
-at_first f g (x ∷ outputs) zero a lt before here = ap (λ l. option_or (option_map (λ b. (x, b)) l) (first_difference f g outputs)) here
-at_first f g (x ∷ outputs) (suc o) a lt before here =
-    let less : o < length outputs = omega arith in
-    ap (λ l. option_or (option_map (λ b. (x, b)) l) (first_difference f g outputs)) (before zero (omega arith))
-    ∙ at_first f g outputs o a less (λ k h. before (suc k) (suc-le-suc h)) here
-
--- the first output that differs is the first difference
-pub found_first : (p : PairOf) (o : ℕ) (values : Vec Bool Global) → o < length p.first.outputs → ((k : ℕ) → k < o → difference_at p k ≡ None) → difference_at p o ≡ Some values.items → found_at p.first (Some (o, values)) ≡ first_difference (netlist_of p.first) (netlist_of p.second) p.first.outputs
-found_first p o values lt before here = sym (at_first (netlist_of p.first) (netlist_of p.second) p.first.outputs o values.items lt before here)
-
--- where none differs there is none
-pub found_none : (p : PairOf) (o : ℕ) → length p.first.outputs ≤ o → ((k : ℕ) → k < o → difference_at p k ≡ None) → found_at p.first None ≡ first_difference (netlist_of p.first) (netlist_of p.second) p.first.outputs
-found_none p o all before = sym (none_first (netlist_of p.first) (netlist_of p.second) p.first.outputs (λ k lt. before k (omega arith)))
+pub stood : (q : Question) (o : ℕ) (s : Option Finding) (found : Finding) → s ≡ Some found → Stands q [] o s → IsFoundAt q o found
+stood q o s found e h = let both : Stands q [] o (Some found) = subst (Stands q [] o) e h in both.0

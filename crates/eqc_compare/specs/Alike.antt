@@ -1,10 +1,10 @@
 -- What structures tell of a pair: outputs whose two signals have one structure are equal, and of steps of one structure
 -- one needs to be made.
-use Rattle.std.specs.Prelude.{◌≡◌, ◌↔◌, ℕ, ◌-◌, ◌<◌, ◌≤◌, true, Bool, List, length, ltb, slice_index, None, if◌then◌else◌}
+use Rattle.std.specs.Prelude.{◌≡◌, ◌↔◌, ℕ, ◌-◌, ◌<◌, ◌≤◌, true, false, Bool, List, length, ltb, slice_index, None, if◌then◌else◌}
 use Rattle.eqc_class.specs.Structure.{Structure, structure_of}
 use Rattle.eqc_pair.specs.PairOf.{PairOf, first_variables, second_variables, second_signals}
-use Rattle.eqc_compare.specs.Comparing.{difference_at}
-use Rattle.eqc_build.specs.Steps.{IsChoice, chosen_for, steps_in}
+use Rattle.eqc_compare.specs.Comparing.{difference_at, told_at, is_chosen_at}
+use Rattle.eqc_build.specs.Steps.{IsChoice, assumed_start, chosen_for}
 use Rattle.eqc_build.specs.Turns.{is_marked, AreTurns}
 use Rattle.eqc_compare.specs.declared.alike.Alike.{Alike}
 use Rattle.eqc_compare.specs.declared.task.Task.{Task}
@@ -26,11 +26,13 @@ step_structure p k =
     then structure_of p.first (first_variables p) (slice_index p.first.steps k)
     else structure_of p.second (second_variables p) (slice_index p.second.steps (k - length p.first.drivers))
 
--- in place of each step an earlier one of its structure is chosen, or itself, and one for all steps of one structure
+-- in place of each step of the two netlists an earlier one of its structure is chosen, or itself, and one for all steps of one
+-- structure; the steps of an assumption are made themselves
 pub record TellShared (p : PairOf) (chosen : List ℕ) : Type 0 where
-  pub early : (k : ℕ) → k < steps_in p → chosen_for chosen k ≤ k
-  pub same : (k : ℕ) → k < steps_in p → step_structure p (chosen_for chosen k) ≡ step_structure p k
-  pub one : (j k : ℕ) → j < steps_in p → k < steps_in p → step_structure p j ≡ step_structure p k → chosen_for chosen j ≡ chosen_for chosen k
+  pub size : length chosen ≡ assumed_start p
+  pub early : (k : ℕ) → k < assumed_start p → chosen_for chosen k ≤ k
+  pub same : (k : ℕ) → k < assumed_start p → step_structure p (chosen_for chosen k) ≡ step_structure p k
+  pub one : (j k : ℕ) → j < assumed_start p → k < assumed_start p → step_structure p j ≡ step_structure p k → chosen_for chosen j ≡ chosen_for chosen k
 
 -- places have for each place in a row of classes the first one of its class
 pub record AreFirst (row places : List ℕ) : Type 0 where
@@ -49,8 +51,13 @@ pub record IsKnown (p : PairOf) (alike : Alike) : Type 0 where
   pub equal : AreEqual p alike.equal.items
   pub choice : IsChoice p alike.chosen.items
 
--- what members do for a pair: outputs that are marked never differ, and each other one has its turn
+-- nothing is to be told of outputs that are marked: they are not chosen, or never differ. All others are chosen
+pub record AreSettled (p : PairOf) (marks : List Bool) : Type 0 where
+  pub none : (o : ℕ) → o < length p.first.outputs → is_marked marks o ≡ true → told_at p o ≡ None
+  pub chosen : (o : ℕ) → o < length p.first.outputs → is_marked marks o ≡ false → is_chosen_at p o ≡ true
+
+-- what members do for a pair: outputs that are marked need nothing, and each other one has its turn
 pub record IsTask (p : PairOf) (task : Task) : Type 0 where
   pub pair : task.plan.steps.pair ≡ p
-  pub turns : AreTurns task.plan task.equal.items
-  pub equal : AreEqual p task.equal.items
+  pub turns : AreTurns task.plan task.settled.items
+  pub settled : AreSettled p task.settled.items

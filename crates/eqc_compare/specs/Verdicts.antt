@@ -10,18 +10,26 @@ use Rattle.eqc_compare.specs.declared.verdict.Finding.{Finding}
 use Rattle.eqc_compare.specs.declared.verdict.Finding.TheVariants.{Equal, Differs, Behind}
 use Rattle.eqc_compare.specs.declared.verdict.Verdict.{Verdict}
 use Rattle.eqc_pair.specs.PairOf.{PairOf}
-use Rattle.eqc_compare.specs.Comparing.{difference_at}
+use Rattle.eqc_compare.specs.Comparing.{told_at}
 use Rattle.eqc_compare.specs.Ticket.{IsSeat, strangers, times, once_below}
 
--- an output before this position differs
-abbrev pub DiffersBefore : PairOf → ℕ → Type 0
-DiffersBefore p output = (earlier : ℕ) × (earlier < output) × (difference_at p earlier ≢ None)
+-- what is asked of a pair: every output that differs, or the first alone
+pub record Question : Type 0 where
+  pub pair : PairOf
+  pub every : Bool
 
--- what is found at an output: it never differs; it differs, first under these values; or one before it differs
-abbrev pub IsFoundAt : PairOf → ℕ → Finding → Type 0
-IsFoundAt p output Equal = difference_at p output ≡ None
-IsFoundAt p output (Differs values) = difference_at p output ≡ Some values.items
-IsFoundAt p output Behind = DiffersBefore p output
+abbrev pub asked : PairOf → Bool → Question
+asked p every = record { pair = p; every = every }
+
+-- the first that differs is asked for alone, and an output before this position differs
+abbrev pub DiffersBefore : Question → ℕ → Type 0
+DiffersBefore q output = (q.every ≡ false) × ((earlier : ℕ) × (earlier < output) × (told_at q.pair earlier ≢ None))
+
+-- what is found at an output: there is nothing to be told of it; it differs, first under these values; or one before it differs
+abbrev pub IsFoundAt : Question → ℕ → Finding → Type 0
+IsFoundAt q output Equal = told_at q.pair output ≡ None
+IsFoundAt q output (Differs values) = told_at q.pair output ≡ Some values.items
+IsFoundAt q output Behind = DiffersBefore q output
 
 -- whether this output or one before it differs
 abbrev pub tells_difference : Finding → Bool
@@ -29,8 +37,8 @@ tells_difference Equal = false
 tells_difference (Differs values) = true
 tells_difference Behind = true
 
-abbrev pub IsRight : PairOf → Verdict → Type 0
-IsRight p v = IsFoundAt p v.output v.finding
+abbrev pub IsRight : Question → Verdict → Type 0
+IsRight q v = IsFoundAt q v.output v.finding
 
 -- the outputs that verdicts name
 abbrev pub named : List Verdict → List ℕ
@@ -43,12 +51,12 @@ insiders outputs (y ∷ ys) = if ltb y outputs then y ∷ insiders outputs ys el
 
 -- a seat that stands for so many members has drawn a number that is no output for each, and each output that it drew has
 -- its verdict
-pub record IsShare (p : PairOf) (id : TableId) (members : ℕ) (seat : Seat ℕ View) (verdicts : List Verdict) : Type 0 where
+pub record IsShare (q : Question) (id : TableId) (members : ℕ) (seat : Seat ℕ View) (verdicts : List Verdict) : Type 0 where
   pub own : IsSeat id seat
   pub seats : seat.me.0.seats ≡ members
-  pub done : strangers (length p.first.outputs) seat.me.0.drawn ≡ members
-  pub each : named verdicts ≡ insiders (length p.first.outputs) seat.me.0.drawn
-  pub right : All (IsRight p) verdicts
+  pub done : strangers (length q.pair.first.outputs) seat.me.0.drawn ≡ members
+  pub each : named verdicts ≡ insiders (length q.pair.first.outputs) seat.me.0.drawn
+  pub right : All (IsRight q) verdicts
 
 -- a seat for so many members, of which none has drawn, at the outputs of a pair
 pub record IsFresh (p : PairOf) (id : TableId) (key : Key) (members : ℕ) (seat : Seat ℕ View) : Type 0 where
@@ -73,26 +81,26 @@ pub record AreSeated {D : Type 0} (holding : D → Holding) (p : PairOf) (id : T
 
 -- a member between two draws: all its numbers are outputs, the last is below `least`, and it knows of an earlier difference
 -- where it says so
-pub record IsWork (p : PairOf) (id : TableId) (least : ℕ) (behind : Bool) (seat : Seat ℕ View) (verdicts : List Verdict) : Type 0 where
+pub record IsWork (q : Question) (id : TableId) (least : ℕ) (behind : Bool) (seat : Seat ℕ View) (verdicts : List Verdict) : Type 0 where
   pub own : IsSeat id seat
   pub seats : seat.me.0.seats ≡ 1
-  pub going : strangers (length p.first.outputs) seat.me.0.drawn ≡ 0
-  pub each : named verdicts ≡ insiders (length p.first.outputs) seat.me.0.drawn
-  pub right : All (IsRight p) verdicts
-  pub below : least ≤ length p.first.outputs
+  pub going : strangers (length q.pair.first.outputs) seat.me.0.drawn ≡ 0
+  pub each : named verdicts ≡ insiders (length q.pair.first.outputs) seat.me.0.drawn
+  pub right : All (IsRight q) verdicts
+  pub below : least ≤ length q.pair.first.outputs
   pub last : (x : ℕ) → least ≡ x + 1 → 0 < times x seat.me.0.drawn
-  pub knows : IsTrue behind → DiffersBefore p least
+  pub knows : IsTrue behind → DiffersBefore q least
 
 -- verdicts name each of so many outputs once, and nothing else
 abbrev pub AreOnce : ℕ → List Verdict → Type 0
 AreOnce outputs verdicts = (x : ℕ) → times x (named verdicts) ≡ once_below x outputs
 
 -- verdicts of all outputs of a pair, one for each
-pub record AreVerdicts (p : PairOf) (verdicts : List Verdict) : Type 0 where
-  pub once : AreOnce (length p.first.outputs) verdicts
-  pub right : All (IsRight p) verdicts
+pub record AreVerdicts (q : Question) (verdicts : List Verdict) : Type 0 where
+  pub once : AreOnce (length q.pair.first.outputs) verdicts
+  pub right : All (IsRight q) verdicts
 
 -- what stands at a place: nothing where the output's verdict is among the rest, else what was found there
-abbrev pub Stands : PairOf → List Verdict → ℕ → Option Finding → Type 0
-Stands p rest output None = 0 < times output (named rest)
-Stands p rest output (Some found) = IsFoundAt p output found × (times output (named rest) ≡ 0)
+abbrev pub Stands : Question → List Verdict → ℕ → Option Finding → Type 0
+Stands q rest output None = 0 < times output (named rest)
+Stands q rest output (Some found) = IsFoundAt q output found × (times output (named rest) ≡ 0)

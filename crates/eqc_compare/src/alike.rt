@@ -1,10 +1,10 @@
 //! What structures tell of a pair: outputs whose two signals have one structure are equal, whatever it computes, and of steps of
 //! one structure one needs to be made.
-ghost use Rattle.std.specs.Prelude.{◌≡◌, ℕ, ◌+◌, ◌<◌, ◌≤◌, ◌++◌, [], None, IsTrue, length, map, slice_index, IfOk, OnOk};
+ghost use Rattle.std.specs.Prelude.{◌≡◌, ℕ, ◌+◌, ◌<◌, ◌≤◌, ◌++◌, [], None, true, false, IsTrue, length, map, slice_index, IfOk, OnOk};
 ghost use Rattle.eqc_class.specs.Classes.{AreClasses};
 ghost use Rattle.eqc_pair.specs.PairOf.{first_variables, second_variables};
-ghost use Rattle.eqc_compare.specs.Comparing.{difference_at};
-ghost use Rattle.eqc_compare.specs.Alike.{AreEqual, AreFirst, IsKnown, TellAlike, TellShared};
+ghost use Rattle.eqc_compare.specs.Comparing.{told_at, is_chosen_at};
+ghost use Rattle.eqc_compare.specs.Alike.{AreEqual, AreFirst, AreSettled, IsKnown, TellAlike, TellShared};
 
 use eqc_build::is_marked;
 use eqc_class::{SignalClasses, classes};
@@ -128,15 +128,46 @@ pub fn alike_or_nothing(alloc: Global, pair: &Pair<'_>) -> Alike
     }
 }
 
-/// Whether all outputs of a pair are marked, of which those that are marked are equal.
-pub fn are_all_marked(pair: &Pair<'_>, marks: &[bool]) -> bool
-    requires { AreEqual pair.now marks.now }
-    ensures { IsTrue result → (o : ℕ) → o < length pair.now.first.outputs → difference_at pair.now o ≡ None }
+/// Whether nothing is to be told of an output: it is not chosen, or it is marked. Those that are marked are equal.
+pub(crate) fn is_settled(pair: &Pair<'_>, equal: &[bool], output: usize) -> bool
+    requires equal { AreEqual pair.now equal.now }
+    requires output { output < length pair.now.first.outputs }
+    ensures none { IsTrue result → told_at pair.now output ≡ None }
+    ensures chosen { result ≡ false → is_chosen_at pair.now output ≡ true }
+{
+    if !pair.is_chosen(output) {
+        return true;
+    }
+    is_marked(equal, output)
+}
+
+/// Whether nothing is to be told of any output of a pair, of which those that are marked are equal.
+pub(crate) fn are_all_settled(pair: &Pair<'_>, equal: &[bool]) -> bool
+    requires { AreEqual pair.now equal.now }
+    ensures { IsTrue result → (o : ℕ) → o < length pair.now.first.outputs → told_at pair.now o ≡ None }
 {
     for output in 0..pair.first().outputs().len() {
-        if !is_marked(marks, output) {
+        if !is_settled(pair, equal, output) {
             return false;
         }
     }
     true
+}
+
+/// Marks the outputs of which nothing is to be told: those that are not chosen, and those that are marked already, which are
+/// equal. Fails where memory is refused.
+pub(crate) fn settled_outputs(
+    alloc: Global,
+    pair: &Pair<'_>,
+    equal: &[bool],
+) -> Result<Vec<bool>, AllocError>
+    requires { AreEqual pair.now equal.now }
+    ensures { IfOk result (λ marks. AreSettled pair.now marks.items) }
+{
+    let outputs = pair.first().outputs().len();
+    let mut marks = Vec::with_capacity(alloc, outputs)?;
+    for output in 0..outputs {
+        marks.push(is_settled(pair, equal, output))?;
+    }
+    Ok(marks)
 }

@@ -1,15 +1,19 @@
-//! The comparison of outputs by one member: of one output, or of all in their order up to the first that differs.
+//! The comparison of outputs by one member: of one output, or of all that are chosen, in their order.
 ghost use Rattle.std.specs.Prelude.{◌≡◌, ◌≢◌, ◌<◌, ◌≤◌, [], None, length, slice_index_or, IfOk, IfErr, OnErr};
 ghost use Rattle.std.specs.Option.{option_map};
 ghost use Rattle.eqc_tree.specs.Holding.{IsHeld, says, Keeps, Gains, Loses};
 ghost use Rattle.eqc_compare.specs.Verdict.{least_difference};
 ghost use Rattle.eqc_build.specs.Building.{AreReady};
-ghost use Rattle.eqc_build.specs.Steps.{roots_of};
+ghost use Rattle.eqc_build.specs.Steps.{goals_of};
 ghost use Rattle.eqc_build.specs.Turns.{IsTurn, AreTurns, AreKept, IsComparable, MovesKept};
-ghost use Rattle.eqc_compare.specs.Comparing.{netlist_of, differs_at, SaysDifference, IsDifferenceAt, IsFirstFound};
+ghost use Rattle.eqc_compare.specs.Alike.{AreSettled};
+ghost use Rattle.eqc_compare.specs.Comparing.{netlist_of, assumption_of, differs_at, values_differ_at, SaysDifference, IsDifferenceAt, AreTold, IsOutcome};
 
+use crate::alike::settled_outputs;
+use crate::allowing::allows_none;
+use crate::outcome::{Difference, Outcome};
 use eqc_build::{
-    Kept, Plan, Steps, Table, clear, complete, give_back_kept, moment, nothing_built,
+    Kept, Plan, Steps, Table, clear, complete, give_back_kept, is_marked, moment, nothing_built,
     nothing_kept_of_few, plan_below, plan_of, reference_at, release_due,
 };
 use eqc_cover::{is_false, least_over};
@@ -17,7 +21,28 @@ use eqc_pair::Pair;
 use eqc_tree::{Diagrams, Op, References, Stop};
 use std::alloc::Global;
 
-/// The diagram that is true where an output differs.
+/// The diagram that is true where an output's two signals have different values.
+fn values_difference<R, D: Diagrams<R>>(
+    rt: &R,
+    d: &mut D,
+    steps: &Steps<'_>,
+    table: &Table<D::Ref>,
+    output: usize,
+) -> Result<D::Ref, Stop>
+    requires output { output < length steps.now.pair.first.outputs }
+    requires kept { AreKept D.entry steps.now.pair (D.holding d.old) table.now }
+    requires ready { AreReady table.now (goals_of steps.now output) }
+    ensures ok { IfOk result (λ r. Gains (D.holding d.old) (D.holding d.new) (D.entry r) (values_differ_at steps.now.pair output)) }
+    ensures stop { OnErr result (Keeps (D.holding d.old) (D.holding d.new)) }
+    ensures only { IfErr result (λ s. s ≢ Stop.Threads) }
+{
+    let _count = steps.len();
+    let roots = steps.roots(output);
+    let first = reference_at(table, roots[0]);
+    d.apply(rt, Op::Xor, first, reference_at(table, roots[1]))
+}
+
+/// The diagram that is true where an output differs: under an assumption where that allows the assignment, too.
 fn output_difference<R, D: Diagrams<R>>(
     rt: &R,
     d: &mut D,
@@ -27,15 +52,19 @@ fn output_difference<R, D: Diagrams<R>>(
 ) -> Result<D::Ref, Stop>
     requires output { output < length steps.now.pair.first.outputs }
     requires kept { AreKept D.entry steps.now.pair (D.holding d.old) table.now }
-    requires ready { AreReady table.now (roots_of steps.now output) }
+    requires ready { AreReady table.now (goals_of steps.now output) }
     ensures ok { IfOk result (λ r. Gains (D.holding d.old) (D.holding d.new) (D.entry r) (differs_at steps.now.pair output)) }
     ensures stop { OnErr result (Keeps (D.holding d.old) (D.holding d.new)) }
     ensures only { IfErr result (λ s. s ≢ Stop.Threads) }
 {
     let _count = steps.len();
-    let roots = steps.roots(output);
-    let first = reference_at(table, roots[0]);
-    d.apply(rt, Op::Xor, first, reference_at(table, roots[1]))
+    let difference = values_difference(rt, d, steps, table, output)?;
+    let Some(root) = steps.assumed_root() else {
+        return Ok(difference);
+    };
+    let allowed = d.apply(rt, Op::And, reference_at(table, root), &difference);
+    d.give_back(difference);
+    allowed
 }
 
 /// The least assignment under which an output differs, or none where it differs under none. The diagram that is true
@@ -66,7 +95,7 @@ fn least_of_difference<R, D: Diagrams<R>>(
     Ok(Some(least?))
 }
 
-/// The least assignment under which an output differs, or none, where the steps of its signals have their references.
+/// The least assignment under which an output differs, or none, where the steps that it needs have their references.
 fn difference<R, D: Diagrams<R>>(
     alloc: Global,
     rt: &R,
@@ -77,7 +106,7 @@ fn difference<R, D: Diagrams<R>>(
 ) -> Result<Option<Vec<bool>>, Stop>
     requires output { output < length steps.now.pair.first.outputs }
     requires kept { AreKept D.entry steps.now.pair (D.holding d.old) table.now }
-    requires ready { AreReady table.now (roots_of steps.now output) }
+    requires ready { AreReady table.now (goals_of steps.now output) }
     ensures found { IfOk result (IsDifferenceAt steps.now.pair output) }
     ensures kept { Keeps (D.holding d.old) (D.holding d.new) }
     ensures only { IfErr result (λ s. s ≢ Stop.Threads) }
@@ -102,7 +131,8 @@ pub(crate) fn compare_turn<R, D: Diagrams<R>>(
     ensures moves { MovesKept D.entry plan.now.steps.pair (D.holding d.old) kept.old.table (D.holding d.new) kept.new.table }
     ensures only { IfErr result (λ s. s ≢ Stop.Threads) }
 {
-    complete(alloc, rt, d, plan, kept, output, turn)?;
+    let goals = plan.steps.goals(output);
+    complete(alloc, rt, d, plan, kept, goals.as_slice(), turn)?;
     let found = difference(alloc, rt, d, &plan.steps, &kept.table, output);
     release_due(d, kept, &plan.last, moment(turn, plan.steps.len() + 1));
     found
@@ -136,68 +166,110 @@ pub(crate) fn compare_kept<R, D: Diagrams<R>>(
     compare_turn(alloc, rt, d, plan, kept, output, turn)
 }
 
-/// The first output that differs, with its least assignment.
+/// The outputs that are not marked and differ, in their order, or the first of them alone.
 fn compare_in_turn<R, D: Diagrams<R>>(
     alloc: Global,
     rt: &R,
     d: &mut D,
     plan: &Plan<'_>,
+    marks: &[bool],
+    every: bool,
     kept: &mut Kept<D::Ref>,
-) -> Result<Option<(usize, Vec<bool>)>, Stop>
-    requires turns { AreTurns plan.now [] }
+) -> Result<Vec<Difference>, Stop>
+    requires turns { AreTurns plan.now marks.now }
+    requires settled { AreSettled plan.now.steps.pair marks.now }
     requires kept { AreKept D.entry plan.now.steps.pair (D.holding d.old) kept.old.table }
-    ensures found { IfOk result (IsFirstFound plan.now.steps.pair) }
+    ensures found { IfOk result (λ found. AreTold plan.now.steps.pair every found.items) }
     ensures moves { MovesKept D.entry plan.now.steps.pair (D.holding d.old) kept.old.table (D.holding d.new) kept.new.table }
     ensures only { IfErr result (λ s. s ≢ Stop.Threads) }
 {
-    for o in 0..plan.steps.pair().first().outputs().len() {
-        match compare_kept(alloc, rt, d, plan, kept, o, o as u32 + 1)? {
-            Some(values) => return Ok(Some((o, values))),
-            None => {}
+    let mut found = Vec::new(alloc);
+    for output in 0..plan.steps.pair().first().outputs().len() {
+        if is_marked(marks, output) {
+            continue;
+        }
+        let turn = output as u32 + 1;
+        let values = match compare_kept(alloc, rt, d, plan, kept, output, turn)? {
+            None => continue,
+            Some(values) => values,
+        };
+        let Ok(()) = found.push(Difference { output, values }) else {
+            return Err(Stop::Memory);
+        };
+        if !every {
+            return Ok(found);
         }
     }
-    Ok(None)
+    Ok(found)
 }
 
-/// The first output that differs, with its least assignment, from no references to none.
+/// The same, from no references to none.
 fn compare_planned<R, D: Diagrams<R>>(
     alloc: Global,
     rt: &R,
     d: &mut D,
     plan: &Plan<'_>,
-) -> Result<Option<(usize, Vec<bool>)>, Stop>
+    marks: &[bool],
+    every: bool,
+) -> Result<Vec<Difference>, Stop>
     requires variables { length plan.now.steps.pair.first.inputs ≤ (D.holding d.old).variables }
-    requires turns { AreTurns plan.now [] }
-    ensures found { IfOk result (IsFirstFound plan.now.steps.pair) }
+    requires turns { AreTurns plan.now marks.now }
+    requires settled { AreSettled plan.now.steps.pair marks.now }
+    ensures found { IfOk result (λ found. AreTold plan.now.steps.pair every found.items) }
     ensures kept { Keeps (D.holding d.old) (D.holding d.new) }
     ensures only { IfErr result (λ s. s ≢ Stop.Threads) }
 {
     let Ok(mut kept) = nothing_built::<D>(alloc, plan.steps.pair()) else {
         return Err(Stop::Memory);
     };
-    let found = compare_in_turn(alloc, rt, d, plan, &mut kept);
+    let found = compare_in_turn(alloc, rt, d, plan, marks, every, &mut kept);
     give_back_kept(d, kept);
     found
 }
 
-/// The first output that differs, by its position in the first netlist, and the least assignment under which it does:
-/// what lies behind it isn't looked at. Each signal that an output depends on is built once for each netlist, unless the
-/// store is full. All references are given back.
+/// The chosen outputs that differ, in their order, or the first of them alone.
+fn compare_chosen<R, D: Diagrams<R>>(
+    alloc: Global,
+    rt: &R,
+    d: &mut D,
+    pair: &Pair<'_>,
+    every: bool,
+) -> Result<Vec<Difference>, Stop>
+    requires { length pair.now.first.inputs ≤ (D.holding d.old).variables }
+    ensures found { IfOk result (λ found. AreTold pair.now every found.items) }
+    ensures kept { Keeps (D.holding d.old) (D.holding d.new) }
+    ensures only { IfErr result (λ s. s ≢ Stop.Threads) }
+{
+    let Ok(marks) = settled_outputs(alloc, pair, &[]) else {
+        return Err(Stop::Memory);
+    };
+    match plan_of(alloc, Steps::each(alloc, pair), &marks) {
+        Ok(plan) => compare_planned(alloc, rt, d, &plan, &marks, every),
+        Err(_) => Err(Stop::Memory),
+    }
+}
+
+/// Compares the chosen outputs of a pair: those that differ, by their positions in the first netlist and in their order, each
+/// with the least assignment under which it does; without `every` the first of them alone, and what lies behind it isn't looked
+/// at. Whether the assumption allows none is asked first. Each signal that an output depends on is built once for each netlist,
+/// unless the store is full, and the assumption's signals once. All references are given back.
 pub fn compare_outputs<R, D: Diagrams<R>>(
     alloc: Global,
     rt: &R,
     d: &mut D,
     pair: &Pair<'_>,
-) -> Result<Option<(usize, Vec<bool>)>, Stop>
+    every: bool,
+) -> Result<Outcome, Stop>
     requires { length pair.now.first.inputs ≤ (D.holding d.old).variables }
-    ensures found { IfOk result (IsFirstFound pair.now) }
+    ensures found { IfOk result (IsOutcome pair.now every) }
     ensures kept { Keeps (D.holding d.old) (D.holding d.new) }
     ensures only { IfErr result (λ s. s ≢ Stop.Threads) }
 {
-    match plan_of(alloc, Steps::each(alloc, pair), &[]) {
-        Ok(plan) => compare_planned(alloc, rt, d, &plan),
-        Err(_) => Err(Stop::Memory),
+    if allows_none(rt, alloc, d, pair)? {
+        return Ok(Outcome::Vacuous);
     }
+    let found = compare_chosen(alloc, rt, d, pair, every)?;
+    Ok(Outcome::Compared(found))
 }
 
 /// Compares one output in the only turn, from no references to none.
@@ -210,7 +282,7 @@ fn compare_once<R, D: Diagrams<R>>(
 ) -> Result<Option<Vec<bool>>, Stop>
     requires variables { length plan.now.steps.pair.first.inputs ≤ (D.holding d.old).variables }
     requires output { output < length plan.now.steps.pair.first.outputs }
-    requires turn { IsTurn plan.now output 1 }
+    requires turn { IsTurn plan.now (goals_of plan.now.steps output) 1 }
     ensures found { IfOk result (IsDifferenceAt plan.now.steps.pair output) }
     ensures kept { Keeps (D.holding d.old) (D.holding d.new) }
     ensures only { IfErr result (λ s. s ≢ Stop.Threads) }
@@ -223,11 +295,12 @@ fn compare_once<R, D: Diagrams<R>>(
 
 /// Compares one output of a pair, by its position in the first netlist: the least assignment of the first
 /// netlist's inputs under which it differs, in lexicographic order, 0 before 1, or none where it differs under
-/// none. The pair's order of variables plays no part.
+/// none. Under an assumption only assignments count that it allows. The pair's order of variables plays no part, nor which
+/// outputs are chosen.
 ///
 /// `d` has at least as many variables as the pair has inputs, and `output` is below the number of outputs. The
-/// diagram of each signal that the output depends on is built, and of no other: beside what the diagrams take, time and
-/// memory are in proportion to those signals and their drivers. The errors are those of the diagrams, 71, 72 and 73, and
+/// diagram of each signal that the output or the assumption's output depends on is built, and of no other: beside what the
+/// diagrams take, time and memory are in proportion to those signals and their drivers. The errors are those of the diagrams, 71, 72 and 73, and
 /// 72 where memory is refused. All references are given back, whatever the answer.
 pub fn compare_output<R, D: Diagrams<R>>(
     rt: &R,
@@ -238,11 +311,13 @@ pub fn compare_output<R, D: Diagrams<R>>(
 ) -> Result<Option<Vec<bool>>, Stop>
     requires variables { length pair.now.first.inputs ≤ (D.holding d.old).variables }
     requires output { output < length pair.now.first.outputs }
-    ensures least { IfOk result (λ found. option_map (λ v. v.items) found ≡ least_difference (netlist_of pair.now.first) (netlist_of pair.now.second) (slice_index_or pair.now.first.outputs output [])) }
+    ensures least { IfOk result (λ found. option_map (λ v. v.items) found ≡ least_difference (netlist_of pair.now.first) (netlist_of pair.now.second) (assumption_of pair.now) (slice_index_or pair.now.first.outputs output [])) }
     ensures kept { Keeps (D.holding d.old) (D.holding d.new) }
     ensures only { IfErr result (λ s. s ≢ Stop.Threads) }
 {
-    match plan_below(alloc, Steps::each(alloc, pair), output) {
+    let steps = Steps::each(alloc, pair);
+    let goals = steps.goals(output);
+    match plan_below(alloc, steps, goals.as_slice()) {
         Ok(plan) => compare_once(alloc, rt, d, &plan, output),
         Err(_) => Err(Stop::Memory),
     }

@@ -150,19 +150,20 @@ fn outputs_of_one_literal(
     Ok(more)
 }
 
-/// Marks the outputs that are not marked. Fails where memory is refused.
-fn unmarked(alloc: Global, outputs: usize, marks: &[bool]) -> Result<Vec<bool>, AllocError>
-    ensures size { IfOk result (λ wanted. length wanted.items ≡ outputs) }
+/// Marks the chosen outputs that are not marked. Fails where memory is refused.
+fn unmarked(alloc: Global, pair: &Pair<'_>, marks: &[bool]) -> Result<Vec<bool>, AllocError>
+    ensures size { IfOk result (λ wanted. length wanted.items ≡ length pair.now.first.outputs) }
 {
+    let outputs = pair.first().outputs().len();
     let mut wanted = Vec::with_capacity(alloc, outputs)?;
     for output in 0..outputs {
-        wanted.push(!is_marked(marks, output))?;
+        wanted.push(pair.is_chosen(output) && !is_marked(marks, output))?;
     }
     Ok(wanted)
 }
 
 impl<'a> Inside<'a> {
-    /// Enters the steps of a pair that its outputs need which are not marked, where this is known of it: a step that is chosen
+    /// Enters the steps of a pair that its chosen outputs need which are not marked, where this is known of it: a step that is chosen
     /// in place of others is entered for them. It takes time and memory in proportion to the steps and their rows. Fails where
     /// memory is refused.
     pub fn of(alloc: Global, pair: &'a Pair<'a>, alike: &Alike) -> Result<Inside<'a>, AllocError>
@@ -171,7 +172,7 @@ impl<'a> Inside<'a> {
     {
         let steps = Steps::of(pair, alike.chosen.clone()?);
         let _steps = steps.len();
-        let outputs = unmarked(alloc, pair.first().outputs().len(), &alike.equal)?;
+        let outputs = unmarked(alloc, pair, &alike.equal)?;
         let marks = needed(alloc, &steps, &outputs)?;
         let mut sweep = Sweep::new(alloc, Effort::usual())?;
         let literals = literals(alloc, &steps, &marks, &mut sweep)?;
@@ -208,7 +209,7 @@ impl<'a> Inside<'a> {
         matches!(self.sweep.equal(x, y, conflicts), Ok(Comparison::Equal))
     }
 
-    /// Searches for differences of the outputs that are not marked, with so many conflicts in all, and marks those for which
+    /// Searches for differences of the chosen outputs that are not marked, with so many conflicts in all, and marks those for which
     /// there is none. Whether there are any: the others may be equal too.
     pub fn ask_outputs(&mut self, alike: &mut Alike, conflicts: u64) -> bool
         requires { IsKnown self.old alike.old }
@@ -219,6 +220,9 @@ impl<'a> Inside<'a> {
         let mut found = false;
         for output in 0..self.steps.pair().first().outputs().len() {
             if output >= alike.equal.len() || alike.equal[output] {
+                continue;
+            }
+            if !self.steps.pair().is_chosen(output) {
                 continue;
             }
             if self.is_equal(output, &mut left) {

@@ -45,7 +45,7 @@ pub(crate) fn compare<R, D: Diagrams<R>>(
     requires kept { AreKept D.entry pair.now (D.holding member.old.diagrams) member.old.kept.table }
     requires task { IsTask pair.now task.now }
     requires output { output < length pair.now.first.outputs }
-    requires unmarked { is_marked task.now.equal.items output ≡ false }
+    requires unmarked { is_marked task.now.settled.items output ≡ false }
     ensures least { IfOk result (IsDifferenceAt pair.now output) }
     ensures kept { AreKept D.entry pair.now (D.holding member.new.diagrams) member.new.kept.table }
     ensures only { IfErr result (λ s. s ≢ Stop.Threads) }

@@ -1,30 +1,75 @@
-//! Outputs that differ, found in the graph of a pair's steps without a diagram: their least assignments, and the first of them.
-ghost use Rattle.std.specs.Prelude.{◌≡◌, ◌<◌, true, length, slice_set, IfOk, IfSome};
+//! What the comparison of a pair finds, found in the graph of its steps without a diagram: the outputs that differ, with their
+//! least assignments, and whether the assumption allows one.
+ghost use Rattle.std.specs.Prelude.{◌≡◌, ◌<◌, false, true, length, slice_set, IfOk, IfSome};
 ghost use Rattle.eqc_graph.specs.Graph.{IsWithin};
+ghost use Rattle.eqc_witness.specs.Witnesses.{IsFoundOf};
+ghost use Rattle.eqc_compare.specs.Verdict.{is_allowed};
+ghost use Rattle.eqc_compare.specs.Comparing.{netlist_of, assumption_of};
 ghost use Rattle.eqc_compare.specs.Alike.{IsKnown};
 ghost use Rattle.eqc_compare.specs.Inside.{IsInside};
-ghost use Rattle.eqc_compare.specs.Searching.{IsSearched, IsWitnessAt, SaysDifferent};
+ghost use Rattle.eqc_compare.specs.Searching.{IsSearched, IsWitnessAt, SaysAllowed, SaysDifferent, TellsVacuous};
 
-use crate::alike::Alike;
+use crate::alike::{Alike, is_settled};
 use crate::inside::{Inside, NONE, literal_of};
-use eqc_build::{Steps, is_marked};
+use crate::outcome::{Difference, Outcome};
+use eqc_build::Steps;
 use eqc_pair::Pair;
 use eqc_sweep::{Comparison, Sweep};
 use eqc_witness::{Witness, least_witness};
 use std::alloc::{AllocError, Global};
 
-/// What is found of the outputs of a pair in their order.
+/// What is found of a pair.
 #[derive(Drop)]
 pub enum Searched {
-    /// The first output that differs, by its position in the first netlist, with the least assignment under which it does, or
-    /// none where no output differs.
-    First(Option<(usize, Vec<bool>)>),
-    /// All outputs before this one are equal, and the search gave up at it, with an assignment under which it differs, if one was
-    /// seen: maybe not the least.
+    /// What its comparison has to find.
+    Found(Outcome),
+    /// The search gave up at this output, by its position in the first netlist, with an assignment that is allowed and under which
+    /// it differs, if one was seen: maybe not the least.
     Open(usize, Option<Vec<bool>>),
+    /// It gave up before any output, at the question whether the assumption allows an assignment.
+    Unasked,
 }
 
-/// The literal that is true where an output differs, or none where its steps have no literals. Fails where memory is refused.
+/// The conflicts that the searches of a pair may have.
+#[derive(Drop, Clone, Copy)]
+pub struct Conflicts {
+    /// Those of each output.
+    pub each: u64,
+    /// Those of all outputs together.
+    pub all: u64,
+}
+
+impl Conflicts {
+    /// Those that the next output may have.
+    fn next(&self) -> u64 {
+        self.each.min(self.all)
+    }
+
+    /// Takes those away that an output used, of which so many were left.
+    fn take_used(&mut self, left: u64) {
+        let used = self.next().saturating_sub(left);
+        self.all = self.all.saturating_sub(used);
+    }
+}
+
+/// The literal that is true where the assumption allows the inputs' values: always, if there is none. None where its step has
+/// no literal.
+fn allowed_literal(steps: &Steps<'_>, sweep: &Sweep, literals: &[Option<u32>]) -> Option<u32>
+    requires { IsInside steps.now sweep.now literals.now }
+    ensures { IfSome result (SaysAllowed steps.now.pair sweep.now) }
+{
+    let Some(root) = steps.assumed_root() else {
+        return Some(sweep.constant(true));
+    };
+    let literal = literal_of(literals, root);
+    if literal == NONE {
+        return None;
+    }
+    Some(literal)
+}
+
+/// The literal that is true where an output differs and the assumption allows it, or none where its steps have no literals.
+/// Fails where memory is refused.
 fn difference_literal(
     steps: &Steps<'_>,
     sweep: &mut Sweep,
@@ -36,13 +81,17 @@ fn difference_literal(
     ensures inside { IsInside steps.now sweep.new literals.now }
     ensures literal { IfOk result (λ found. IfSome found (SaysDifferent steps.now.pair sweep.new output)) }
 {
+    let Some(allowed) = allowed_literal(steps, sweep, literals) else {
+        return Ok(None);
+    };
     let roots = steps.roots(output);
     let x = literal_of(literals, roots[0]);
     let y = literal_of(literals, roots[1]);
     if x == NONE || y == NONE {
         return Ok(None);
     }
-    let literal = sweep.xor(x, y)?;
+    let differ = sweep.xor(x, y)?;
+    let literal = sweep.and(allowed, differ)?;
     Ok(Some(literal))
 }
 
@@ -84,6 +133,44 @@ fn witness_of(
     )
 }
 
+/// Whether no assignment is allowed, by what is found of those that are: none where nothing is.
+fn tells_vacuous(pair: &Pair<'_>, found: Witness) -> Option<bool>
+    requires { IsFoundOf (length pair.now.first.inputs) (is_allowed (netlist_of pair.now.first) (assumption_of pair.now)) found }
+    ensures { IfSome result (TellsVacuous pair.now) }
+{
+    let _pair = pair;
+    match found {
+        Witness::Least(_) => Some(false),
+        Witness::Never => Some(true),
+        Witness::Unknown(seen) => {
+            let Some(_) = seen else {
+                return None;
+            };
+            Some(false)
+        }
+    }
+}
+
+/// Whether no assignment is allowed, where a literal of the graph says which are, by a search with so many conflicts: none where
+/// it gave up. Fails where memory is refused.
+fn is_never_allowed(
+    alloc: Global,
+    pair: &Pair<'_>,
+    sweep: &mut Sweep,
+    literal: u32,
+    conflicts: u64,
+) -> Result<Option<bool>, AllocError>
+    requires { SaysAllowed pair.now sweep.old literal }
+    ensures unchanged { sweep.new ≡ sweep.old }
+    ensures found { IfOk result (λ found. IfSome found (TellsVacuous pair.now)) }
+{
+    let seen = seen_true(alloc, sweep, literal);
+    let mut left = conflicts;
+    let variables = pair.variables();
+    let found = least_witness(alloc, sweep.graph(), literal, variables, &seen, &mut left)?;
+    Ok(tells_vacuous(pair, found))
+}
+
 /// Marks an output, if it has a mark.
 fn mark(alike: &mut Alike, output: usize)
     ensures equal { alike.new.equal.items ≡ slice_set alike.old.equal.items output true }
@@ -95,9 +182,9 @@ fn mark(alike: &mut Alike, output: usize)
 }
 
 impl<'a> Inside<'a> {
-    /// The least assignment under which an output differs, in lexicographic order over the first netlist's inputs, 0 before 1, by
-    /// a search with so many conflicts, which are counted down; or that it differs under none. `output` is its position in the
-    /// first netlist. Fails where memory is refused.
+    /// The least assignment that is allowed and under which an output differs, in lexicographic order over the first netlist's
+    /// inputs, 0 before 1, by a search with so many conflicts, which are counted down; or that it differs under none. `output` is
+    /// its position in the first netlist. Fails where memory is refused.
     pub fn search_output(
         &mut self,
         alloc: Global,
@@ -115,31 +202,80 @@ impl<'a> Inside<'a> {
         }
     }
 
-    /// The first output that differs, with its least assignment, by searches with so many conflicts in all, as far as they
-    /// come. Outputs that are marked are not asked about, and those that never differ become marked. Fails where memory is
+    /// Whether the assumption allows no assignment, by a search with so many conflicts: none where it gave up. Without an
+    /// assumption each is allowed. Fails where memory is refused.
+    pub fn allows_none(&mut self, alloc: Global, conflicts: u64) -> Result<Option<bool>, AllocError>
+        ensures pair { self.new ≡ self.old }
+        ensures found { IfOk result (λ found. IfSome found (TellsVacuous self.old)) }
+    {
+        let pair = self.steps.pair();
+        let Some(_) = self.steps.assumed_root() else {
+            return Ok(Some(false));
+        };
+        match allowed_literal(&self.steps, &self.sweep, &self.literals) {
+            Some(literal) => is_never_allowed(alloc, pair, &mut self.sweep, literal, conflicts),
+            None => Ok(None),
+        }
+    }
+
+    /// The chosen outputs that differ, with their least assignments, where some assignment is allowed: all of them, or the first
+    /// alone. Outputs that are marked are not asked about, and those that never differ become marked. Fails where memory is
     /// refused.
+    fn search_each(
+        &mut self,
+        alloc: Global,
+        alike: &mut Alike,
+        every: bool,
+        conflicts: Conflicts,
+    ) -> Result<Searched, AllocError>
+        requires known { IsKnown self.old alike.old }
+        requires allowed { TellsVacuous self.old false }
+        ensures pair { self.new ≡ self.old }
+        ensures known { IsKnown self.new alike.new }
+        ensures found { IfOk result (IsSearched self.old every) }
+    {
+        let mut conflicts = conflicts;
+        let mut found = Vec::new(alloc);
+        for output in 0..self.steps.pair().first().outputs().len() {
+            if is_settled(self.steps.pair(), &alike.equal, output) {
+                continue;
+            }
+            let mut left = conflicts.next();
+            let witness = self.search_output(alloc, output, &mut left)?;
+            conflicts.take_used(left);
+            match witness {
+                Witness::Never => mark(alike, output),
+                Witness::Unknown(seen) => return Ok(Searched::Open(output, seen)),
+                Witness::Least(values) => {
+                    found.push(Difference { output, values })?;
+                    if !every {
+                        return Ok(Searched::Found(Outcome::Compared(found)));
+                    }
+                }
+            }
+        }
+        Ok(Searched::Found(Outcome::Compared(found)))
+    }
+
+    /// What the comparison of the pair has to find, by searches with so many conflicts: with `every` each chosen output that
+    /// differs, else the first; or `Vacuous`, where the assumption allows no assignment. Outputs that are marked are not asked
+    /// about, and those that never differ become marked. Fails where memory is refused.
     pub fn search_outputs(
         &mut self,
         alloc: Global,
         alike: &mut Alike,
-        conflicts: u64,
+        every: bool,
+        conflicts: Conflicts,
     ) -> Result<Searched, AllocError>
         requires { IsKnown self.old alike.old }
         ensures pair { self.new ≡ self.old }
         ensures known { IsKnown self.new alike.new }
-        ensures found { IfOk result (IsSearched self.old) }
+        ensures found { IfOk result (IsSearched self.old every) }
     {
-        let mut left = conflicts;
-        for output in 0..self.steps.pair().first().outputs().len() {
-            if is_marked(&alike.equal, output) {
-                continue;
-            }
-            match self.search_output(alloc, output, &mut left)? {
-                Witness::Least(values) => return Ok(Searched::First(Some((output, values)))),
-                Witness::Unknown(seen) => return Ok(Searched::Open(output, seen)),
-                Witness::Never => mark(alike, output),
-            }
+        match self.allows_none(alloc, conflicts.next())? {
+            Some(true) => Ok(Searched::Found(Outcome::Vacuous)),
+            Some(false) => self.search_each(alloc, alike, every, conflicts),
+            None => Ok(Searched::Unasked),
         }
-        Ok(Searched::First(None))
     }
 }

@@ -3,7 +3,7 @@ ghost use Rattle.std.specs.Prelude.{◌≡◌, ◌≢◌, ◌+◌, ◌<◌, ◌�
 ghost use Rattle.std.specs.Thread.{IsSync, IsSend};
 ghost use Rattle.eqc_build.specs.Turns.{AreKept};
 ghost use Rattle.eqc_compare.specs.Alike.{IsTask};
-ghost use Rattle.eqc_compare.specs.Verdicts.{DiffersBefore, IsFoundAt, IsShare, IsFresh, AreSeated};
+ghost use Rattle.eqc_compare.specs.Verdicts.{asked, DiffersBefore, IsFoundAt, IsShare, IsFresh, AreSeated};
 
 use crate::gate::Gate;
 use crate::group::{Group, halves};
@@ -27,8 +27,8 @@ pub(crate) struct Share {
     pub verdicts: Vec<Verdict>,
 }
 
-/// What a member finds at an output that it drew. Where it knows of a difference before, or that the output is equal, it
-/// need not compare.
+/// What a member finds at an output that it drew. Where it knows of a difference before, that the output is equal or that it is
+/// not chosen, it need not compare.
 fn finding<R, D: Diagrams<R>, G: Gate<R>>(
     rt: &R,
     alloc: Global,
@@ -43,15 +43,15 @@ fn finding<R, D: Diagrams<R>, G: Gate<R>>(
     requires kept { AreKept D.entry pair.now (D.holding member.old.diagrams) member.old.kept.table }
     requires task { IsTask pair.now task.now }
     requires output { output < length pair.now.first.outputs }
-    requires knows { IsTrue behind → DiffersBefore pair.now output }
-    ensures found { IfOk result (λ found. IsFoundAt pair.now output found) }
+    requires knows { IsTrue behind → DiffersBefore (asked pair.now task.now.every) output }
+    ensures found { IfOk result (λ found. IsFoundAt (asked pair.now task.now.every) output found) }
     ensures kept { AreKept D.entry pair.now (D.holding member.new.diagrams) member.new.kept.table }
     ensures only { IfErr result (λ s. s ≢ Stop.Threads) }
 {
     if behind {
         return Ok(Finding::Behind);
     }
-    if is_marked(&task.equal, output as usize) {
+    if is_marked(&task.settled, output as usize) {
         return Ok(Finding::Equal);
     }
     gate.enter(rt, worker, output);
@@ -61,8 +61,8 @@ fn finding<R, D: Diagrams<R>, G: Gate<R>>(
     }
 }
 
-/// A member draws until its draw is no output. What it draws rises, so behind its first difference nothing that it
-/// draws can be the first of all.
+/// A member draws until its draw is no output. What it draws rises, so behind its first difference nothing that it draws can
+/// be the first of all, which it need not look at where that one is asked for alone.
 fn draw_all<R, D: Diagrams<R>, G: Gate<R>>(
     rt: &R,
     alloc: Global,
@@ -77,7 +77,7 @@ fn draw_all<R, D: Diagrams<R>, G: Gate<R>>(
     requires fresh { IsFresh pair.now words.now.table_id words.now.key 1 seat }
     requires kept { AreKept D.entry pair.now (D.holding member.old.diagrams) member.old.kept.table }
     requires task { IsTask pair.now task.now }
-    ensures share { IfOk result (λ s. IsShare pair.now words.now.table_id 1 s.seat s.verdicts.items) }
+    ensures share { IfOk result (λ s. IsShare (asked pair.now task.now.every) words.now.table_id 1 s.seat s.verdicts.items) }
     ensures only { IfErr result (λ s. s ≢ Stop.Threads) }
     ensures kept { AreKept D.entry pair.now (D.holding member.new.diagrams) member.new.kept.table }
 {
@@ -93,7 +93,7 @@ fn draw_all<R, D: Diagrams<R>, G: Gate<R>>(
         }
         let output = number as u32;
         let finding = finding(rt, alloc, pair, task, gate, worker, member, output, behind)?;
-        behind = finding.tells_difference();
+        behind = finding.ends(task.every);
         let Ok(()) = verdicts.push(Verdict { output, finding }) else {
             return Err(Stop::Memory);
         };
@@ -118,7 +118,7 @@ fn work_alone<R: Wait, D: Diagrams<R> + Drop, G: Gate<R>>(
     requires fresh { IsFresh pair.now words.now.table_id words.now.key 1 seat }
     requires variables { length pair.now.first.inputs ≤ (D.holding diagrams).variables }
     requires task { IsTask pair.now task.now }
-    ensures share { IfOk result (λ s. IsShare pair.now words.now.table_id 1 s.seat s.verdicts.items) }
+    ensures share { IfOk result (λ s. IsShare (asked pair.now task.now.every) words.now.table_id 1 s.seat s.verdicts.items) }
     ensures only { IfErr result (λ s. s ≢ Stop.Threads) }
 {
     let mut member = member::begin(alloc, diagrams, pair)?;
@@ -152,7 +152,7 @@ fn work_only<R: Wait, D: Diagrams<R> + Drop, G: Gate<R>>(
     requires seated { AreSeated D.holding pair.now words.now.table_id words.now.key group.seat group.worker group.members }
     requires only { vec_len group.members ≡ 1 }
     requires task { IsTask pair.now task.now }
-    ensures share { IfOk result (λ s. IsShare pair.now words.now.table_id 1 s.seat s.verdicts.items) }
+    ensures share { IfOk result (λ s. IsShare (asked pair.now task.now.every) words.now.table_id 1 s.seat s.verdicts.items) }
 {
     let Group {
         worker,
@@ -169,10 +169,16 @@ fn work_only<R: Wait, D: Diagrams<R> + Drop, G: Gate<R>>(
 }
 
 /// Puts two shares together.
-fn put_together(words: &Words, pair: &Pair<'_>, mine: Share, theirs: Share) -> Result<Share, Stop>
-    requires mine { IsShare pair.now words.now.table_id mine.seat.me.0.seats mine.seat mine.verdicts.items }
-    requires theirs { IsShare pair.now words.now.table_id theirs.seat.me.0.seats theirs.seat theirs.verdicts.items }
-    ensures share { IfOk result (λ s. IsShare pair.now words.now.table_id (mine.seat.me.0.seats + theirs.seat.me.0.seats) s.seat s.verdicts.items) }
+fn put_together(
+    words: &Words,
+    pair: &Pair<'_>,
+    every: bool,
+    mine: Share,
+    theirs: Share,
+) -> Result<Share, Stop>
+    requires mine { IsShare (asked pair.now every) words.now.table_id mine.seat.me.0.seats mine.seat mine.verdicts.items }
+    requires theirs { IsShare (asked pair.now every) words.now.table_id theirs.seat.me.0.seats theirs.seat theirs.verdicts.items }
+    ensures share { IfOk result (λ s. IsShare (asked pair.now every) words.now.table_id (mine.seat.me.0.seats + theirs.seat.me.0.seats) s.seat s.verdicts.items) }
 {
     let Share {
         mut seat,
@@ -194,26 +200,29 @@ fn put_together(words: &Words, pair: &Pair<'_>, mine: Share, theirs: Share) -> R
 struct Pledge<'f> {
     pair: Snapshot<Pair<'f>>,
     words: Snapshot<Words>,
+    every: bool,
     members: u64,
 }
 
 impl<'f> Pledge<'f> {
     /// The promise of a thread of so many members.
-    fn of(pair: &Pair<'f>, words: &Words, members: usize) -> Pledge<'f>
+    fn of(pair: &Pair<'f>, words: &Words, every: bool, members: usize) -> Pledge<'f>
         ensures pair { result.pair.value ≡ pair.now }
         ensures words { result.words.value ≡ words.now }
+        ensures every { result.every ≡ every }
         ensures members { result.members ≡ members }
     {
         Pledge {
             pair: Snapshot::of(pair),
             words: Snapshot::of(words),
+            every,
             members: members as u64,
         }
     }
 }
 
 impl<'f> Promise<Result<Share, Stop>> for Pledge<'f> {
-    ghost kept_by = { λ p r. IfOk r (λ s. IsShare p.pair.value p.words.value.table_id p.members s.seat s.verdicts.items) };
+    ghost kept_by = { λ p r. IfOk r (λ s. IsShare (asked p.pair.value p.every) p.words.value.table_id p.members s.seat s.verdicts.items) };
 }
 
 /// The members are halved, one half on a new thread and one here, down to one. Where a thread can't be started, its half
@@ -237,7 +246,7 @@ fn work<
 ) -> Result<Share, Stop>
     requires seated { AreSeated D.holding pair.now words.now.table_id words.now.key group.seat group.worker group.members }
     requires task { IsTask pair.now task.now }
-    ensures share { IfOk result (λ s. IsShare pair.now words.now.table_id (vec_len group.members) s.seat s.verdicts.items) }
+    ensures share { IfOk result (λ s. IsShare (asked pair.now task.now.every) words.now.table_id (vec_len group.members) s.seat s.verdicts.items) }
 {
     if group.members.len() == 1 {
         return work_only(rt, alloc, pair, task, words, gate, group);
@@ -245,18 +254,18 @@ fn work<
     let Ok((mine, theirs)) = halves(words, pair, group) else {
         return Err(task.patience.note(Stop::Memory));
     };
-    let kept = Pledge::of(pair, words, theirs.members.len());
+    let kept = Pledge::of(pair, words, task.every, theirs.members.len());
     let there = move || -> Result<Share, Stop>
         requires { IsSync R.row × IsSync G.row × IsSend D.row × IsTask pair.now task.now
             × AreSeated D.holding pair.now words.now.table_id words.now.key theirs.seat theirs.worker theirs.members }
-        ensures { IfOk result (λ s. IsShare pair.entry.now words.entry.now.table_id (vec_len theirs.members) s.seat s.verdicts.items) }
+        ensures { IfOk result (λ s. IsShare (asked pair.entry.now task.entry.now.every) words.entry.now.table_id (vec_len theirs.members) s.seat s.verdicts.items) }
     { work(rt, scope, alloc, pair, task, words, gate, theirs) };
     let Ok(child) = scope.spawn_with(kept, there) else {
         return Err(task.patience.note(Stop::Threads));
     };
     let mine = work(rt, scope, alloc, pair, task, words, gate, mine);
     let theirs = child.join(rt);
-    put_together(words, pair, mine?, theirs?)
+    put_together(words, pair, task.every, mine?, theirs?)
 }
 
 /// Runs the members, each in a thread of its own, and waits for all of them.
@@ -275,7 +284,7 @@ pub(crate) fn work_together<
 ) -> Result<Share, Stop>
     requires seated { AreSeated D.holding pair.now words.now.table_id words.now.key group.seat group.worker group.members }
     requires task { IsTask pair.now task.now }
-    ensures share { IfOk result (λ s. IsShare pair.now words.now.table_id (vec_len group.members) s.seat s.verdicts.items) }
+    ensures share { IfOk result (λ s. IsShare (asked pair.now task.now.every) words.now.table_id (vec_len group.members) s.seat s.verdicts.items) }
 {
     scope(
         scope_env(),
@@ -283,7 +292,7 @@ pub(crate) fn work_together<
         move |scope| -> Result<Share, Stop>
             requires { IsTask pair.now task.now
                 × AreSeated D.holding pair.now words.now.table_id words.now.key group.seat group.worker group.members }
-            ensures { IfOk result (λ s. IsShare pair.entry.now words.entry.now.table_id (vec_len group.members) s.seat s.verdicts.items) }
+            ensures { IfOk result (λ s. IsShare (asked pair.entry.now task.entry.now.every) words.entry.now.table_id (vec_len group.members) s.seat s.verdicts.items) }
         { work(rt, scope, alloc, pair, task, words, gate, group) },
     )
 }

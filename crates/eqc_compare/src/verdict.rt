@@ -1,15 +1,16 @@
-//! What members found, put in the order of the outputs, and the first that differs.
-ghost use Rattle.std.specs.Prelude.{◌≡◌, ℕ, ◌<◌, ◌≤◌, None, [], length, vec_len, slice_index_or, replicate, IfOk};
-ghost use Rattle.eqc_compare.specs.Comparing.{IsFirstFound};
-ghost use Rattle.eqc_compare.specs.Verdicts.{tells_difference, AreVerdicts, Stands};
+//! What members found, put in the order of the outputs, and those that differ.
+ghost use Rattle.std.specs.Prelude.{◌≡◌, ℕ, ◌<◌, ◌≤◌, ◌&&◌, not, None, [], length, vec_len, slice_index_or, replicate, IfOk};
+ghost use Rattle.eqc_compare.specs.Comparing.{AreTold};
+ghost use Rattle.eqc_compare.specs.Verdicts.{asked, tells_difference, AreVerdicts, Stands};
 
+use crate::outcome::Difference;
 use eqc_pair::Pair;
 use std::alloc::{AllocError, Global};
 
 /// What is found at an output.
 #[derive(Drop)]
 pub(crate) enum Finding {
-    /// It differs under no assignment.
+    /// It differs under no assignment, or is not chosen.
     Equal,
     /// The least assignment under which it differs.
     Differs(Vec<bool>),
@@ -25,10 +26,13 @@ pub(crate) struct Verdict {
 }
 
 impl Finding {
-    /// Whether this output or one before it differs.
-    pub(crate) fn tells_difference(&self) -> bool
-        ensures { result ≡ tells_difference self.now }
+    /// Whether nothing behind this output is to be told: it or one before it differs, and the first is asked for alone.
+    pub(crate) fn ends(&self, every: bool) -> bool
+        ensures { result ≡ (not every && tells_difference self.now) }
     {
+        if every {
+            return false;
+        }
         match self {
             Finding::Equal => false,
             Finding::Differs(_) => true,
@@ -53,12 +57,14 @@ fn places(alloc: Global, outputs: usize) -> Result<Vec<Option<Finding>>, AllocEr
 pub(crate) fn in_order(
     alloc: Global,
     pair: &Pair<'_>,
+    every: bool,
     verdicts: Vec<Verdict>,
 ) -> Result<Vec<Option<Finding>>, AllocError>
-    requires { AreVerdicts pair.now verdicts.items }
+    requires { AreVerdicts (asked pair.now every) verdicts.items }
     ensures size { IfOk result (λ row. vec_len row ≡ length pair.now.first.outputs) }
-    ensures each { IfOk result (λ row. (o : ℕ) → o < vec_len row → Stands pair.now [] o (slice_index_or row.items o None)) }
+    ensures each { IfOk result (λ row. (o : ℕ) → o < vec_len row → Stands (asked pair.now every) [] o (slice_index_or row.items o None)) }
 {
+    let _every = every;
     let mut rest = verdicts;
     let mut row = places(alloc, pair.first().outputs().len())?;
     while let Some(Verdict { output, finding }) = rest.pop() {
@@ -74,20 +80,31 @@ pub(crate) fn in_order(
     Ok(row)
 }
 
-/// The first output that differs, by its position, with its least assignment.
-pub(crate) fn first_of(pair: &Pair<'_>, row: Vec<Option<Finding>>) -> Option<(usize, Vec<bool>)>
+/// The chosen outputs that differ, in their order, or the first of them alone. Fails where memory is refused.
+pub(crate) fn told_of(
+    alloc: Global,
+    pair: &Pair<'_>,
+    every: bool,
+    row: Vec<Option<Finding>>,
+) -> Result<Vec<Difference>, AllocError>
     requires size { vec_len row ≡ length pair.now.first.outputs }
-    requires each { (o : ℕ) → o < vec_len row → Stands pair.now [] o (slice_index_or row.items o None) }
-    ensures { IsFirstFound pair.now result }
+    requires each { (o : ℕ) → o < vec_len row → Stands (asked pair.now every) [] o (slice_index_or row.items o None) }
+    ensures { IfOk result (λ found. AreTold pair.now every found.items) }
 {
     let mut row = row;
-    let mut output = 0;
-    while output < row.len() {
+    let mut found = Vec::new(alloc);
+    let mut next = 0;
+    while next < row.len() {
+        let output = next;
+        next += 1;
         match row[output].take() {
-            Some(Finding::Equal) => output += 1,
-            Some(Finding::Differs(values)) => return Some((output, values)),
+            Some(Finding::Equal) => continue,
+            Some(Finding::Differs(values)) => found.push(Difference { output, values })?,
             Some(Finding::Behind) | None => unreachable!(),
         }
+        if !every {
+            return Ok(found);
+        }
     }
-    None
+    Ok(found)
 }

@@ -73,7 +73,7 @@ impl<R> Gate<R> for Held {
 }
 
 /// Two stores of 16 nodes.
-fn two_stores(alloc: Global, inputs: u16) -> Result<Vec<Plain>, Stop>
+pub fn two_stores(alloc: Global, inputs: u16) -> Result<Vec<Plain>, Stop>
     ensures some { IfOk result (λ all. 1 ≤ vec_len all) }
     ensures variables { IfOk result (λ all. All (λ p. inputs ≤ (⟦<Plain as References>⟧.holding p).variables) all.items) }
 {
@@ -110,7 +110,7 @@ fn compared<R: Threads + Wait + Sync, G: Gate<R> + Sync>(
         Way::Within(workers, nodes) => (workers, nodes),
         Way::Members => {
             let members = two_stores(alloc, pair.first().inputs().len() as u16)?;
-            return check_with(rt, alloc, pair, members, gate);
+            return check_with(rt, alloc, pair, false, members, gate);
         }
     };
     let options = Options {
@@ -119,6 +119,7 @@ fn compared<R: Threads + Wait + Sync, G: Gate<R> + Sync>(
         cells: 1,
         forks: 0,
         conflicts: 0,
+        every: false,
     };
     match options_fault(&options) {
         None => check(rt, alloc, pair, &options, gate),
@@ -299,9 +300,18 @@ fn is_second<R: AllocGlobal + Threads + Wait + Sync>(rt: &R, text: &[u8]) -> boo
         cells: 8_192,
         forks: 0,
         conflicts: 100_000,
+        every: false,
     };
     let mut out = Vec::new(rt.alloc());
-    let done = run(rt, rt.alloc(), Texts::One(text), None, &options, &mut out);
+    let done = run(
+        rt,
+        rt.alloc(),
+        Texts::One(text),
+        None,
+        None,
+        &options,
+        &mut out,
+    );
     done == Ok(Status::Differs) && is_text(&out, SECOND)
 }
 

@@ -246,6 +246,24 @@ fn an_apply_passes_all_variables(rt: HostRuntime) {
     same(&rt, mixed_value(&rt, &mut d, 65_535), Ok(None), "mixed");
 }
 
+/// How many turns operations may take beyond those that are free, and what comes of two functions of 10,000 variables, whose
+/// exclusive or takes tens of thousands.
+static ALLOWED: &[(&str, Option<u64>, Result<Option<bool>, Stop>)] = &[
+    ("as many as they need", None, Ok(None)),
+    ("a million", Some(1_000_000), Ok(None)),
+    ("a thousand", Some(1_000), Err(Stop::NodeLimit)),
+    ("none", Some(0), Err(Stop::NodeLimit)),
+];
+
+#[test]
+fn an_apply_ends_with_the_turns_that_are_allowed(rt: HostRuntime) {
+    for (row, turns, wanted) in ALLOWED {
+        let mut d = Plain::with_turns(rt.alloc(), 10_000, 1_048_574, *turns).expect(&rt, "memory");
+        same(&rt, mixed_value(&rt, &mut d, 10_000), *wanted, *row);
+        same(&rt, agrees(&rt, &mut d), Ok(true), "small operations");
+    }
+}
+
 /// Whether a reference stays what it is while diagrams over 40 variables are made, and how the making ends.
 fn holds_through<R, D: Diagrams<R>>(rt: &R, d: &mut D) -> Result<(bool, Result<(), Stop>), Stop>
     requires { 39 < (D.holding d.old).variables }

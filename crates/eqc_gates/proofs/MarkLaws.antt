@@ -2,9 +2,9 @@
 use Rattle.std.proofs.Common.{◌≡◌, ℕ, ◌+◌, ◌<◌, ◌≤◌, Bool, true, false, List, [], ◌∷◌, length, get_or, set, replicate, refl, sym, ◌∙◌, ap, subst, inl, inr, arith}
 use Rattle.std.proofs.lemmas.Bool.{cases_eq, false≢true}
 use Rattle.std.proofs.lemmas.List.{length-set, get_or-set_same, get_or-set_other, length-replicate}
-use Rattle.eqc_build.specs.Steps.{StepsOf, AreSteps, steps_in, uses_of, first_root, second_root, roots_of}
+use Rattle.eqc_build.specs.Steps.{StepsOf, AreSteps, steps_in, uses_of, first_root, second_root, roots_of, assumed_root}
 use Rattle.eqc_build.proofs.StepLaws.{uses_before, root_first, root_second}
-use Rattle.eqc_gates.specs.Entering.{is_marked, AreMarked, AreClosed, HaveRoots}
+use Rattle.eqc_gates.specs.Entering.{is_marked, AreMarked, AreClosed, HasAssumed, HaveRoots}
 
 -- ---- marking some steps
 
@@ -37,6 +37,13 @@ pub marked_both : (old between new : List Bool) (s t : ℕ) → s < length old �
 marked_both old between new s t first second is are =
     let one = marked_more old old between (s ∷ t ∷ []) 0 s (marked_none old (s ∷ t ∷ [])) refl first is in
     marked_more old between new (s ∷ t ∷ []) 1 t one refl (omega (arith, second, one.size)) are
+
+-- the one step of a list
+pub marked_one : (old new : List Bool) (steps : List ℕ) (s : ℕ) → s ∷ [] ≡ steps → s < length old → new ≡ set old s true → AreMarked old new steps (length steps)
+marked_one old new steps s is within are = subst (λ l. AreMarked old new l (length l)) is (marked_more old old new (s ∷ []) 0 s (marked_none old (s ∷ [])) refl within are)
+
+pub marked_nothing : (old : List Bool) (steps : List ℕ) → [] ≡ steps → AreMarked old old steps (length steps)
+marked_nothing old steps is = subst (λ l. AreMarked old old l (length l)) is (marked_none old [])
 
 -- ---- the steps of outputs
 
@@ -81,13 +88,20 @@ pub record AreClosedFrom (g : StepsOf) (wanted marks : List Bool) (k : ℕ) : Ty
   pub size : length marks ≡ steps_in g.pair
   pub inside : k ≤ steps_in g.pair
   pub roots : HaveRoots g wanted marks (length wanted)
+  pub assumed : HasAssumed g marks
   pub uses : (j c : ℕ) → k ≤ j → j < steps_in g.pair → is_marked marks j ≡ true → c < length (uses_of g j) → is_marked marks (get_or (uses_of g j) c 0) ≡ true
 
-pub closed_begins : (g : StepsOf) (wanted marks : List Bool) (o n : ℕ) → HaveRootsSoFar g wanted marks o → length wanted ≤ o → n ≡ steps_in g.pair → AreClosedFrom g wanted marks n
-closed_begins g wanted marks o n so_far whole count = record {
-  size = so_far.size;
+pub closed_begins : (g : StepsOf) (wanted old marks : List Bool) (o n : ℕ) → HaveRootsSoFar g wanted old o → AreMarked old marks (assumed_root g) (length (assumed_root g)) → length wanted ≤ o → n ≡ steps_in g.pair
+    → AreClosedFrom g wanted marks n
+closed_begins g wanted old marks o n so_far marked whole count = record {
+  size = marked.size ∙ so_far.size;
   inside = omega (arith, count);
-  roots = record { each = λ p inside is. so_far.roots.each p (omega arith) is };
+  roots = record {
+    each = λ p inside is.
+        let both = so_far.roots.each p (omega arith) is in
+        (marked.kept (first_root g p) both.0, marked.kept (second_root g p) both.1);
+  };
+  assumed = record { each = λ k inside. marked.there k inside };
   uses = λ j c above inside. absurd (omega arith);
 }
 
@@ -96,6 +110,7 @@ closed_more g wanted old new k steps within so_far marked = record {
   size = marked.size ∙ so_far.size;
   inside = omega (arith, within);
   roots = record { each = λ p inside is. (let both = so_far.roots.each p inside is in (marked.kept (first_root g p) both.0, marked.kept (second_root g p) both.1)) };
+  assumed = record { each = λ j inside. marked.kept (get_or (assumed_root g) j 0) (so_far.assumed.each j inside) };
   uses = λ j c above inside is lt. elim (cases_eq j k) [
     | inl here ↦ subst (λ i. c < length (uses_of g i) → is_marked new (get_or (uses_of g i) c 0) ≡ true) (sym here) (λ less. marked.there c less) lt
     | inr apart ↦ marked.kept (get_or (uses_of g j) c 0) (so_far.uses j c (omega arith) inside (sym (marked.only j (λ d less. later j (omega arith) d less)) ∙ is) lt)
@@ -110,6 +125,7 @@ closed_same g wanted marks k so_far none = record {
   size = so_far.size;
   inside = omega (arith, so_far.inside);
   roots = so_far.roots;
+  assumed = so_far.assumed;
   uses = λ j c above inside is lt. elim (cases_eq j k) [
     | inl here ↦ absurd (false≢true (sym none ∙ (ap (is_marked marks) (sym here) ∙ is)))
     | inr apart ↦ so_far.uses j c (omega arith) inside is lt

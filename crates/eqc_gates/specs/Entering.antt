@@ -4,7 +4,7 @@ use Rattle.eqc_graph.specs.declared.node.Node.{Node}
 use Rattle.eqc_sweep.specs.Sweeping.{HasValue}
 use Rattle.eqc_pair.specs.PairOf.{PairOf}
 use Rattle.eqc_build.specs.Building.{reference_of}
-use Rattle.eqc_build.specs.Steps.{StepsOf, steps_in, uses_of, value_at, first_root, second_root}
+use Rattle.eqc_build.specs.Steps.{StepsOf, steps_in, uses_of, value_at, first_root, second_root, assumed_root}
 
 -- whether a step or an output is marked
 abbrev pub is_marked : List Bool → ℕ → Bool
@@ -26,6 +26,10 @@ pub record AreClosed (g : StepsOf) (marks : List Bool) : Type 0 where
 -- the steps of each of the first n outputs are marked, where the output is wanted
 pub record HaveRoots (g : StepsOf) (wanted marks : List Bool) (n : ℕ) : Type 0 where
   pub each : (o : ℕ) → o < n → is_marked wanted o ≡ true → (is_marked marks (first_root g o) ≡ true) × (is_marked marks (second_root g o) ≡ true)
+
+-- the step of the assumption's output is marked, if there is an assumption
+pub record HasAssumed (g : StepsOf) (marks : List Bool) : Type 0 where
+  pub each : (k : ℕ) → k < length (assumed_root g) → is_marked marks (slice_index (assumed_root g) k) ≡ true
 
 -- the first n of these steps were marked, and no step above them
 pub record AreMarked (old new : List Bool) (steps : List ℕ) (n : ℕ) : Type 0 where

@@ -1,7 +1,7 @@
-//! Which steps are needed: those that an output depends on.
+//! Which steps are needed: those that an output or the assumption depends on.
 ghost use Rattle.std.specs.Prelude.{◌≡◌, ℕ, ◌<◌, ◌≤◌, ◌∷◌, [], length, IfOk, slice_index};
-ghost use Rattle.eqc_build.specs.Steps.{steps_in, uses_of, roots_of};
-ghost use Rattle.eqc_gates.specs.Entering.{AreClosed, AreMarked, HaveRoots};
+ghost use Rattle.eqc_build.specs.Steps.{steps_in, uses_of, roots_of, assumed_root};
+ghost use Rattle.eqc_gates.specs.Entering.{AreClosed, AreMarked, HasAssumed, HaveRoots};
 
 use eqc_build::{Steps, Uses};
 use std::alloc::{AllocError, Global};
@@ -27,12 +27,25 @@ fn mark_all(marks: &mut Vec<bool>, steps: &Uses<'_>)
     }
 }
 
-/// Marks for the steps of a pair: the steps of each output that is wanted, and what they use. `outputs` says which outputs
-/// are; those behind its end are not. It takes time in proportion to what the steps use. Fails where memory is refused.
+/// Marks the step of the assumption's output, if there is an assumption.
+fn mark_assumed(marks: &mut Vec<bool>, steps: &Steps<'_>)
+    requires { length marks.old.items ≡ steps_in steps.now.pair }
+    ensures { AreMarked marks.old.items marks.new.items (assumed_root steps.now) (length (assumed_root steps.now)) }
+{
+    let _count = steps.len();
+    if let Some(root) = steps.assumed_root() {
+        marks[root as usize] = true;
+    }
+}
+
+/// Marks for the steps of a pair: the steps of each output that is wanted, that of the assumption's output, if there is an
+/// assumption, and what they use. `outputs` says which outputs are wanted; those behind its end are not. It takes time in
+/// proportion to what the steps use. Fails where memory is refused.
 pub fn needed(alloc: Global, steps: &Steps<'_>, outputs: &[bool]) -> Result<Vec<bool>, AllocError>
     requires { length outputs.now ≤ length steps.now.pair.first.outputs }
     ensures closed { IfOk result (λ marks. AreClosed steps.now marks.items) }
     ensures roots { IfOk result (λ marks. HaveRoots steps.now outputs.now marks.items (length outputs.now)) }
+    ensures assumed { IfOk result (λ marks. HasAssumed steps.now marks.items) }
 {
     let count = steps.len();
     let mut marks = vec![in alloc; false; count as usize]?;
@@ -41,6 +54,7 @@ pub fn needed(alloc: Global, steps: &Steps<'_>, outputs: &[bool]) -> Result<Vec<
             mark_both(&mut marks, steps.roots(output));
         }
     }
+    mark_assumed(&mut marks, steps);
     // What a step uses comes before it.
     let mut step = count;
     'steps: while step > 0 {

@@ -42,21 +42,25 @@ fn shown(alloc: Global, finding: &Finding<'_>) -> Result<Line, AllocError> {
     match finding {
         Finding::OtherInputs { first, second } => differing(alloc, "41", first, second),
         Finding::OtherOutputs { first, second } => differing(alloc, "42", first, second),
+        Finding::UnknownOutputs(names) => counted(alloc, "43", names),
         Finding::OrderTooLong { bytes, limit } => Line::of_numbers(alloc, "2", &[*bytes, *limit]),
         Finding::UnknownWords(words) => counted(alloc, "51", words),
         Finding::WordTwice(word) => Line::of_name(alloc, "52", word),
         Finding::InputsLeftOut(inputs) => counted(alloc, "53", inputs),
+        Finding::UnknownInputs(inputs) => counted(alloc, "61", inputs),
+        Finding::OutputCount(count) => Line::of_numbers(alloc, "62", &[*count]),
     }
 }
 
-/// What is at fault in two flat netlists, or `-` where nothing is.
+/// What is at fault in two flat netlists whose chosen outputs have these names, or `-` where nothing is.
 fn flat_finding(
     alloc: Global,
     first: &Flat<'_>,
     second: &Flat<'_>,
+    chosen: &[&[u8]],
     order: Option<&[u8]>,
 ) -> Result<Line, AllocError> {
-    match explain_pair(alloc, first, second, order)? {
+    match explain_pair(alloc, first, second, chosen, order)? {
         Some(finding) => shown(alloc, &finding),
         None => Line::new(alloc, "-"),
     }
@@ -65,7 +69,7 @@ fn flat_finding(
 /// What is at fault in the first two models of a library.
 fn found_in(alloc: Global, library: &Library, order: Option<&[u8]>) -> Result<Line, AllocError> {
     match &two_flats(alloc, library) {
-        Some((first, second)) => flat_finding(alloc, first, second, order),
+        Some((first, second)) => flat_finding(alloc, first, second, &[], order),
         None => Line::new(alloc, "no two models"),
     }
 }

@@ -5,3 +5,5 @@ pub mod PlaceLemmas
 pub mod OrderedLemmas
 pub mod PickLemmas
 pub mod StepLemmas
+pub mod ChosenLemmas
+pub mod AssumptionLemmas

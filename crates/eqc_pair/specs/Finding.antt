@@ -1,13 +1,14 @@
--- What is at fault in two netlists that make no pair, or in the order text that is given for them.
+-- What is at fault in two netlists that make no pair, or in what is given for them: names of outputs, an order text, an
+-- assumption.
 use Rattle.std.specs.Prelude.{◌≡◌, ℕ, ◌<◌, not, List, [], length, filter, take, Option, Some, None}
 use Rattle.std.specs.Option.{option_map_or}
 use Rattle.eqc_blif.specs.Names.{is_named}
 use Rattle.eqc_blif.specs.Finding.{StandsTwice}
 use Rattle.eqc_flat.specs.Graph.{FlatOf}
 use Rattle.eqc_pair.specs.Matched.{order_words, order_code}
-use Rattle.eqc_pair.specs.PairOf.{pair_refusal, pair_refused, order_refused}
+use Rattle.eqc_pair.specs.PairOf.{pair_refusal, pair_refused, order_refused, assumption_refusal, assumption_refused}
 use Rattle.eqc_pair.specs.declared.finding.Finding.{Finding}
-use Rattle.eqc_pair.specs.declared.finding.Finding.TheVariants.{OtherInputs, OtherOutputs, OrderTooLong, UnknownWords, WordTwice, InputsLeftOut}
+use Rattle.eqc_pair.specs.declared.finding.Finding.TheVariants.{OtherInputs, OtherOutputs, UnknownOutputs, OrderTooLong, UnknownWords, WordTwice, InputsLeftOut, UnknownInputs, OutputCount}
 
 -- the names that others lack, in order
 abbrev pub unmatched : List (List ℕ) → List (List ℕ) → List (List ℕ)
@@ -25,19 +26,29 @@ AreUnmatched others names found = AreCut (unmatched others names) found
 abbrev pub words_of : Option (List ℕ) → List (List ℕ)
 words_of order = option_map_or order_words order []
 
--- what is named holds of the two netlists and the order text, which are refused for it
-abbrev pub IsAtFault : FlatOf → FlatOf → Option (List ℕ) → Finding → Type 0
-IsAtFault f g order (OtherInputs first second) = (pair_refusal f g order ≡ Some (pair_refused 41)) × AreUnmatched g.inputs f.inputs first × AreUnmatched f.inputs g.inputs second
-IsAtFault f g order (OtherOutputs first second) = (pair_refusal f g order ≡ Some (pair_refused 42)) × AreUnmatched g.outputs f.outputs first × AreUnmatched f.outputs g.outputs second
-IsAtFault f g order (OrderTooLong bytes limit) = (pair_refusal f g order ≡ Some (order_refused 2)) × (bytes ≡ option_map_or length order 0) × (limit ≡ 16777216) × (limit < bytes)
-IsAtFault f g order (UnknownWords words) = (pair_refusal f g order ≡ Some (order_refused 51)) × AreUnmatched f.inputs (words_of order) words
-IsAtFault f g order (WordTwice word) = (pair_refusal f g order ≡ Some (order_refused 52)) × StandsTwice (words_of order) word.now
-IsAtFault f g order (InputsLeftOut inputs) = (pair_refusal f g order ≡ Some (order_refused 53)) × AreUnmatched (words_of order) f.inputs inputs
+-- what is named holds of the two netlists, the names of outputs and the order text, which are refused for it
+abbrev pub IsAtFault : FlatOf → FlatOf → List (List ℕ) → Option (List ℕ) → Finding → Type 0
+IsAtFault f g names order (OtherInputs first second) = (pair_refusal f g names order ≡ Some (pair_refused 41)) × AreUnmatched g.inputs f.inputs first × AreUnmatched f.inputs g.inputs second
+IsAtFault f g names order (OtherOutputs first second) = (pair_refusal f g names order ≡ Some (pair_refused 42)) × AreUnmatched g.outputs f.outputs first × AreUnmatched f.outputs g.outputs second
+IsAtFault f g names order (UnknownOutputs unknown) = (pair_refusal f g names order ≡ Some (pair_refused 43)) × AreUnmatched f.outputs names unknown
+IsAtFault f g names order (OrderTooLong bytes limit) = (pair_refusal f g names order ≡ Some (order_refused 2)) × (bytes ≡ option_map_or length order 0) × (limit ≡ 16777216) × (limit < bytes)
+IsAtFault f g names order (UnknownWords words) = (pair_refusal f g names order ≡ Some (order_refused 51)) × AreUnmatched f.inputs (words_of order) words
+IsAtFault f g names order (WordTwice word) = (pair_refusal f g names order ≡ Some (order_refused 52)) × StandsTwice (words_of order) word.now
+IsAtFault f g names order (InputsLeftOut inputs) = (pair_refusal f g names order ≡ Some (order_refused 53)) × AreUnmatched (words_of order) f.inputs inputs
+IsAtFault f g names order (UnknownInputs inputs) = ⊥
+IsAtFault f g names order (OutputCount count) = ⊥
 
 -- what is at fault, or none where nothing is refused
-abbrev pub IsExplained : FlatOf → FlatOf → Option (List ℕ) → Option Finding → Type 0
-IsExplained f g order None = pair_refusal f g order ≡ None
-IsExplained f g order (Some finding) = IsAtFault f g order finding
+abbrev pub IsExplained : FlatOf → FlatOf → List (List ℕ) → Option (List ℕ) → Option Finding → Type 0
+IsExplained f g names order None = pair_refusal f g names order ≡ None
+IsExplained f g names order (Some finding) = IsAtFault f g names order finding
+
+-- what is at fault in an assumption over these inputs, or none where it is taken
+abbrev pub IsAssumptionExplained : List (List ℕ) → FlatOf → Option Finding → Type 0
+IsAssumptionExplained inputs h None = assumption_refusal inputs h ≡ None
+IsAssumptionExplained inputs h (Some (UnknownInputs unknown)) = (assumption_refusal inputs h ≡ Some (assumption_refused 61)) × AreUnmatched inputs h.inputs unknown
+IsAssumptionExplained inputs h (Some (OutputCount count)) = (assumption_refusal inputs h ≡ Some (assumption_refused 62)) × (count ≡ length h.outputs)
+IsAssumptionExplained inputs h (Some finding) = ⊥
 
 -- what is at fault in an order text over these inputs, or none where it is taken
 abbrev pub IsOrderExplained : List (List ℕ) → List ℕ → Option Finding → Type 0

@@ -1,6 +1,6 @@
--- Whether two netlists have the same inputs and outputs, and the order of variables that a text gives: words
--- between blanks and line ends, `#` cutting to the end of its line.
-use Rattle.std.specs.Prelude.{◌≡◌, ℕ, Bool, true, false, ◌||◌, ◌&&◌, not, List, length, map, filter, nat_lt, ◌==◌, Option, Some, None, Vec, MatchOption, if◌then◌else◌}
+-- Whether two netlists have the same inputs and outputs, which outputs are chosen, and the order of variables that a text
+-- gives: words between blanks and line ends, `#` cutting to the end of its line.
+use Rattle.std.specs.Prelude.{◌≡◌, ℕ, ◌<◌, Bool, true, false, ◌||◌, ◌&&◌, not, List, [], ◌∷◌, length, map, filter, nat_lt, slice_index_or, ◌==◌, Option, Some, None, Vec, MatchOption, if◌then◌else◌}
 use Rattle.std.specs.declared.alloc.Global.{Global}
 use Rattle.std.specs.List.{list_all, position_or_len, before_first, slice_split, flat_map}
 use Rattle.std.specs.Str.{bytes_eq}
@@ -24,6 +24,26 @@ ArePlaces names others found =
     MatchOption found
     (has_all names others ≡ false)
     (λ all. (has_all names others ≡ true) × (all.items ≡ map (position_of names) others))
+
+-- whether an output is one of those that are chosen by their names: without a name all are
+abbrev pub is_chosen : List (List ℕ) → List ℕ → Bool
+is_chosen [] output = true
+is_chosen (name ∷ names) output = is_named (name ∷ names) output
+
+-- the outputs that are chosen, in their order
+abbrev pub chosen_outputs : List (List ℕ) → List (List ℕ) → List (List ℕ)
+chosen_outputs names outputs = filter (is_chosen names) outputs
+
+-- marks of the outputs that are not chosen
+pub record AreLeftOut (names outputs : List (List ℕ)) (marks : List Bool) : Type 0 where
+  pub each : (o : ℕ) → o < length outputs → slice_index_or marks o false ≡ not (is_chosen names (slice_index_or outputs o []))
+
+-- marks of the outputs that are not chosen, or none where a name is that of no output
+abbrev pub MarkLeftOut : List (List ℕ) → List (List ℕ) → Option (Vec Bool Global) → Type 0
+MarkLeftOut outputs names found =
+    MatchOption found
+    (has_all outputs names ≡ false)
+    (λ marks. (has_all outputs names ≡ true) × AreLeftOut names outputs marks.items)
 
 -- a space, a tab or a CR
 abbrev pub is_blank : ℕ → Bool

@@ -1,9 +1,9 @@
-//! What is at fault in two netlists that make no pair, or in the order text that is given for them.
+//! What is at fault in two netlists that make no pair, or in what is given for them.
 ghost use Rattle.std.specs.Prelude.{◌≡◌, ◌==◌, map, true, false, IfOk, MatchOption};
 ghost use Rattle.std.specs.Option.{option_copied};
 ghost use Rattle.eqc_blif.specs.Names.{has_twice};
 ghost use Rattle.eqc_pair.specs.Matched.{has_all, same_names};
-ghost use Rattle.eqc_pair.specs.Finding.{AreUnmatched, IsExplained, IsOrderExplained};
+ghost use Rattle.eqc_pair.specs.Finding.{AreUnmatched, IsExplained, IsAssumptionExplained, IsOrderExplained};
 
 use crate::finding::Finding;
 use crate::matched_pair::recall_laws;
@@ -82,16 +82,36 @@ fn order_finding<'a>(
     Ok(None)
 }
 
-/// What is at fault in two netlists that make no pair, or in the order text that is given for them, for a reader of a
-/// refusal: names that one netlist has and the other lacks, and what in the order text its code is about. None where
-/// `pair` takes them. Fails where memory is refused.
+/// Those of these names that others lack, if there are any; none of the others stands twice. Fails where memory is refused.
+fn unknown_among<'a>(
+    alloc: Global,
+    others: &[Name],
+    names: &[&'a [u8]],
+) -> Result<Option<Unmatched<'a>>, AllocError>
+    requires { has_twice others.now ≡ false }
+    ensures { IfOk result (λ found. MatchOption found
+        (has_all others.now (map (λ name. name.now) names.now) ≡ true)
+        (λ unknown. (has_all others.now (map (λ name. name.now) names.now) ≡ false) × AreUnmatched others.now (map (λ name. name.now) names.now) unknown)) }
+{
+    let others = bytes_of(alloc, others)?;
+    let unknown = unmatched(alloc, &others, names)?;
+    if unknown.count() > 0 {
+        return Ok(Some(unknown));
+    }
+    Ok(None)
+}
+
+/// What is at fault in two netlists that make no pair, in the names of chosen outputs, or in the order text that is given for
+/// them, for a reader of a refusal: names that one netlist has and the other lacks, names of no outputs, and what in the order
+/// text its code is about. None where `pair_choosing` takes them. Fails where memory is refused.
 pub fn explain_pair<'a>(
     alloc: Global,
     first: &'a Flat<'a>,
     second: &'a Flat<'a>,
+    chosen: &[&'a [u8]],
     order: Option<&'a [u8]>,
 ) -> Result<Option<Finding<'a>>, AllocError>
-    ensures { IfOk result (λ found. IsExplained first.now second.now (option_copied order.entry) found) }
+    ensures { IfOk result (λ found. IsExplained first.now second.now (map (λ name. name.now) chosen.now) (option_copied order.entry) found) }
 {
     recall_laws(first);
     recall_laws(second);
@@ -101,8 +121,32 @@ pub fn explain_pair<'a>(
     if let Some((first, second)) = differing(alloc, first.outputs(), second.outputs())? {
         return Ok(Some(Finding::OtherOutputs { first, second }));
     }
+    if let Some(unknown) = unknown_among(alloc, first.outputs(), chosen)? {
+        return Ok(Some(Finding::UnknownOutputs(unknown)));
+    }
     match order {
         Some(text) => order_finding(alloc, first.inputs(), text),
         None => Ok(None),
     }
+}
+
+/// What is at fault in an assumption on the inputs of a netlist, for a reader of a refusal: inputs of it that the netlist lacks,
+/// or how many outputs it has. None where `Pair::assuming` takes it. Fails where memory is refused.
+pub fn explain_assumption<'a>(
+    alloc: Global,
+    first: &Flat<'_>,
+    assumed: &'a Flat<'a>,
+) -> Result<Option<Finding<'a>>, AllocError>
+    ensures { IfOk result (IsAssumptionExplained first.now.inputs assumed.now) }
+{
+    recall_laws(first);
+    let names = bytes_of(alloc, assumed.inputs())?;
+    if let Some(unknown) = unknown_among(alloc, first.inputs(), &names)? {
+        return Ok(Some(Finding::UnknownInputs(unknown)));
+    }
+    let outputs = assumed.outputs().len();
+    if outputs != 1 {
+        return Ok(Some(Finding::OutputCount(outputs)));
+    }
+    Ok(None)
 }

@@ -1,8 +1,10 @@
-//! What a refusal of a pair is about: inputs or outputs that the other netlist lacks, or what is wrong in the order text.
+//! What a refusal of a pair is about: inputs or outputs that the other netlist lacks, chosen outputs that are none, what is wrong
+//! in the order text, or inputs and outputs of the assumption.
 
 use crate::unmatched::Unmatched;
 
-/// What is at fault in two netlists that make no pair, or in the order text that is given for them.
+/// What is at fault in two netlists that make no pair, or in what is given for them: names of outputs, an order text, an
+/// assumption.
 #[derive(Drop)]
 pub enum Finding<'a> {
     /// 41: the inputs of the first netlist that the second lacks, and those of the second that the first lacks.
@@ -15,6 +17,8 @@ pub enum Finding<'a> {
         first: Unmatched<'a>,
         second: Unmatched<'a>,
     },
+    /// 43: the names of chosen outputs that are those of none.
+    UnknownOutputs(Unmatched<'a>),
     /// 2: how many bytes the order text has, and how many it may have.
     OrderTooLong {
         bytes: usize,
@@ -26,4 +30,8 @@ pub enum Finding<'a> {
     WordTwice(&'a [u8]),
     /// 53: the inputs that the order text leaves out.
     InputsLeftOut(Unmatched<'a>),
+    /// 61: the inputs of the assumption that the netlists lack.
+    UnknownInputs(Unmatched<'a>),
+    /// 62: how many outputs the assumption has.
+    OutputCount(usize),
 }

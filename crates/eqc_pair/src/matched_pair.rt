@@ -1,7 +1,9 @@
-//! Pairs, with all that a comparison reads of one: variables of inputs, matched outputs, and the step of each signal.
-ghost use Rattle.std.specs.Prelude.{◌≡◌, true, map, length, IfOk, EachIndex, slice_index, slice_index_or, ◌<◌};
-ghost use Rattle.eqc_pair.specs.Matched.{position_of, same_names};
-ghost use Rattle.eqc_pair.specs.PairOf.{IsPair, IsOrder, ArePlaces, variables_in, first_variables, second_variables, second_signals};
+//! Pairs, with all that a comparison reads of one: variables of inputs, matched outputs, which of them are left out, and the step
+//! of each signal.
+ghost use Rattle.std.specs.Prelude.{◌≡◌, [], None, Some, map, length, IfOk, EachIndex, slice_index, slice_index_or, ◌<◌};
+ghost use Rattle.std.specs.Option.{option_copied};
+ghost use Rattle.eqc_pair.specs.Matched.{position_of, is_chosen};
+ghost use Rattle.eqc_pair.specs.PairOf.{IsPair, IsOrder, IsAssumption, AreMatched, ArePlaces, assumed, variables_in, first_variables, second_variables, assumed_variables, second_signals};
 ghost use Rattle.eqc_flat.specs.Graph.{IsFlat, FollowsDrivers};
 
 use crate::order::Order;
@@ -10,27 +12,47 @@ use eqc_flat::Flat;
 use std::alloc::{AllocError, Global};
 use std::marker::Model;
 
-/// Two flat netlists with the same inputs and outputs, matched by name, and an order of the inputs as variables.
+/// Two flat netlists with the same inputs and outputs, matched by name, and an order of the inputs as variables; and, where they
+/// are given, an assumption on the inputs, and the outputs that are chosen.
 #[derive(Drop)]
 pub struct Pair<'a> {
     first: &'a Flat<'a>,
     second: &'a Flat<'a>,
     order: Vec<u16>,
+    assumes: Option<&'a Flat<'a>>,
+    chosen: &'a [&'a [u8]],
     variables: Vec<u16>,
     second_variables: Vec<u16>,
+    assumed_variables: Vec<u16>,
     second_signals: Vec<u32>,
     first_places: Vec<u32>,
     second_places: Vec<u32>,
+    assumed_places: Vec<u32>,
+    left_out: Vec<bool>,
 }
 
 impl<'a> Model for Pair<'a> {
+    ghost use Rattle.std.specs.Prelude.{map};
+    ghost use Rattle.std.specs.Option.{option_copied};
     ghost use Rattle.eqc_pair.specs.PairOf.{PairOf, IsLaidOut};
 
     ghost Value = { PairOf };
 
-    ghost view = { λ a. record { first = a.first.now; second = a.second.now; order = a.order.items } };
+    ghost view = { λ a. record { first = a.first.now; second = a.second.now; order = a.order.items; assumes = option_copied a.assumes; chosen = map (λ name. name.now) a.chosen.now } };
 
-    ghost invariant = { λ a. IsLaidOut (record { first = a.first.now; second = a.second.now; order = a.order.items }) a.variables.items a.second_variables.items a.second_signals.items a.first_places.items a.second_places.items };
+    ghost invariant = { λ a. IsLaidOut (record { first = a.first.now; second = a.second.now; order = a.order.items; assumes = option_copied a.assumes; chosen = map (λ name. name.now) a.chosen.now })
+        a.variables.items a.second_variables.items a.assumed_variables.items a.second_signals.items a.first_places.items a.second_places.items a.assumed_places.items a.left_out.items };
+}
+
+/// Where the names of two netlists with the same ones stand, and which outputs are left out.
+#[derive(Drop)]
+pub(crate) struct Matches {
+    /// Of each input of the second, its place among those of the first.
+    pub inputs: Vec<usize>,
+    /// Of each output of the first, its place among those of the second.
+    pub outputs: Vec<usize>,
+    /// Marks of the first one's outputs that are not chosen; none is listed where all are.
+    pub left_out: Vec<bool>,
 }
 
 /// What holds of every flat netlist, for a proof of its caller: it does nothing. A netlist's laws are known only
@@ -55,29 +77,30 @@ fn pick<T: Copy>(alloc: Global, values: &[T], places: &[usize]) -> Result<Vec<T>
 }
 
 impl<'a> Pair<'a> {
-    /// The pair with what its comparison reads: `inputs` has the position of each input of the second netlist
-    /// among those of the first, `outputs` that of each output of the first among those of the second. Fails
-    /// where memory is refused.
+    /// The pair with what its comparison reads, of netlists that are matched, where these outputs are chosen. It has no
+    /// assumption. Fails where memory is refused.
     pub(crate) fn laid_out(
         alloc: Global,
         first: &'a Flat<'a>,
         second: &'a Flat<'a>,
-        inputs: &[usize],
-        outputs: &[usize],
+        chosen: &'a [&'a [u8]],
+        matches: Matches,
         order: Order,
     ) -> Result<Pair<'a>, AllocError>
         requires first { IsFlat first.now }
         requires second { IsFlat second.now }
-        requires same_inputs { same_names first.now.inputs second.now.inputs ≡ true }
-        requires same_outputs { same_names first.now.outputs second.now.outputs ≡ true }
-        requires inputs { inputs.now ≡ map (position_of first.now.inputs) second.now.inputs }
-        requires outputs { outputs.now ≡ map (position_of second.now.outputs) first.now.outputs }
+        requires matched { AreMatched first.now second.now (map (λ name. name.now) chosen.now) matches.inputs.items matches.outputs.items matches.left_out.items }
         requires order { IsOrder (length first.now.inputs) order.positions.items }
         requires variables { order.variables.items ≡ variables_in (length first.now.inputs) order.positions.items }
-        ensures { IfOk result (λ pair. pair ≡ record { first = first.now; second = second.now; order = order.positions.items }) }
+        ensures { IfOk result (λ pair. pair ≡ record { first = first.now; second = second.now; order = order.positions.items; assumes = None; chosen = map (λ name. name.now) chosen.now }) }
     {
-        let second_variables = pick(alloc, &order.variables, inputs)?;
-        let second_signals = pick(alloc, second.output_signals(), outputs)?;
+        let Matches {
+            inputs,
+            outputs,
+            left_out,
+        } = matches;
+        let second_variables = pick(alloc, &order.variables, &inputs)?;
+        let second_signals = pick(alloc, second.output_signals(), &outputs)?;
         let first_places = places_of(alloc, first)?;
         let second_places = places_of(alloc, second)?;
         let Order {
@@ -88,11 +111,38 @@ impl<'a> Pair<'a> {
             first,
             second,
             order: positions,
+            assumes: None,
+            chosen,
             variables,
             second_variables,
+            assumed_variables: Vec::new(alloc),
             second_signals,
             first_places,
             second_places,
+            assumed_places: Vec::new(alloc),
+            left_out,
+        })
+    }
+
+    /// The pair with this assumption in place of its own. `inputs` has the position of each input of the assumption among those
+    /// of the first netlist. Fails where memory is refused.
+    pub(crate) fn with_assumption(
+        self,
+        alloc: Global,
+        assumed: &'a Flat<'a>,
+        inputs: &[usize],
+    ) -> Result<Pair<'a>, AllocError>
+        requires assumed { IsAssumption self.first.inputs assumed.now }
+        requires inputs { inputs.now ≡ map (position_of self.first.inputs) assumed.now.inputs }
+        ensures { IfOk result (λ pair. pair ≡ record self.entry { assumes = Some assumed.now }) }
+    {
+        let assumed_variables = pick(alloc, &self.variables, inputs)?;
+        let assumed_places = places_of(alloc, assumed)?;
+        Ok(Pair {
+            assumes: Some(assumed),
+            assumed_variables,
+            assumed_places,
+            ..self
         })
     }
 
@@ -115,6 +165,21 @@ impl<'a> Pair<'a> {
         ensures { result.now ≡ self.now.second }
     {
         self.second
+    }
+
+    /// The netlist of the assumption, if there is one.
+    pub fn assumption(&self) -> Option<&'a Flat<'a>>
+        ensures { option_copied result ≡ self.now.assumes }
+    {
+        self.assumes
+    }
+
+    /// Whether an output is chosen, by its position in the first netlist. It is below the number of outputs.
+    pub fn is_chosen(&self, output: usize) -> bool
+        requires { output < length self.now.first.outputs }
+        ensures { result ≡ is_chosen self.now.chosen (slice_index_or self.now.first.outputs output []) }
+    {
+        !self.left_out.get(output).copied().unwrap_or(false)
     }
 
     /// For each variable the position of its input among those of the first netlist.
@@ -141,6 +206,14 @@ impl<'a> Pair<'a> {
         self.second_variables.as_slice()
     }
 
+    /// The variable of each input of the assumption, none without one.
+    pub fn assumed_variables(&self) -> &[u16]
+        ensures each { result.now ≡ assumed_variables self.now }
+        ensures lawful { IsPair self.now }
+    {
+        self.assumed_variables.as_slice()
+    }
+
     /// The second netlist's signal for each output of the first.
     pub fn second_signals(&self) -> &[u32]
         ensures each { result.now ≡ second_signals self.now }
@@ -163,5 +236,13 @@ impl<'a> Pair<'a> {
         ensures lawful { IsPair self.now }
     {
         self.second_places.as_slice()
+    }
+
+    /// The step of each signal of the assumption, none without one.
+    pub fn assumed_places(&self) -> &[u32]
+        ensures each { ArePlaces (assumed self.now) result.now }
+        ensures lawful { IsPair self.now }
+    {
+        self.assumed_places.as_slice()
     }
 }

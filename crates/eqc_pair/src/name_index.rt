@@ -1,8 +1,9 @@
-//! Where names stand among others, and whether one of them stands twice.
-ghost use Rattle.std.specs.Prelude.{◌≡◌, map, true, false, IfOk, MatchOption};
+//! Where names stand among others, whether one of them stands twice, and which outputs are not among those that are named.
+ghost use Rattle.std.specs.Prelude.{◌≡◌, ℕ, ◌<◌, map, true, false, not, nat_eq, IfOk, EachIndex, MatchOption, slice_index, slice_index_or};
+ghost use Rattle.std.specs.List.{list_any};
 ghost use Rattle.eqc_blif.specs.Names.{has_twice};
 ghost use Rattle.eqc_blif.specs.Finding.{StandsTwice};
-ghost use Rattle.eqc_pair.specs.Matched.{ArePlaces};
+ghost use Rattle.eqc_pair.specs.Matched.{ArePlaces, MarkLeftOut};
 
 use eqc_blif::{Key, Name};
 use eqc_flat::NameSet;
@@ -76,6 +77,38 @@ pub(crate) fn has_twice(alloc: Global, names: &[&[u8]]) -> Result<bool, AllocErr
     ensures { IfOk result (λ twice. twice ≡ has_twice (map (λ name. name.now) names.now)) }
 {
     Ok(first_twice(alloc, names)?.is_some())
+}
+
+/// Marks for so many outputs, all but those at these places.
+fn marks_but(alloc: Global, count: usize, places: &[usize]) -> Result<Vec<bool>, AllocError>
+    requires { EachIndex places.now (λ k. slice_index places.now k < count) }
+    ensures { IfOk result (λ marks. (o : ℕ) → o < count → slice_index_or marks.items o false ≡ not (list_any (nat_eq o) places.now)) }
+{
+    let mut marks = vec![in alloc; true; count]?;
+    'places: for place in places {
+        marks[*place] = false;
+    }
+    Ok(marks)
+}
+
+/// Marks of the outputs that are not among those of these names, none without a name; or nothing where a name is that of no
+/// output. None of the outputs stands twice. Fails where memory is refused.
+pub(crate) fn left_out(
+    alloc: Global,
+    outputs: &[Name],
+    chosen: &[&[u8]],
+) -> Result<Option<Vec<bool>>, AllocError>
+    requires once { has_twice outputs.now ≡ false }
+    ensures { IfOk result (MarkLeftOut outputs.now (map (λ name. name.now) chosen.now)) }
+{
+    if chosen.is_empty() {
+        return Ok(Some(Vec::new(alloc)));
+    }
+    let names = bytes_of(alloc, outputs)?;
+    match places_among(alloc, &names, chosen)? {
+        Some(places) => Ok(Some(marks_but(alloc, outputs.len(), &places)?)),
+        None => Ok(None),
+    }
 }
 
 /// The bytes of each of these names. Fails where memory is refused.

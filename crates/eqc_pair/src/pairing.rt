@@ -1,12 +1,12 @@
 //! The matching of two flat netlists by the names of their inputs and outputs: a pair, or the first refusal.
-ghost use Rattle.std.specs.Prelude.{◌≡◌, ◌⊎◌, Some, None, true, false, map, IfOk, IfErr, MatchOption};
+ghost use Rattle.std.specs.Prelude.{◌≡◌, ◌⊎◌, [], Some, None, true, false, map, IfOk, IfErr, MatchOption};
 ghost use Rattle.std.specs.Option.{option_copied};
 ghost use Rattle.eqc_blif.specs.Names.{has_twice};
 ghost use Rattle.eqc_pair.specs.Matched.{position_of, same_names};
 ghost use Rattle.eqc_pair.specs.PairOf.{AreMatched, order_for, pair_refusal, pair_refused, no_memory};
 
-use crate::matched_pair::{Pair, recall_laws};
-use crate::name_index::{bytes_of, places_among};
+use crate::matched_pair::{Matches, Pair, recall_laws};
+use crate::name_index::{bytes_of, left_out, places_among};
 use crate::order::order_of;
 use crate::refused::{Refused, Side};
 use crate::rule::Rule;
@@ -52,20 +52,16 @@ fn matched(alloc: Global, names: &[Name], others: &[Name]) -> Result<Option<Vec<
     places_among(alloc, &names, &others)
 }
 
-/// Where the names of two netlists with the same ones stand.
-#[derive(Drop)]
-struct Matches {
-    /// Of each input of the second, its place among those of the first.
-    inputs: Vec<usize>,
-    /// Of each output of the first, its place among those of the second.
-    outputs: Vec<usize>,
-}
-
 /// Where the names of two netlists stand, or their refusal, as without an order text: two sets of input names that
-/// differ (41) or of output names (42); or no memory.
-fn matches_of(alloc: Global, first: &Flat<'_>, second: &Flat<'_>) -> Result<Matches, Refused>
-    ensures matched { IfOk result (λ m. AreMatched first.now second.now m.inputs.items m.outputs.items) }
-    ensures refused { IfErr result (λ refused. (refused ≡ no_memory) ⊎ (pair_refusal first.now second.now None ≡ Some refused)) }
+/// differ (41) or of output names (42), or a name of a chosen output that is that of none (43); or no memory.
+fn matches_of(
+    alloc: Global,
+    first: &Flat<'_>,
+    second: &Flat<'_>,
+    chosen: &[&[u8]],
+) -> Result<Matches, Refused>
+    ensures matched { IfOk result (λ m. AreMatched first.now second.now (map (λ name. name.now) chosen.now) m.inputs.items m.outputs.items m.left_out.items) }
+    ensures refused { IfErr result (λ refused. (refused ≡ no_memory) ⊎ (pair_refusal first.now second.now (map (λ name. name.now) chosen.now) None ≡ Some refused)) }
 {
     let Some(inputs) = matched(alloc, first.inputs(), second.inputs())? else {
         return Err(refusal(Rule::OtherInputs.code()));
@@ -73,7 +69,14 @@ fn matches_of(alloc: Global, first: &Flat<'_>, second: &Flat<'_>) -> Result<Matc
     let Some(outputs) = matched(alloc, second.outputs(), first.outputs())? else {
         return Err(refusal(Rule::OtherOutputs.code()));
     };
-    Ok(Matches { inputs, outputs })
+    let Some(left_out) = left_out(alloc, first.outputs(), chosen)? else {
+        return Err(refusal(Rule::UnknownOutput.code()));
+    };
+    Ok(Matches {
+        inputs,
+        outputs,
+        left_out,
+    })
 }
 
 /// The pair of two netlists, whose inputs and outputs are matched by name, with the order of an order text,
@@ -86,13 +89,32 @@ pub fn pair<'a>(
     second: &'a Flat<'a>,
     order: Option<&[u8]>,
 ) -> Result<Pair<'a>, Refused>
-    ensures taken { IfOk result (λ _. pair_refusal first.now second.now (option_copied order.entry) ≡ None) }
+    ensures taken { IfOk result (λ _. pair_refusal first.now second.now [] (option_copied order.entry) ≡ None) }
     ensures netlists { IfOk result (λ p. (p.first ≡ first.now) × (p.second ≡ second.now)) }
     ensures order { IfOk result (λ p. p.order ≡ order_for first.now.inputs (option_copied order.entry)) }
-    ensures refused { IfErr result (λ refused. (refused ≡ no_memory) ⊎ (pair_refusal first.now second.now (option_copied order.entry) ≡ Some refused)) }
+    ensures all { IfOk result (λ p. (p.assumes ≡ None) × (p.chosen ≡ [])) }
+    ensures refused { IfErr result (λ refused. (refused ≡ no_memory) ⊎ (pair_refusal first.now second.now [] (option_copied order.entry) ≡ Some refused)) }
+{
+    pair_choosing(alloc, first, second, &[], order)
+}
+
+/// The same with the outputs of these names alone, which may stand twice; without a name with all. Behind 42 a name is
+/// refused that is that of no output (43).
+pub fn pair_choosing<'a>(
+    alloc: Global,
+    first: &'a Flat<'a>,
+    second: &'a Flat<'a>,
+    chosen: &'a [&'a [u8]],
+    order: Option<&[u8]>,
+) -> Result<Pair<'a>, Refused>
+    ensures taken { IfOk result (λ _. pair_refusal first.now second.now (map (λ name. name.now) chosen.now) (option_copied order.entry) ≡ None) }
+    ensures netlists { IfOk result (λ p. (p.first ≡ first.now) × (p.second ≡ second.now)) }
+    ensures order { IfOk result (λ p. p.order ≡ order_for first.now.inputs (option_copied order.entry)) }
+    ensures chosen { IfOk result (λ p. (p.assumes ≡ None) × (p.chosen ≡ map (λ name. name.now) chosen.now)) }
+    ensures refused { IfErr result (λ refused. (refused ≡ no_memory) ⊎ (pair_refusal first.now second.now (map (λ name. name.now) chosen.now) (option_copied order.entry) ≡ Some refused)) }
 {
     recall_laws(second);
-    let Matches { inputs, outputs } = matches_of(alloc, first, second)?;
+    let matches = matches_of(alloc, first, second, chosen)?;
     let order = order_of(alloc, first.inputs(), order)?;
-    Ok(Pair::laid_out(alloc, first, second, &inputs, &outputs, order)?)
+    Ok(Pair::laid_out(alloc, first, second, chosen, matches, order)?)
 }

@@ -12,6 +12,7 @@ pub enum Side {
     Second,
     Pair,
     Order,
+    Assume,
     Options,
 }
 
@@ -34,6 +35,7 @@ impl Side {
             Side::Second => "second",
             Side::Pair => "pair",
             Side::Order => "order",
+            Side::Assume => "assume",
             Side::Options => "options",
         }
     }

@@ -1,22 +1,29 @@
-//! The rules of a pair, of an order text and of options, with their codes and their words.
+//! The rules of a pair, of an order text, of an assumption and of options, with their codes and their words.
 ghost use Rattle.std.specs.Prelude.{◌≡◌};
 ghost use Rattle.eqc_pair.specs.Rule.{rule_code};
 
 use thiserror::Error;
 
-/// What two netlists are refused for as a pair, what an order text is, or what options are (`docs/report.md`).
+/// What two netlists are refused for as a pair, what an order text or an assumption is, or what options are
+/// (`docs/report.md`).
 #[derive(Clone, Copy, Debug, PartialEq, Eq, Error)]
 pub enum Rule {
     #[error("the two netlists have different inputs")]
     OtherInputs,
     #[error("the two netlists have different outputs")]
     OtherOutputs,
+    #[error("a chosen output that is none")]
+    UnknownOutput,
     #[error("a word of the order text that is no input")]
     UnknownWord,
     #[error("a word twice in the order text")]
     WordTwice,
     #[error("an input that the order text leaves out")]
     InputLeftOut,
+    #[error("the assumption has an input that the netlists lack")]
+    AssumeInputs,
+    #[error("the assumption hasn't exactly one output")]
+    AssumeOutput,
     #[error("workers are from 1 to 64")]
     Workers,
     #[error("nodes are from 1 to 1048574")]
@@ -27,30 +34,36 @@ pub enum Rule {
     Forks,
 }
 
-/// The rules of a pair and of an order text, in the order of their codes.
-pub const PAIR_RULES: [Rule; 5] = [
+/// The rules of a pair, of an order text and of an assumption, in the order of their codes.
+pub const PAIR_RULES: [Rule; 8] = [
     Rule::OtherInputs,
     Rule::OtherOutputs,
+    Rule::UnknownOutput,
     Rule::UnknownWord,
     Rule::WordTwice,
     Rule::InputLeftOut,
+    Rule::AssumeInputs,
+    Rule::AssumeOutput,
 ];
 
 /// The rules of options, in the order of their codes.
 pub const OPTION_RULES: [Rule; 4] = [Rule::Workers, Rule::Nodes, Rule::Cells, Rule::Forks];
 
 impl Rule {
-    /// The number that a report shows: 41 and 42 for the pair, 51 to 53 for the order text, 81 to 84 for the options, in
-    /// the order of the variants.
+    /// The number that a report shows: 41 to 43 for the pair, 51 to 53 for the order text, 61 and 62 for the assumption, 81
+    /// to 84 for the options, in the order of the variants.
     pub fn code(self) -> u8
         ensures { result ≡ rule_code self }
     {
         match self {
             Rule::OtherInputs => 41,
             Rule::OtherOutputs => 42,
+            Rule::UnknownOutput => 43,
             Rule::UnknownWord => 51,
             Rule::WordTwice => 52,
             Rule::InputLeftOut => 53,
+            Rule::AssumeInputs => 61,
+            Rule::AssumeOutput => 62,
             Rule::Workers => 81,
             Rule::Nodes => 82,
             Rule::Cells => 83,

@@ -1,4 +1,5 @@
 pub mod Trees
+pub mod Spending
 pub mod Counting
 pub mod Laws
 pub mod Growing

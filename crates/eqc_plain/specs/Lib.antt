@@ -1,4 +1,5 @@
 pub mod Store
+pub mod Spending
 pub mod Extending
 pub mod Referring
 pub mod Terminal

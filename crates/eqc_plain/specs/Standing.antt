@@ -9,3 +9,4 @@ pub record OnlyRecounts (old new : Plain) : Type 0 where
   pub counts : vec_capacity new.store.counts ≡ vec_capacity old.store.counts
   pub cache : new.cache ≡ old.cache
   pub tasks : new.tasks ≡ old.tasks
+  pub turns : new.turns ≡ old.turns

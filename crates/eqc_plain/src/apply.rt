@@ -4,25 +4,28 @@ ghost use Rattle.std.specs.Prelude.{◌≡◌, ℕ, ◌<◌, ◌+◌, ◌⊎◌,
 use crate::plain::Plain;
 use crate::task::{Task, Turn};
 use crate::terminal::decide;
+use crate::turns::{FREE_TURNS, count_turn};
 use eqc_tree::{Op, Stop};
 use std::snapshot::Snapshot;
 
 impl Plain {
     ghost use Rattle.eqc_plain.specs.Meaning.{meaning_of};
     ghost use Rattle.eqc_plain.specs.Combining.{IsResult, HasBoth};
-    ghost use Rattle.eqc_plain.specs.Extending.{Extends};
+    ghost use Rattle.eqc_plain.specs.Extending.{Extends, IsFull};
+    ghost use Rattle.eqc_plain.specs.Spending.{Spends, IsSpent};
     ghost use Rattle.eqc_plain.specs.Tasks.{LeadsTo, StepsTo, TurnsTo};
     ghost use Rattle.eqc_plain.specs.Terminal.{Decides};
 
     /// The number of an operation's result (Bryant 1986, section 4.3), with a stack of tasks in
-    /// place of the recursion.
+    /// place of the recursion, and the turns of its loop counted.
     pub(crate) fn combine(&mut self, op: Op, f: u32, g: u32) -> Result<u32, Stop>
         requires f { f < length self.old.store.nodes + 2 }
         requires g { g < length self.old.store.nodes + 2 }
         ensures store { Extends self.old.store self.new.store }
         ensures ok { IfOk result (IsResult (meaning_of self.new.store.variables self.new.store.nodes) op f g) }
         ensures undecided { IfErr result (λ _. (x : ℕ) → ¬ Decides op f g x) }
-        ensures full { result ≡ Err Stop.NodeLimit → length self.new.store.nodes ≡ self.new.store.limit }
+        ensures nodes { result ≡ Err Stop.NodeLimit → IsFull self.new.store ⊎ IsSpent self.new.turns }
+        ensures turns { Spends self.old.turns self.new.turns }
         ensures only { IfErr result (λ s. (s ≡ Stop.NodeLimit) ⊎ (s ≡ Stop.Memory)) }
     {
         if let Some(x) = self.known(op, f, g) {
@@ -30,8 +33,10 @@ impl Plain {
         }
         let whole = Snapshot::of(&(f, g));
         self.tasks.clear();
+        let mut free = FREE_TURNS;
         let mut next = self.descend(f, g)?;
-        loop {
+        'turns: loop {
+            count_turn(&mut self.turns, &mut free)?;
             let (f, g) = next;
             let Some(x) = self.known(op, f, g) else {
                 next = self.descend(f, g)?;
@@ -66,6 +71,7 @@ impl Plain {
         requires inner { ¬ ((f < 2) × (g < 2)) }
         ensures steps { IfOk result (λ low. StepsTo (meaning_of self.old.store.variables self.old.store.nodes) (meaning_of self.new.store.variables self.new.store.nodes) self.old.tasks.items self.new.tasks.items f g low.0 low.1) }
         ensures store { self.new.store ≡ self.old.store }
+        ensures turns { self.new.turns ≡ self.old.turns }
         ensures only { IfErr result (λ s. s ≡ Stop.Memory) }
     {
         let variable = self.store.root(f).min(self.store.root(g));
@@ -98,7 +104,8 @@ impl Plain {
         ensures store { Extends self.old.store self.new.store }
         ensures ok { IfOk result (IsResult (meaning_of self.new.store.variables self.new.store.nodes) op f g) }
         ensures tasks { self.new.tasks ≡ self.old.tasks }
-        ensures full { result ≡ Err Stop.NodeLimit → length self.new.store.nodes ≡ self.new.store.limit }
+        ensures full { result ≡ Err Stop.NodeLimit → IsFull self.new.store }
+        ensures turns { self.new.turns ≡ self.old.turns }
         ensures only { IfErr result (λ s. (s ≡ Stop.NodeLimit) ⊎ (s ≡ Stop.Memory)) }
     {
         let x = self.store.node(variable, low, high)?;
@@ -113,7 +120,8 @@ impl Plain {
         requires { LeadsTo (meaning_of self.old.store.variables self.old.store.nodes) op self.old.tasks.items whole.now.value.0 whole.now.value.1 x }
         ensures store { Extends self.old.store self.new.store }
         ensures turn { IfOk result (TurnsTo (meaning_of self.new.store.variables self.new.store.nodes) op self.old.tasks.items self.new.tasks.items whole.now.value.0 whole.now.value.1) }
-        ensures full { result ≡ Err Stop.NodeLimit → length self.new.store.nodes ≡ self.new.store.limit }
+        ensures full { result ≡ Err Stop.NodeLimit → IsFull self.new.store }
+        ensures turns { self.new.turns ≡ self.old.turns }
         ensures only { IfErr result (λ s. (s ≡ Stop.NodeLimit) ⊎ (s ≡ Stop.Memory)) }
     {
         let mut x = x;

@@ -7,8 +7,8 @@
 //! - `plain`, the public type and its calls; `reference`, what is handed out
 //! - `store`, the nodes and counts, which is public for copies of other diagrams; `unique_table`, the list of node
 //!   words that finds a word
-//! - `apply`, the loop; `task`, its stack; `terminal`, what needs no nodes; `cache`. The last three
-//!   know no store, and are public for other diagrams' loops
+//! - `apply`, the loop; `task`, its stack; `terminal`, what needs no nodes; `cache`; `turns`, how long the loop may go on. The
+//!   last four know no store, and are public for other diagrams' loops
 //! - `least`, the least assignment; `search`, what it keeps
 #![tactic(auto)]
 
@@ -21,6 +21,7 @@ mod search;
 pub mod store;
 pub mod task;
 pub mod terminal;
+pub mod turns;
 mod unique_table;
 
 pub use plain::Plain;

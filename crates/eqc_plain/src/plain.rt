@@ -16,14 +16,17 @@ pub struct Plain {
     pub(crate) store: Store,
     pub(crate) cache: Cache,
     pub(crate) tasks: Vec<Task>,
+    // How many more turns operations may take beyond their first ones, where that is limited.
+    pub(crate) turns: Option<u64>,
     ghost cached: { IsCache (meaning_of store.variables store.nodes) cache.cells.items },
 }
 
 impl Plain {
-    ghost use Rattle.std.specs.Prelude.{◌≤◌, [], IfOk, IfErr};
+    ghost use Rattle.std.specs.Prelude.{◌≤◌, [], None, IfOk, IfErr};
     ghost use Rattle.eqc_tree.specs.Holding.{IsNew};
 
-    /// Diagrams over `vars` variables with room for `nodes` nodes, of which there are none yet.
+    /// Diagrams over `vars` variables with room for `nodes` nodes, of which there are none yet. Operations take as many turns as
+    /// they need: they stop for nodes only where all slots are taken.
     ///
     /// `nodes` is from 1 to 1,048,574. The error is 72 alone.
     pub fn new(alloc: Global, vars: u16, nodes: u32) -> Result<Plain, Stop>
@@ -32,12 +35,34 @@ impl Plain {
         ensures empty { IfOk result (λ p. IsNew vars (⟦<Plain as References>⟧.holding p)) }
         ensures none { IfOk result (λ p. p.store.nodes ≡ []) }
         ensures room { IfOk result (λ p. p.store.limit ≡ nodes) }
+        ensures endless { IfOk result (λ p. p.turns ≡ None) }
+        ensures only { IfErr result (λ s. s ≡ Stop.Memory) }
+    {
+        Plain::with_turns(alloc, vars, nodes, None)
+    }
+
+    /// Diagrams as `new` makes them, whose operations may take so many turns in all beyond those that are free, the first 1,024
+    /// of each operation; as many as they need where `turns` is none. A turn is one step from a pair of operands to the next
+    /// one. Two large operands have as many pairs as the product of their sizes, also where the result is small.
+    pub fn with_turns(
+        alloc: Global,
+        vars: u16,
+        nodes: u32,
+        turns: Option<u64>,
+    ) -> Result<Plain, Stop>
+        requires some { 1 ≤ nodes }
+        requires few { nodes ≤ 1048574 }
+        ensures empty { IfOk result (λ p. IsNew vars (⟦<Plain as References>⟧.holding p)) }
+        ensures none { IfOk result (λ p. p.store.nodes ≡ []) }
+        ensures room { IfOk result (λ p. p.store.limit ≡ nodes) }
+        ensures turns { IfOk result (λ p. p.turns ≡ turns) }
         ensures only { IfErr result (λ s. s ≡ Stop.Memory) }
     {
         Ok(Plain {
             store: Store::new(alloc, vars, nodes)?,
             cache: Cache::new(alloc),
             tasks: Vec::new(alloc),
+            turns,
         })
     }
 }
@@ -102,13 +127,14 @@ impl References for Plain {
 }
 
 impl<R> Diagrams<R> for Plain {
-    ghost use Rattle.std.specs.Prelude.{ℕ, ◌<◌, ◌≤◌, ◌≢◌, ◌-◌, ◌^◌, Bool, if◌then◌else◌, OnErr, IfOk, IfErr, IfSome, IsSome, length, slice_index};
+    ghost use Rattle.std.specs.Prelude.{ℕ, ◌<◌, ◌≤◌, ◌≢◌, ◌-◌, ◌^◌, ◌⊎◌, Bool, if◌then◌else◌, OnErr, IfOk, IfErr, IfSome, IsSome, length, slice_index};
     ghost use Rattle.std.specs.List.{All, find};
     ghost use Rattle.eqc_tree.specs.Assigned.{assigned, assignments, AreDistinct, DependsOnlyOn, IsSatisfiable};
     ghost use Rattle.eqc_tree.specs.Word.{node_word};
     ghost use Rattle.eqc_tree.specs.Operation.{operate};
     ghost use Rattle.eqc_tree.specs.Holding.{Entry, IsHeld, Gains, Keeps, copies, says};
     ghost use Rattle.eqc_plain.specs.Extending.{holding_in, IsFull};
+    ghost use Rattle.eqc_plain.specs.Spending.{Spends, IsSpent};
     ghost use Rattle.eqc_plain.specs.Store.{Grows};
     ghost use Rattle.eqc_plain.specs.Terminal.{Decides};
     ghost use Rattle.eqc_plain.specs.Referring.{entry_of};
@@ -125,13 +151,14 @@ impl<R> Diagrams<R> for Plain {
         ensures grows { Grows self.old.store.nodes self.new.store.nodes }
         ensures references { result ≡ Err Stop.References → (e : Entry) × (2 ^ 32 - 1 ≤ copies (holding_in self.old.store) e) }
         ensures room { self.new.store.limit ≡ self.old.store.limit }
+        ensures turns { self.new.turns ≡ self.old.turns }
     {
         let x = self.store.node(var, 0, 1)?;
         self.store.hold(x)
     }
 
-    /// Stops for nodes and for references as `literal` does, and for references alone where the
-    /// result is an operand or a constant whatever the functions.
+    /// Stops for nodes only where all slots are taken or the turns that are allowed are spent, for references as `literal` does,
+    /// and for references alone where the result is an operand or a constant whatever the functions. No call gives turns back.
     fn apply(&mut self, _rt: &R, op: Op, f: &Ref, g: &Ref) -> Result<Ref, Stop>
         requires f { IsHeld (holding_in self.old.store) (entry_of f.now) }
         requires g { IsHeld (holding_in self.old.store) (entry_of g.now) }
@@ -139,17 +166,18 @@ impl<R> Diagrams<R> for Plain {
         ensures stop { OnErr result (Keeps (holding_in self.old.store) (holding_in self.new.store)) }
         ensures only { IfErr result (λ s. s ≢ Stop.Threads) }
         ensures undecided { IfErr result (λ s. s ≢ Stop.References → (x : ℕ) → ¬ Decides op f.now.node g.now.node x) }
-        ensures nodes { result ≡ Err Stop.NodeLimit → IsFull self.new.store }
+        ensures nodes { result ≡ Err Stop.NodeLimit → IsFull self.new.store ⊎ IsSpent self.new.turns }
         ensures grows { Grows self.old.store.nodes self.new.store.nodes }
         ensures references { result ≡ Err Stop.References → (e : Entry) × (2 ^ 32 - 1 ≤ copies (holding_in self.old.store) e) }
         ensures room { self.new.store.limit ≡ self.old.store.limit }
+        ensures turns { Spends self.old.turns self.new.turns }
     {
         let x = self.combine(op, f.node, g.node)?;
         self.store.hold(x)
     }
 
-    /// Stops for nodes only where all slots are taken, and for references only at 2^32 - 3 or more
-    /// to one node, to which two more may come on the way.
+    /// Stops for nodes as `apply` does, and for references only at 2^32 - 3 or more to one node, to which two more may come on
+    /// the way.
     #[tactic(auto, using(eqc_tree::proofs::HoldingLemmas::counts_itself))]
     fn ite(&mut self, rt: &R, f: &Ref, g: &Ref, h: &Ref) -> Result<Ref, Stop>
         requires f { IsHeld (holding_in self.old.store) (entry_of f.now) }
@@ -158,10 +186,11 @@ impl<R> Diagrams<R> for Plain {
         ensures ok { IfOk result (λ r. Gains (holding_in self.old.store) (holding_in self.new.store) (entry_of r) (λ a. if says (entry_of f.now) a then says (entry_of g.now) a else says (entry_of h.now) a)) }
         ensures stop { OnErr result (Keeps (holding_in self.old.store) (holding_in self.new.store)) }
         ensures only { IfErr result (λ s. s ≢ Stop.Threads) }
-        ensures nodes { result ≡ Err Stop.NodeLimit → IsFull self.new.store }
+        ensures nodes { result ≡ Err Stop.NodeLimit → IsFull self.new.store ⊎ IsSpent self.new.turns }
         ensures grows { Grows self.old.store.nodes self.new.store.nodes }
         ensures references { result ≡ Err Stop.References → (e : Entry) × (2 ^ 32 - 3 ≤ copies (holding_in self.old.store) e) }
         ensures room { self.new.store.limit ≡ self.old.store.limit }
+        ensures turns { Spends self.old.turns self.new.turns }
     {
         let both = self.apply(rt, Op::And, f, g)?;
         let other = match self.apply(rt, Op::AndNot, h, f) {

@@ -30,7 +30,7 @@ fn reports(
 ) -> bool {
     let mut out = Vec::new(rt.alloc());
     let texts = Texts::One(Feed::whole(MULTIPLIERS));
-    let done = run(rt, rt.alloc(), texts, None, options, &mut out);
+    let done = run(rt, rt.alloc(), texts, None, None, options, &mut out);
     done.is_ok() && is_text(&out, report)
 }
 

@@ -1,9 +1,10 @@
 //! Reports as bytes, and writers that fail under them.
 
 use eqc_blif::Name;
-use eqc_check::{Refused, Report, RunFault, Side, write_report};
+use eqc_check::{Difference, Refused, Report, RunFault, Side, write_report};
 use eqc_testing::{Drain, NEVER, is_text};
 use eqc_tree::Stop;
+use std::alloc::{AllocError, Global};
 
 /// Writers, by how many bytes one takes at most, which write fails and whether it flushes; then the outcome of writing
 /// the report `equivalent`, and what was written.
@@ -29,19 +30,34 @@ fn a_failed_write_leaves_a_prefix(rt: HostRuntime) {
     }
 }
 
+/// An output that differs, with inputs `a` and `b`.
+fn difference(alloc: Global, name: &[u8], first: bool) -> Result<Difference, AllocError> {
+    let a = Name::new(alloc, b"a")?;
+    let b = Name::new(alloc, b"b")?;
+    let inputs = vec![in alloc; (a, false), (b, true)]?;
+    Ok(Difference {
+        name: Name::new(alloc, name)?,
+        inputs,
+        first,
+        second: !first,
+    })
+}
+
+/// A report on one output that differs, or on two.
+fn differs(alloc: Global, is_two: bool) -> Result<Report, AllocError> {
+    let mut all = Vec::new(alloc);
+    all.push(difference(alloc, b"y", true)?)?;
+    if is_two {
+        all.push(difference(alloc, b"z", false)?)?;
+    }
+    Ok(Report::Differs(all))
+}
+
 #[test]
 fn reports_have_their_bytes(rt: HostRuntime) {
     let alloc = rt.alloc();
-    let a = Name::new(alloc, b"a").expect(&rt, "memory");
-    let b = Name::new(alloc, b"b").expect(&rt, "memory");
-    let name = Name::new(alloc, b"y").expect(&rt, "memory");
-    let inputs = vec![in alloc; (a, false), (b, true)].expect(&rt, "memory");
-    let differs = Report::Differs {
-        name,
-        inputs,
-        first: true,
-        second: false,
-    };
+    let one = differs(alloc, false).expect(&rt, "memory");
+    let two = differs(alloc, true).expect(&rt, "memory");
     let refused = Report::Refused(Refused {
         side: Side::Order,
         line: 0,
@@ -49,7 +65,12 @@ fn reports_have_their_bytes(rt: HostRuntime) {
     });
     let rows = [
         (Report::Equivalent, "equivalent;"),
-        (differs, "differs at y;a=0;b=1;first=1;second=0;"),
+        (Report::Vacuous, "vacuous;"),
+        (one, "differs at y;a=0;b=1;first=1;second=0;"),
+        (
+            two,
+            "differs at y;a=0;b=1;first=1;second=0;differs at z;a=0;b=1;first=0;second=1;",
+        ),
         (refused, "refused order 0 51;"),
         (Report::Stopped(Stop::Memory), "stopped 72;"),
     ];

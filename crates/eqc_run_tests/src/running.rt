@@ -35,6 +35,7 @@ pub fn options(numbers: Numbers) -> Options {
         cells,
         forks,
         conflicts: CONFLICTS,
+        every: false,
     }
 }
 
@@ -46,16 +47,17 @@ pub fn ran<RT: AllocGlobal + Threads + Wait + Sync, R: Read + Drop, W: Write>(
     numbers: Numbers,
     out: &mut W,
 ) -> Result<Status, RunFault> {
-    run(rt, rt.alloc(), texts, order, &options(numbers), out)
+    run(rt, rt.alloc(), texts, order, None, &options(numbers), out)
 }
 
 /// The status that a report has by its first word.
-fn status_of(report: &str) -> Option<Status> {
+pub fn status_of(report: &str) -> Option<Status> {
     match report.as_bytes().first() {
         Some(b'e') => Some(Status::Equivalent),
         Some(b'd') => Some(Status::Differs),
         Some(b'r') => Some(Status::Refused),
         Some(b's') => Some(Status::Stopped),
+        Some(b'v') => Some(Status::Vacuous),
         _ => None,
     }
 }
@@ -92,7 +94,7 @@ pub fn reports_by(
 ) -> bool {
     let mut out = Vec::new(rt.alloc());
     let texts = Texts::One(Feed::whole(text));
-    let done = run(rt, rt.alloc(), texts, None, options, &mut out);
+    let done = run(rt, rt.alloc(), texts, None, None, options, &mut out);
     done.ok() == status_of(report) && is_text(&out, report)
 }
 

@@ -174,7 +174,7 @@ fn outputs_before_a_changed_one_need_no_node(rt: HostRuntime) -> Result<(), Allo
     Ok(())
 }
 
-/// Numbers of workers and nodes, and whether diagrams alone decide a pair with them that needs more nodes than the forest has in
+/// Numbers of workers and nodes, and whether diagrams alone decide a pair with them that needs more nodes than the store has in
 /// which a comparison begins.
 static ROOMS: &[(u32, u32, bool)] = &[
     (2, 65_536, false),

@@ -46,6 +46,29 @@ fn flush<W: Write>(out: &mut W, stage: &mut Stage) -> io::Result<()>
     }
 }
 
+/// Writes the text whole. The stage tells how it ended.
+fn write_text_in<W: Write>(out: &mut W, stage: &mut Stage, text: &[u8]) -> io::Result<()>
+    requires { stage.old ≡ Stage.Open }
+    ensures whole { OnOk result (Appends (W.contents out.old) (W.contents out.new) text.now) }
+    ensures part { OnErr result (AppendsPrefix (W.contents out.old) (W.contents out.new) text.now) }
+    ensures stage { stage.new ≡ (if is_ok result then Stage.Open else Stage.Failed) }
+{
+    let mut done = 0;
+    'writes: while done < text.len() {
+        done += write_some(out, stage, &text[done..])?;
+    }
+    Ok(())
+}
+
+/// Writes the text, in as many writes as it takes, and doesn't flush it. Nothing is tried again. No memory is taken.
+pub(crate) fn write_all<W: Write>(out: &mut W, text: &[u8]) -> io::Result<()>
+    ensures whole { OnOk result (Appends (W.contents out.old) (W.contents out.new) text.now) }
+    ensures part { OnErr result (AppendsPrefix (W.contents out.old) (W.contents out.new) text.now) }
+{
+    let mut stage = Stage::Open;
+    write_text_in(out, &mut stage, text)
+}
+
 /// Writes the text whole, and flushes it. The stage tells how it ended.
 fn write_to_end<W: Write>(out: &mut W, stage: &mut Stage, text: &[u8]) -> io::Result<()>
     requires { stage.old ≡ Stage.Open }
@@ -53,10 +76,7 @@ fn write_to_end<W: Write>(out: &mut W, stage: &mut Stage, text: &[u8]) -> io::Re
     ensures part { OnErr result (AppendsPrefix (W.contents out.old) (W.contents out.new) text.now) }
     ensures stage { stage.new ≡ (if is_ok result then Stage.Done else Stage.Failed) }
 {
-    let mut done = 0;
-    'writes: while done < text.len() {
-        done += write_some(out, stage, &text[done..])?;
-    }
+    write_text_in(out, stage, text)?;
     flush(out, stage)
 }
 

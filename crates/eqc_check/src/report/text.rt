@@ -1,18 +1,22 @@
 //! The bytes of reports.
-ghost use Rattle.std.specs.Prelude.{◌≡◌, ◌≢◌, ◌++◌, ◌∷◌, [], string_bytes, IfOk, OnOk, OnErr, IfErr};
+ghost use Rattle.std.specs.Prelude.{◌≡◌, ◌≢◌, ◌++◌, ◌∷◌, [], map, string_bytes, IfOk, OnOk, OnErr, IfErr};
 ghost use Rattle.std.specs.Io.KnownBytes.{Appends, Keeps};
 ghost use Rattle.eqc_tree.specs.Stopping.{code_of};
 ghost use Rattle.eqc_check.specs.Ends.{AppendsPrefix};
-ghost use Rattle.eqc_check.specs.Report.{text, value_line, stopped, refused, differs};
-ghost use Rattle.eqc_check.specs.ReportView.{report_of, IsAnswer};
+ghost use Rattle.eqc_check.specs.Spooling.{Puts};
+ghost use Rattle.std.specs.List.{flat_map};
+ghost use Rattle.eqc_check.specs.Report.{text, block, value_line, stopped, refused, differs};
+ghost use Rattle.eqc_check.specs.ReportView.{difference_of, report_of, IsAnswer};
 
 use crate::io::fault::{RunFault, StreamFault};
+use crate::io::spool::Spool;
 use crate::io::writing::write_whole;
-use crate::report::Report;
+use crate::report::{Difference, Report};
 use eqc_blif::Name;
 use eqc_pair::Refused;
 use eqc_tree::Stop;
 use std::alloc::{AllocError, Global};
+use std::io;
 use std::io::Write;
 
 /// `stopped CODE` with its LF. It takes no memory.
@@ -34,33 +38,52 @@ fn refused_text(alloc: Global, refusal: Refused) -> Result<String, AllocError>
     format!(in alloc; "refused {} {line} {code}\n", side.word())
 }
 
-/// Appends `NAME=0` or `NAME=1` with its LF. After an error the text may have a part of it.
-fn push_value(text: &mut Vec<u8>, name: &[u8], value: bool) -> Result<(), AllocError>
-    ensures { OnOk result (text.new.items ≡ text.old.items ++ value_line (name.now, value)) }
+/// Puts `NAME=0` or `NAME=1` with its LF.
+fn put_value<W: Write>(out: &mut W, spool: &mut Spool, name: &[u8], value: bool)
+    ensures { Puts (W.contents out.old) (W.contents out.new) spool.old spool.new (value_line (name.now, value)) }
 {
-    text.extend_from_slice(name)?;
-    text.extend_from_slice(if value { b"=1\n" } else { b"=0\n" })
+    spool.put(out, name);
+    spool.put(out, if value { b"=1\n" } else { b"=0\n" });
 }
 
-/// `differs at NAME`, a line for each input, and one for each netlist's value.
-fn differs_text(
-    alloc: Global,
-    name: &Name,
-    inputs: &[(Name, bool)],
-    first: bool,
-    second: bool,
-) -> Result<Vec<u8>, AllocError>
-    ensures { IfOk result (λ v. v.items ≡ text (differs name.now inputs.now first second)) }
+/// Puts a line for each of these inputs.
+fn put_values<W: Write>(out: &mut W, spool: &mut Spool, inputs: &[(Name, bool)])
+    ensures { Puts (W.contents out.old) (W.contents out.new) spool.old spool.new (flat_map value_line inputs.now) }
 {
-    let mut text = Vec::from_slice(alloc, b"differs at ")?;
-    text.extend_from_slice(name.as_bytes())?;
-    text.extend_from_slice(b"\n")?;
     for (input, value) in inputs {
-        push_value(&mut text, input.as_bytes(), *value)?;
+        put_value(out, spool, input.as_bytes(), *value);
     }
-    push_value(&mut text, b"first", first)?;
-    push_value(&mut text, b"second", second)?;
-    Ok(text)
+}
+
+/// Puts `differs at NAME`, a line for each input, and one for each netlist's value.
+fn put_difference<W: Write>(out: &mut W, spool: &mut Spool, difference: &Difference)
+    ensures { Puts (W.contents out.old) (W.contents out.new) spool.old spool.new (block (difference_of difference.now)) }
+{
+    spool.put(out, b"differs at ");
+    spool.put(out, difference.name.as_bytes());
+    spool.put(out, b"\n");
+    put_values(out, spool, &difference.inputs);
+    put_value(out, spool, b"first", difference.first);
+    put_value(out, spool, b"second", difference.second);
+}
+
+/// Puts the lines on each of these outputs.
+fn put_each<W: Write>(out: &mut W, spool: &mut Spool, differences: &[Difference])
+    ensures { Puts (W.contents out.old) (W.contents out.new) spool.old spool.new (flat_map (λ d. block (difference_of d)) differences.now) }
+{
+    for difference in differences {
+        put_difference(out, spool, difference);
+    }
+}
+
+/// Writes the lines on these outputs as they are made, and flushes the writer. No memory is taken.
+fn put_differences<W: Write>(out: &mut W, differences: &[Difference]) -> io::Result<()>
+    ensures whole { OnOk result (Appends (W.contents out.old) (W.contents out.new) (text (differs (map difference_of differences.now)))) }
+    ensures part { OnErr result (AppendsPrefix (W.contents out.old) (W.contents out.new) (text (differs (map difference_of differences.now)))) }
+{
+    let mut spool = Spool::new();
+    put_each(out, &mut spool, differences);
+    spool.close(out)
 }
 
 /// Writes the report's bytes and flushes the writer. Memory is refused before the first byte, and never for a report that
@@ -77,15 +100,8 @@ pub(crate) fn put_report<W: Write>(
 {
     match report {
         Report::Equivalent => write_whole(out, b"equivalent\n")?,
-        Report::Differs {
-            name,
-            inputs,
-            first,
-            second,
-        } => {
-            let text = differs_text(alloc, name, inputs, *first, *second)?;
-            write_whole(out, &text)?
-        }
+        Report::Differs(differences) => put_differences(out, differences)?,
+        Report::Vacuous => write_whole(out, b"vacuous\n")?,
         Report::Refused(refusal) => {
             let text = refused_text(alloc, *refusal)?;
             write_whole(out, text.as_bytes())?

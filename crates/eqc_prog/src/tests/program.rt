@@ -34,6 +34,13 @@ static FILES: &[(&str, &str)] = &[
     ("ada", "a d a"),
     ("a", "a"),
     ("-x", "x y"),
+    ("both", ".model f;.inputs a;.outputs p q;.names a p;1 1;.names a q;1 1;.end;.model g;.inputs a;.outputs p q;.names a p;0 1;.names q;"),
+    ("x_is_1", ".model h;.inputs x;.outputs e;.names x e;1 1;"),
+    ("a_is_0", ".model h;.inputs a;.outputs e;.names a e;0 1;"),
+    ("w_is_1", ".model h;.inputs w;.outputs e;.names w e;1 1;"),
+    ("nothing", ".model h;.outputs e;.names e;"),
+    ("two_outputs", ".model h;.outputs e f;.names e;.names f;"),
+    ("undriven", ".model h;.outputs e;"),
 ];
 
 /// The words of a command line, cut at spaces.
@@ -246,9 +253,33 @@ static MIXED: &[Line<Reported>] = &[
     ("eqc --order=-x and or", (DIFFERENCE, 1)),
 ];
 
+/// Command lines with an assumption, for each difference, and with names of outputs.
+#[rattlefmt::skip]
+static WANTED: &[Line<Reported>] = &[
+    ("eqc --assume x_is_1 and or", ("differs at z;x=1;y=0;first=0;second=1;", 1)),
+    ("eqc and --assume=x_is_1 or --workers 8 --forks 16", ("differs at z;x=1;y=0;first=0;second=1;", 1)),
+    ("eqc --assume nothing and or", ("vacuous;", 6)),
+    ("eqc --assume nothing equal", ("vacuous;", 6)),
+    ("eqc --assume latch and or", ("refused assume 2 4;", 2)),
+    ("eqc --assume w_is_1 and or", ("refused assume 0 61;", 2)),
+    ("eqc --assume two_outputs and or", ("refused assume 0 62;", 2)),
+    ("eqc --assume latch --order a and or", ("refused order 0 51;", 2)),
+    ("eqc both", ("differs at p;a=0;first=0;second=1;", 1)),
+    ("eqc --all both", ("differs at p;a=0;first=0;second=1;differs at q;a=1;first=1;second=0;", 1)),
+    ("eqc --all and and", ("equivalent;", 0)),
+    ("eqc --output q both", ("differs at q;a=1;first=1;second=0;", 1)),
+    ("eqc --output q both --output p", ("differs at p;a=0;first=0;second=1;", 1)),
+    ("eqc --all --output=q --output=p both", ("differs at p;a=0;first=0;second=1;differs at q;a=1;first=1;second=0;", 1)),
+    ("eqc --all --output q --assume a_is_0 both", ("equivalent;", 0)),
+    ("eqc --all --assume a_is_0 both", ("differs at p;a=0;first=0;second=1;", 1)),
+    ("eqc --output r both", ("refused pair 0 43;", 2)),
+    ("eqc --output q --output r --order yx both", ("refused pair 0 43;", 2)),
+];
+
 /// Standard input fails here, and isn't read.
 #[test]
 fn files_are_compared(rt: HostRuntime) {
     check_lines(&rt, "", 0, FILED);
     check_lines(&rt, "", 0, MIXED);
+    check_lines(&rt, "", 0, WANTED);
 }

@@ -48,6 +48,11 @@ static BAD_WORDS: &[&str] = &[
     "eqc --cells=",
     "eqc --cells 1 --cells 1",
     "eqc --order a --order a",
+    "eqc --assume",
+    "eqc --assume a --assume a",
+    "eqc --all --all",
+    "eqc --all=yes",
+    "eqc --output",
     "eqc --second-model",
     "eqc --first-model f --first-model f",
     "eqc --work 1",
@@ -75,8 +80,8 @@ fn bad_command_lines_are_told(rt: HostRuntime) {
 
 /// The numbers of all refusals, stops and faults.
 static NUMBERS: &[u8] = &[
-    1, 2, 3, 4, 5, 6, 7, 8, 9, 10, 11, 12, 13, 21, 22, 23, 24, 25, 26, 27, 28, 29, 30, 41, 42, 51,
-    52, 53, 71, 72, 73, 74, 81, 82, 83, 84, 91, 92,
+    1, 2, 3, 4, 5, 6, 7, 8, 9, 10, 11, 12, 13, 21, 22, 23, 24, 25, 26, 27, 28, 29, 30, 41, 42, 43,
+    51, 52, 53, 61, 62, 71, 72, 73, 74, 81, 82, 83, 84, 91, 92,
 ];
 
 /// Whether a refusal, stop or fault has a line of its own in the help.
@@ -99,6 +104,9 @@ static OPTIONS: &[&str] = &[
     "--forks <N>",
     "--conflicts <N>",
     "--order <FILE>",
+    "--assume <FILE>",
+    "--all",
+    "--output <NAME>",
     "--first-model <NAME>",
     "--second-model <NAME>",
     "--help",
@@ -110,7 +118,7 @@ fn check_help(rt: &(impl Abort + AllocGlobal), help: &str) {
     for number in NUMBERS.iter() {
         holds(rt, has_number(rt.alloc(), help, *number), number);
     }
-    for status in 0..=5 {
+    for status in 0..=6 {
         holds(rt, has_status(rt.alloc(), help, status), status);
     }
     for option in OPTIONS.iter() {

@@ -1,13 +1,11 @@
-use Rattle.std.proofs.Common.{◌+◌, ◌≡◌, arith, ap, subst, ◌∙◌, nat_eq, length}
+use Rattle.std.proofs.Common.{◌+◌, ◌≡◌, arith, ap, ◌∙◌, nat_eq}
 use Rattle.std.specs.BinaryHeap.{heap_items}
 use Rattle.std.specs.Map.{lookup}
 use Rattle.std.specs.Option.{unwrap_or}
 use Rattle.eqc_build.specs.Listed.{moment_in}
-use Rattle.eqc_build.specs.Steps.{roots_of}
-use Rattle.eqc_build.specs.Schedule.{moment, end_of, AreNoted}
-use Rattle.eqc_build.proofs.StepLaws.{roots_twice, roots_within}
+use Rattle.eqc_build.specs.Schedule.{moment, end_of}
 use Rattle.eqc_build.proofs.WantedLaws.{open_below_top, open_top, nothing_in}
-use Rattle.eqc_build.proofs.ConeLaws.{noted_two, noted_start, noted_step, noted_done, noted_roots}
+use Rattle.eqc_build.proofs.ConeLaws.{noted_start, noted_step, noted_done, noted_roots}
 use Rattle.eqc_build.proofs.cone.moments_below.Goals as goal
 
 pub drop_repeats-requires-clause-below : goal.drop_repeats-requires-clause-below
@@ -19,18 +17,13 @@ loop-step-smaller c = c.loop-step.invariant.1.open_below c.in-Some.step (open_to
 pub loop-step-init : goal.loop-step-init
 loop-step-init c =
     let s = c.args.steps.now in
-    let roots = roots_of s c.args.output in
-    let old = moment_in c.new-last.result in
-    let last = moment_in c.note-2.new.last in
     let end : c.moment-end.result ≡ end_of s 1 = c.moment-end.ensures ∙ ap (λ n. moment 1 (n + 1)) c.len.ensures.count in
-    let noted = noted_two _ _ c.moment-end.result old (heap_items c.new-heap.result) (moment_in c.note.new.last) (heap_items c.note.new.heap) last (heap_items c.note-2.new.heap) c.in_ok-note.ensures.noted c.in_ok-note-2.ensures.noted in
-    let both : AreNoted roots (end_of s 1) old (heap_items c.new-heap.result) last (heap_items c.note-2.new.heap) (length roots) = subst (λ xs. AreNoted xs (end_of s 1) old (heap_items c.new-heap.result) last (heap_items c.note-2.new.heap) (length xs)) (roots_twice s c.args.output c.roots-roots.result c.roots-roots.ensures) (rw end at noted) in
-    (c.in_ok-note-2.ensures.heap, rw c.len-below.ensures.count (noted_start s roots (heap_items c.new-heap.result) old last (heap_items c.note-2.new.heap) c.new-heap.ensures.items (λ q. ap (λ es. unwrap_or (lookup (nat_eq q) es) 0) c.new-last.ensures.empty) (λ r h. roots_within s c.args.output r c.len-below.ensures.lawful c.requires.output h) both))
+    (c.in_ok-note_goals.ensures.heap, rw c.len-below.ensures.count (noted_start s c.args.goals.now (heap_items c.new-heap.result) (moment_in c.new-last.result) (moment_in c.note_goals.new.last) (heap_items c.note_goals.new.heap) c.new-heap.ensures.items (λ q. ap (λ es. unwrap_or (lookup (nat_eq q) es) 0) c.new-last.ensures.empty) c.requires.within.each (rw end at c.in_ok-note_goals.ensures.noted)))
 
 pub loop-step-preserved : goal.loop-step-preserved
 loop-step-preserved c =
     let noted = rw (c.uses.ensures, c.moment.ensures) at c.in_ok-note_all.ensures.noted in
-    (c.in_ok-note_all.ensures.heap, noted_step c.args.steps.now (roots_of c.args.steps.now c.args.output) (moment_in c.loop-step.last) (moment_in c.note_all.new.last) (heap_items c.loop-step.heap) (heap_items c.pop.new.self) (heap_items c.drop_repeats.new.heap) (heap_items c.note_all.new.heap) c.loop-step.below c.in-Some.step c.len-below.ensures.lawful c.in-Some.ensures.permutation (λ x h. open_below_top (heap_items c.pop.new.self) c.in-Some.step x (c.in-Some.ensures.below_top c.loop-step.invariant.0) h) c.drop_repeats.ensures.below c.drop_repeats.ensures.others noted c.loop-step.invariant.1)
+    (c.in_ok-note_all.ensures.heap, noted_step c.args.steps.now c.args.goals.now (moment_in c.loop-step.last) (moment_in c.note_all.new.last) (heap_items c.loop-step.heap) (heap_items c.pop.new.self) (heap_items c.drop_repeats.new.heap) (heap_items c.note_all.new.heap) c.loop-step.below c.in-Some.step c.len-below.ensures.lawful c.in-Some.ensures.permutation (λ x h. open_below_top (heap_items c.pop.new.self) c.in-Some.step x (c.in-Some.ensures.below_top c.loop-step.invariant.0) h) c.drop_repeats.ensures.below c.drop_repeats.ensures.others noted c.loop-step.invariant.1)
 
 pub uses-requires : goal.uses-requires
 uses-requires c = omega (arith, c.loop-step.invariant.1.small, c.loop-step.invariant.1.open_below c.in-Some.step (open_top (heap_items c.loop-step.heap) (heap_items c.pop.new.self) c.in-Some.step c.in-Some.ensures.permutation))
@@ -39,7 +32,7 @@ pub overflow_add-step : goal.overflow_add-step
 overflow_add-step c = omega (arith, c.len-below.ensures.count, c.len-below.ensures.few, c.loop-step.invariant.1.small, c.loop-step.invariant.1.open_below c.in-Some.step (open_top (heap_items c.loop-step.heap) (heap_items c.pop.new.self) c.in-Some.step c.in-Some.ensures.permutation))
 
 pub returns-clause-last : goal.returns-clause-last
-returns-clause-last c = rw (c.of_few.ensures, c.len-2.ensures.count) (noted_done c.args.steps.now (roots_of c.args.steps.now c.args.output) (moment_in c.loop-step.last) (heap_items c.loop-step.heap) c.loop-step.below c.len-below.ensures.lawful (nothing_in (heap_items c.loop-step.heap) (omega (arith, c.in_default.ensures.none, c.loop-step.heap.data.ok.0))) c.loop-step.invariant.1)
+returns-clause-last c = rw (c.of_few.ensures, c.len-2.ensures.count) (noted_done c.args.steps.now c.args.goals.now (moment_in c.loop-step.last) (heap_items c.loop-step.heap) c.loop-step.below c.len-below.ensures.lawful (nothing_in (heap_items c.loop-step.heap) (omega (arith, c.in_default.ensures.none, c.loop-step.heap.data.ok.0))) c.loop-step.invariant.1)
 
 pub returns-clause-roots : goal.returns-clause-roots
-returns-clause-roots c = rw (c.of_few.ensures, c.len-2.ensures.count) (noted_roots c.args.steps.now (roots_of c.args.steps.now c.args.output) (moment_in c.loop-step.last) (heap_items c.loop-step.heap) c.loop-step.below c.len-below.ensures.lawful (nothing_in (heap_items c.loop-step.heap) (omega (arith, c.in_default.ensures.none, c.loop-step.heap.data.ok.0))) c.loop-step.invariant.1 (λ r h. roots_within c.args.steps.now c.args.output r c.len-below.ensures.lawful c.requires.output h))
+returns-clause-roots c = rw (c.of_few.ensures, c.len-2.ensures.count) (noted_roots c.args.steps.now c.args.goals.now (moment_in c.loop-step.last) (heap_items c.loop-step.heap) c.loop-step.below c.len-below.ensures.lawful (nothing_in (heap_items c.loop-step.heap) (omega (arith, c.in_default.ensures.none, c.loop-step.heap.data.ok.0))) c.loop-step.invariant.1 c.requires.within.each)

@@ -1,9 +1,9 @@
-use Rattle.std.proofs.Common.{◌<◌, length, arith, subst}
+use Rattle.std.proofs.Common.{◌<◌, arith}
 use Rattle.std.specs.BinaryHeap.{heap_items}
-use Rattle.eqc_build.specs.Steps.{roots_of, steps_in}
-use Rattle.eqc_build.specs.Schedule.{AreOpened, end_of}
-use Rattle.eqc_build.proofs.StepLaws.{roots_twice, roots_within, uses_within}
-use Rattle.eqc_build.proofs.WantedLaws.{opened_two, wanted_first, wanted_more, wanted_done, wanted_roots, open_below_top, open_top, nothing_in}
+use Rattle.eqc_build.specs.Steps.{steps_in}
+use Rattle.eqc_build.specs.Schedule.{end_of}
+use Rattle.eqc_build.proofs.StepLaws.{uses_within}
+use Rattle.eqc_build.proofs.WantedLaws.{wanted_first, wanted_more, wanted_done, wanted_roots, open_below_top, open_top, nothing_in}
 use Rattle.eqc_build.proofs.wanted.wanted.Goals as goal
 
 pub drop_repeats-requires-clause-below : goal.drop_repeats-requires-clause-below
@@ -18,17 +18,18 @@ returns-clause-wanted g c = wanted_done c.args.plan.now.steps c.args.plan.now.la
 pub returns-clause-roots : goal.returns-clause-roots
 returns-clause-roots g c = wanted_roots c.args.plan.now.steps c.args.plan.now.last c.args.table.now c.args.turn _ c.loop-step.wanted.items (heap_items c.loop-step.heap) c.loop-step.below (nothing_in (heap_items c.loop-step.heap) (omega (arith, c.in_default.ensures.none, c.loop-step.heap.data.ok.0))) c.loop-step.invariant.1
 
+pub open_goals-requires-clause-table : goal.open_goals-requires-clause-table
+open_goals-requires-clause-table g c = λ k lt. omega (arith, c.requires.turn.within.each k lt, c.requires.table)
+
 pub loop-step-init : goal.loop-step-init
-loop-step-init g c =
-    let s = c.args.plan.now.steps in
-    let roots = roots_of s c.args.output in
-    let opened = opened_two c.args.table.now _ _ (heap_items c.new-heap.result) (heap_items c.open_one.new.heap) (heap_items c.open_one-2.new.heap) c.in_ok-open_one.ensures.opened c.in_ok-open_one-2.ensures.opened in
-    let both : AreOpened c.args.table.now roots (heap_items c.new-heap.result) (heap_items c.open_one-2.new.heap) (length roots) = subst (λ xs. AreOpened c.args.table.now xs (heap_items c.new-heap.result) (heap_items c.open_one-2.new.heap) (length xs)) (roots_twice s c.args.output c.roots-roots.result c.roots-roots.ensures) opened in
-    (c.in_ok-open_one-2.ensures.heap, rw (c.new-wanted.ensures.items, c.len-below.ensures.count) (wanted_first s c.args.plan.now.last c.args.table.now c.args.turn (end_of s c.args.turn) roots (heap_items c.new-heap.result) (heap_items c.open_one-2.new.heap) c.new-heap.ensures.items (omega arith) (λ r h. roots_within s c.args.output r c.len-below.ensures.lawful c.requires.output h) c.requires.turn.ends both))
+loop-step-init g c = (
+  c.in_ok-open_goals.ensures.heap,
+  rw (c.new-wanted.ensures.items, c.len-below.ensures.count) (wanted_first c.args.plan.now.steps c.args.plan.now.last c.args.table.now c.args.turn (end_of c.args.plan.now.steps c.args.turn) c.args.goals.now (heap_items c.new-heap.result) (heap_items c.open_goals.new.heap) c.new-heap.ensures.items (omega arith) c.requires.turn.within.each c.requires.turn.ends c.in_ok-open_goals.ensures.opened),
+)
 
 pub loop-step-preserved : goal.loop-step-preserved
 loop-step-preserved g c =
-    (c.in_ok-open_missing.ensures.heap, rw c.in_ok-push.ensures.items (wanted_more c.args.plan.now.steps c.args.plan.now.last c.args.table.now c.args.turn (roots_of c.args.plan.now.steps c.args.output) c.loop-step.wanted.items (heap_items c.loop-step.heap) (heap_items c.pop.new.self) (heap_items c.drop_repeats.new.heap) (heap_items c.open_missing.new.heap) c.loop-step.below c.in-Some.step c.len-below.ensures.lawful c.requires.turn.moments c.requires.turn.some c.in-Some.ensures.permutation c.drop_repeats.ensures.below c.drop_repeats.ensures.kept c.drop_repeats.ensures.others (λ x h. open_below_top (heap_items c.pop.new.self) c.in-Some.step x (c.in-Some.ensures.below_top c.loop-step.invariant.0) h) (rw c.uses.ensures at c.in_ok-open_missing.ensures.opened) c.loop-step.invariant.1))
+    (c.in_ok-open_missing.ensures.heap, rw c.in_ok-push.ensures.items (wanted_more c.args.plan.now.steps c.args.plan.now.last c.args.table.now c.args.turn c.args.goals.now c.loop-step.wanted.items (heap_items c.loop-step.heap) (heap_items c.pop.new.self) (heap_items c.drop_repeats.new.heap) (heap_items c.open_missing.new.heap) c.loop-step.below c.in-Some.step c.len-below.ensures.lawful c.requires.turn.moments c.requires.turn.some c.in-Some.ensures.permutation c.drop_repeats.ensures.below c.drop_repeats.ensures.kept c.drop_repeats.ensures.others (λ x h. open_below_top (heap_items c.pop.new.self) c.in-Some.step x (c.in-Some.ensures.below_top c.loop-step.invariant.0) h) (rw c.uses.ensures at c.in_ok-open_missing.ensures.opened) c.loop-step.invariant.1))
 
 pub uses-requires : goal.uses-requires
 uses-requires g c = omega (arith, c.loop-step.invariant.1.small, c.loop-step.invariant.1.open_below c.in-Some.step (open_top (heap_items c.loop-step.heap) (heap_items c.pop.new.self) c.in-Some.step c.in-Some.ensures.permutation))

@@ -14,8 +14,11 @@ returns c =
     let forks = arg_added _ _ _ _ _ c.in_ok-arg-4.ensures c.number-4.ensures.own cells c.number-4.ensures.rule in
     let conflicts = arg_added _ _ _ _ _ c.in_ok-arg-5.ensures c.number-5.ensures.own forks c.number-5.ensures.rule in
     let order = arg_added _ _ _ _ _ c.in_ok-arg-6.ensures c.text.ensures.own conflicts c.text.ensures.rule in
-    let first_model = arg_added _ _ _ _ _ c.in_ok-arg-7.ensures c.text-2.ensures.own order c.text-2.ensures.rule in
-    let second_model = arg_added _ _ _ _ _ c.in_ok-arg-8.ensures c.text-3.ensures.own first_model c.text-3.ensures.rule in
-    let explain = arg_added _ _ _ _ _ c.in_ok-arg-9.ensures c.flag.ensures.own second_model c.flag.ensures.rule in
-    let first = arg_added _ _ _ _ _ c.in_ok-arg-10.ensures c.path.ensures.own explain c.path.ensures.rule in
-    IfOk-weaker c.arg-11.result _ _ (λ r adds. arg_added _ _ _ _ _ adds c.path-2.ensures.own first c.path-2.ensures.rule) c.arg-11.ensures
+    let assume = arg_added _ _ _ _ _ c.in_ok-arg-7.ensures c.text-2.ensures.own order c.text-2.ensures.rule in
+    let every = arg_added _ _ _ _ _ c.in_ok-arg-8.ensures c.flag.ensures.own assume c.flag.ensures.rule in
+    let outputs = arg_added _ _ _ _ _ c.in_ok-arg-9.ensures c.names.ensures.own every c.names.ensures.rule in
+    let first_model = arg_added _ _ _ _ _ c.in_ok-arg-10.ensures c.text-3.ensures.own outputs c.text-3.ensures.rule in
+    let second_model = arg_added _ _ _ _ _ c.in_ok-arg-11.ensures c.text-4.ensures.own first_model c.text-4.ensures.rule in
+    let explain = arg_added _ _ _ _ _ c.in_ok-arg-12.ensures c.flag-2.ensures.own second_model c.flag-2.ensures.rule in
+    let first = arg_added _ _ _ _ _ c.in_ok-arg-13.ensures c.path.ensures.own explain c.path.ensures.rule in
+    IfOk-weaker c.arg-14.result _ _ (λ r adds. arg_added _ _ _ _ _ adds c.path-2.ensures.own first c.path-2.ensures.rule) c.arg-14.ensures

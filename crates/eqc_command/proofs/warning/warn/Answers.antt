@@ -1,8 +1,5 @@
-use Rattle.std.proofs.Common.{◌≡◌, ◌∙◌, ap, sym, length, List, ℕ}
-use Rattle.std.specs.Prelude.{OnOk, OnErr}
-use Rattle.std.specs.Io.KnownBytes.{Appends}
+use Rattle.std.proofs.Common.{◌≡◌, ◌∙◌, ap, sym, length}
 use Rattle.std.proofs.lemmas.Bool.{eqb-false}
-use Rattle.eqc_check.specs.Ends.{AppendsPrefix}
 use Rattle.eqc_command.specs.Warnings.{warnings_text}
 use Rattle.eqc_command.proofs.EndLemmas.{told_of}
 use Rattle.eqc_command.proofs.warning.warn.Goals as goal

@@ -1,24 +1,24 @@
-use Rattle.std.proofs.Common.{◌≡◌, Some, ap, sym, ◌∙◌, get_or}
-use Rattle.eqc_build.specs.Building.{reference_of}
+use Rattle.std.proofs.Common.{◌∙◌}
 use Rattle.eqc_compare.specs.Comparing.{differs_at}
-use Rattle.eqc_build.specs.Steps.{first_root, second_root}
-use Rattle.eqc_cover.proofs.HeldLaws.{gains_as}
 use Rattle.eqc_build.proofs.TableLaws.{owned_held}
-use Rattle.eqc_build.proofs.StepLaws.{root_first, root_second}
-use Rattle.eqc_compare.proofs.DifferenceLaws.{xor_says}
+use Rattle.eqc_compare.proofs.DifferenceLaws.{differs_with, differs_without, gained_behind, still_held, third_ready}
 use Rattle.eqc_compare.proofs.compare.output_difference.Goals as goal
 
-pub apply-requires-clause-f : goal.apply-requires-clause-f
-apply-requires-clause-f g c = owned_held g.D.References.entry _ c.args.table.now _ _ c.requires.kept.owned c.reference_at-first.ensures
+pub returns-in_default-clause-ok : goal.returns-in_default-clause-ok
+returns-in_default-clause-ok g c =
+    let made = c.in_ok-difference.ensures.ok in
+    record { variables = made.variables; held = made.held; function = λ a. made.function a ∙ differs_without c.args.steps.now c.args.output a c.in_default.ensures }
 
-pub apply-requires-clause-g : goal.apply-requires-clause-g
-apply-requires-clause-g g c = owned_held g.D.References.entry _ c.args.table.now _ _ c.requires.kept.owned c.reference_at.ensures
+pub reference_at-requires-clause-some : goal.reference_at-requires-clause-some
+reference_at-requires-clause-some g c = third_ready c.args.table.now c.args.steps.now c.args.output c.in-Some.root c.requires.ready c.in-Some.ensures
+
+pub apply-allowed-requires-clause-f : goal.apply-allowed-requires-clause-f
+apply-allowed-requires-clause-f g c =
+    still_held _ _ _ _ _ (owned_held g.D.References.entry _ c.args.table.now _ _ c.requires.kept.owned c.reference_at.ensures) c.in_ok-difference.ensures.ok
 
 pub returns-clause-ok : goal.returns-clause-ok
 returns-clause-ok g c =
-    let s = c.args.steps.now in
-    let o = c.args.output in
-    let table = c.args.table.now in
-    let first : reference_of table (first_root s o) ≡ Some c.reference_at-first.result.now = ap (reference_of table) (sym (ap (λ rs. get_or rs 0 0) c.roots-roots.ensures ∙ root_first s o)) ∙ c.reference_at-first.ensures in
-    let second : reference_of table (second_root s o) ≡ Some c.reference_at.result.now = ap (reference_of table) (sym (ap (λ rs. get_or rs 1 0) c.roots-roots.ensures ∙ root_second s o)) ∙ c.reference_at.ensures in
-    gains_as g.D.References.entry _ _ c.apply.result _ (differs_at s.pair o) (λ a. xor_says g.D.References.entry s o table c.reference_at-first.result.now c.reference_at.result.now a c.len-count.ensures.lawful c.requires.output c.requires.kept.built first second) c.apply.ensures.ok
+    let made = c.in_ok-difference.ensures.ok in
+    gained_behind g.D.References.entry _ _ _ _ _ c.apply-allowed.result _ _ (differs_at c.args.steps.now.pair c.args.output)
+    (λ a. differs_with c.args.steps.now c.args.output c.in-Some.root a _ _ c.len-count.ensures.lawful c.in-Some.ensures (c.requires.kept.built.values c.in-Some.root c.reference_at.result.now c.reference_at.ensures a) (made.function a))
+    made c.apply-allowed.ensures.ok c.give_back.ensures

@@ -1,4 +1,4 @@
-use Rattle.std.proofs.Common.{◌∷◌, [], length, arith}
+use Rattle.std.proofs.Common.{◌∷◌, [], arith}
 use Rattle.std.proofs.lemmas.List.{length-append}
 use Rattle.eqc_compare.proofs.InsideLaws.{equal_more}
 use Rattle.eqc_compare.proofs.inside.outputs_of_one_literal.Goals as goal

@@ -4,4 +4,4 @@ use Rattle.eqc_compare.proofs.LeastLemmas.{least_unique}
 use Rattle.eqc_compare.proofs.laws.least_difference_is_unique.Goals as goal
 
 pub returns : goal.returns
-returns c = λ f g output. least_unique (length f.inputs) (differs_under f g output)
+returns c = λ f g h output. least_unique (length f.inputs) (differs_under f g h output)

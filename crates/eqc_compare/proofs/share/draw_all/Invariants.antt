@@ -1,11 +1,11 @@
 use Rattle.std.specs.Prelude.{◌≡◌, ◌-◌, length}
 use Rattle.eqc_build.specs.Turns.{AreKept}
-use Rattle.eqc_compare.specs.Verdicts.{IsWork}
+use Rattle.eqc_compare.specs.Verdicts.{asked, IsWork}
 use Rattle.eqc_compare.proofs.share.draw_all.Given as goal
 
 abbrev pub invariant-loop-alloc : goal.invariant-loop-alloc
 invariant-loop-alloc g l =
-    IsWork l.fn.pair l.fn.words.table_id l.least l.behind l.seat l.verdicts.items
+    IsWork (asked l.fn.pair l.fn.task.every) l.fn.words.table_id l.least l.behind l.seat l.verdicts.items
     × (l.outputs ≡ length l.fn.pair.first.outputs)
     × AreKept g.D.References.entry l.fn.pair (g.D.References.holding l.member.diagrams) l.member.kept.table
 

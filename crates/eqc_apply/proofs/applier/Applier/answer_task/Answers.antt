@@ -1,7 +1,7 @@
 use Rattle.eqc_apply.specs.Referring.{entry_of}
 use Rattle.eqc_apply.proofs.Kept.{cells_stay}
 use Rattle.eqc_apply.proofs.Helping.{keeps_trans, kept_again, gained_held, gained_still, kept_held, extends_keeps, name_held, says_right}
-use Rattle.eqc_apply.proofs.Spending.{spends_trans}
+use Rattle.eqc_plain.proofs.Spending.{spends_trans}
 use Rattle.eqc_apply.proofs.applier.Applier.answer_task.Goals as goal
 
 pub put_done-requires-clause-f : goal.put_done-requires-clause-f

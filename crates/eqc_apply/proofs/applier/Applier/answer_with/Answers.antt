@@ -8,7 +8,7 @@ use Rattle.eqc_apply.specs.Extending.{holding_in}
 use Rattle.eqc_apply.specs.Referring.{entry_of}
 use Rattle.eqc_apply.proofs.Kept.{cells_stay}
 use Rattle.eqc_apply.proofs.Helping.{gained_held, kept_held, extends_keeps, name_held}
-use Rattle.eqc_apply.proofs.Spending.{spends_as, spends_trans}
+use Rattle.eqc_plain.proofs.Spending.{spends_as, spends_trans}
 use Rattle.eqc_apply.proofs.applier.Applier.answer_with.Goals as goal
 
 pub answer_task-requires-clause-g : goal.answer_task-requires-clause-g

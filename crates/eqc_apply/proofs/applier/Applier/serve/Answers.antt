@@ -1,6 +1,6 @@
 use Rattle.eqc_apply.proofs.Answering.{worker_stays, worker_trans, extends_stays, stays_keeps}
 use Rattle.eqc_apply.proofs.Helping.{keeps_trans}
-use Rattle.eqc_apply.proofs.Spending.{spends_trans}
+use Rattle.eqc_plain.proofs.Spending.{spends_trans}
 use Rattle.eqc_apply.proofs.applier.Applier.serve.Goals as goal
 
 pub returns-then-served-clause-kept : goal.returns-then-served-clause-kept

@@ -7,7 +7,7 @@ use Rattle.eqc_apply.specs.Extending.{holding_in}
 use Rattle.eqc_apply.specs.Referring.{entry_of}
 use Rattle.eqc_apply.proofs.Kept.{cells_stay}
 use Rattle.eqc_apply.proofs.Helping.{keeps_trans, kept_again, gained_held, kept_held, extends_keeps}
-use Rattle.eqc_apply.proofs.Spending.{spends_as, spends_trans}
+use Rattle.eqc_plain.proofs.Spending.{spends_as, spends_trans}
 use Rattle.eqc_apply.proofs.applier.Applier.serve_box.Goals as goal
 
 pub invariant_of-self : goal.invariant_of-self

@@ -2,7 +2,7 @@ use Rattle.eqc_apply.specs.Extending.{holding_in}
 use Rattle.eqc_apply.proofs.Answering.{worker_stays, worker_trans, extends_stays}
 use Rattle.eqc_apply.proofs.Meanings.{extends_refl}
 use Rattle.eqc_apply.proofs.Helping.{keeps_refl, keeps_trans}
-use Rattle.eqc_apply.proofs.Spending.{spends_refl, spends_trans}
+use Rattle.eqc_plain.proofs.Spending.{spends_refl, spends_trans}
 use Rattle.eqc_apply.proofs.applier.Applier.serve_boxes.Goals as goal
 
 pub loop-nth-init : goal.loop-nth-init

@@ -1,7 +1,7 @@
 use Rattle.eqc_tree.specs.Holding.{Keeps}
 use Rattle.eqc_apply.specs.Before.{IsWorker}
 use Rattle.eqc_apply.specs.Extending.{holding_in}
-use Rattle.eqc_apply.specs.Spending.{Spends}
+use Rattle.eqc_plain.specs.Spending.{Spends}
 use Rattle.eqc_apply.proofs.applier.Applier.serve_boxes.Given as goal
 
 abbrev pub invariant-loop-nth : goal.invariant-loop-nth

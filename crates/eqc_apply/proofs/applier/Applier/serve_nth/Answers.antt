@@ -1,6 +1,6 @@
 use Rattle.eqc_apply.proofs.Kept.{cells_stay}
 use Rattle.eqc_apply.proofs.Helping.{keeps_trans, extends_keeps}
-use Rattle.eqc_apply.proofs.Spending.{spends_trans}
+use Rattle.eqc_plain.proofs.Spending.{spends_trans}
 use Rattle.eqc_apply.proofs.applier.Applier.serve_nth.Goals as goal
 
 pub invariant_of-self : goal.invariant_of-self

@@ -1,7 +1,7 @@
 use Rattle.std.proofs.Common.{arith, inl, inr}
 use Rattle.eqc_plain.proofs.Laws.{weight_le}
 use Rattle.eqc_apply.specs.Referring.{entry_of}
-use Rattle.eqc_apply.proofs.Spending.{spends_trans, spent_stays}
+use Rattle.eqc_plain.proofs.Spending.{spends_trans, spent_stays}
 use Rattle.eqc_apply.proofs.diagrams.ApplierDiagrams.ite.Goals as goal
 
 pub returns-in-Err-clause-nodes : goal.returns-in-Err-clause-nodes

@@ -1,5 +1,5 @@
 use Rattle.eqc_apply.proofs.Answering.{same_worker, bit_small}
-use Rattle.eqc_apply.proofs.Spending.{spends_as}
+use Rattle.eqc_plain.proofs.Spending.{spends_as}
 use Rattle.eqc_apply.proofs.diagrams.ApplierReferences.constant.Goals as goal
 
 pub returns-clause-never : goal.returns-clause-never

@@ -4,7 +4,7 @@ use Rattle.eqc_tree.specs.Holding.{Gains, copies}
 use Rattle.eqc_apply.specs.Extending.{holding_in}
 use Rattle.eqc_apply.specs.Referring.{entry_of}
 use Rattle.eqc_apply.proofs.Answering.{same_worker, referred_tree, is_referenced, referenced_held}
-use Rattle.eqc_apply.proofs.Spending.{spends_as}
+use Rattle.eqc_plain.proofs.Spending.{spends_as}
 use Rattle.eqc_apply.proofs.diagrams.ApplierReferences.copy.Goals as goal
 
 pub refer-requires : goal.refer-requires

@@ -1,5 +1,5 @@
 use Rattle.eqc_apply.proofs.Answering.{same_worker}
-use Rattle.eqc_apply.proofs.Spending.{spends_as}
+use Rattle.eqc_plain.proofs.Spending.{spends_as}
 use Rattle.eqc_apply.proofs.diagrams.ApplierReferences.give_back.Goals as goal
 
 pub returns-clause-worker : goal.returns-clause-worker

@@ -4,7 +4,7 @@ use Rattle.eqc_guard.specs.Known.{tree_of}
 use Rattle.eqc_arena.proofs.References.{low_counts, high_counts, opened}
 use Rattle.eqc_apply.proofs.Once.{before_trans, seat_trans, settles_before}
 use Rattle.eqc_apply.proofs.Reading.{read_has, read_before, read_seat, root_read, starts_below, less, same_cofactors, taken_before, taken_seat, cofactors_taken}
-use Rattle.eqc_apply.proofs.Spending.{spends_refl}
+use Rattle.eqc_plain.proofs.Spending.{spends_refl}
 use Rattle.eqc_apply.proofs.held.Held.cofactors.Goals as goal
 
 pub returns-then-top-variable-clause-ok : goal.returns-then-top-variable-clause-ok

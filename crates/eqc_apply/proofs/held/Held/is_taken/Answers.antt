@@ -1,7 +1,7 @@
 use Rattle.std.proofs.Common.{refl}
 use Rattle.eqc_apply.proofs.Once.{changes_before, seat_of}
 use Rattle.eqc_apply.proofs.Handing.{looked}
-use Rattle.eqc_apply.proofs.Spending.{spends_refl}
+use Rattle.eqc_plain.proofs.Spending.{spends_refl}
 use Rattle.eqc_apply.proofs.held.Held.is_taken.Goals as goal
 
 pub returns : goal.returns

@@ -4,7 +4,7 @@ use Rattle.eqc_arena.proofs.Taking.{may_clear}
 use Rattle.eqc_apply.proofs.Once.{has_after}
 use Rattle.eqc_apply.proofs.Asked.{came_has, came_before, came_seat}
 use Rattle.eqc_apply.proofs.Finding.{passes, hits, found_result}
-use Rattle.eqc_apply.proofs.Spending.{spends_refl}
+use Rattle.eqc_plain.proofs.Spending.{spends_refl}
 use Rattle.eqc_apply.proofs.held.Held.look_up.Goals as goal
 
 pub lookup-hit-requires-clause-may : goal.lookup-hit-requires-clause-may

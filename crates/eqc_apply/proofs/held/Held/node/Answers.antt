@@ -3,7 +3,7 @@ use Rattle.eqc_guard.specs.Known.{tree_of}
 use Rattle.eqc_arena.specs.Nodes.{MayAsk, IsNodeOf}
 use Rattle.eqc_apply.proofs.Once.{changes_before, seat_of}
 use Rattle.eqc_apply.proofs.Asked.{may_ask, two_left, came_has, came_before, came_seat, node_is, memory_left}
-use Rattle.eqc_apply.proofs.Spending.{spends_refl}
+use Rattle.eqc_plain.proofs.Spending.{spends_refl}
 use Rattle.eqc_apply.proofs.held.Held.node.Goals as goal
 
 pub mk-made-requires : goal.mk-made-requires

@@ -4,7 +4,7 @@ use Rattle.eqc_arena.proofs.Changing.{held_still, same_tree}
 use Rattle.eqc_arena.proofs.Unboxing.{came_went}
 use Rattle.eqc_apply.proofs.Once.{few_held, has_after, changes_before, seat_of}
 use Rattle.eqc_apply.proofs.Handing.{as_named, come_may, come_held, come_few, pair_comes, three_come, done_right}
-use Rattle.eqc_apply.proofs.Spending.{spends_refl}
+use Rattle.eqc_plain.proofs.Spending.{spends_refl}
 use Rattle.eqc_apply.proofs.held.Held.put_done.Goals as goal
 
 pub another-first-requires-clause-few : goal.another-first-requires-clause-few

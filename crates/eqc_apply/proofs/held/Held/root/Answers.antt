@@ -1,6 +1,6 @@
 use Rattle.std.proofs.Common.{refl}
 use Rattle.eqc_apply.proofs.Reading.{read_before, read_seat, root_read, root_few}
-use Rattle.eqc_apply.proofs.Spending.{spends_refl}
+use Rattle.eqc_plain.proofs.Spending.{spends_refl}
 use Rattle.eqc_apply.proofs.held.Held.root.Goals as goal
 
 pub returns-clause-root : goal.returns-clause-root

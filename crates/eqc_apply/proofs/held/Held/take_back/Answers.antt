@@ -4,7 +4,7 @@ use Rattle.eqc_apply.specs.Handing.{HasCome}
 use Rattle.eqc_apply.proofs.Once.{few_held, changes_before, seat_of}
 use Rattle.eqc_apply.proofs.Asked.{came_has, came_before, came_seat}
 use Rattle.eqc_apply.proofs.Finding.{found_result}
-use Rattle.eqc_apply.proofs.Spending.{spends_refl}
+use Rattle.eqc_plain.proofs.Spending.{spends_refl}
 use Rattle.eqc_apply.proofs.held.Held.take_back.Goals as goal
 
 pub take_out-requires-clause-few : goal.take_out-requires-clause-few

@@ -5,7 +5,7 @@ use Rattle.eqc_apply.proofs.Once.{few_held, same_as, changes_before, seat_of}
 use Rattle.eqc_arena.proofs.Unboxing.{came_went}
 use Rattle.eqc_apply.proofs.Handing.{come_may, come_held}
 use Rattle.eqc_apply.proofs.Receiving.{first_has, second_has, both_before, both_seat}
-use Rattle.eqc_apply.proofs.Spending.{spends_refl}
+use Rattle.eqc_plain.proofs.Spending.{spends_refl}
 use Rattle.eqc_apply.proofs.held.Held.take_task.Goals as goal
 
 pub task_out-requires-clause-few : goal.task_out-requires-clause-few

@@ -1,6 +1,6 @@
 use Rattle.std.proofs.Common.{refl, arith}
 use Rattle.eqc_apply.proofs.Once.{few_held, changes_before, seat_of}
-use Rattle.eqc_apply.proofs.Spending.{spends_refl}
+use Rattle.eqc_plain.proofs.Spending.{spends_refl}
 use Rattle.eqc_apply.proofs.held.Held.withdraw.Goals as goal
 
 pub empty-requires-clause-few : goal.empty-requires-clause-few

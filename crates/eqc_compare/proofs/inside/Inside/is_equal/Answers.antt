@@ -1,5 +1,5 @@
 use Rattle.std.proofs.Common.{◌≡◌, ◌<◌, ◌∙◌, ap, get_or, length, subst, None}
-use Rattle.eqc_sweep.specs.Finding.{AreEqual, IsRight}
+use Rattle.eqc_sweep.specs.Finding.{AreEqual}
 use Rattle.eqc_compare.specs.Inside.{literal_of}
 use Rattle.eqc_compare.specs.Comparing.{difference_at}
 use Rattle.eqc_compare.proofs.InsideLaws.{asked_equal, literal_within}

@@ -1,4 +1,4 @@
-use Rattle.std.proofs.Common.{◌≡◌, ◌++◌, ◌∷◌, [], rules}
+use Rattle.std.proofs.Common.{◌≡◌, ◌∙◌, ◌++◌, ◌∷◌, [], rules}
 use Rattle.eqc_plain.specs.declared.task.Task.TheVariants.{Low, High}
 use Rattle.eqc_plain.specs.Meaning.{meaning_of}
 use Rattle.eqc_plain.proofs.Extending.{extends_trans}
@@ -39,4 +39,5 @@ loop-task-preserved c =
       store = record { grows = x.grows; keeps = x.keeps; variables = x.variables; limit = x.limit };
       leads = rw c.finish.ensures.tasks leads;
       less = rw c.finish.ensures.tasks less;
+      turns = c.finish.ensures.turns ∙ i.turns;
     }

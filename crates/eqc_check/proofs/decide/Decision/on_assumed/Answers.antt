@@ -1,0 +1,21 @@
+use Rattle.std.proofs.Common.{◌∙◌, ap, Some}
+use Rattle.eqc_pair.specs.PairOf.{PairOf}
+use Rattle.eqc_compare.specs.Comparing.{netlist_of}
+use Rattle.eqc_check.specs.Sources.{given_of}
+use Rattle.eqc_check.proofs.ReportsLaws.{reported, stop_alike, pair_compared, compared_stop, assumption_taken}
+use Rattle.eqc_check.proofs.decide.Decision.on_assumed.Goals as goal
+
+pub returns-in-Ok-clause-report : goal.returns-in-Ok-clause-report
+returns-in-Ok-clause-report g c =
+    let given = given_of c.args.self.now.case.now in
+    let p = c.in-Ok.pair in
+    let is = c.in-Ok.ensures.pair in
+    reported c.compare.result _ _ c.compare.ensures
+    (pair_compared given p c.args.pair.first c.args.pair.second (Some c.args.assumed.now) (ap (λ (x : PairOf). x.first) is) (ap (λ (x : PairOf). x.second) is) (ap (λ (x : PairOf). x.assumes) is) (ap (λ (x : PairOf). x.chosen) is ∙ c.requires.outputs)
+    ∙ assumption_taken given c.args.pair.first c.args.pair.second c.args.assumed.now c.in-Ok.ensures.taken)
+
+pub returns-in-Ok-clause-stop : goal.returns-in-Ok-clause-stop
+returns-in-Ok-clause-stop g c =
+    let given = given_of c.args.self.now.case.now in
+    stop_alike c.compare.result _ _ (compared_stop given (netlist_of c.args.pair.first) (netlist_of c.args.pair.second) (Some (netlist_of c.args.assumed.now)) c.compare.result)
+    (assumption_taken given c.args.pair.first c.args.pair.second c.args.assumed.now c.in-Ok.ensures.taken)
