@@ -12,7 +12,7 @@ pub(crate) mod random;
 pub(crate) mod words;
 
 use crate::effort::Effort;
-use crate::finder::account::{Account, budget_of};
+use crate::finder::account::{Account, budget_of, conflicts_left};
 use crate::finder::classes::Classes;
 use crate::finder::comparison::Comparison;
 use crate::finder::counterexamples::{Counterexamples, ROOM};
@@ -183,11 +183,7 @@ impl Finder {
         let given = self.account.open();
         let mut budget = given;
         let answer = ask_both(&mut self.search, graph, x, y, &mut budget);
-        let is_equal = match &answer {
-            Ok(Answer::Refuted) => true,
-            _ => false,
-        };
-        self.account.close(given, budget, is_equal);
+        self.account.close(given, budget);
         answer
     }
 
@@ -218,7 +214,7 @@ impl Finder {
     }
 
     /// Whether two literals are equal, by simulation and for so many conflicts, of which those are taken away that
-    /// there were.
+    /// there were, or what the visited literals are worth.
     pub(crate) fn compare(
         &mut self,
         graph: &Graph,
@@ -234,9 +230,12 @@ impl Finder {
         if let Some((row, place)) = self.patterns.difference(x, y) {
             return Ok(Comparison::Differs(self.pattern(row, place)?));
         }
+        if *conflicts == 0 {
+            return Ok(Comparison::Unknown);
+        }
         let mut budget = budget_of(*conflicts);
         let answer = ask_both(&mut self.search, graph, x, y, &mut budget);
-        *conflicts = budget.conflicts;
+        *conflicts = conflicts_left(budget);
         match answer? {
             Answer::Refuted => Ok(Comparison::Equal),
             Answer::Satisfied => Ok(Comparison::Differs(self.model(graph)?)),

@@ -62,7 +62,8 @@ fn found_by(
 }
 
 /// Finds values of the positions that begin with the first ones and make the root true, or that there are none. Tries the
-/// guess first, with the first values in place of its own. Fails where memory is refused.
+/// guess first, with the first values in place of its own. Without conflicts nothing else is tried. Fails where memory is
+/// refused.
 pub(crate) fn complete(
     alloc: Global,
     cone: &Cone,
@@ -76,6 +77,9 @@ pub(crate) fn complete(
 {
     if let Some(values) = cone.confirmed(alloc, first, guess)? {
         return Ok(Completion::Found(values));
+    }
+    if means.budget.conflicts == 0 {
+        return Ok(Completion::Unknown);
     }
     let assumptions = cone.assumptions(alloc, first)?;
     match means

@@ -117,9 +117,9 @@ fn least_of(
 ///
 /// `variables` has the variable of each position; where one stands twice, its first position counts. Of a literal that
 /// depends on others less may be found. `seen` are variables and their values in an assignment that is tried first; what isn't there is false, and nothing is promised of it.
-/// `conflicts` are those that all questions together may have, of which those are taken away that there were. Time and
-/// memory are in proportion to the graph and the conflicts, and to the nodes below the literal times the positions. Fails
-/// where memory is refused.
+/// `conflicts` are those that all questions together may have, of which those are taken away that there were, and one for
+/// each thousand nodes of the graph, which is read whole. Time and memory are in proportion to the graph and the conflicts,
+/// and to the nodes below the literal times the positions. Fails where memory is refused.
 pub fn least_witness(
     alloc: Global,
     graph: &Graph,
@@ -138,6 +138,9 @@ pub fn least_witness(
         budget: budget_of(*conflicts, &cone),
     };
     let found = least_of(alloc, &cone, &guess, &mut means);
-    *conflicts = means.budget.conflicts;
+    *conflicts = means
+        .budget
+        .conflicts
+        .saturating_sub(u64::from(graph.len()) / VISITS);
     found
 }

@@ -24,9 +24,8 @@ const EACH_NODE: u64 = 20_000;
 
 const WHOLE: u64 = 10_000_000;
 
-/// How much of that may be in vain: simulations, and questions after which no node was found equal. A netlist of which no two
-/// nodes are equal costs no more, whatever its size.
-const IN_VAIN: u64 = 100_000_000;
+/// How much they may cost at most. No netlist costs more, whatever its size.
+const AT_MOST: u64 = 100_000_000;
 
 /// What a question costs that visits nothing.
 const QUESTION: u64 = 200;
@@ -41,8 +40,6 @@ const ROWS: u32 = 256;
 pub(crate) struct Account {
     conflicts: u64,
     spent: u64,
-    /// What was spent in vain.
-    vain: u64,
     rows: u32,
 }
 
@@ -54,19 +51,25 @@ pub(crate) fn budget_of(conflicts: u64) -> Budget {
     }
 }
 
+/// The conflicts that are left of what could be spent. Where much was visited for each, that counts as more of them.
+pub(crate) fn conflicts_left(left: Budget) -> u64 {
+    let worth = left.visits.saturating_add(VISITS - 1) / VISITS;
+    left.conflicts.min(worth.saturating_sub(WITHOUT))
+}
+
 impl Account {
     pub(crate) fn new() -> Account {
         Account {
             conflicts: AT_START,
             spent: 0,
-            vain: 0,
             rows: 0,
         }
     }
 
     /// Whether more may be spent on a graph of so many nodes.
     pub(crate) fn has_room(&self, nodes: u32) -> bool {
-        self.spent <= u64::from(nodes) * EACH_NODE + WHOLE && self.vain <= IN_VAIN
+        let room = u64::from(nodes) * EACH_NODE + WHOLE;
+        self.spent <= room.min(AT_MOST)
     }
 
     /// What the next question may spend.
@@ -75,19 +78,16 @@ impl Account {
         budget_of((self.conflicts / PART).max(FEWEST).min(MOST))
     }
 
-    /// Counts what a question spent, by which a node was found equal or not.
-    pub(crate) fn close(&mut self, given: Budget, left: Budget, is_equal: bool) {
+    /// Counts what a question spent.
+    pub(crate) fn close(&mut self, given: Budget, left: Budget) {
         let conflicts = given.conflicts.saturating_sub(left.conflicts);
         self.conflicts = self.conflicts.saturating_sub(conflicts);
         let visits = given.visits.saturating_sub(left.visits);
-        self.spend(visits.saturating_add(QUESTION), !is_equal);
+        self.spend(visits.saturating_add(QUESTION));
     }
 
-    fn spend(&mut self, words: u64, in_vain: bool) {
+    fn spend(&mut self, words: u64) {
         self.spent = self.spent.saturating_add(words);
-        if in_vain {
-            self.vain = self.vain.saturating_add(words);
-        }
     }
 
     /// Whether rows are left.
@@ -106,7 +106,7 @@ impl Account {
             return false;
         }
         self.rows += 1;
-        self.spend(u64::from(nodes), true);
+        self.spend(u64::from(nodes));
         true
     }
 }
