@@ -1,9 +1,13 @@
 -- Results in the cells that all workers share.
-use Rattle.std.proofs.Common.{◌≡◌, ℕ, Bool, List, [], ◌∷◌, ◌++◌, length-append, refl, sym, ap, ◌∙◌, arith}
+use Rattle.std.proofs.Common.{◌≡◌, ℕ, zero, suc, Bool, List, [], ◌∷◌, ◌++◌, set, length-append, refl, sym, ap, subst, ◌∙◌, arith}
+use mathlib.Core.Option.{some, some-injective, some-ne-none}
+use lib.ListN.{get_elem?}
 use Rattle.eqc_tree.specs.Tree.{Tree, value}
 use Rattle.eqc_tree.specs.Operation.{operate}
 use Rattle.eqc_tree.specs.declared.operation.Op.{Op}
+use Rattle.eqc_core.specs.declared.phase.Phase.{Phase}
 use Rattle.eqc_core.specs.Words.{slots_of}
+use Rattle.eqc_core.specs.Moves.{IsQuiet}
 use Rattle.eqc_core.proofs.Names.{times-nil, times-append}
 use Rattle.eqc_guard.specs.Acquiring.{IsPassed}
 use Rattle.eqc_guard.specs.Known.{IsHeld, IsKnown, tree_of}

@@ -1,5 +1,5 @@
 -- What the steps of a worker change, and what several changes make together.
-use Rattle.std.proofs.Common.{◌≡◌, ℕ, ◌+◌, ◌<◌, ◌≤◌, List, [], ◌∷◌, ◌++◌, set, get_or, length, if◌then◌else◌, Option, Some, None, length-append, refl, sym, ap, subst, ◌∙◌, arith, inl, inr}
+use Rattle.std.proofs.Common.{◌≡◌, ℕ, zero, suc, ◌+◌, ◌<◌, ◌≤◌, List, [], ◌∷◌, ◌++◌, set, get_or, length, if◌then◌else◌, Option, Some, None, length-append, refl, sym, ap, subst, ◌∙◌, arith, inl, inr}
 use Rattle.std.proofs.lemmas.List.{set-get_or}
 use native.Mathlib.Decide.{ℕ_discrete, dec_le}
 use Rattle.eqc_core.specs.declared.phase.Phase.{Phase}
@@ -39,8 +39,8 @@ pub changed_twice : (v w u : View) {held more retired less : List ℕ} {read lat
     → w ≡ record v { held = held; phases = set v.phases 0 p; retired = retired; read = read; turn = turn; stops = stops; hand = hand; draft = draft }
     → u ≡ record w { held = more; phases = set w.phases 0 q; retired = less; read = late; turn = next; stops = ends; hand = other; draft = second }
     → u ≡ record v { held = more; phases = set v.phases 0 q; retired = less; read = late; turn = next; stops = ends; hand = other; draft = second }
-changed_twice v w u {held} {more} {retired} {less} {read} {late} {turn} {next} {stops} {ends} {hand} {other} {draft} {second} p q first later =
-    later
+changed_twice v w u {held} {more} {retired} {less} {read} {late} {turn} {next} {stops} {ends} {hand} {other} {draft} {second} p q first then =
+    then
     ∙ (ap (λ (t : View). record t { held = more; phases = set t.phases 0 q; retired = less; read = late; turn = next; stops = ends; hand = other; draft = second }) first
     ∙ ap (λ (ps : List Phase). record v { held = more; phases = ps; retired = less; read = late; turn = next; stops = ends; hand = other; draft = second }) (set_twice v.phases p q))
 

@@ -79,9 +79,9 @@ split_off_known z k limits same known has =
     has_some : 0 < k.core.sizes.workers
     has_some = subst (λ (y : Sizes). 0 < y.workers) (sym same) limits.some_workers
 
-module _ {S : Type 0} (seat_table table : TableId) (key sizes : Sizes) (me : Known × List (ℕ × S)) (number held : ℕ) (phase : Phase) (retired noted : List ℕ) (position given : ℕ) (out : List ℕ) (draft : Option ℕ)
-    (is : IsSeated seat_table table key sizes me number held phase retired noted position given out draft) (has : HasNumber me.0.core) where
-  pub left_seated : IsSeated seat_table table key sizes (split_left me.0, me.1) number held phase retired noted position (given + 1) (out ++ given ∷ []) draft
+module _ {S : Type 0} (seat_table table : TableId) (key sizes : Sizes) (me : Known × List (ℕ × S)) (number held : ℕ) (phases : List Phase) (retired noted : List ℕ) (position given : ℕ) (out : List ℕ) (draft : Option ℕ)
+    (is : IsSeated seat_table table key sizes me number held phases retired noted position given out draft) (has : HasNumber me.0.core) where
+  pub left_seated : IsSeated seat_table table key sizes (split_left me.0, me.1) number held phases retired noted position (given + 1) (out ++ given ∷ []) draft
   left_seated =
       let old = is.worker in
       record {
@@ -109,7 +109,7 @@ module _ {S : Type 0} (seat_table table : TableId) (key sizes : Sizes) (me : Kno
         draft_is = is.draft_is;
       }
 
-  pub off_seated : (other : TableId) (key' : Sizes) → other ≡ seat_table → key' ≡ key → IsSeated {S = S} other other key' sizes (split_off me.0, []) given 0 Idle [] [] 0 0 [] None
+  pub off_seated : (other : TableId) (key' : Sizes) → other ≡ seat_table → key' ≡ key → IsSeated {S = S} other other key' sizes (split_off me.0, []) given 0 (idle sizes.announcements) [] [] 0 0 [] None
   off_seated other key' same same_key =
       let old = is.worker in
       record {
@@ -128,7 +128,7 @@ module _ {S : Type 0} (seat_table table : TableId) (key sizes : Sizes) (me : Kno
         carries = refl;
         number_is = is.given_is;
         held_is = refl;
-        phases_are = ap idle (ap (λ (y : Sizes). y.announcements) old.sizes ∙ old.one_word);
+        phases_are = ap idle (ap (λ (y : Sizes). y.announcements) old.sizes);
         retired_are = refl;
         noted_are = refl;
         position_is = refl;

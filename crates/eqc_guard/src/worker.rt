@@ -10,7 +10,6 @@ mod stripes;
 
 use crate::fault::SplitFault;
 use crate::filled::{self, Filled};
-use crate::names;
 use crate::origin::Origin;
 use crate::reference::Ref;
 use crate::rule::{
@@ -19,6 +18,7 @@ use crate::rule::{
 };
 use crate::tally::Tally;
 use crate::view::View;
+use crate::{names, phases};
 use arrayvec::ArrayVec;
 use atomic_table::{Seat, Table};
 use eqc_core::{Phase, Sizes};
@@ -36,7 +36,8 @@ pub struct Worker {
     number: u32,
     // How many names are held.
     held: u64,
-    phase: Phase,
+    // One phase for each announcement word.
+    phases: ArrayVec<Phase, 4>,
     retired: ArrayVec<u32, 128>,
     noted: ArrayVec<u64, 64>,
     // The announcement word that the scan reads next.
@@ -62,13 +63,13 @@ impl Model for Worker {
 
     ghost view = { λ w. record { forest = w.seat.table_id; known = w.seat.me.0 } };
 
-    ghost invariant = { λ w. IsSeated w.seat.table_id (arc_value w.table).shared.table_id (arc_value w.table).shared.key.sizes w.sizes w.seat.me w.number w.held w.phase w.retired.items w.noted.items w.position w.given w.out.items w.draft };
+    ghost invariant = { λ w. IsSeated w.seat.table_id (arc_value w.table).shared.table_id (arc_value w.table).shared.key.sizes w.sizes w.seat.me w.number w.held w.phases.items w.retired.items w.noted.items w.position w.given w.out.items w.draft };
 }
 
 impl Worker {
     ghost use Rattle.eqc_tree.specs.Tree.{SameFunction};
     ghost use Rattle.std.specs.Prelude.{[], suc, false, if◌then◌else◌, List, Some, ◌-◌, ◌*◌, ◌%◌, ◌^◌, ◌≤◌, ◌↔◌, ◌++◌, length, ℕ, IsTrue, IfSome, None, IfOk, OnOk, OnErr, IfErr};
-    ghost use Rattle.eqc_core.specs.View.{phase_at};
+    ghost use Rattle.eqc_core.specs.View.{idle, phase_at};
     ghost use Rattle.eqc_core.specs.Words.{announced_words, word_at, first_of, second_of, result_of};
     ghost use Rattle.eqc_core.specs.Moves.{IsReady};
     ghost use Rattle.eqc_core.specs.Announcing.{MayLook, looked, MayAnnounce, announced, MayRecheck, rechecked, announced_cell};
@@ -99,7 +100,7 @@ impl Worker {
         held: u64,
         given: u32,
     ) -> Worker
-        requires { IsSeated seat.table_id (arc_value table).shared.table_id (arc_value table).shared.key.sizes sizes seat.me number held Phase.Idle [] [] 0 given [] None }
+        requires { IsSeated seat.table_id (arc_value table).shared.table_id (arc_value table).shared.key.sizes sizes seat.me number held (idle sizes.announcements) [] [] 0 given [] None }
         ensures forest { result.forest ≡ seat.table_id }
         ensures known { result.known ≡ seat.me.0 }
     {
@@ -109,7 +110,7 @@ impl Worker {
             sizes,
             number,
             held,
-            phase: Phase::Idle,
+            phases: phases::idle_phases(sizes.announcements),
             retired: ArrayVec::new(),
             noted: ArrayVec::new(),
             position: 0,
@@ -139,13 +140,12 @@ impl Worker {
         self.announcement_words() as usize + name as usize
     }
 
-    // The worker's announcement word.
+    // The worker's first announcement word.
     #[tactic(auto, unfolding(eqc_core::specs::Words::word_at))]
     fn announcement_word(&self) -> usize
         ensures { result ≡ word_at self.now.known.core.sizes self.now.known.core.number 0 }
     {
-        // A worker has one announcement word.
-        self.number as usize
+        self.number as usize * self.sizes.announcements as usize
     }
 
     /// Loads a cell's word.
@@ -158,7 +158,7 @@ impl Worker {
     {
         let word = self.cell_word(cell);
         let found = self.table.shared.load::<Look>(&mut self.seat, word);
-        self.phase = Phase::Seen(cell, found);
+        phases::set_phase(&mut self.phases, 0, Phase::Seen(cell, found));
         found
     }
 
@@ -180,11 +180,12 @@ impl Worker {
         ensures copies { self.new.known.copy ≡ copied self.old.known.copy (word_at self.old.known.core.sizes self.old.known.core.number 0) x }
         ensures counted { self.new.known.counted ≡ self.old.known.counted }
     {
+        let phase = phases::phase_of(&self.phases, 0);
         let word = self.announcement_word();
         self.table
             .shared
             .store::<Announce>(&mut self.seat, word, u64::from(x));
-        self.phase = self.phase.announced();
+        phases::set_phase(&mut self.phases, 0, phase.announced());
     }
 
     // Counts a name up that is known to stay, where fewer than 2^32 - 1 names are held.
@@ -272,7 +273,7 @@ impl Worker {
         requires { MayRecheck self.old.known.core 0 }
         ensures { (found : ℕ) × Steps self.old (rechecked self.old.known.core 0 found) self.new × Rechecks self.old.known found self.new.known × (IsTrue result ↔ HasFound (phase_at self.old.known.core 0) found) × Copies self.old.known (cells_from self.old.known.core.sizes + announced_cell (phase_at self.old.known.core 0)) found found self.new.known × (self.new.known.counted ≡ self.old.known.counted) }
     {
-        let phase = self.phase;
+        let phase = phases::phase_of(&self.phases, 0);
         let Phase::Announced(cell, seen) = phase else {
             return false;
         };
@@ -290,9 +291,10 @@ impl Worker {
         ensures copies { Copies self.old.known (cells_from self.old.known.core.sizes + cell) result result self.new.known }
         ensures counted { self.new.known.counted ≡ self.old.known.counted }
     {
+        let phase = phases::phase_of(&self.phases, 0);
         let word = self.cell_word(cell);
         let found = self.table.shared.load::<Recheck>(&mut self.seat, word);
-        self.phase = self.phase.rechecked(found);
+        phases::set_phase(&mut self.phases, 0, phase.rechecked(found));
         found
     }
 
@@ -310,7 +312,7 @@ impl Worker {
             .swap::<SwapCell>(&mut self.seat, place, word);
         self.held = names::held_after(self.held, word, old);
         names::retire(&mut self.retired, old);
-        self.phase = Phase::Idle;
+        phases::set_phase(&mut self.phases, 0, Phase::Idle);
         old
     }
 
@@ -409,7 +411,7 @@ impl Worker {
             sizes: _,
             number,
             held,
-            phase: _,
+            phases: _,
             retired,
             noted: _,
             position: _,
@@ -446,9 +448,9 @@ impl Worker {
         requires room { length self.old.known.core.held + length other.known.core.held ≤ 2 ^ 39 }
         ensures { IsAbsorbed self.old other self.new }
     {
-        // A worker has one announcement word.
-        let _phase = self.phase;
-        let _other_phase = other.phase;
+        // What is known of the view is known of the worker.
+        let _number = self.number;
+        let _other_number = other.number;
         let mut other = other;
         self.scan();
         other.scan();
@@ -543,8 +545,8 @@ impl Worker {
         ensures missed { result ≡ None → (ws : List ℕ) → self.old.known.copy ≡ Some ws → result_of (cell_in self.old.known ws cell) < 2 }
         ensures counted { self.new.known.counted ≡ self.old.known.counted }
     {
-        // A worker has one announcement word.
-        let _phase = self.phase;
+        // What is known of the view is known of the worker.
+        let _number = self.number;
         let word = self.look(cell);
         let (_, _, _, found) = unpack_cell(word);
         if found < 2 {
@@ -569,8 +571,8 @@ impl Worker {
         ensures alone { (ws : List ℕ) → self.old.known.copy ≡ Some ws → (c word : ℕ) → phase_at self.old.known.core 0 ≡ Phase.Seen c word → cell_in self.old.known ws c ≡ word → IsTrue result }
         ensures counted { self.new.known.counted ≡ self.old.known.counted }
     {
-        // A worker has one announcement word.
-        let _phase = self.phase;
+        // What is known of the view is known of the worker.
+        let _number = self.number;
         self.announce(found);
         if self.recheck() {
             return true;
@@ -587,8 +589,8 @@ impl Worker {
         ensures cells { KeepsCells self.old.known self.new.known }
         ensures counted { self.new.known.counted ≡ self.old.known.counted }
     {
-        // A worker has one announcement word, and its number is there.
-        let _phase = self.phase;
+        // What is known of the view is known of the worker.
+        let _number = self.number;
         self.announce(0);
     }
 

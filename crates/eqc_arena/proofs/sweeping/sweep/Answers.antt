@@ -13,6 +13,3 @@ turn-taken-requires-clause-room g c = let room = c.requires.room in omega (arith
 
 pub loop-turn-preserved : goal.loop-turn-preserved
 loop-turn-preserved g c = record { changes = still c.loop-turn.invariant.changes (here c.loop-turn.invariant.changes c.turn-taken.ensures.changes) }
-
-pub returns-then-workers-gt1 : goal.returns-then-workers-gt1
-returns-then-workers-gt1 g c = record { changes = still c.loop-turn.invariant.changes (here c.loop-turn.invariant.changes c.turn-taken.ensures.changes) }
