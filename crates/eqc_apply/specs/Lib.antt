@@ -14,3 +14,4 @@ pub mod Joining
 pub mod Stopping
 pub mod Handing
 pub mod Copying
+pub mod Closing

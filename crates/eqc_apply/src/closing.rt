@@ -2,6 +2,7 @@
 ghost use Rattle.std.specs.Prelude.{◌≡◌, ◌<◌, ◌≤◌, ◌^◌, [], length, IsTrue, ◌↔◌};
 ghost use Rattle.eqc_core.specs.Seating.{IsAtRest};
 ghost use Rattle.eqc_guard.specs.Splitting.{IsAlone};
+ghost use Rattle.eqc_apply.specs.Closing.{IsTold, IsLeft};
 
 use crate::applier::Applier;
 use crate::held::Held;
@@ -17,7 +18,8 @@ fn finish<R: Wait>(worker: Worker, rt: &R) -> Tally
     requires rest { IsAtRest worker.known.core }
     requires cells { 0 < worker.known.core.sizes.cells }
     requires room { length worker.known.core.held ≤ 2 ^ 39 }
-    ensures { worker.known.core.held ≡ [] → worker.known.core.sizes.variables ≤ 2048 → result.counted ≡ 0 }
+    ensures left { IsLeft result.counted worker.known }
+    ensures none { worker.known.core.held ≡ [] → worker.known.core.sizes.variables ≤ 2048 → result.counted ≡ 0 }
 {
     let mut worker = worker;
     // It takes a copy of all words.
@@ -43,7 +45,9 @@ impl Held {
     /// Closes the forest of a worker that is alone.
     pub(crate) fn close<R: Wait>(self, rt: &R) -> Tally
         requires { IsAlone self.worker.known.core }
-        ensures { (holding_in self).held ≡ [] → self.variables ≤ 2048 → result.counted ≡ 0 }
+        ensures told { IsTold result.counted self }
+        ensures some { result.counted ≡ 0 → (holding_in self).held ≡ [] }
+        ensures none { (holding_in self).held ≡ [] → self.variables ≤ 2048 → result.counted ≡ 0 }
     {
         let mut names = self;
         names.give_up();
@@ -64,12 +68,16 @@ impl Applier {
     ghost use Rattle.eqc_apply.specs.Extending.{holding_in};
 
     /// Closes the forest, where the applier's worker is alone: it is worker 0, and no worker is
-    /// outstanding. All boxes and cells are emptied, and dead nodes are taken back. Where no
-    /// references are held and there are at most 2,048 variables, no slot has a count above 0 then.
+    /// outstanding. All boxes and cells are emptied, and dead nodes are taken back. Then it tells
+    /// how many slots have a count above 0, while the worker holds the nodes on which references
+    /// stand, each once, and no other: none exactly where no references are held, as long as there
+    /// are at most 2,048 variables.
     ///
     /// The error is the applier itself, as it was, where it is not alone. The call may wait.
     pub fn close<R: Wait>(self, rt: &R) -> Result<Tally, Applier>
         ensures closed { IfOk result (λ tally. IsAlone self.names.worker.known.core × ((holding_in self.names).held ≡ [] → self.names.variables ≤ 2048 → tally.counted ≡ 0)) }
+        ensures told { IfOk result (λ tally. IsTold tally.counted self.names) }
+        ensures some { IfOk result (λ tally. tally.counted ≡ 0 → (holding_in self.names).held ≡ []) }
         ensures kept { IfErr result (λ applier. (applier ≡ self) × (IsAlone self.names.worker.known.core → ⊥)) }
     {
         if !self.names.is_alone() {

@@ -1,5 +1,6 @@
 use Rattle.eqc_guard.specs.Splitting.{IsCopied}
 use Rattle.eqc_apply.proofs.Emptied.{unboxed_rest, none_told}
+use Rattle.eqc_apply.proofs.Telling.{left_at_end}
 use Rattle.eqc_apply.proofs.closing.finish.Goals as goal
 
 pub collect-requires-clause-rest : goal.collect-requires-clause-rest
@@ -9,7 +10,14 @@ collect-requires-clause-rest g c =
     unboxed_rest w c.alone-alone.new.self c.requires.alone c.requires.rest c.requires.cells c.requires.room p c.empty_boxes.new.worker c.empty_boxes.ensures.changes c.empty_boxes.ensures.empty
 
 pub returns : goal.returns
-returns g c = λ none few.
+returns g c =
     let w = c.args.worker in
     let p : IsCopied w c.alone-alone.new.self = c.alone-alone.ensures.copy (c.alone-alone.ensures.answer.1 c.requires.alone) in
-    none_told w c.alone-alone.new.self c.requires.alone c.requires.rest c.requires.cells c.requires.room p c.empty_boxes.new.worker c.empty_boxes.ensures.changes c.empty_boxes.ensures.empty c.collect.new.worker c.collect.ensures.changes c.collect.ensures.empty c.in-Ok.tally.counted c.in-Ok.ensures.closed.1 none few
+    record {
+      left =
+          left_at_end w c.alone-alone.new.self c.empty_boxes.new.worker c.collect.new.worker p
+          c.empty_boxes.ensures.changes c.collect.ensures.changes c.in-Ok.tally.counted c.in-Ok.ensures.closed.1;
+      none = λ none few.
+          none_told w c.alone-alone.new.self c.requires.alone c.requires.rest c.requires.cells c.requires.room p c.empty_boxes.new.worker c.empty_boxes.ensures.changes c.empty_boxes.ensures.empty
+          c.collect.new.worker c.collect.ensures.changes c.collect.ensures.empty c.in-Ok.tally.counted c.in-Ok.ensures.closed.1 none few;
+    }
