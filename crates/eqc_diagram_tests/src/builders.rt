@@ -11,6 +11,7 @@ ghost use Rattle.eqc_diagram_tests.specs.Building.{AreHeld, IsSame, IsBeside, Is
 use crate::ends::{keep, keep_all};
 use eqc_apply::{Allowance, Applier, Ref, team, team_with};
 use eqc_tree::{Diagrams, Op, References, Stop};
+use std::mem::ManuallyDrop;
 use std::process::Abort;
 use std::sync::Wait;
 
@@ -189,9 +190,21 @@ impl Builder {
     pub fn give_all_back(&mut self, rt: &impl Abort)
         ensures { forest_of self.new.member ≡ forest_of self.old.member }
     {
-        for _ in 0..self.references.len() {
-            self.give_back(rt, 0);
+        self.give_back_from(rt, 0);
+    }
+
+    /// Gives the references from a place on back.
+    pub fn give_back_from(&mut self, rt: &impl Abort, place: usize)
+        ensures { forest_of self.new.member ≡ forest_of self.old.member }
+    {
+        for _ in place..self.references.len() {
+            self.give_back(rt, place);
         }
+    }
+
+    /// How many references there are.
+    pub fn count(&self) -> usize {
+        self.references.len()
     }
 
     /// Does an operation of another member, if one is offered, and tells whether it did.
@@ -251,6 +264,19 @@ impl Builder {
             },
             Ok(_) => panic!(rt; "nobody else is out"),
         }
+    }
+
+    /// Closes the forest with its references held: how many slots have a count above 0. Nobody can give them back after it.
+    pub fn close_holding(self, rt: &(impl Abort + Wait)) -> u32 {
+        let Builder {
+            member,
+            references,
+            variables: _,
+            is_first: _,
+        } = self;
+        let tally = member.close(rt).ok().expect(rt, "it is alone");
+        let _kept = unsafe { ManuallyDrop::new_unchecked(references) };
+        tally.counted
     }
 
     /// Gives all references back and closes the forest: how many slots have a count above 0.

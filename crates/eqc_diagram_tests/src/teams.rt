@@ -8,7 +8,7 @@ use crate::ends::same;
 use eqc_tree::{Op, Stop};
 use std::process::Abort;
 use std::sync::Wait;
-use std::thread::{Threads, join_mut};
+use std::thread::join_mut;
 
 /// Makes what there is room for, and tells its place.
 fn place_of(rt: &(impl Abort + Wait), builder: &mut Builder, wanted: Wanted) -> usize
@@ -37,7 +37,11 @@ fn a_lone_member_builds_and_closes(rt: HostRuntime) {
 }
 
 /// The exclusive or of these variables, from the first one on, of which the result alone stays: at the place that is told.
-fn parity(rt: &(impl Abort + Wait), builder: &mut Builder, variables: &[u16]) -> Result<usize, Stop>
+pub fn parity(
+    rt: &(impl Abort + Wait),
+    builder: &mut Builder,
+    variables: &[u16],
+) -> Result<usize, Stop>
     ensures { forest_of builder.new.member ≡ forest_of builder.old.member }
 {
     let all = builder.make(rt, Wanted::Constant(false))?;
@@ -75,136 +79,76 @@ fn a_member_takes_in_what_another_one_built(rt: HostRuntime) {
     same(&rt, lead.close(&rt), 0, "close");
 }
 
-/// How often a member builds a parity.
-const TURNS: u32 = 20;
-
-/// The variables of the parity, from the last one on: each step adds two nodes at most.
-static VARIABLES: &[u16] = &[7, 6, 5, 4, 3, 2, 1, 0];
-
-/// The variables of another parity.
-static OTHERS: &[u16] = &[15, 14, 13, 12, 11, 10, 9, 8];
+/// The majority of the first three variables, whose reference alone stays: at the place that is told.
+fn majority(rt: &(impl Abort + Wait), builder: &mut Builder) -> Result<usize, Stop>
+    ensures { forest_of builder.new.member ≡ forest_of builder.old.member }
+{
+    let x = builder.make(rt, Wanted::Literal(0))?;
+    let y = builder.make(rt, Wanted::Literal(1))?;
+    let z = builder.make(rt, Wanted::Literal(2))?;
+    let either = builder.make(rt, Wanted::Applied(Op::Or, y, z))?;
+    let both = builder.make(rt, Wanted::Applied(Op::And, y, z))?;
+    builder.make(rt, Wanted::Chosen(x, either, both))?;
+    // It comes to the place of the first one.
+    builder.give_back(rt, x);
+    builder.give_back_from(rt, y);
+    Ok(x)
+}
 
 #[test]
-fn a_member_without_work_makes_room(rt: HostRuntime) {
-    // A parity of eight variables has 15 nodes.
-    let (mut lead, mut waiting) = first(&rt, 16, 28, 64, 2, 0);
+fn two_members_build_one_majority(rt: HostRuntime) {
+    let (mut lead, mut waiting) = first(&rt, 3, 100, 64, 2, 0);
     let mut second = next(&rt, &lead, &mut waiting);
-    same(&rt, parity(&rt, &mut second, OTHERS), Ok(0), "one of it");
-    second.give_all_back(&rt);
-    same(&rt, second.serve(&rt), false, "nothing is offered");
-    same(&rt, parity(&rt, &mut lead, VARIABLES), Ok(0), "another one");
-    lead.absorb(&rt, second);
+    let (one, other) = join_mut(
+        &rt,
+        &mut || majority(&rt, &mut lead),
+        &mut || majority(&rt, &mut second),
+    );
+    same(&rt, (one, other), (Ok(0), Ok(0)), "the majorities");
+    let place = lead.absorb(&rt, second);
+    same(&rt, lead.count(), 2, "nothing else is held");
+    same(&rt, lead.is_same(&rt, 0, place), true, "one function");
     same(&rt, lead.close(&rt), 0, "close");
 }
 
-/// How often a member built the parity, or another stop than the node limit.
-type Built = Result<u32, Stop>;
-
-/// Builds the parity in so many turns, and tells how often there was room.
-fn turns(rt: &(impl Abort + Wait), builder: &mut Builder) -> Built
-    ensures { forest_of builder.new.member ≡ forest_of builder.old.member }
-{
-    let mut built = 0u32;
-    for _ in 0..TURNS {
-        match parity(rt, builder, VARIABLES) {
-            Ok(_) => built = built.saturating_add(1),
-            Err(Stop::NodeLimit) => {}
-            Err(stop) => return Err(stop),
-        }
-        builder.give_all_back(rt);
-    }
-    Ok(built)
-}
-
-/// The turns of two members at once.
-fn turns_of_two<R: Threads + Sync + Abort + Wait>(
-    rt: &R,
-    a: &mut Builder,
-    b: &mut Builder,
-) -> (Built, Built)
-    ensures first { forest_of a.new.member ≡ forest_of a.old.member }
-    ensures second { forest_of b.new.member ≡ forest_of b.old.member }
-{
-    join_mut(rt, &mut || turns(rt, a), &mut || turns(rt, b))
-}
-
-/// The turns of four members at once.
-fn turns_of_four<R: Threads + Sync + Abort + Wait>(
-    rt: &R,
-    a: &mut Builder,
-    b: &mut Builder,
-    c: &mut Builder,
-    d: &mut Builder,
-) -> ((Built, Built), (Built, Built))
-    ensures first { forest_of a.new.member ≡ forest_of a.old.member }
-    ensures second { forest_of b.new.member ≡ forest_of b.old.member }
-    ensures third { forest_of c.new.member ≡ forest_of c.old.member }
-    ensures fourth { forest_of d.new.member ≡ forest_of d.old.member }
-{
-    join_mut(
-        rt,
-        &mut || turns_of_two(rt, a, b),
-        &mut || turns_of_two(rt, c, d),
-    )
-}
-
-/// Whether there was room so often, from the least to the most.
-fn is_within(found: Built, least: u32, most: u32) -> bool {
-    match found {
-        Ok(built) => least <= built && built <= most,
-        Err(_) => false,
-    }
-}
-
-/// Whether there was for each of four members.
-fn are_within(found: ((Built, Built), (Built, Built)), least: u32, most: u32) -> bool {
-    let ((a, b), (c, d)) = found;
-    is_within(a, least, most)
-        && is_within(b, least, most)
-        && is_within(c, least, most)
-        && is_within(d, least, most)
-}
-
-/// Four members with so much room for nodes: whether each builds so often, and one alone then in so many turns.
-fn four_share<R: Threads + Sync + Abort + Wait + AllocGlobal>(
-    rt: &R,
-    nodes: u32,
-    least: u32,
-    most: u32,
-    alone: u32,
-) {
-    if nodes == 0 || nodes > 64 {
-        panic!(rt; "there is no such room");
-    }
-    let (mut a, mut waiting) = first(rt, 8, nodes, 16, 4, 2);
-    let mut b = next(rt, &a, &mut waiting);
-    let mut c = next(rt, &a, &mut waiting);
-    let mut d = next(rt, &a, &mut waiting);
-    let found = turns_of_four(rt, &mut a, &mut b, &mut c, &mut d);
-    same(rt, are_within(found, least, most), true, nodes);
-    a.absorb(rt, b);
-    a.absorb(rt, d);
-    a.absorb(rt, c);
-    same(rt, turns(rt, &mut a), Ok(alone), nodes);
-    same(rt, a.close(rt), 0, nodes);
-}
-
-/// How much room for nodes there is, in how many turns at least and at most there is enough of it for a member beside
-/// others, and in how many for one alone. The parity has 15 nodes, and 22 with the literals.
-static ROOMS: &[(u32, u32, u32, u32)] = &[
-    (2, 0, 0, 0),
-    (3, 0, 0, 0),
-    (5, 0, 0, 0),
-    (8, 0, 0, 0),
-    (13, 0, 0, 0),
-    (21, 0, TURNS, TURNS),
-    (34, TURNS, TURNS, TURNS),
-    (64, TURNS, TURNS, TURNS),
+/// What is made behind a majority, whether that is given back, and how many slots have a count above 0 when the forest is closed then.
+static HELD: &[(&str, &[Wanted], bool, u32)] = &[
+    ("nothing", &[], true, 0),
+    ("a constant", &[Wanted::Constant(true)], true, 0),
+    ("a variable", &[Wanted::Literal(2)], true, 1),
+    (
+        "two variables",
+        &[Wanted::Literal(0), Wanted::Literal(2)],
+        true,
+        2,
+    ),
+    ("a majority", &[], false, 4),
+    ("a majority, twice", &[Wanted::Copied(0)], false, 4),
+    (
+        "a majority, and its last variable",
+        &[Wanted::Literal(2)],
+        false,
+        4,
+    ),
+    (
+        "a majority, and its first variable",
+        &[Wanted::Literal(0)],
+        false,
+        5,
+    ),
 ];
 
 #[test]
-fn four_members_share_small_arenas(rt: HostRuntime) {
-    for (nodes, least, most, alone) in ROOMS {
-        four_share(&rt, *nodes, *least, *most, *alone);
+fn a_forest_is_closed_with_references_held(rt: HostRuntime) {
+    for (row, wanted, is_given_back, counted) in HELD {
+        let (mut lone, _) = first(&rt, 3, 100, 64, 1, 0);
+        same(&rt, majority(&rt, &mut lone), Ok(0), *row);
+        for one in *wanted {
+            place_of(&rt, &mut lone, *one);
+        }
+        if *is_given_back {
+            lone.give_back(&rt, 0);
+        }
+        same(&rt, lone.close_holding(&rt), *counted, *row);
     }
 }
