@@ -3,8 +3,11 @@
 //! - `running`, what makes runs and looks at what they write
 //! - `runs`, options, readers and writers; `reports`, their bytes; `messages`, what stops and faults say
 //! - `compared_hierarchies`, `structures` and `inside`, what is reported of netlists; `costs`, of texts that would like to be dear
+//! - `beginnings`, texts that are cut off; `failing_streams`, readers and writers that fail; `large_netlists`, very many models and signals
 #![tactic(auto)]
 
+#[cfg(test)]
+mod beginnings;
 #[cfg(test)]
 mod compared_hierarchies;
 #[cfg(test)]
@@ -12,7 +15,11 @@ mod costs;
 #[cfg(test)]
 mod ends;
 #[cfg(test)]
+mod failing_streams;
+#[cfg(test)]
 mod inside;
+#[cfg(test)]
+mod large_netlists;
 #[cfg(test)]
 mod messages;
 #[cfg(test)]
