@@ -2,10 +2,13 @@
 //!
 //! - `pairs`, the calls below a run, on one thread
 //! - `workers`, by several in threads of their own; `parities`, how many nodes they take
+//! - `long_chains`, very many covers that stand one behind the other
 #![tactic(auto)]
 
 #[cfg(test)]
 mod ends;
+#[cfg(test)]
+mod long_chains;
 #[cfg(test)]
 mod pairs;
 #[cfg(test)]

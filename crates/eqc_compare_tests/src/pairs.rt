@@ -29,7 +29,7 @@ const THREE: &str = ".model f;.inputs x2 y x1;.end;.model g;.inputs x1 x2 y;.end
 
 /// What is asked of a pair.
 #[derive(Clone, Copy)]
-enum Ask {
+pub enum Ask {
     /// The output at this position, on a store of so many nodes.
     Output(usize, u32),
     /// The least assignment that makes a variable true.
@@ -261,7 +261,7 @@ fn is_answer<R>(
 }
 
 /// The same of a text and an order text, where this isn't empty, in which `;` stands for LF.
-fn is_ordered_answer<R>(
+pub fn is_ordered_answer<R>(
     rt: &R,
     alloc: Global,
     text: &str,
