@@ -112,30 +112,16 @@ fn two_members_build_one_majority(rt: HostRuntime) {
 }
 
 /// What is made behind a majority, whether that is given back, and how many slots have a count above 0 when the forest is closed then.
+#[rattlefmt::skip]
 static HELD: &[(&str, &[Wanted], bool, u32)] = &[
     ("nothing", &[], true, 0),
     ("a constant", &[Wanted::Constant(true)], true, 0),
     ("a variable", &[Wanted::Literal(2)], true, 1),
-    (
-        "two variables",
-        &[Wanted::Literal(0), Wanted::Literal(2)],
-        true,
-        2,
-    ),
+    ("two variables", &[Wanted::Literal(0), Wanted::Literal(2)], true, 2),
     ("a majority", &[], false, 4),
     ("a majority, twice", &[Wanted::Copied(0)], false, 4),
-    (
-        "a majority, and its last variable",
-        &[Wanted::Literal(2)],
-        false,
-        4,
-    ),
-    (
-        "a majority, and its first variable",
-        &[Wanted::Literal(0)],
-        false,
-        5,
-    ),
+    ("a majority, and its last variable", &[Wanted::Literal(2)], false, 4),
+    ("a majority, and its first variable", &[Wanted::Literal(0)], false, 5),
 ];
 
 #[test]
