@@ -7,3 +7,4 @@ pub mod KeptLaws
 pub mod ScheduleLaws
 pub mod WantedLaws
 pub mod ConeLaws
+pub mod DemandLaws

@@ -8,7 +8,9 @@ use Rattle.eqc_tree.specs.Holding.{Entry, Holding, IsHeld, weight, Loses, Keeps}
 use Rattle.eqc_tree.proofs.HoldingLemmas.{counts_itself}
 use Rattle.eqc_build.specs.Listed.{listed}
 use Rattle.eqc_build.proofs.ListedLaws.{listed_size, listed_at, listed_set, listed_none}
-use Rattle.eqc_build.specs.Building.{held_by, tally, OwnsTable, Moves, Fills, Empties, Releases, reference_of}
+use Rattle.eqc_build.specs.Building.{held_by, tally, OwnsTable, Moves, Fills, Empties, Releases, IsLastUse, KeepsLater, reference_of}
+use Rattle.eqc_build.specs.Demand.{IsOfUse}
+use Rattle.eqc_build.specs.declared.plan.Plan.{Plan}
 
 -- a reference of a table is counted there
 pub tally_there : {X : Type 0} (entry : X → Entry) (table : List (Option X)) (s : ℕ) (r : X) (e : Entry) → reference_of table s ≡ Some r → weight (entry r) e ≤ tally entry table e
@@ -74,33 +76,63 @@ owned_moves entry old new old_table new_table o m = record { held = λ e. omega 
 pub moves_twice : {X : Type 0} (entry : X → Entry) (d0 d1 d2 : Holding) (t0 t1 t2 : List (Option X)) → Moves entry d0 t0 d1 t1 → Moves entry d1 t1 d2 t2 → Moves entry d0 t0 d2 t2
 moves_twice entry d0 d1 d2 t0 t1 t2 p q = record { variables = q.variables ∙ p.variables; held = λ e. omega (arith, p.held e, q.held e) }
 
-pub no_release : {X : Type 0} (entry : X → Entry) (d : Holding) (table : List (Option X)) (last : List ℕ) (at : ℕ) → Releases entry d table d table last at
-no_release entry d table last at = record {
+pub no_release : {X : Type 0} (entry : X → Entry) (d : Holding) (table : List (Option X)) (plan : Plan) (used : List ℕ) (until : List ℕ) (at : ℕ) → Releases entry d table d table plan used until at
+no_release entry d table plan used until at = record {
   size = refl;
   moves = record { variables = refl; held = λ e. refl };
   kept = λ s other. refl;
+  later = λ s of_use. refl;
   none_new = λ s r is. is;
 }
 
 -- one more reference that is given back
-pub released_more : {X : Type 0} (entry : X → Entry) (d0 d1 d2 : Holding) (t0 t1 t2 : List (Option X)) (last : List ℕ) (at s : ℕ) → s < length t1 → Releases entry d0 t0 d1 t1 last at → get_or last s 0 ≡ at → Empties entry d1 t1 d2 t2 s → Releases entry d0 t0 d2 t2 last at
-released_more {X = X} entry d0 d1 d2 t0 t1 t2 last at s h r is m = record {
+pub released_more : {X : Type 0} (entry : X → Entry) (d0 d1 d2 : Holding) (t0 t1 t2 : List (Option X)) (plan : Plan) (used : List ℕ) (until : List ℕ) (at s : ℕ) → s < length t1 → Releases entry d0 t0 d1 t1 plan used until at → IsLastUse plan until s at → (IsOfUse plan used s at → ⊥) → Empties entry d1 t1 d2 t2 s → Releases entry d0 t0 d2 t2 plan used until at
+released_more {X = X} entry d0 d1 d2 t0 t1 t2 plan used until at s h r is spent m = record {
   size = ap length m.table ∙ (length-set t1 s None ∙ r.size);
   moves = moves_twice entry d0 d1 d2 t0 t1 t2 r.moves m.moves;
   kept = λ k other. elim (cases_eq k s) [
-    | inl same ↦ absurd (other (rw same is))
-    | inr apart ↦ ap (λ t. reference_of t k) m.table ∙ (get_or-set_other t1 s k None None apart ∙ r.kept k other)
+    | inl same ↦ absurd (other (subst (λ j. IsLastUse plan until j at) (sym same) is))
+    | inr apart ↦ there k apart ∙ r.kept k other
   ];
-  none_new = λ k q there. elim (cases_eq k s) [
-    | inl same ↦ absurd (clash k q same there)
-    | inr apart ↦ r.none_new k q (sym (ap (λ t. reference_of t k) m.table ∙ get_or-set_other t1 s k None None apart) ∙ there)
+  later = λ k of_use. elim (cases_eq k s) [
+    | inl same ↦ absurd (spent (subst (λ j. IsOfUse plan used j at) same of_use))
+    | inr apart ↦ there k apart ∙ r.later k of_use
+  ];
+  none_new = λ k q some. elim (cases_eq k s) [
+    | inl same ↦ absurd (clash k q same some)
+    | inr apart ↦ r.none_new k q (sym (there k apart) ∙ some)
   ];
 }
   where
+    there : (k : ℕ) → (k ≡ s → ⊥) → reference_of t2 k ≡ reference_of t1 k
+    there k apart = ap (λ t. reference_of t k) m.table ∙ get_or-set_other t1 s k None None apart
+
     clash : (k : ℕ) (q : X) → k ≡ s → reference_of t2 k ≡ Some q → ⊥
-    clash k q same there =
+    clash k q same some =
         let none : reference_of t2 k ≡ None = ap (λ t. reference_of t k) m.table ∙ (ap (λ j. reference_of (set t1 s None) j) same ∙ get_or-set_same t1 s None None h) in
-        let q' : None ≡ Some q = sym none ∙ there in cc
+        let q' : None ≡ Some q = sym none ∙ some in cc
+
+-- one more that is of no use is given back
+pub keeps_more : {X : Type 0} (entry : X → Entry) (d1 d2 : Holding) (t0 t1 t2 : List (Option X)) (plan : Plan) (used : List ℕ) (at s : ℕ) → s < length t1 → KeepsLater plan used t0 t1 at → (IsOfUse plan used s at → ⊥) → Empties entry d1 t1 d2 t2 s → KeepsLater plan used t0 t2 at
+keeps_more {X = X} entry d1 d2 t0 t1 t2 plan used at s h k spent m = record {
+  size = ap length m.table ∙ (length-set t1 s None ∙ k.size);
+  none_new = λ i q some. elim (cases_eq i s) [
+    | inl same ↦ absurd (clash i q same some)
+    | inr apart ↦ k.none_new i q (sym (there i apart) ∙ some)
+  ];
+  kept = λ i of_use. elim (cases_eq i s) [
+    | inl same ↦ absurd (spent (subst (λ j. IsOfUse plan used j at) same of_use))
+    | inr apart ↦ there i apart ∙ k.kept i of_use
+  ];
+}
+  where
+    there : (i : ℕ) → (i ≡ s → ⊥) → reference_of t2 i ≡ reference_of t1 i
+    there i apart = ap (λ t. reference_of t i) m.table ∙ get_or-set_other t1 s i None None apart
+
+    clash : (i : ℕ) (q : X) → i ≡ s → reference_of t2 i ≡ Some q → ⊥
+    clash i q same some =
+        let none : reference_of t2 i ≡ None = ap (λ t. reference_of t i) m.table ∙ (ap (λ j. reference_of (set t1 s None) j) same ∙ get_or-set_same t1 s None None h) in
+        let q' : None ≡ Some q = sym none ∙ some in cc
 
 pub found_at : {X : Type 0} (table : List (Option X)) (s : ℕ) (o : Option X) (r : X) → s < length table → Some r ≡ get_or table s o → reference_of table s ≡ Some r
 found_at table s o r h e = get_or_default table s None o h ∙ sym e

@@ -1,21 +1,22 @@
 -- The steps that are still to be made for an output.
-use Rattle.std.proofs.Common.{◌≡◌, ℕ, ◌+◌, ◌<◌, ◌≤◌, Bool, true, false, ◌||◌, nat_eq, List, [], ◌∷◌, ◌++◌, length, get_or, Option, Some, None, IfSome, refl, sym, ◌∙◌, ap, arith, inl, inr, ◌⊎◌, subst, IsSome}
+use Rattle.std.proofs.Common.{◌≡◌, ℕ, ◌+◌, ◌<◌, ◌≤◌, Bool, true, false, ◌||◌, nat_eq, List, [], ◌∷◌, ◌++◌, length, get_or, set, Option, Some, None, IfSome, refl, sym, ◌∙◌, ap, arith, inl, inr, ◌⊎◌, subst, IsSome}
 use Rattle.std.specs.Borrow.{Bor}
 use Rattle.std.specs.Option.{option_copied}
 use Rattle.std.specs.List.{All, list_any}
 use Rattle.std.specs.Ordering.{nat_cmp}
 use Rattle.std.specs.BinaryHeap.{IsHeap, IsUpperBound, PopsGreatest}
 use Rattle.std.specs.List.Sorted.{IsPermutation}
-use Rattle.std.proofs.lemmas.List.{length-append, get_or_append_left}
+use Rattle.std.proofs.lemmas.List.{length-append, get_or_append_left, get_or-set_same, get_or-set_other}
+use Rattle.std.proofs.Math.ListN.{length-set}
 use Rattle.std.proofs.Math.Seq.{get_or-append_seam}
 use Rattle.std.proofs.lemmas.List.Sorted.{list_any-IsPermutation, le_from_greatest}
-use Rattle.std.proofs.lemmas.Bool.{cases_eq, or_cases, eqb-true, eq-eqb, true≢false, false≢true}
+use Rattle.std.proofs.lemmas.Bool.{cases_eq, cases_lt, or_cases, eqb-true, eq-eqb, true≢false, false≢true}
 use Rattle.std.proofs.lemmas.List.Elements.{All-contains}
 use Rattle.indexmap.proofs.CallerLemmas.{Contains-list_any}
 use Rattle.std.proofs.lemmas.List.{get_or_default}
 use Rattle.eqc_build.specs.Building.{reference_of}
 use Rattle.eqc_build.specs.Steps.{StepsOf, AreSteps, steps_in, uses_of}
-use Rattle.eqc_build.specs.Schedule.{moment, AreLastMoments, AreUsedUntil, AreWanted, AreReached, AreOpened, IsBehind, IsOpen}
+use Rattle.eqc_build.specs.Schedule.{moment, end_of, AreLastMoments, AreUsedUntil, AreUsedInTurn, AreLasting, AreWanted, AreReached, AreOpened, IsBehind, IsOpen}
 use Rattle.eqc_build.proofs.StepLaws.{uses_before}
 
 pub open_none : (x : ℕ) → IsOpen [] x → ⊥
@@ -132,8 +133,47 @@ opened_more table steps old mid new n o one = record {
   ];
 }
 
+-- a moment is noted for a step
+pub lasting_here : (until : List ℕ) (step at : ℕ) → step < length until → get_or until step 0 < at → AreLasting until (set until step at) (step ∷ []) 1 at
+lasting_here until step at inside early = record {
+  size = length-set until step at;
+  grown = λ s. elim (cases_eq s step) [
+    | inl same ↦ omega (arith, here s same, early, ap (λ j. get_or until j 0) same)
+    | inr apart ↦ omega (arith, get_or-set_other until step s at 0 apart)
+  ];
+  noted = λ k h place. (let zero : k ≡ 0 = omega arith in omega (arith, here (get_or (step ∷ []) k 0) (rw zero refl)));
+}
+  where
+    here : (s : ℕ) → s ≡ step → get_or (set until step at) s 0 ≡ at
+    here s same = ap (λ j. get_or (set until step at) j 0) same ∙ get_or-set_same until step at 0 inside
+
+-- one that has no place, or a later moment
+pub lasting_same : (until : List ℕ) (step at : ℕ) → (step < length until → get_or until step 0 < at → ⊥) → AreLasting until until (step ∷ []) 1 at
+lasting_same until step at late = record {
+  size = refl;
+  grown = λ s. omega arith;
+  noted = λ k h place. (let zero : k ≡ 0 = omega arith in elim (cases_lt (get_or until step 0) at) [
+    | inl early ↦ absurd (late (omega (arith, place, ap (λ k. get_or (step ∷ []) k 0) zero)) early)
+    | inr late' ↦ omega (arith, late', ap (λ k. get_or until (get_or (step ∷ []) k 0) 0) zero)
+  ]);
+}
+
+pub lasting_none : (until steps : List ℕ) (at : ℕ) → AreLasting until until steps 0 at
+lasting_none until steps at = record { size = refl; grown = λ s. omega arith; noted = λ k h place. absurd (omega arith) }
+
+-- one step more
+pub lasting_more : (old mid new steps : List ℕ) (n at : ℕ) → AreLasting old mid steps n at → AreLasting mid new (get_or steps n 0 ∷ []) 1 at → AreLasting old new steps (n + 1) at
+lasting_more old mid new steps n at l one = record {
+  size = one.size ∙ l.size;
+  grown = λ s. omega (arith, l.grown s, one.grown s);
+  noted = λ k h place. elim (cases_eq k n) [
+    | inl same ↦ (let e = ap (λ j. get_or steps j 0) same in omega (arith, one.noted 0 (omega arith) (omega (arith, place, e)), ap (λ s. get_or new s 0) e))
+    | inr apart ↦ omega (arith, l.noted k (omega arith) (omega (arith, place, one.size)), one.grown (get_or steps k 0))
+  ];
+}
+
 -- the steps that are wanted so far, and the open ones, which are all below them
-pub record AreWantedFrom {X : Type 0} (g : StepsOf) (last : List ℕ) (table : List (Option X)) (output : ℕ) (roots wanted items : List ℕ) (below : ℕ) : Type 0 where
+pub record AreWantedFrom {X : Type 0} (g : StepsOf) (last : List ℕ) (table : List (Option X)) (output : ℕ) (roots wanted items : List ℕ) (below : ℕ) (until : List ℕ) : Type 0 where
   pub small : below ≤ steps_in g.pair
   pub within : (i : ℕ) → i < length wanted → get_or wanted i 0 < steps_in g.pair
   pub above : (i : ℕ) → i < length wanted → below ≤ get_or wanted i 0
@@ -143,26 +183,28 @@ pub record AreWantedFrom {X : Type 0} (g : StepsOf) (last : List ℕ) (table : L
   pub open_needed : (x : ℕ) → IsOpen items x → moment output 0 ≤ get_or last x 0
   pub closed : (i c : ℕ) → i < length wanted → c < length (uses_of g (get_or wanted i 0)) → IsSome (reference_of table (get_or (uses_of g (get_or wanted i 0)) c 0)) ⊎ (IsBehind wanted (i + 1) (get_or (uses_of g (get_or wanted i 0)) c 0) ⊎ IsOpen items (get_or (uses_of g (get_or wanted i 0)) c 0))
   pub rooted : (r : ℕ) → r < length roots → IsSome (reference_of table (get_or roots r 0)) ⊎ (IsBehind wanted 0 (get_or roots r 0) ⊎ IsOpen items (get_or roots r 0))
+  pub in_turn : AreUsedInTurn g until output wanted roots
 
 -- what was opened for the roots alone
-pub wanted_first : {X : Type 0} (g : StepsOf) (last : List ℕ) (table : List (Option X)) (output at : ℕ) (roots old items : List ℕ) → old ≡ [] → moment output 0 ≤ at → ((r : ℕ) → r < length roots → get_or roots r 0 < steps_in g.pair) → AreUsedUntil last roots at → AreOpened table roots old items (length roots) → AreWantedFrom g last table output roots [] items (steps_in g.pair)
-wanted_first g last table output at roots old items empty late inside used o = record {
+pub wanted_first : {X : Type 0} (g : StepsOf) (last : List ℕ) (table : List (Option X)) (output : ℕ) (roots old items : List ℕ) (before until : List ℕ) → old ≡ [] → ((r : ℕ) → r < length roots → get_or roots r 0 < steps_in g.pair) → AreUsedUntil last roots (end_of g output) → AreOpened table roots old items (length roots) → AreLasting before until roots (length roots) (end_of g output) → AreWantedFrom g last table output roots [] items (steps_in g.pair) until
+wanted_first g last table output roots old items before until empty inside used o n = record {
   small = omega arith;
   within = λ i h. absurd (omega arith);
   above = λ i h. absurd (omega arith);
   falling = λ i j lt h. absurd (omega arith);
   needed = λ i h. absurd (omega arith);
   open_below = λ x h. (let w = root x h in omega (arith, inside w.0 w.1, w.2));
-  open_needed = λ x h. (let w = root x h in omega (arith, used.each w.0 w.1, late, ap (λ s. get_or last s 0) w.2));
+  open_needed = λ x h. (let w = root x h in omega (arith, used.each w.0 w.1, ap (λ s. get_or last s 0) w.2));
   closed = λ i c h within. absurd (omega arith);
   rooted = λ r h. elim (o.there r h) [ inl some ↦ inl some | inr o' ↦ inr (inr o') ];
+  in_turn = record { uses = λ i c h within. absurd (omega arith); goals_end = n.noted };
 }
   where
     root : (x : ℕ) → IsOpen items x → (r : ℕ) × (r < length roots) × (get_or roots r 0 ≡ x)
     root x h = elim (o.only x h) [ inl before ↦ absurd (open_none x (subst (λ xs. IsOpen xs x) empty before)) | inr w ↦ w ]
 
-pub wanted_more : {X : Type 0} (g : StepsOf) (last : List ℕ) (table : List (Option X)) (output : ℕ) (roots wanted h0 h1 h2 h3 : List ℕ) (below p : ℕ) → AreSteps g → AreLastMoments g last → 1 ≤ output → IsPermutation h0 (p ∷ h1) → ((x : ℕ) → IsOpen h2 x → x < p) → ((x : ℕ) → IsOpen h2 x → IsOpen h1 x) → ((x : ℕ) → x < p → IsOpen h1 x → IsOpen h2 x) → ((x : ℕ) → IsOpen h1 x → x ≤ p) → AreOpened table (uses_of g p) h2 h3 (length (uses_of g p)) → AreWantedFrom g last table output roots wanted h0 below → AreWantedFrom g last table output roots (wanted ++ p ∷ []) h3 p
-wanted_more {X = X} g last table output roots wanted h0 h1 h2 h3 below p lawful moments some perm dropped_below dropped_kept dropped_others popped_below opened w = record {
+pub wanted_more : {X : Type 0} (g : StepsOf) (last : List ℕ) (table : List (Option X)) (output : ℕ) (roots wanted h0 h1 h2 h3 : List ℕ) (below p : ℕ) (before until : List ℕ) → AreSteps g → AreLastMoments g last → 1 ≤ output → IsPermutation h0 (p ∷ h1) → ((x : ℕ) → IsOpen h2 x → x < p) → ((x : ℕ) → IsOpen h2 x → IsOpen h1 x) → ((x : ℕ) → x < p → IsOpen h1 x → IsOpen h2 x) → ((x : ℕ) → IsOpen h1 x → x ≤ p) → AreOpened table (uses_of g p) h2 h3 (length (uses_of g p)) → AreLasting before until (uses_of g p) (length (uses_of g p)) (moment output (p + 1)) → AreWantedFrom g last table output roots wanted h0 below before → AreWantedFrom g last table output roots (wanted ++ p ∷ []) h3 p until
+wanted_more {X = X} g last table output roots wanted h0 h1 h2 h3 below p before until lawful moments some perm dropped_below dropped_kept dropped_others popped_below opened n w = record {
   small = omega (arith, w.open_below p top, w.small);
   within = λ i h. elim (place i h) [ inl lt ↦ omega (arith, old i lt, w.within i lt) | inr end ↦ omega (arith, new i end, w.open_below p top, w.small) ];
   above = λ i h. elim (place i h) [ inl lt ↦ omega (arith, old i lt, w.above i lt, w.open_below p top) | inr end ↦ omega (arith, new i end) ];
@@ -187,6 +229,13 @@ wanted_more {X = X} g last table output roots wanted h0 h1 h2 h3 below p lawful 
     | inr end ↦ (let P : ℕ → Type 0 = λ q. c < length (uses_of g q) → IsSome (reference_of table (get_or (uses_of g q) c 0)) ⊎ (IsBehind (wanted ++ p ∷ []) (i + 1) (get_or (uses_of g q) c 0) ⊎ IsOpen h3 (get_or (uses_of g q) c 0)) in subst P (sym (new i end)) (closed_here i c) within)
   ];
   rooted = λ r h. elim (w.rooted r h) [ inl some ↦ inl some | inr there ↦ inr (moved 0 (get_or roots r 0) (omega arith) there) ];
+  in_turn = record {
+    uses = λ i c h within. elim (place i h) [
+      | inl lt ↦ subst (IsUsed c) (sym (old i lt)) (λ within place. omega (arith, w.in_turn.uses i c lt within (omega (arith, place, n.size)), n.grown (get_or (uses_of g (get_or wanted i 0)) c 0))) within
+      | inr end ↦ subst (IsUsed c) (sym (new i end)) (n.noted c) within
+    ];
+    goals_end = λ r h place. omega (arith, w.in_turn.goals_end r h (omega (arith, place, n.size)), n.grown (get_or roots r 0));
+  };
 }
   where
     size : length (wanted ++ p ∷ []) ≡ length wanted + 1
@@ -197,6 +246,10 @@ wanted_more {X = X} g last table output roots wanted h0 h1 h2 h3 below p lawful 
 
     inside : p < steps_in g.pair
     inside = omega (arith, w.open_below p top, w.small)
+
+    -- until when a step is used that another uses
+    IsUsed : ℕ → ℕ → Type 0
+    IsUsed c q = c < length (uses_of g q) → get_or (uses_of g q) c 0 < length until → moment output (q + 1) ≤ get_or until (get_or (uses_of g q) c 0) 0
 
     place : (i : ℕ) → i < length (wanted ++ p ∷ []) → (i < length wanted) ⊎ (i ≡ length wanted)
     place i h = elim (cases_eq i (length wanted)) [ inl same ↦ inr same | inr apart ↦ inl (omega (arith, size)) ]
@@ -223,15 +276,15 @@ wanted_more {X = X} g last table output roots wanted h0 h1 h2 h3 below p lawful 
     closed_here : (i c : ℕ) → c < length (uses_of g p) → IsSome (reference_of table (get_or (uses_of g p) c 0)) ⊎ (IsBehind (wanted ++ p ∷ []) (i + 1) (get_or (uses_of g p) c 0) ⊎ IsOpen h3 (get_or (uses_of g p) c 0))
     closed_here i c lt = elim (opened.there c lt) [ inl some ↦ inl some | inr o ↦ inr (inr o) ]
 
-pub wanted_done : {X : Type 0} (g : StepsOf) (last : List ℕ) (table : List (Option X)) (output : ℕ) (roots wanted items : List ℕ) (below : ℕ) → items ≡ [] → AreWantedFrom g last table output roots wanted items below → AreWanted g last table output wanted
-wanted_done g last table output roots wanted items below empty w = record {
+pub wanted_done : {X : Type 0} (g : StepsOf) (last : List ℕ) (table : List (Option X)) (output : ℕ) (roots wanted items : List ℕ) (below : ℕ) (until : List ℕ) → items ≡ [] → AreWantedFrom g last table output roots wanted items below until → AreWanted g last table output wanted
+wanted_done g last table output roots wanted items below until empty w = record {
   within = w.within;
   falling = w.falling;
   needed = w.needed;
   closed = λ i c h lt. elim (w.closed i c h lt) [ inl some ↦ inl some | inr there ↦ elim there [ inl behind ↦ inr behind | inr o ↦ absurd (open_none (get_or (uses_of g (get_or wanted i 0)) c 0) (subst (λ xs. IsOpen xs (get_or (uses_of g (get_or wanted i 0)) c 0)) empty o)) ] ];
 }
 
-pub wanted_roots : {X : Type 0} (g : StepsOf) (last : List ℕ) (table : List (Option X)) (output : ℕ) (roots wanted items : List ℕ) (below : ℕ) → items ≡ [] → AreWantedFrom g last table output roots wanted items below → AreReached table wanted roots
-wanted_roots g last table output roots wanted items below empty w = record {
+pub wanted_roots : {X : Type 0} (g : StepsOf) (last : List ℕ) (table : List (Option X)) (output : ℕ) (roots wanted items : List ℕ) (below : ℕ) (until : List ℕ) → items ≡ [] → AreWantedFrom g last table output roots wanted items below until → AreReached table wanted roots
+wanted_roots g last table output roots wanted items below until empty w = record {
   each = λ r h. elim (w.rooted r h) [ inl some ↦ inl some | inr there ↦ elim there [ inl behind ↦ inr behind | inr o ↦ absurd (open_none (get_or roots r 0) (subst (λ xs. IsOpen xs (get_or roots r 0)) empty o)) ] ];
 }

@@ -1,9 +1,11 @@
 -- The diagrams of the steps of a pair, while they are built.
-use Rattle.std.specs.Prelude.{◌≡◌, ℕ, ◌+◌, ◌<◌, ◌≤◌, Bool, List, length, Option, Some, None, slice_index, slice_index_or, sum_by, IsSome, slice_set}
+use Rattle.std.specs.Prelude.{◌≡◌, ℕ, ◌+◌, ◌<◌, ◌≤◌, Bool, List, length, Option, Some, None, slice_index, slice_index_or, sum_by, IsSome, slice_set, ◌⊎◌}
 use Rattle.eqc_tree.specs.Holding.{Entry, Holding, copies, weight, says}
 use Rattle.eqc_flat.specs.Graph.{FlatOf}
 use Rattle.eqc_pair.specs.PairOf.{PairOf}
 use Rattle.eqc_build.specs.Steps.{steps_in, value_at}
+use Rattle.eqc_build.specs.Demand.{IsOfUse}
+use Rattle.eqc_build.specs.declared.plan.Plan.{Plan}
 
 -- how often an entry is held by what may be a reference
 abbrev pub held_by : {X : Type 0} → (X → Entry) → Entry → Option X → ℕ
@@ -51,11 +53,16 @@ pub record Empties {X : Type 0} (entry : X → Entry) (old : Holding) (old_table
   pub table : new_table ≡ slice_set old_table s None
   pub moves : Moves entry old old_table new new_table
 
--- references that are used for the last time at this moment were given back, and no others
-pub record Releases {X : Type 0} (entry : X → Entry) (old : Holding) (old_table : List (Option X)) (new : Holding) (new_table : List (Option X)) (last : List ℕ) (at : ℕ) : Type 0 where
+-- whether a step is used for the last time at a moment, of all or of this turn
+abbrev pub IsLastUse : Plan → List ℕ → ℕ → ℕ → Type 0
+IsLastUse plan until s at = (slice_index plan.last s ≡ at) ⊎ (slice_index until s ≡ at)
+
+-- references that are used for the last time at this moment were given back, and none that is of use later
+pub record Releases {X : Type 0} (entry : X → Entry) (old : Holding) (old_table : List (Option X)) (new : Holding) (new_table : List (Option X)) (plan : Plan) (used : List ℕ) (until : List ℕ) (at : ℕ) : Type 0 where
   pub size : length new_table ≡ length old_table
   pub moves : Moves entry old old_table new new_table
-  pub kept : (s : ℕ) → (slice_index last s ≡ at → ⊥) → reference_of new_table s ≡ reference_of old_table s
+  pub kept : (s : ℕ) → (IsLastUse plan until s at → ⊥) → reference_of new_table s ≡ reference_of old_table s
+  pub later : (s : ℕ) → IsOfUse plan used s at → reference_of new_table s ≡ reference_of old_table s
   pub none_new : (s : ℕ) (r : X) → reference_of new_table s ≡ Some r → reference_of old_table s ≡ Some r
 
 -- a step has a reference now, and those that had one still have it
@@ -66,15 +73,16 @@ pub record Adds {X : Type 0} (entry : X → Entry) (p : PairOf) (old : Holding) 
   pub kept : (i : ℕ) → IsSome (reference_of old_table i) → IsSome (reference_of new_table i)
 
 -- a step was made at a moment: it has a reference, those that had one still have it, and those that are used for the last
--- time at this moment may have none
-pub record Advances {X : Type 0} (entry : X → Entry) (p : PairOf) (last : List ℕ) (old : Holding) (old_table : List (Option X)) (new : Holding) (new_table : List (Option X)) (k at : ℕ) : Type 0 where
+-- time at this moment, and aren't of use later, may have none
+pub record Advances {X : Type 0} (entry : X → Entry) (plan : Plan) (until : List ℕ) (old : Holding) (old_table : List (Option X)) (new : Holding) (new_table : List (Option X)) (used : List ℕ) (k at : ℕ) : Type 0 where
   pub moves : Moves entry old old_table new new_table
-  pub built : IsBuilt entry p new_table
-  pub here : (slice_index last k ≡ at → ⊥) → IsSome (reference_of new_table k)
-  pub kept : (i : ℕ) → (slice_index last i ≡ at → ⊥) → IsSome (reference_of old_table i) → IsSome (reference_of new_table i)
+  pub built : IsBuilt entry plan.steps.pair new_table
+  pub here : (IsLastUse plan until k at → ⊥) → IsSome (reference_of new_table k)
+  pub kept : (i : ℕ) → (IsLastUse plan until i at → ⊥) → IsSome (reference_of old_table i) → IsSome (reference_of new_table i)
+  pub later : (i : ℕ) → IsOfUse plan used i at → IsSome (reference_of old_table i) → IsSome (reference_of new_table i)
 
--- a table has no reference more, and those that are used later than a moment are still there
-pub record KeepsLater {X : Type 0} (last : List ℕ) (old_table new_table : List (Option X)) (at : ℕ) : Type 0 where
+-- a table has no reference more, and those that are of use after a moment are still there
+pub record KeepsLater {X : Type 0} (plan : Plan) (used : List ℕ) (old_table new_table : List (Option X)) (at : ℕ) : Type 0 where
   pub size : length new_table ≡ length old_table
   pub none_new : (s : ℕ) (r : X) → reference_of new_table s ≡ Some r → reference_of old_table s ≡ Some r
-  pub kept : (s : ℕ) → at < slice_index last s → reference_of new_table s ≡ reference_of old_table s
+  pub kept : (s : ℕ) → IsOfUse plan used s at → reference_of new_table s ≡ reference_of old_table s

@@ -25,6 +25,17 @@ pub record IsRaised (old new steps : List ℕ) (n at : ℕ) : Type 0 where
   pub noted : (k : ℕ) → k < n → at ≤ slice_index new (slice_index steps k)
   pub others : (s : ℕ) → (slice_index new s ≡ slice_index old s) ⊎ ((k : ℕ) × (k < n) × (slice_index steps k ≡ s))
 
+-- a moment is noted for those of the first n steps whose moment is earlier, and that have a place
+pub record AreLasting (old new steps : List ℕ) (n at : ℕ) : Type 0 where
+  pub size : length new ≡ length old
+  pub grown : (s : ℕ) → slice_index old s ≤ slice_index new s
+  pub noted : (k : ℕ) → k < n → slice_index steps k < length new → at ≤ slice_index new (slice_index steps k)
+
+-- what one of these steps uses is noted to be used in its turn until that is made, or later, and a goal until the end
+pub record AreUsedInTurn (g : StepsOf) (until : List ℕ) (output : ℕ) (wanted goals : List ℕ) : Type 0 where
+  pub uses : (i c : ℕ) → i < length wanted → c < length (uses_of g (slice_index wanted i)) → slice_index (uses_of g (slice_index wanted i)) c < length until → moment output (slice_index wanted i + 1) ≤ slice_index until (slice_index (uses_of g (slice_index wanted i)) c)
+  pub goals_end : (k : ℕ) → k < length goals → slice_index goals k < length until → end_of g output ≤ slice_index until (slice_index goals k)
+
 -- whether a step stands in the list behind the first n
 abbrev pub IsBehind : List ℕ → ℕ → ℕ → Type 0
 IsBehind wanted n k = (j : ℕ) × (n ≤ j) × (j < length wanted) × (slice_index wanted j ≡ k)

@@ -1,17 +1,19 @@
 //! The building of the diagrams of some steps: step by step, and each is given back after its last use.
-ghost use Rattle.std.specs.Prelude.{◌≡◌, ◌≢◌, ℕ, ◌+◌, ◌<◌, length, IfOk, IfErr, OnOk, OnErr, IsSome, Some, map, slice_index};
+ghost use Rattle.std.specs.Prelude.{◌≡◌, ◌≢◌, ℕ, List, ◌+◌, ◌<◌, length, [], ◌∷◌, IfOk, IfErr, OnOk, OnErr, IsSome, Some, map, slice_index};
 ghost use Rattle.eqc_tree.specs.Holding.{Keeps};
 ghost use Rattle.eqc_cover.specs.Making.{Makes};
 ghost use Rattle.eqc_build.specs.Building.{IsBuilt, AreReady, Adds, Advances, Moves, reference_of};
 ghost use Rattle.eqc_build.specs.Steps.{steps_in, uses_of, value_at};
+ghost use Rattle.eqc_build.specs.Demand.{AreCounted, IsOfUse};
 ghost use Rattle.eqc_build.specs.Schedule.{moment, end_of};
 ghost use Rattle.eqc_build.specs.Turns.{AreKept, IsTurn};
 
-use crate::kept::Kept;
+use crate::demand::count;
+use crate::kept::{Kept, release};
 use crate::plan::Plan;
 use crate::schedule::moment;
 use crate::steps::{StepDriver, Steps, Uses};
-use crate::table::{Table, put, reference_at, release};
+use crate::table::{Table, put, reference_at};
 use crate::wanted::wanted;
 use eqc_cover::cover_diagram;
 use eqc_tree::{Diagrams, References, Stop};
@@ -90,25 +92,29 @@ fn advance<R, D: Diagrams<R>>(
     rt: &R,
     d: &mut D,
     plan: &Plan<'_>,
-    table: &mut Table<D::Ref>,
+    kept: &mut Kept<D::Ref>,
     step: u32,
     at: u64,
 ) -> Result<(), Stop>
     requires within { step < steps_in plan.now.steps.pair }
     requires size { length plan.now.last ≡ steps_in plan.now.steps.pair }
-    requires kept { AreKept D.entry plan.now.steps.pair (D.holding d.old) table.old }
-    requires ready { AreReady table.old (uses_of plan.now.steps step) }
-    ensures ok { OnOk result (Advances D.entry plan.now.steps.pair plan.now.last (D.holding d.old) table.old (D.holding d.new) table.new step at) }
+    requires kept { AreKept D.entry plan.now.steps.pair (D.holding d.old) kept.old.table }
+    requires ready { AreReady kept.old.table (uses_of plan.now.steps step) }
+    ensures ok { OnOk result (Advances D.entry plan.now kept.old.until.items (D.holding d.old) kept.old.table (D.holding d.new) kept.new.table kept.new.used.items step at) }
+    ensures counted { OnOk result (AreCounted plan.now.steps (step ∷ []) kept.old.used.items kept.new.used.items) }
+    ensures until { kept.new.until.items ≡ kept.old.until.items }
     ensures stop { OnErr result (Keeps (D.holding d.old) (D.holding d.new)) }
-    ensures table { OnErr result (table.new ≡ table.old) }
+    ensures table { OnErr result (kept.new.table ≡ kept.old.table) }
+    ensures used { OnErr result (kept.new.used.items ≡ kept.old.used.items) }
     ensures only { IfErr result (λ s. s ≢ Stop.Threads) }
 {
-    build_step(alloc, rt, d, &plan.steps, table, step)?;
-    release(d, table, &plan.last, &plan.steps.uses(step), at);
+    build_step(alloc, rt, d, &plan.steps, &mut kept.table, step)?;
+    count(&mut kept.used, &plan.steps.uses(step));
+    release(d, plan, kept, &plan.steps.uses(step), at);
     Ok(())
 }
 
-/// Notes a step that is used later than all steps of a turn, so that it is given back then.
+/// Notes a step that is used later than all steps of a turn, so that it is given back then, if it is of no use any more.
 fn note_due(
     due: &mut BinaryHeap<Reverse<(u64, u32)>>,
     last: u64,
@@ -127,8 +133,8 @@ fn note_due(
 }
 
 /// Brings the diagrams of these steps into the table, where they aren't there yet, in their turn, counted from 1. Turns come in
-/// rising order. Each step that they need is made once, unless it is kept, and no other; it stays where a later turn needs it,
-/// and is else given back after its last use.
+/// rising order. Each step that they need is made once, unless it is kept, and no other, and what it uses is counted. A step
+/// stays where a later turn needs it as a goal, or for a step that wasn't made, and is else given back after its last use.
 pub fn complete<R, D: Diagrams<R>>(
     alloc: Global,
     rt: &R,
@@ -143,17 +149,18 @@ pub fn complete<R, D: Diagrams<R>>(
     ensures moves { Moves D.entry (D.holding d.old) kept.old.table (D.holding d.new) kept.new.table }
     ensures built { IsBuilt D.entry plan.now.steps.pair kept.new.table }
     ensures ready { OnOk result (AreReady kept.new.table goals.now) }
-    ensures kept { (s : ℕ) → end_of plan.now.steps turn < slice_index plan.now.last s → IsSome (reference_of kept.old.table s) → IsSome (reference_of kept.new.table s) }
+    ensures kept { (s : ℕ) → IsOfUse plan.now kept.new.used.items s (end_of plan.now.steps turn) → IsSome (reference_of kept.old.table s) → IsSome (reference_of kept.new.table s) }
+    ensures counted { (made : List ℕ) × AreCounted plan.now.steps made kept.old.used.items kept.new.used.items }
     ensures only { IfErr result (λ s. s ≢ Stop.Threads) }
 {
-    let Ok(mut steps) = wanted(alloc, plan, &kept.table, goals, turn) else {
+    let Ok(mut steps) = wanted(alloc, plan, &kept.table, &mut kept.until, goals, turn) else {
         return Err(Stop::Memory);
     };
     let end = moment(turn, plan.steps.len());
     while let Some(step) = steps.pop() {
         note_due(&mut kept.due, plan.last.at(step), step, end)?;
-        let at = moment(turn, step + 1);
-        advance(alloc, rt, d, plan, &mut kept.table, step, at)?;
+        note_due(&mut kept.due, plan.demand.root_end(step), step, end)?;
+        advance(alloc, rt, d, plan, kept, step, moment(turn, step + 1))?;
     }
     Ok(())
 }

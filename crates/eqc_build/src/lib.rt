@@ -1,5 +1,5 @@
 //! Diagrams of the signals of a pair that its outputs depend on, for any store of diagrams: each is built once, kept while a
-//! later output needs it, and given back after its last use.
+//! later output needs it, itself or for a step that wasn't built, and given back after its last use.
 //!
 //! When a table of diagrams is right is said in `specs/Building.antt`, and what comparing the outputs in turn asks of it and
 //! leaves in `specs/Turns.antt`. Read the modules in this order:
@@ -8,12 +8,13 @@
 //! - `steps`, both netlists and the assumption in one row, and what makes each value; `goals`, the steps that are needed together;
 //!   `wanted`, those that are still needed for them
 //! - `schedule`, when each step is used for the last time, where all outputs are compared; `cone`, where some steps are made alone;
-//!   `moments`, how that is noted
+//!   `moments`, how that is noted; `demand`, what outputs need each step for, and whether that is done
 //! - `kept`, what stays from one output to the next; `table`, the references of steps
 #![tactic(auto, using(eqc_tree::proofs::HoldingLemmas::counts_itself))]
 
 mod building;
 mod cone;
+mod demand;
 mod goals;
 mod kept;
 mod moments;
@@ -26,8 +27,7 @@ mod wanted;
 pub use building::complete;
 pub use goals::Goals;
 pub use kept::{Kept, clear, give_back_kept, nothing_built, nothing_kept_of_few, release_due};
-pub use moments::Moments;
 pub use plan::{Plan, plan_below, plan_of};
-pub use schedule::{is_marked, moment};
+pub use schedule::is_marked;
 pub use steps::{StepDriver, Steps, Uses};
 pub use table::{Table, reference_at};

@@ -9,7 +9,7 @@ use crate::steps::{Steps, Uses};
 use std::alloc::{AllocError, Global};
 
 /// An output and a step, each counted from 1, as one number: moments of later outputs are later.
-pub fn moment(output: u32, step: u32) -> u64
+pub(crate) fn moment(output: u32, step: u32) -> u64
     ensures { result ≡ moment output step }
 {
     output as u64 * 4294967296 + step as u64
@@ -58,7 +58,7 @@ pub fn is_marked(marks: &[bool], output: usize) -> bool
 }
 
 /// The moments at which the outputs that are not marked are compared themselves, of so many outputs.
-fn output_moments(
+pub(crate) fn output_moments(
     alloc: Global,
     steps: &Steps<'_>,
     outputs: u32,

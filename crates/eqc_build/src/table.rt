@@ -3,11 +3,9 @@ ghost use Rattle.std.specs.Prelude.{◌≡◌, ℕ, ◌<◌, length, IfOk, IfErr
 ghost use Rattle.std.specs.Option.{option_copied};
 ghost use Rattle.indexmap.specs.IndexMap.{get};
 ghost use Rattle.eqc_tree.specs.Holding.{IsHeld, Loses};
-ghost use Rattle.eqc_build.specs.Building.{Moves, OwnsTable, Empties, Fills, Releases, reference_of};
+ghost use Rattle.eqc_build.specs.Building.{Moves, OwnsTable, Empties, Fills, reference_of};
 ghost use Rattle.eqc_build.specs.Listed.{listed, references_in, AreInside};
 
-use crate::moments::Moments;
-use crate::steps::Uses;
 use eqc_tree::{References, Stop};
 use indexmap::IndexMap;
 use std::alloc::{AllocError, Global};
@@ -210,27 +208,6 @@ pub(crate) fn take_back<D: References>(d: &mut D, table: &mut Table<D::Ref>, s: 
         return;
     };
     d.give_back(reference);
-}
-
-/// Gives back the references of those of the steps that are used for the last time at the moment `at`.
-pub(crate) fn release<D: References>(
-    d: &mut D,
-    table: &mut Table<D::Ref>,
-    last: &Moments,
-    steps: &Uses<'_>,
-    at: u64,
-)
-    requires within { (k : ℕ) → k < length steps.now → slice_index steps.now k < length table.old }
-    requires size { length last.now ≡ length table.old }
-    requires owned { OwnsTable D.entry (D.holding d.old) table.old }
-    ensures { Releases D.entry (D.holding d.old) table.old (D.holding d.new) table.new last.now at }
-{
-    for k in 0..steps.len() {
-        let s = steps.get(k);
-        if last.at(s) == at {
-            take_back(d, table, s);
-        }
-    }
 }
 
 /// Gives all references of a list back.

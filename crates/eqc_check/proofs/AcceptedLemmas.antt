@@ -8,11 +8,11 @@ use Rattle.std.proofs.lemmas.List.Folds.{Any-from_list_any, list_any_at}
 use Rattle.std.proofs.lemmas.List.Sums.{list_all-from_AllPass}
 use Rattle.std.proofs.lemmas.List.FromFn.{length-range_with_len, get_or-range_with_len}
 use Rattle.eqc_blif.specs.Names.{is_named}
-use Rattle.eqc_check.specs.declared.options.Options.{Options}
+use Rattle.eqc_report.specs.declared.options.Options.{Options}
 use Rattle.eqc_pair.specs.declared.refused.Refused.{Refused}
 use Rattle.eqc_pair.specs.declared.refused.Side.{Side}
 use Rattle.eqc_pair.specs.declared.refused.Side.TheVariants as side
-use Rattle.eqc_check.specs.Options.{is_between, is_cell_count}
+use Rattle.eqc_report.specs.Options.{is_between, is_cell_count}
 use Rattle.eqc_pair.specs.Matched.{position_of, has_all, same_names, order_words}
 use Rattle.eqc_check.specs.Answer.{GivenOf, MainOf, first_found, second_found, inputs_of, outputs_of, assumption_found}
 use Rattle.eqc_check.specs.AnswerLaws.{first_main, assumption_main, AreInRange, IsFound, HaveSameNames, IsOrderOf, IsAssumptionOver, IsAccepted, refused_if, refused_by_code, refused_by_fault, option_checks, text_checks, order_checks, assumption_checks, checks}

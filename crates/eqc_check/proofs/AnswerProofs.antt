@@ -7,13 +7,13 @@ use Rattle.std.proofs.lemmas.Option.{none-some}
 use Rattle.std.proofs.lemmas.List.{length-map}
 use Rattle.std.proofs.lemmas.List.Elements.{All-from_get_or, All-get_or, All-nil, All-head, All-tail, All-cons}
 use Rattle.eqc_tree.specs.Assigned.{assignments}
-use Rattle.eqc_check.specs.declared.options.Options.{Options}
+use Rattle.eqc_report.specs.declared.options.Options.{Options}
 use Rattle.eqc_compare.specs.Verdict.{is_allowed, allows_none, with_difference, differences, told, first_difference}
 use Rattle.eqc_compare.specs.Verdict as found
 use Rattle.eqc_compare.specs.VerdictLaws.{NeverDiffers}
-use Rattle.eqc_check.specs.Report.{DifferenceOf, ReportOf, equivalent, differs, vacuous, refused, stopped, shown, differences_report, verdict_report, comparison}
+use Rattle.eqc_report.specs.Report.{DifferenceOf, ReportOf, equivalent, differs, vacuous, refused, stopped, shown, differences_report, verdict_report, comparison}
 use Rattle.eqc_check.specs.Answer.{TextsOf, GivenOf, inputs_of, options_answer, texts_answer, answer, IsAccepting, Answers, as_wanted}
-use Rattle.eqc_check.specs.Options.{options_code}
+use Rattle.eqc_report.specs.Options.{options_code}
 use Rattle.eqc_check.specs.Running.{known_texts, known_some, all_known, known_given, IsReport, IsReportBehind}
 use Rattle.eqc_check.specs.declared.given.Given.{Given}
 use Rattle.eqc_pair.specs.declared.refused.Side.TheVariants as side

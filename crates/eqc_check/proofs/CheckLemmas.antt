@@ -6,12 +6,12 @@ use Rattle.eqc_blif.specs.Names.{has_twice}
 use Rattle.eqc_hierarchy.specs.Codes.{flat_code}
 use Rattle.eqc_pair.specs.declared.refused.Refused.{Refused}
 use Rattle.eqc_pair.specs.declared.refused.Side.TheVariants as side
-use Rattle.eqc_check.specs.Options.{is_between, is_cell_count, options_code}
+use Rattle.eqc_report.specs.Options.{is_between, is_cell_count, options_code}
 use Rattle.eqc_pair.specs.Matched.{has_all, same_names, order_words}
 use Rattle.std.specs.Option.{option_map}
 use Rattle.eqc_compare.specs.Verdict.{NetlistOf, VerdictOf, vacuous}
 use Rattle.eqc_compare.specs.Verdict.{compared as found}
-use Rattle.eqc_check.specs.Report.{DifferenceOf, ReportOf, refused, stopped, shown, differences_report, verdict_report}
+use Rattle.eqc_report.specs.Report.{DifferenceOf, ReportOf, refused, stopped, shown, differences_report, verdict_report}
 use Rattle.eqc_check.specs.Answer.{GivenOf, first_found, second_found, MainOf, inputs_of, outputs_of, netlist_of_model, compared, assumption_found, assumption_answer, assumed_answer, code_of_order, pair_answer, or_code, models_answer, found_answer, texts_answer, options_answer, answer, IsAccepting}
 use Rattle.eqc_check.specs.AnswerLaws.{main_or_none, first_main, second_main, assumption_main, refused_if, refused_by_code, refused_by_fault, text_checks, order_checks, assumption_checks, checks, IsFirstRefusal}
 

@@ -4,7 +4,7 @@ use Rattle.std.proofs.lemmas.Bool.{cases_Bool, and_parts, and_from, true≢false
 use Rattle.std.proofs.lemmas.List.{length-map}
 use Rattle.eqc_compare.specs.Verdict.{NetlistOf, is_different, is_allowed, has_two_values, differs_under, least_difference, with_difference, differences}
 use Rattle.eqc_compare.specs.VerdictLaws.{IsBelow, IsLeastDifference, NeverDiffers}
-use Rattle.eqc_check.specs.Report.{DifferenceOf, shown}
+use Rattle.eqc_report.specs.Report.{DifferenceOf, shown}
 use Rattle.eqc_check.specs.Answer.{GivenOf, inputs_of, netlist_of_model}
 use Rattle.eqc_check.specs.AnswerLaws.{first_main, second_main, HaveSameNames, value_under, IsAllowed, IsAlwaysEqual, IsShown, AreShown, none_left, equal, differing}
 use Rattle.eqc_compare.proofs.LeastLemmas.{not_both_below, found_least, least_found}

@@ -1,8 +1,4 @@
-pub mod OptionsLemmas
-pub mod KnownBytes
-pub mod SpoolLemmas
-pub mod ReportLemmas
-pub mod FoundLaws
+pub mod ReadLemmas
 pub mod ReportsLaws
 pub mod TellingLaws
 pub mod RunLaws

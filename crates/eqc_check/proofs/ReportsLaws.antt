@@ -10,17 +10,18 @@ use Rattle.eqc_flat.specs.Graph.{FlatOf, IsFlat, value_of}
 use Rattle.eqc_hierarchy.specs.Signals.{output_value}
 use Rattle.eqc_hierarchy.specs.Codes.{flat_code}
 use Rattle.eqc_flat.specs.Flattened.{IsFlatOf}
-use Rattle.eqc_check.specs.declared.report.Report.{Report}
+use Rattle.eqc_report.specs.declared.report.Report.{Report}
 use Rattle.eqc_pair.specs.declared.refused.Side.{Side}
 use Rattle.eqc_pair.specs.declared.refused.Side.TheVariants as side
 use Rattle.eqc_pair.specs.declared.refused.Refused.{Refused}
 use Rattle.eqc_compare.specs.Verdict.{NetlistOf, values_for, first_value, second_value, has_two_values, is_allowed, allows_none, least_difference, with_difference, differences, told}
 use Rattle.eqc_compare.specs.Verdict as verdicts
-use Rattle.eqc_check.specs.Report.{DifferenceOf, ReportOf, refused, shown, differences_report, verdict_report, comparison}
-use Rattle.eqc_check.specs.ReportView.{report_of}
+use Rattle.eqc_report.specs.Report.{DifferenceOf, ReportOf, refused, shown, differences_report, verdict_report, comparison}
+use Rattle.eqc_report.specs.ReportView.{report_of}
 use Rattle.eqc_pair.specs.Matched.{position_of, has_all, same_names, is_chosen, chosen_outputs, order_code}
 use Rattle.eqc_pair.specs.PairOf.{PairOf, pair_refusal, pair_refused, order_refused, order_refusal, assumption_refused, assumption_refusal, no_memory}
-use Rattle.eqc_check.specs.Refusing.{IsRefused, refusal_report, pair_report, flat_answer, flat_assumed}
+use Rattle.eqc_report.specs.PairReport.{pair_report}
+use Rattle.eqc_check.specs.Refusing.{IsRefused, refusal_report, flat_answer, flat_assumed}
 use Rattle.eqc_check.specs.Answer.{MainOf, GivenOf, inputs_of, outputs_of, netlist_of_model, compared, assumption_found, assumption_code, assumption_answer, assumed_answer, or_code, code_of_order, pair_answer, models_answer, IsAccepting, MayStop, Answers, as_wanted}
 use Rattle.eqc_compare.specs.Comparing.{netlist_of}
 use Rattle.eqc_pair.proofs.PlaceLemmas.{place_itself, place_below, all_named, name_at}

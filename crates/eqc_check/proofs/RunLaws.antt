@@ -1,33 +1,33 @@
 -- Runs over readers and a writer whose bytes are known.
-use Rattle.std.proofs.Common.{◌≡◌, ◌⊎◌, inl, inr, ℕ, true, not, if◌then◌else◌, ap₂, List, length, take, refl, ◌∙◌, sym, ap, arith, subst, Option, Some, None, Ok, Err, IfSome, Result, IfOk, OnErr}
+use Rattle.std.proofs.Common.{◌≡◌, ◌⊎◌, inl, inr, ℕ, true, not, if◌then◌else◌, ap₂, List, length, take, refl, ◌∙◌, sym, ap, arith, subst, Option, Some, None, Ok, Err, IfSome, Result}
 use Rattle.std.proofs.lemmas.Bool.{cases_lt, lt-ltb}
 use Rattle.std.proofs.lemmas.List.{take_all, length-take-le}
-use Rattle.std.specs.Io.KnownBytes.{Appends, Keeps}
 use Rattle.std.specs.Option.{option_map}
 use Rattle.std.proofs.lemmas.Option.{none-some}
 use Rattle.eqc_tree.specs.declared.stopping.Stop.TheVariants.{Memory}
 use Rattle.eqc_tree.specs.Stopping.{code_of}
 use Rattle.eqc_blif.specs.Reading.{outcome, is_too_long}
-use Rattle.eqc_check.specs.declared.report.Status.{Status}
+use Rattle.eqc_report.specs.declared.report.Status.{Status}
 use Rattle.eqc_check.specs.declared.given.Given.{Given}
 use Rattle.eqc_check.specs.declared.given.Case.{Case}
 use Rattle.eqc_check.specs.declared.given.Texts.{Texts}
 use Rattle.eqc_check.specs.declared.given.Texts.TheVariants.{One, Two}
-use Rattle.eqc_check.specs.Ends.{bytes_read, AppendsPrefix}
+use Rattle.eqc_check.specs.Reading.{bytes_read}
 use Rattle.eqc_hierarchy.specs.Codes.{flat_code}
 use Rattle.eqc_pair.specs.Matched.{has_all, same_names, order_code}
 use Rattle.eqc_pair.specs.declared.refused.Side.TheVariants as side
 use Rattle.eqc_compare.specs.Verdict.{NetlistOf}
-use Rattle.eqc_check.specs.declared.options.Options.{Options}
-use Rattle.eqc_check.specs.Report.{ReportOf, text, equivalent, differs, vacuous, refused, stopped}
+use Rattle.eqc_report.specs.declared.options.Options.{Options}
+use Rattle.eqc_report.specs.Report.{ReportOf, text, equivalent, differs, vacuous, refused, stopped}
 use Rattle.eqc_check.specs.Answer.{NamesOf, MainOf, GivenOf, inputs_of, TextsOf, one_text, two_texts, main_of, first_found, second_found, outputs_of, netlist_of_model, assumption_answer, assumed_answer, or_code, code_of_order, models_answer, found_answer, texts_answer, read_texts, IsComparison, Answers, was_stopped}
 use Rattle.eqc_check.specs.Telling.{WarnsOf}
 use Rattle.eqc_check.specs.Warning.{warnings_on, no_warnings, warnings_at, WarnsOfKnown, IsWarned}
 use Rattle.eqc_check.specs.declared.warning.Warnings.{Warnings}
-use Rattle.eqc_check.specs.declared.report.Status.TheVariants.{Equivalent, Differs, Vacuous, Refused, Stopped}
-use Rattle.eqc_check.specs.ReportView.{status_of}
+use Rattle.eqc_report.specs.declared.report.Status.TheVariants.{Equivalent, Differs, Vacuous, Refused, Stopped}
+use Rattle.eqc_report.specs.ReportView.{status_of}
 use Rattle.eqc_check.specs.Sources.{items_of, given_of, IsRead, MayBeRead, AreTextsRead, AreRead}
-use Rattle.eqc_check.specs.Running.{two_known, known_texts, known_some, all_known, known_given, IsReport, IsShown, IsWritten, IsCutShort}
+use Rattle.eqc_report.specs.Written.{IsWritten}
+use Rattle.eqc_check.specs.Running.{two_known, known_texts, known_some, all_known, known_given, IsReport}
 
 if_some_all : {A : Type 0} (o : Option A) (P : A → Type 0) → ((x : A) → P x) → IfSome o P
 if_some_all None P h = tt
@@ -204,24 +204,3 @@ written_warned remaining given report old new status found at warns w e = record
     | inr none ↦ if_some_all (known_texts given.names remaining given.texts) _ (λ known. e ∙ (none found ∙ sym (none (warnings_on known))))
   ];
 }
-
-kept_appends : (old mid new : Option (List ℕ)) (bytes : List ℕ) → Keeps old mid → Appends mid new bytes → Appends old new bytes
-kept_appends None mid new bytes k a = tt
-kept_appends (Some x) None new bytes k a = absurd k
-kept_appends (Some x) (Some y) None bytes k a = absurd a
-kept_appends (Some x) (Some y) (Some z) bytes k a = rw (← k) a
-
--- `stopped 72` in place of a report of which nothing was written
-pub shown_instead : (report : ReportOf) (old mid new : Option (List ℕ)) (status : Status) → Keeps old mid → IsShown (stopped 72) mid new status → IsWritten report old new status
-shown_instead report old mid new status k s = record { shown = stopped 72; one_of = inr refl; written = kept_appends old mid new (text (stopped 72)) k s.written; kind = s.kind }
-
-pub cut_instead : (report : ReportOf) (old mid new : Option (List ℕ)) → Keeps old mid → AppendsPrefix mid new (text (stopped 72)) → IsCutShort report old new
-cut_instead report old mid new k p = record { shown = stopped 72; one_of = inr refl; written = (p.0, p.1, kept_appends old mid new (take p.0 (text (stopped 72))) k p.2) }
-
-pub written_instead : {E : Type 0} (result : Result Status E) (report : ReportOf) (old mid new : Option (List ℕ)) → Keeps old mid → IfOk result (λ status. IsShown (stopped 72) mid new status) → IfOk result (λ status. IsWritten report old new status)
-written_instead (Ok status) report old mid new k s = shown_instead report old mid new status k s
-written_instead (Err fault) report old mid new k s = tt
-
-pub part_instead : {E : Type 0} (result : Result Status E) (report : ReportOf) (old mid new : Option (List ℕ)) → Keeps old mid → OnErr result (AppendsPrefix mid new (text (stopped 72))) → OnErr result (IsCutShort report old new)
-part_instead (Ok status) report old mid new k p = tt
-part_instead (Err fault) report old mid new k p = cut_instead report old mid new k p

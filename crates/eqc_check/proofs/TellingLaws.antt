@@ -4,13 +4,13 @@ use Rattle.std.specs.declared.alloc.AllocError.{AllocError}
 use Rattle.eqc_tree.specs.declared.stopping.Stop.{Stop}
 use Rattle.eqc_blif.specs.declared.refusal.Refusal.{Refusal}
 use Rattle.eqc_check.specs.declared.decide.Told.{Told}
-use Rattle.eqc_check.specs.declared.report.Report.{Report}
-use Rattle.eqc_check.specs.declared.report.Report.TheVariants as kind
+use Rattle.eqc_report.specs.declared.report.Report.{Report}
+use Rattle.eqc_report.specs.declared.report.Report.TheVariants as kind
 use Rattle.eqc_pair.specs.declared.refused.Side.{Side}
 use Rattle.eqc_pair.specs.declared.refused.Side.TheVariants as side
 use Rattle.eqc_check.specs.declared.warning.Warnings.{Warnings}
-use Rattle.eqc_check.specs.Report.{ReportOf, refused}
-use Rattle.eqc_check.specs.ReportView.{report_of}
+use Rattle.eqc_report.specs.Report.{ReportOf, refused}
+use Rattle.eqc_report.specs.ReportView.{report_of}
 use Rattle.std.specs.Borrow.{Bor}
 use Rattle.std.specs.List.{list_any}
 use Rattle.std.specs.Str.{bytes_eq}

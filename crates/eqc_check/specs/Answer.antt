@@ -8,13 +8,13 @@ use Rattle.eqc_blif.specs.Reading.{Outcome, outcome}
 use Rattle.eqc_hierarchy.specs.Hierarchy.{model, model_number}
 use Rattle.eqc_hierarchy.specs.Signals.{output_value}
 use Rattle.eqc_hierarchy.specs.Codes.{flat_code}
-use Rattle.eqc_check.specs.declared.options.Options.{Options}
+use Rattle.eqc_report.specs.declared.options.Options.{Options}
 use Rattle.eqc_pair.specs.declared.refused.Side.{Side}
 use Rattle.eqc_pair.specs.declared.refused.Side.TheVariants as side
-use Rattle.eqc_check.specs.Options.{options_code}
+use Rattle.eqc_report.specs.Options.{options_code}
 use Rattle.eqc_pair.specs.Matched.{has_all, same_names, chosen_outputs, order_code}
 use Rattle.eqc_compare.specs.Verdict.{NetlistOf}
-use Rattle.eqc_check.specs.Report.{ReportOf, equivalent, differs, vacuous, refused, stopped, comparison}
+use Rattle.eqc_report.specs.Report.{ReportOf, equivalent, differs, vacuous, refused, stopped, comparison}
 use Rattle.eqc_tree.specs.Stopping.{code_of}
 use Rattle.eqc_tree.specs.declared.stopping.Stop.{Stop}
 use Rattle.eqc_tree.specs.declared.stopping.Stop.TheVariants.{NodeLimit, Memory, References, Threads}

@@ -5,14 +5,14 @@ use Rattle.std.specs.List.{All}
 use Rattle.eqc_blif.specs.Names.{is_named, has_twice}
 use Rattle.eqc_hierarchy.specs.Signals.{output_value}
 use Rattle.eqc_hierarchy.specs.Codes.{flat_code}
-use Rattle.eqc_check.specs.declared.options.Options.{Options}
+use Rattle.eqc_report.specs.declared.options.Options.{Options}
 use Rattle.eqc_pair.specs.declared.refused.Refused.{Refused}
 use Rattle.eqc_pair.specs.declared.refused.Side.{Side}
 use Rattle.eqc_pair.specs.declared.refused.Side.TheVariants as side
-use Rattle.eqc_check.specs.Options.{is_between, is_cell_count}
+use Rattle.eqc_report.specs.Options.{is_between, is_cell_count}
 use Rattle.eqc_pair.specs.Matched.{has_all, same_names, chosen_outputs, order_words}
 use Rattle.eqc_compare.specs.VerdictLaws.{IsBelow}
-use Rattle.eqc_check.specs.Report.{DifferenceOf, ReportOf, equivalent, differs, vacuous, refused, stopped}
+use Rattle.eqc_report.specs.Report.{DifferenceOf, ReportOf, equivalent, differs, vacuous, refused, stopped}
 use Rattle.eqc_blif.specs.Netlist.{ModelOf}
 use Rattle.eqc_blif.specs.Reading.{outcome}
 use Rattle.eqc_hierarchy.specs.Hierarchy.{model}

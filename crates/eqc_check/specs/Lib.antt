@@ -1,8 +1,4 @@
-pub mod Options
-pub mod Ends
-pub mod Spooling
-pub mod Report
-pub mod ReportView
+pub mod Reading
 pub mod Refusing
 pub mod Sources
 pub mod Answer

@@ -1,17 +1,15 @@
 -- A run over readers whose bytes are known, and what it has written.
-use Rattle.std.specs.Prelude.{◌≡◌, ℕ, List, [], Option, Some, None, IfSome, ◌⊎◌}
+use Rattle.std.specs.Prelude.{◌≡◌, ℕ, List, [], Option, Some, None, IfSome}
 use Rattle.std.specs.Option.{option_map}
-use Rattle.std.specs.Io.KnownBytes.{Appends}
-use Rattle.eqc_check.specs.declared.report.Status.{Status}
+use Rattle.eqc_report.specs.declared.report.Status.{Status}
 use Rattle.eqc_check.specs.declared.given.Given.{Given}
 use Rattle.eqc_check.specs.declared.given.Texts.{Texts}
 use Rattle.eqc_check.specs.declared.given.Texts.TheVariants.{One, Two}
-use Rattle.eqc_check.specs.Ends.{AppendsPrefix}
-use Rattle.eqc_check.specs.Report.{ReportOf, text, stopped, refused}
-use Rattle.eqc_check.specs.Options.{options_code}
-use Rattle.eqc_check.specs.declared.options.Options.{Options}
+use Rattle.eqc_report.specs.Report.{ReportOf, refused}
+use Rattle.eqc_report.specs.Written.{IsWritten, IsCutShort}
+use Rattle.eqc_report.specs.Options.{options_code}
+use Rattle.eqc_report.specs.declared.options.Options.{Options}
 use Rattle.eqc_pair.specs.declared.refused.Side.TheVariants as side
-use Rattle.eqc_check.specs.ReportView.{status_of}
 use Rattle.eqc_check.specs.Answer.{NamesOf, no_names, TextsOf, one_text, two_texts, GivenOf, texts_answer, Answers}
 
 abbrev pub two_known : NamesOf → Option (List ℕ) → Option (List ℕ) → Option TextsOf
@@ -47,24 +45,6 @@ unnamed texts order assume options = record { texts = texts; names = no_names; o
 -- a report answers what a run is given, where that is known
 abbrev pub IsReport : {R : Type 0} → (R → Option (List ℕ)) → Given R → ReportOf → Type 0
 IsReport remaining given report = IfSome (known_given remaining given) (λ known. Answers (texts_answer known) report)
-
--- a report was written whole, and the status is its kind
-pub record IsShown (report : ReportOf) (old new : Option (List ℕ)) (status : Status) : Type 0 where
-  pub written : Appends old new (text report)
-  pub kind : status ≡ status_of report
-
--- a report or `stopped 72` was written whole, and the status is its kind
-pub record IsWritten (report : ReportOf) (old new : Option (List ℕ)) (status : Status) : Type 0 where
-  pub shown : ReportOf
-  pub one_of : (shown ≡ report) ⊎ (shown ≡ stopped 72)
-  pub written : Appends old new (text shown)
-  pub kind : status ≡ status_of shown
-
--- a part of it was
-pub record IsCutShort (report : ReportOf) (old new : Option (List ℕ)) : Type 0 where
-  pub shown : ReportOf
-  pub one_of : (shown ≡ report) ⊎ (shown ≡ stopped 72)
-  pub written : AppendsPrefix old new (text shown)
 
 abbrev pub IsReportBehind : {R : Type 0} → Option ℕ → (R → Option (List ℕ)) → Given R → ReportOf → Type 0
 IsReportBehind (Some code) remaining given report = report ≡ refused side.Options 0 code

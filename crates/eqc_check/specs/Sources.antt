@@ -3,7 +3,7 @@ use Rattle.std.specs.Prelude.{◌≡◌, ℕ, List, Option, Some, None, IfSome, 
 use Rattle.std.specs.declared.alloc.Global.{Global}
 use Rattle.std.specs.Option.{option_map}
 use Rattle.eqc_check.specs.Answer.{GivenOf, read_texts}
-use Rattle.eqc_check.specs.Ends.{bytes_read}
+use Rattle.eqc_check.specs.Reading.{bytes_read}
 use Rattle.eqc_check.specs.declared.given.Given.{Given}
 use Rattle.eqc_check.specs.declared.given.Texts.{Texts}
 use Rattle.eqc_check.specs.declared.given.Texts.TheVariants.{One, Two}

@@ -2,13 +2,13 @@
 use Rattle.std.specs.Prelude.{◌≡◌, Result, Ok, Err}
 use Rattle.eqc_blif.specs.declared.refusal.Refusal.{Refusal}
 use Rattle.eqc_check.specs.declared.decide.Told.{Told}
-use Rattle.eqc_check.specs.declared.report.Report.{Report}
+use Rattle.eqc_report.specs.declared.report.Report.{Report}
 use Rattle.eqc_pair.specs.declared.refused.Side.{Side}
 use Rattle.eqc_check.specs.declared.warning.Warnings.{Warnings}
 use Rattle.eqc_check.specs.Answer.{GivenOf, texts_answer, IsComparison, MayStop}
 use Rattle.eqc_check.specs.Refusing.{IsRefused}
-use Rattle.eqc_check.specs.Report.{ReportOf}
-use Rattle.eqc_check.specs.ReportView.{report_of}
+use Rattle.eqc_report.specs.Report.{ReportOf}
+use Rattle.eqc_report.specs.ReportView.{report_of}
 use Rattle.eqc_check.specs.Warning.{warnings_on}
 use Rattle.eqc_tree.specs.declared.stopping.Stop.{Stop}
 use Rattle.eqc_tree.specs.declared.stopping.Stop.TheVariants.{Memory}

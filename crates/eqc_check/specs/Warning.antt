@@ -6,13 +6,13 @@ use Rattle.std.specs.Str.{bytes_eq}
 use Rattle.eqc_blif.specs.Names.{is_named}
 use Rattle.eqc_blif.specs.Netlist.{ModelOf, InstanceOf}
 use Rattle.eqc_hierarchy.specs.Hierarchy.{model}
-use Rattle.eqc_check.specs.declared.report.Status.{Status}
-use Rattle.eqc_check.specs.declared.report.Status.TheVariants.{Equivalent, Differs, Vacuous, Refused, Stopped}
+use Rattle.eqc_report.specs.declared.report.Status.{Status}
+use Rattle.eqc_report.specs.declared.report.Status.TheVariants.{Equivalent, Differs, Vacuous, Refused, Stopped}
 use Rattle.eqc_check.specs.declared.given.Given.{Given}
 use Rattle.eqc_check.specs.declared.warning.Contained.{Contained}
 use Rattle.eqc_check.specs.declared.warning.Warnings.{Warnings}
 use Rattle.eqc_check.specs.Answer.{TextsOf, one_text, two_texts, MainOf, IsComparison}
-use Rattle.eqc_check.specs.Report.{ReportOf}
+use Rattle.eqc_report.specs.Report.{ReportOf}
 use Rattle.eqc_check.specs.AnswerLaws.{first_main, second_main}
 use Rattle.eqc_check.specs.Running.{known_texts}
 

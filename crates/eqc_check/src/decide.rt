@@ -6,24 +6,23 @@ ghost use Rattle.std.specs.Option.{option_copied};
 ghost use Rattle.eqc_blif.specs.Reading.{outcome};
 ghost use Rattle.eqc_hierarchy.specs.Codes.{flat_code};
 ghost use Rattle.eqc_flat.specs.Flattened.{IsFlatOf};
-ghost use Rattle.eqc_check.specs.Refusing.{IsRefused, flat_answer, flat_assumed, pair_report};
+ghost use Rattle.eqc_check.specs.Refusing.{IsRefused, flat_answer, flat_assumed};
+ghost use Rattle.eqc_report.specs.PairReport.{pair_report};
 ghost use Rattle.eqc_compare.specs.Comparing.{netlist_of};
-ghost use Rattle.eqc_check.specs.ReportView.{report_of};
-ghost use Rattle.eqc_check.specs.Options.{options_code};
+ghost use Rattle.eqc_report.specs.ReportView.{report_of};
+ghost use Rattle.eqc_report.specs.Options.{options_code};
 ghost use Rattle.eqc_check.specs.Answer.{MainOf, first_found, assumption_found, assumption_answer, models_answer, texts_answer, Answers, MayStop};
 ghost use Rattle.eqc_check.specs.Sources.{given_of, IsSecond};
 ghost use Rattle.eqc_check.specs.Telling.{IsToldRefusal, IsToldWith, Tells, WarnsOf};
 
 use crate::choice::{Main, choose, read_main};
-use crate::course::check_alike;
 use crate::given::{Case, bytes_of};
-use crate::report::Report;
-use crate::undecided::Undecided;
 use crate::warning::{Warnings, warnings_in_one, warnings_in_two};
-use crate::workers::Comparison;
 use eqc_blif::{Library, Refusal};
+use eqc_compare::Progress;
 use eqc_flat::{Fault, Flat, flatten};
 use eqc_pair::{Pair, Refused, Side, pair_choosing, recall_laws};
+use eqc_report::{Comparison, Report, Undecided, check_alike};
 use eqc_tree::Stop;
 use std::alloc::{AllocError, Global};
 use std::sync::Wait;
@@ -50,13 +49,14 @@ impl Told {
 
 /// A case that is decided on.
 #[derive(Drop)]
-struct Decision<'x, R> {
+struct Decision<'x, R, P> {
     rt: &'x R,
     alloc: Global,
     case: &'x Case<'x>,
+    watch: &'x P,
 }
 
-impl<'x, R: Threads + Wait + Sync> Decision<'x, R> {
+impl<'x, R: Threads + Wait + Sync, P: Progress<R> + Sync> Decision<'x, R, P> {
     /// The report behind the reading of the first text and the choice of its model.
     fn on_texts(&self, left: &mut Undecided) -> Result<Told, Stop>
         requires options { options_code self.now.case.now.options ≡ None }
@@ -180,7 +180,7 @@ impl<'x, R: Threads + Wait + Sync> Decision<'x, R> {
         }
     }
 
-    /// The report behind the reading of the assumption and the flattening of its first model.
+    /// The report behind the reading of the assumption and the choice of its first model.
     fn on_assumption(
         &self,
         pair: Pair<'_>,
@@ -192,11 +192,27 @@ impl<'x, R: Threads + Wait + Sync> Decision<'x, R> {
         ensures report { IfOk result (λ report. report_of report ≡ assumption_answer (given_of self.now.case.now) (netlist_of pair.entry.first) (netlist_of pair.entry.second) (assumption_found text.now)) }
         ensures stop { IfErr result (MayStop (assumption_answer (given_of self.now.case.now) (netlist_of pair.entry.first) (netlist_of pair.entry.second) (assumption_found text.now))) }
     {
-        let Main { library, model } = match read_main(self.alloc, text, None, 0) {
-            Ok(main) => main,
-            Err(refusal) => return refused(Side::Assume, refusal),
-        };
-        match flatten(self.alloc, &library, model) {
+        match read_main(self.alloc, text, None, 0) {
+            Ok(main) => self.on_main(pair, &main, left),
+            Err(refusal) => refused(Side::Assume, refusal),
+        }
+    }
+
+    /// The report behind the flattening of the assumption's model.
+    fn on_main(
+        &self,
+        pair: Pair<'_>,
+        assumption: &Main,
+        left: &mut Undecided,
+    ) -> Result<Report, Stop>
+        requires options { options_code self.now.case.now.options ≡ None }
+        requires outputs { pair.chosen ≡ self.now.case.now.outputs }
+        requires there { assumption.now.model < length assumption.now.library }
+        ensures report { IfOk result (λ report. report_of report ≡ assumption_answer (given_of self.now.case.now) (netlist_of pair.entry.first) (netlist_of pair.entry.second) (Ok (assumption.now.library, assumption.now.model))) }
+        ensures stop { IfErr result (MayStop (assumption_answer (given_of self.now.case.now) (netlist_of pair.entry.first) (netlist_of pair.entry.second) (Ok (assumption.now.library, assumption.now.model)))) }
+    {
+        let Main { library, model } = assumption;
+        match flatten(self.alloc, library, *model) {
             Ok(assumed) => {
                 recall_laws(&assumed);
                 self.on_assumed(pair, &assumed, left)
@@ -236,6 +252,7 @@ impl<'x, R: Threads + Wait + Sync> Decision<'x, R> {
             alloc: self.alloc,
             pair,
             options: &self.case.options,
+            watch: self.watch,
         };
         check_alike(&comparison, left)
     }
@@ -274,18 +291,25 @@ fn with_warnings(
 }
 
 /// The report on what was read, with the warnings where it is a comparison. Where that is given up, the outputs that are left
-/// are taken.
-pub(crate) fn decide<R: Threads + Wait + Sync>(
+/// are taken. The watch is told how far the comparison is.
+pub(crate) fn decide<R: Threads + Wait + Sync, P: Progress<R> + Sync>(
     rt: &R,
     alloc: Global,
     case: &Case<'_>,
     left: &mut Undecided,
+    watch: &P,
 ) -> Told
     requires options { options_code case.now.options ≡ None }
     ensures report { Answers (texts_answer (given_of case.now)) (report_of result.report) }
     ensures warned { WarnsOf (given_of case.now) (report_of result.report) result.warnings }
 {
-    match (Decision { rt, alloc, case }).on_texts(left) {
+    let decision = Decision {
+        rt,
+        alloc,
+        case,
+        watch,
+    };
+    match decision.on_texts(left) {
         Ok(told) => told,
         Err(stop) => Told::alone(Report::Stopped(stop)),
     }

@@ -1,8 +1,8 @@
 //! What is told of a run that gave no verdict, beside its report.
 
-use crate::undecided::Undecided;
 use eqc_blif::Library;
 use eqc_pair::{Finding, Side};
+use eqc_report::Undecided;
 use eqc_tree::Stop;
 use std::io;
 

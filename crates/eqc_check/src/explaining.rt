@@ -155,6 +155,25 @@ fn tell_assumed<T: Diagnostics>(
     Ok(())
 }
 
+/// The same, where the assumption's model is found, and maybe not flat.
+fn tell_assuming<T: Diagnostics>(
+    alloc: Global,
+    first: &Flat<'_>,
+    assumption: &Main,
+    told: &mut T,
+) -> Result<(), AllocError>
+    requires { assumption.now.model < length assumption.now.library }
+{
+    let Main { library, model } = assumption;
+    if tell_hierarchy(alloc, Side::Assume, (library, *model), told)? {
+        return Ok(());
+    }
+    match flatten(alloc, library, *model) {
+        Ok(assumed) => tell_assumed(alloc, first, &assumed, told),
+        Err(_) => Ok(()),
+    }
+}
+
 /// Tells of an assumption that is refused for the first netlist's inputs. Fails where memory is refused.
 fn tell_assumption<T: Diagnostics>(
     alloc: Global,
@@ -165,13 +184,7 @@ fn tell_assumption<T: Diagnostics>(
     let Some(main) = main_or_told(alloc, Side::Assume, text, None, told)? else {
         return Ok(());
     };
-    if tell_hierarchy(alloc, Side::Assume, (&main.library, main.model), told)? {
-        return Ok(());
-    }
-    match flatten(alloc, &main.library, main.model) {
-        Ok(assumed) => tell_assumed(alloc, first, &assumed, told),
-        Err(_) => Ok(()),
-    }
+    tell_assuming(alloc, first, &main, told)
 }
 
 /// Tells of what stands behind the first text's model, where there is one text. Fails where memory is refused.
@@ -196,27 +209,40 @@ fn tell_of_one<T: Diagnostics>(
     }
 }
 
+/// Tells of what stands behind the first text's model, where there are two texts. Fails where memory is refused.
+fn tell_of_two<T: Diagnostics>(
+    alloc: Global,
+    first: &Main,
+    second: &[u8],
+    case: &Case<'_>,
+    told: &mut T,
+) -> Result<(), AllocError>
+    requires { first.now.model < length first.now.library }
+{
+    let Some(second) = main_or_told(alloc, Side::Second, second, case.names.second, told)? else {
+        return Ok(());
+    };
+    tell_models(
+        alloc,
+        (&first.library, first.model),
+        (&second.library, second.model),
+        case,
+        told,
+    )
+}
+
 /// Tells what is at fault in a case whose report is a refusal. Fails where memory is refused.
 pub(crate) fn tell_of_case<T: Diagnostics>(
     alloc: Global,
     case: &Case<'_>,
     told: &mut T,
 ) -> Result<(), AllocError> {
-    let names = &case.names;
-    let Some(f) = main_or_told(alloc, Side::First, &case.first, names.first, told)? else {
+    let name = case.names.first;
+    let Some(first) = main_or_told(alloc, Side::First, &case.first, name, told)? else {
         return Ok(());
     };
-    let Some(second) = &case.second else {
-        return tell_of_one(alloc, &f, case, told);
-    };
-    let Some(g) = main_or_told(alloc, Side::Second, second, names.second, told)? else {
-        return Ok(());
-    };
-    tell_models(
-        alloc,
-        (&f.library, f.model),
-        (&g.library, g.model),
-        case,
-        told,
-    )
+    match &case.second {
+        None => tell_of_one(alloc, &first, case, told),
+        Some(second) => tell_of_two(alloc, &first, second, case, told),
+    }
 }

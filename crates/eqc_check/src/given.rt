@@ -4,10 +4,9 @@ ghost use Rattle.std.specs.Option.{option_copied};
 ghost use Rattle.eqc_check.specs.Sources.{items_of, IsRead, MayBeRead, AreRead};
 
 use crate::choice::{ModelNames, OutputNames};
-use crate::io::fault::StreamFault;
-use crate::io::reading::read_text;
-use crate::options::Options;
+use crate::reading::read_text;
 use eqc_pair::Side;
+use eqc_report::{Options, StreamFault};
 use std::alloc::Global;
 use std::io::Read;
 

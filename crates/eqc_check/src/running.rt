@@ -1,25 +1,22 @@
 //! Runs: texts are read, a report is decided on and written, and why it is a refusal is told where that is wanted.
-ghost use Rattle.std.specs.Prelude.{◌≡◌, ◌≢◌, ◌≤◌, IfOk, IfErr, OnErr, Err, None};
-ghost use Rattle.eqc_check.specs.ReportView.{report_of};
-ghost use Rattle.eqc_check.specs.Ends.{AppendsPrefix};
-ghost use Rattle.eqc_check.specs.Report.{text, stopped};
-ghost use Rattle.eqc_check.specs.Options.{options_code};
-ghost use Rattle.eqc_check.specs.Running.{unnamed, IsReport, IsReportFor, IsShown, IsWritten, IsCutShort, IsAnswered, IsCutOff};
-ghost use Rattle.eqc_check.specs.Warning.{IsWarned, WarnsOfKnown};
+ghost use Rattle.std.specs.Prelude.{◌≡◌, ◌≢◌, IfOk, IfErr, OnErr, Ok, Err, None};
+ghost use Rattle.eqc_report.specs.ReportView.{report_of};
+ghost use Rattle.eqc_report.specs.Options.{options_code};
+ghost use Rattle.eqc_report.specs.Written.{IsWritten, IsCutShort};
+ghost use Rattle.eqc_check.specs.Running.{unnamed, IsReport, IsReportFor, IsAnswered, IsCutOff};
+ghost use Rattle.eqc_check.specs.Warning.{warnings_at, IsWarned, WarnsOfKnown};
 
 use crate::choice::{ModelNames, OutputNames};
 use crate::decide::{Told, decide};
 use crate::diagnostics::{Diagnostics, NoDiagnostics};
 use crate::explaining::tell_of_case;
 use crate::given::{Case, Given, Texts, Unread, read_given};
-use crate::io::fault::{RunFault, StreamFault};
-use crate::io::writing::write_whole;
-use crate::options::{Options, options_fault};
-use crate::report::text::{put_report, stopped_text};
-use crate::report::{Report, Status};
-use crate::undecided::Undecided;
 use crate::warning::Warnings;
+use eqc_compare::{NoGate, Progress, Stage};
 use eqc_pair::{Refused, Side};
+use eqc_report::{
+    Options, Report, RunFault, Status, StreamFault, Undecided, options_fault, write_or_stop,
+};
 use eqc_tree::Stop;
 use std::alloc::Global;
 use std::io;
@@ -57,15 +54,17 @@ impl<'a> Reported<'a> {
 }
 
 /// The report of a run whose options are in their ranges, with the warnings where it is a comparison.
-fn read_report<'a, RT: Threads + Wait + Sync, R: Read + Drop>(
+fn read_report<'a, RT: Threads + Wait + Sync, R: Read + Drop, P: Progress<RT> + Sync>(
     rt: &RT,
     alloc: Global,
     given: Given<'a, R>,
+    watch: &P,
 ) -> Result<Reported<'a>, FailedRead>
     requires options { options_code given.options ≡ None }
     ensures report { IfOk result (λ reported. IsReport R.remaining given.entry (report_of reported.told.report)) }
     ensures warned { IfOk result (λ reported. WarnsOfKnown R.remaining given.entry (report_of reported.told.report) reported.told.warnings) }
 {
+    watch.stage(rt, Stage::Reading);
     let case = match read_given(alloc, given) {
         Ok(case) => case,
         Err(
@@ -77,7 +76,7 @@ fn read_report<'a, RT: Threads + Wait + Sync, R: Read + Drop>(
         Err(_) => return Ok(Reported::alone(alloc, Report::Stopped(Stop::Memory))),
     };
     let mut left = Undecided::none(alloc);
-    let told = decide(rt, alloc, &case, &mut left);
+    let told = decide(rt, alloc, &case, &mut left, watch);
     Ok(Reported {
         told,
         left,
@@ -85,32 +84,12 @@ fn read_report<'a, RT: Threads + Wait + Sync, R: Read + Drop>(
     })
 }
 
-/// Writes `stopped 72`, which takes no memory.
-fn write_stopped<W: Write>(out: &mut W) -> io::Result<Status>
-    ensures written { IfOk result (λ status. IsShown (stopped 72) (W.contents out.old) (W.contents out.new) status) }
-    ensures part { OnErr result (AppendsPrefix (W.contents out.old) (W.contents out.new) (text (stopped 72))) }
-{
-    write_whole(out, &stopped_text(Stop::Memory))?;
-    Ok(Status::Stopped)
-}
-
-/// Writes a report, or `stopped 72` where its text takes memory that is refused, and answers its kind.
-fn write_or_stop<W: Write>(alloc: Global, report: &Report, out: &mut W) -> io::Result<Status>
-    ensures written { IfOk result (λ status. IsWritten (report_of report.now) (W.contents out.old) (W.contents out.new) status) }
-    ensures part { OnErr result (IsCutShort (report_of report.now) (W.contents out.old) (W.contents out.new)) }
-{
-    match put_report(alloc, report, out) {
-        Ok(()) => Ok(report.status()),
-        Err(StreamFault::Refused) => write_stopped(out),
-        Err(StreamFault::Failed(error)) => Err(error),
-    }
-}
-
 /// The report of a run with its warnings: a refusal of its options before any text is read, else that on its texts.
-fn report_for<'a, RT: Threads + Wait + Sync, R: Read + Drop>(
+fn report_for<'a, RT: Threads + Wait + Sync, R: Read + Drop, P: Progress<RT> + Sync>(
     rt: &RT,
     alloc: Global,
     given: Given<'a, R>,
+    watch: &P,
 ) -> Result<Reported<'a>, FailedRead>
     ensures report { IfOk result (λ reported. IsReportFor R.remaining given.entry (report_of reported.told.report)) }
     ensures warned { IfOk result (λ reported. WarnsOfKnown R.remaining given.entry (report_of reported.told.report) reported.told.warnings) }
@@ -125,7 +104,7 @@ fn report_for<'a, RT: Threads + Wait + Sync, R: Read + Drop>(
                 code,
             }),
         )),
-        None => read_report(rt, alloc, given),
+        None => read_report(rt, alloc, given, watch),
     }
 }
 
@@ -137,24 +116,18 @@ pub struct Finished {
 }
 
 /// Tells why a report is a refusal or a stop. Where memory is refused for it, nothing is told.
-fn tell<T: Diagnostics>(
-    alloc: Global,
-    report: &Report,
-    left: &Undecided,
-    case: Option<Case<'_>>,
-    told: &mut T,
-) {
-    match report {
+fn tell<T: Diagnostics>(alloc: Global, reported: &Reported<'_>, told: &mut T) {
+    match &reported.told.report {
         Report::Equivalent | Report::Differs(_) => {}
         Report::Vacuous => told.vacuous(),
         Report::Stopped(stop) => {
             told.stopped(*stop);
-            told.undecided(left);
+            told.undecided(&reported.left);
         }
-        Report::Refused(refused) => match case {
+        Report::Refused(refused) => match &reported.case {
             None => told.option(refused.code),
             Some(case) => {
-                let _ = tell_of_case(alloc, &case, told);
+                let _ = tell_of_case(alloc, case, told);
             }
         },
     }
@@ -180,14 +153,77 @@ fn tell_unwritten<T: Diagnostics>(error: &io::Error, told: Option<&mut T>) -> Ru
     RunFault::Write
 }
 
+/// Writes what a run reports, and then tells why it is a refusal or a stop, or could not be written, if that is wanted.
+fn write_told<W: Write, T: Diagnostics>(
+    alloc: Global,
+    reported: &Reported<'_>,
+    out: &mut W,
+    told: Option<&mut T>,
+) -> Result<Status, RunFault>
+    ensures written { IfOk result (λ status. IsWritten (report_of reported.now.told.report) (W.contents out.old) (W.contents out.new) status) }
+    ensures part { OnErr result (IsCutShort (report_of reported.now.told.report) (W.contents out.old) (W.contents out.new)) }
+    ensures write { IfErr result (λ fault. fault ≡ RunFault.Write) }
+{
+    match write_or_stop(alloc, &reported.told.report, out) {
+        Ok(status) => {
+            if let Some(told) = told {
+                tell(alloc, reported, told);
+            }
+            Ok(status)
+        }
+        Err(error) => Err(tell_unwritten(&error, told)),
+    }
+}
+
+/// The end of a run whose report was written, or was not.
+fn ended(written: Result<Status, RunFault>, warnings: Warnings) -> Result<Finished, RunFault>
+    ensures status { IfOk result (λ finished. written ≡ Ok finished.status) }
+    ensures warned { IfOk result (λ finished. finished.warnings ≡ warnings_at finished.status warnings) }
+    ensures fault { IfErr result (λ fault. written ≡ Err fault) }
+{
+    match written {
+        Ok(status) => Ok(Finished {
+            status,
+            warnings: warnings.at(status),
+        }),
+        Err(fault) => Err(fault),
+    }
+}
+
+/// Writes what a run reports, tells of it if that is wanted, and ends the run.
+fn finish<W: Write, T: Diagnostics>(
+    alloc: Global,
+    reported: Reported<'_>,
+    out: &mut W,
+    told: Option<&mut T>,
+) -> Result<Finished, RunFault>
+    ensures written { IfOk result (λ finished. IsWritten (report_of reported.entry.told.report) (W.contents out.old) (W.contents out.new) finished.status) }
+    ensures warned { IfOk result (λ finished. finished.warnings ≡ warnings_at finished.status reported.entry.told.warnings) }
+    ensures part { OnErr result (IsCutShort (report_of reported.entry.told.report) (W.contents out.old) (W.contents out.new)) }
+    ensures write { IfErr result (λ fault. fault ≡ RunFault.Write) }
+{
+    let written = write_told(alloc, &reported, out, told);
+    ended(written, reported.told.warnings)
+}
+
 /// Compares two netlists and writes the report, as `run_models` does. Why it is a refusal or a stop, or could not be made
 /// or written, is told afterwards, if that is wanted.
-pub fn run_explained<RT: Threads + Wait + Sync, R: Read + Drop, W: Write, T: Diagnostics>(
+///
+/// The watch is told how far the run is: of each stage as it begins, of `Writing` before anything is written or told, and of
+/// each comparison by diagrams before that begins.
+pub fn run_explained<
+    RT: Threads + Wait + Sync,
+    R: Read + Drop,
+    W: Write,
+    T: Diagnostics,
+    P: Progress<RT> + Sync,
+>(
     rt: &RT,
     alloc: Global,
     given: Given<'_, R>,
     out: &mut W,
     told: Option<&mut T>,
+    watch: &P,
 ) -> Result<Finished, RunFault>
     ensures answered { IfOk result (λ finished. IsAnswered R.remaining given.entry (W.contents out.old) (W.contents out.new) finished.status) }
     ensures warned { IfOk result (λ finished. IsWarned R.remaining given.entry finished.status finished.warnings) }
@@ -195,26 +231,12 @@ pub fn run_explained<RT: Threads + Wait + Sync, R: Read + Drop, W: Write, T: Dia
     ensures read { result ≡ Err RunFault.Read → (options_code given.entry.options ≡ None) × (out.new ≡ out.old) }
     ensures memory { IfErr result (λ fault. fault ≢ RunFault.Memory) }
 {
-    let reported = match report_for(rt, alloc, given) {
-        Ok(reported) => reported,
-        Err(failed) => return Err(tell_unread(&failed, told)),
-    };
-    let Reported {
-        told: Told { report, warnings },
-        left,
-        case,
-    } = reported;
-    let status = match write_or_stop(alloc, &report, out) {
-        Ok(status) => status,
-        Err(error) => return Err(tell_unwritten(&error, told)),
-    };
-    if let Some(told) = told {
-        tell(alloc, &report, &left, case, told);
+    let reported = report_for(rt, alloc, given, watch);
+    watch.stage(rt, Stage::Writing);
+    match reported {
+        Ok(reported) => finish(alloc, reported, out, told),
+        Err(failed) => Err(tell_unread(&failed, told)),
     }
-    Ok(Finished {
-        status,
-        warnings: warnings.at(status),
-    })
 }
 
 /// Compares two netlists and writes the report, as `run` does, and chooses the models and the outputs by their names where
@@ -238,7 +260,7 @@ pub fn run_models<RT: Threads + Wait + Sync, R: Read + Drop, W: Write>(
     ensures read { result ≡ Err RunFault.Read → (options_code given.entry.options ≡ None) × (out.new ≡ out.old) }
     ensures memory { IfErr result (λ fault. fault ≢ RunFault.Memory) }
 {
-    run_explained::<RT, R, W, NoDiagnostics>(rt, alloc, given, out, None)
+    run_explained::<RT, R, W, NoDiagnostics, NoGate>(rt, alloc, given, out, None, &NoGate)
 }
 
 /// Compares two netlists and writes the report: the first two models of one text, or the main models of two, over

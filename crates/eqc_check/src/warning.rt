@@ -6,8 +6,8 @@ ghost use Rattle.std.specs.Str.{bytes_eq};
 ghost use Rattle.eqc_blif.specs.Netlist.{no_model};
 ghost use Rattle.eqc_check.specs.Warning.{contains, is_container, contained, warnings_in_one, warnings_in_two, warnings_at, no_warnings};
 
-use crate::report::Status;
 use eqc_blif::{Library, Name};
+use eqc_report::Status;
 use std::alloc::{AllocError, Global};
 
 /// A model that was compared, and the first model of its text that contains it and wasn't.

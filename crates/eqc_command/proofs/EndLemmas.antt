@@ -7,10 +7,10 @@ use Rattle.clap.specs.Kinds.{Kinds, HasKind, IsAmong}
 use Rattle.clap.specs.Values.{kind_of}
 use Rattle.clap.specs.declared.error.Error.{Error}
 use Rattle.clap.specs.declared.error.kind.ErrorKind.TheVariants.{DisplayHelp, DisplayVersion, OutOfMemory}
-use Rattle.eqc_check.specs.Ends.{AppendsPrefix}
+use Rattle.eqc_report.specs.Ends.{AppendsPrefix}
 use Rattle.eqc_check.specs.Running.{IsCutOff}
-use Rattle.eqc_check.specs.declared.io.fault.RunFault.{RunFault}
-use Rattle.eqc_check.specs.declared.io.fault.RunFault.TheVariants.{Memory, Read, Write}
+use Rattle.eqc_report.specs.declared.io.fault.RunFault.{RunFault}
+use Rattle.eqc_report.specs.declared.io.fault.RunFault.TheVariants.{Memory, Read, Write}
 use Rattle.eqc_command.specs.Sources.{source_remaining, AreAskedFor}
 use Rattle.eqc_command.specs.declared.command_line.Request.{Request}
 use Rattle.eqc_command.specs.declared.ending.End.TheVariants.{Failed}
@@ -18,7 +18,7 @@ use Rattle.eqc_command.specs.declared.source.Sources.{Sources}
 use Rattle.eqc_command.specs.Ends.{Grows, given_by, MayBeExplained, IsRunEnd, IsShowing, fault_text}
 use Rattle.eqc_command.specs.Warnings.{warning_line, IsToldOf}
 use Rattle.eqc_check.specs.declared.warning.Contained.{Contained}
-use Rattle.eqc_check.proofs.ReportLemmas.{two_digits}
+use Rattle.eqc_report.proofs.ReportLemmas.{two_digits}
 
 nothing_grows : (known : Option (List ℕ)) → Grows known known
 nothing_grows None = ([], tt)

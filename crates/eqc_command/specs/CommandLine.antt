@@ -44,9 +44,9 @@ abbrev pub with_version : App → App
 with_version a = on_top (λ s. record s { has_version = true }) a
 
 -- five numbers, the paths of the order text and the assumption, whether each difference is wanted, names of outputs, the names
--- of two models, whether to explain, and at most two paths
+-- of two models, whether to explain, whether to show how far the run is, and at most two paths
 abbrev pub eqc_app : App
-eqc_app = with_rule (with_rule (with_rule (with_rule (with_rule (with_rule (with_rule (with_rule (with_rule (with_rule (with_rule (with_rule (with_rule (with_rule (with_version (new_app (codes "eqc")))
+eqc_app = with_rule (with_rule (with_rule (with_rule (with_rule (with_rule (with_rule (with_rule (with_rule (with_rule (with_rule (with_rule (with_rule (with_rule (with_rule (with_version (new_app (codes "eqc")))
     (number_rule (codes "workers") (codes "2")))
     (number_rule (codes "nodes") (codes "65536")))
     (number_rule (codes "cells") (codes "8192")))
@@ -59,6 +59,7 @@ eqc_app = with_rule (with_rule (with_rule (with_rule (with_rule (with_rule (with
     (text_rule (codes "first-model")))
     (text_rule (codes "second-model")))
     (flag_rule (codes "explain")))
+    (flag_rule (codes "progress")))
     (path_rule (codes "first")))
     (path_rule (codes "second"))
 
@@ -82,6 +83,7 @@ pub record IsAsked (rows : List Row) (request : Request) : Type 0 where
   pub forks : number_of (codes "forks") rows ≡ Some request.options.forks
   pub conflicts : number_of (codes "conflicts") rows ≡ Some request.options.conflicts
   pub explain : IsFlag (one_of (codes "explain") rows) request.explain
+  pub progress : IsFlag (one_of (codes "progress") rows) request.progress
   pub every : IsFlag (one_of (codes "all") rows) request.options.every
   pub order : option_map (λ s. s.now) request.order ≡ first_of (codes "order") rows
   pub assume : option_map (λ s. s.now) request.assume ≡ first_of (codes "assume") rows

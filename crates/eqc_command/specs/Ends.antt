@@ -1,5 +1,5 @@
 -- How the program ends, by its words and its input, and what it has written.
-use Rattle.std.specs.Prelude.{◌≡◌, ◌⊎◌, ℕ, Bool, true, false, List, [], ◌++◌, ◌∷◌, map, codes, Option, option_map}
+use Rattle.std.specs.Prelude.{◌≡◌, ◌≢◌, ◌⊎◌, Result, Err, IfOk, IfErr, ℕ, Bool, true, false, List, [], ◌++◌, ◌∷◌, map, codes, Option, option_map}
 use Rattle.std.specs.Fmt.{decimal}
 use Rattle.std.specs.Io.KnownBytes.{Appends}
 use Rattle.clap.specs.Walk.{Text}
@@ -9,12 +9,13 @@ use Rattle.clap.specs.Values.{kind_of}
 use Rattle.clap.specs.declared.error.kind.ErrorKind.{ErrorKind}
 use Rattle.clap.specs.declared.error.kind.ErrorKind.TheVariants.{DisplayHelp, DisplayVersion, OutOfMemory}
 use Rattle.clap.specs.declared.error.Error.{Error}
-use Rattle.eqc_check.specs.declared.io.fault.RunFault.{RunFault}
-use Rattle.eqc_check.specs.declared.io.fault.RunFault.TheVariants as run_fault
-use Rattle.eqc_check.specs.declared.report.Status.{Status}
-use Rattle.eqc_check.specs.declared.report.Status.TheVariants.{Equivalent, Differs, Vacuous, Refused, Stopped}
+use Rattle.eqc_report.specs.declared.io.fault.RunFault.{RunFault}
+use Rattle.eqc_report.specs.declared.io.fault.RunFault.TheVariants as run_fault
+use Rattle.eqc_report.specs.declared.report.Status.{Status}
+use Rattle.eqc_report.specs.declared.report.Status.TheVariants.{Equivalent, Differs, Vacuous, Refused, Stopped}
 use Rattle.eqc_check.specs.declared.given.Given.{Given}
-use Rattle.eqc_check.specs.Ends.{AppendsPrefix, fault_code}
+use Rattle.eqc_check.specs.declared.running.Finished.{Finished}
+use Rattle.eqc_report.specs.Ends.{AppendsPrefix, fault_code}
 use Rattle.eqc_check.specs.Running.{IsAnswered, IsCutOff}
 use Rattle.eqc_check.specs.Answer.{NamesOf}
 use Rattle.eqc_check.specs.Warning.{IsWarned}
@@ -62,6 +63,14 @@ names_of request = record { first = option_map (λ s. s.now) request.first_model
 abbrev pub given_by : {R F : Type 0} → Request → Sources R F → Given (Source R F)
 given_by request sources =
     record { texts = sources.texts; names = names_of request; order = sources.order; assume = sources.assume; outputs = map (λ s. s.now) request.outputs.items; options = request.options }
+
+-- a run on what it is given, by what it answers and what it wrote
+pub record IsRun {R : Type 0} (remaining : R → Option (List ℕ)) (given : Given R) (old new : Option (List ℕ)) (result : Result Finished RunFault) : Type 0 where
+  pub answered : IfOk result (λ finished. IsAnswered remaining given old new finished.status)
+  pub warned : IfOk result (λ finished. IsWarned remaining given finished.status finished.warnings)
+  pub write : result ≡ Err run_fault.Write → IsCutOff remaining given old new
+  pub read : result ≡ Err run_fault.Read → new ≡ old
+  pub memory : IfErr result (λ fault. fault ≢ run_fault.Memory)
 
 -- the sources that are asked for were opened, and the run on them wrote
 pub record IsRunOn {R F : Type 0} (request : Request) (input : R) (Writes : Given (Source R F) → Type 0) : Type 0 where

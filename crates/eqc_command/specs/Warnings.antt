@@ -3,7 +3,7 @@ use Rattle.std.specs.Prelude.{◌≡◌, ℕ, List, [], ◌++◌, ◌∷◌, cod
 use Rattle.std.specs.Borrow.{Bor}
 use Rattle.eqc_check.specs.declared.warning.Contained.{Contained}
 use Rattle.eqc_check.specs.declared.warning.Warnings.{Warnings}
-use Rattle.eqc_check.specs.Ends.{AppendsPrefix}
+use Rattle.eqc_report.specs.Ends.{AppendsPrefix}
 use Rattle.eqc_command.specs.declared.command_line.Request.{Request}
 
 -- a path, or another name where there is none

@@ -9,7 +9,7 @@ ghost use Rattle.eqc_command.specs.CommandLine.{eqc_app, number_rule, text_rule,
 
 use crate::help::{
     ABOUT, ALL, ASSUME, CELLS, CONFLICTS, EXPLAIN, FIRST, FIRST_MODEL, FORKS, NODES, ORDER, OUTPUT,
-    SECOND, SECOND_MODEL, USAGE, WORKERS,
+    PROGRESS, SECOND, SECOND_MODEL, USAGE, WORKERS,
 };
 use crate::version::VERSION;
 use clap::{Arg, ArgAction, ArgMatches, Command, Error, value_parser};
@@ -22,6 +22,8 @@ pub struct Request<'a> {
     pub options: Options,
     /// Whether a refusal or a stop is to be explained.
     pub explain: bool,
+    /// Whether it is to be shown how far the run is.
+    pub progress: bool,
     /// The path of the order text.
     pub order: Option<&'a str>,
     /// The path of the assumption's text; without it, all assignments count.
@@ -110,6 +112,7 @@ fn command<'a>(alloc: Global, answers: &'a str) -> Result<Command<'a>, AllocErro
         .arg(text(alloc, "first-model", "NAME", FIRST_MODEL))?
         .arg(text(alloc, "second-model", "NAME", SECOND_MODEL))?
         .arg(flag(alloc, "explain", EXPLAIN))?
+        .arg(flag(alloc, "progress", PROGRESS))?
         .arg(path(alloc, "first", FIRST))?
         .arg(path(alloc, "second", SECOND))
 }
@@ -161,6 +164,7 @@ fn request_of<'a>(matches: &ArgMatches<'a>, outputs: Vec<&'a [u8]>) -> Option<Re
             every: matches.get_flag("all"),
         },
         explain: matches.get_flag("explain"),
+        progress: matches.get_flag("progress"),
         order: matches.get_str("order"),
         assume: matches.get_str("assume"),
         outputs,

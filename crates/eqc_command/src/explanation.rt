@@ -7,7 +7,7 @@ use crate::command_line::Request;
 use crate::warning::{first_source, second_source};
 use eqc_blif::{Finding as TextFinding, Library};
 use eqc_check::{
-    Diagnostics, Difference, Finding as PairFinding, Options, RunFault, Side, Undecided, Unmatched,
+    Diagnostics, Finding as PairFinding, Options, RunFault, Seen, Side, Undecided, Unmatched,
 };
 use eqc_flat::{Circle, Finding, FoundFormal, FoundInstance, HierarchicalName};
 use eqc_tree::Stop;
@@ -466,16 +466,18 @@ const SEEN: &str =
     "this output differs all the same, under these values; they may not be the least, and an output before it may differ too";
 
 /// An output that was seen to differ, as a report has it: a line for its name, one for each input, and one for each netlist.
-fn seen_said(alloc: Global, seen: &Difference) -> Result<String, AllocError> {
-    let mut said = format!(in alloc; "{SEEN}\ndiffers at {}", Whole(seen.name.as_bytes()))?;
-    for (input, value) in &seen.inputs {
-        let line = format!(in alloc; "\n{}={}", Whole(input.as_bytes()), u8::from(*value))?;
+fn seen_said(alloc: Global, seen: &Seen) -> Result<String, AllocError> {
+    let Seen { inputs, difference } = seen;
+    let mut said = format!(in alloc; "{SEEN}\ndiffers at {}", Whole(difference.name.as_bytes()))?;
+    for k in 0..inputs.len().min(difference.values.len()) {
+        let value = u8::from(difference.values[k]);
+        let line = format!(in alloc; "\n{}={value}", Whole(inputs[k].as_bytes()))?;
         said.push_str(&line)?;
     }
     let ends = format!(in alloc;
         "\nfirst={}\nsecond={}",
-        u8::from(seen.first),
-        u8::from(seen.second)
+        u8::from(difference.first),
+        u8::from(!difference.first)
     )?;
     said.push_str(&ends)?;
     Ok(said)

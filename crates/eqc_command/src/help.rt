@@ -10,7 +10,8 @@ pub const ABOUT: &str =
 pub const USAGE: &str = "\
 eqc [--workers N] [--nodes N] [--cells N] [--forks N] [--conflicts N]
            [--order FILE] [--assume FILE] [--all] [--output NAME]..
-           [--first-model NAME] [--second-model NAME] [--explain] [FILE [FILE]]";
+           [--first-model NAME] [--second-model NAME] [--explain] [--progress]
+           [FILE [FILE]]";
 
 pub const WORKERS: &str = "Compares outputs on this many threads, 1 to 64";
 
@@ -40,6 +41,9 @@ pub const FIRST_MODEL: &str = "Compares the model of this name of the first netl
 pub const SECOND_MODEL: &str = "Compares the model of this name of the second netlist's text";
 
 pub const EXPLAIN: &str = "Tells on standard error why there is no verdict";
+
+pub const PROGRESS: &str =
+    "Shows on standard error how far the run is, in a line that changes in place";
 
 pub const FIRST: &str = "The first netlist, or both";
 

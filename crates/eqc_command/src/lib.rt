@@ -7,13 +7,15 @@
 //!   shown of them
 //! - `source`, with `specs/Sources.antt`: where texts come from; `ending`, with `specs/Ends.antt`: what is told at the end,
 //!   and the status
-//! - `warning`, with `specs/Warnings.antt`: lines on models that others contain; `explanation`: the words of `--explain`
+//! - `warning`, with `specs/Warnings.antt`: lines on models that others contain; `explanation`: the words of `--explain`;
+//!   `progress`: those of `--progress`
 #![tactic(auto)]
 
 mod command_line;
 mod ending;
 mod explanation;
 mod help;
+mod progress;
 mod source;
 mod start;
 mod version;
@@ -21,4 +23,5 @@ mod warning;
 
 pub use command_line::Request;
 pub use explanation::{Explanation, explanation_for};
+pub use progress::{Told, Watch};
 pub use start::program;

@@ -1,23 +1,27 @@
 //! The program over readers and writers.
-ghost use Rattle.std.specs.Prelude.{◌≡◌, ◌↔◌, IsTrue, map, string_bytes};
+ghost use Rattle.std.specs.Prelude.{◌≡◌, ◌↔◌, IfSome, IsSome, IsTrue, map, string_bytes};
 ghost use Rattle.std.specs.Option.{option_copied, option_map};
+ghost use Rattle.std.specs.Thread.{IsSync};
 ghost use Rattle.clap.specs.Values.{kind_of};
-ghost use Rattle.eqc_command.specs.Ends.{names_of, given_by, IsRunEnd, MayBeExplained, IsShowing, IsHelpEnd, IsEnd, IsDone};
+ghost use Rattle.eqc_command.specs.Ends.{names_of, given_by, IsRun, IsRunEnd, MayBeExplained, IsShowing, IsHelpEnd, IsEnd, IsDone};
 
 use crate::command_line::{Request, read_words};
 use crate::ending::{End, tell};
 use crate::explanation::{Explanation, explanation_for};
 use crate::help::answers;
+use crate::progress::Watch;
 use crate::source::{Source, Sources, Unopened, open};
 use crate::warning::warn;
 use clap::Error;
 use clap::error::ErrorKind;
-use eqc_check::{Given, ModelNames, OutputNames, RunFault, run_explained, write_text};
+use eqc_check::{
+    Finished, Given, ModelNames, NoGate, OutputNames, RunFault, run_explained, write_text,
+};
 use std::alloc::{AllocError, Global};
 use std::io::{Read, Write};
-use std::rt::Files;
+use std::rt::{Clock, Files};
 use std::sync::Wait;
-use std::thread::Threads;
+use std::thread::{Threads, join_mut};
 
 /// Whether an error is a request for help or for the version.
 fn is_showing(error: &Error) -> bool
@@ -104,14 +108,71 @@ fn if_asked<'x, 'a>(
     }
 }
 
-/// Opens the files, runs the comparison, and warns of what it is.
-fn compare<RT: Files + AllocGlobal + Threads + Wait + Sync, R: Read + Drop, W: Write, E: Write>(
+/// Runs a comparison, which it takes, while a thread beside it shows on standard error how far it is.
+fn run_beside<RT: AllocGlobal + Clock + Eprint + Threads + Wait + Sync, R: Read + Drop, W: Write>(
     rt: &RT,
     request: &Request<'_>,
-    input: R,
+    left: &mut Option<Given<'_, R>>,
     out: &mut W,
-    err: &mut E,
-) -> End
+    explanation: &mut Explanation<'_>,
+    watch: &Watch,
+) -> Result<Finished, RunFault>
+    requires { IsSome left.old }
+    ensures { IfSome left.old (λ given. IsRun R.remaining given (W.contents out.old) (W.contents out.new) result) }
+{
+    let mut run = move || -> Result<Finished, RunFault>
+        requires { IsSome left.now × IsSync RT.row }
+        ensures { IfSome left.entry.now (λ given. IsRun R.remaining given (W.contents out.entry.now) (W.contents out.exit.now) result) }
+    {
+        let told = if_asked(request, explanation);
+        match left.take() {
+            Some(given) => run_explained(rt, rt.alloc(), given, out, told, watch),
+            None => Err(RunFault::Memory),
+        }
+    };
+    let mut show = move || watch.show(rt);
+    join_mut(rt, &mut show, &mut run).1
+}
+
+/// Runs a comparison, and shows meanwhile how far it is.
+fn run_shown<RT: AllocGlobal + Clock + Eprint + Threads + Wait + Sync, R: Read + Drop, W: Write>(
+    rt: &RT,
+    request: &Request<'_>,
+    given: Given<'_, R>,
+    out: &mut W,
+    explanation: &mut Explanation<'_>,
+) -> Result<Finished, RunFault>
+    ensures { IsRun R.remaining given.entry (W.contents out.old) (W.contents out.new) result }
+{
+    let watch = Watch::new(rt);
+    let mut left = Some(given);
+    run_beside(rt, request, &mut left, out, explanation, &watch)
+}
+
+/// Runs a comparison, and shows how far it is where that is asked for.
+fn run_asked<RT: AllocGlobal + Clock + Eprint + Threads + Wait + Sync, R: Read + Drop, W: Write>(
+    rt: &RT,
+    request: &Request<'_>,
+    given: Given<'_, R>,
+    out: &mut W,
+    explanation: &mut Explanation<'_>,
+) -> Result<Finished, RunFault>
+    ensures { IsRun R.remaining given.entry (W.contents out.old) (W.contents out.new) result }
+{
+    if request.progress {
+        return run_shown(rt, request, given, out, explanation);
+    }
+    let told = if_asked(request, explanation);
+    run_explained(rt, rt.alloc(), given, out, told, &NoGate)
+}
+
+/// Opens the files, runs the comparison, and warns of what it is.
+fn compare<
+    RT: Files + AllocGlobal + Clock + Eprint + Threads + Wait + Sync,
+    R: Read + Drop,
+    W: Write,
+    E: Write,
+>(rt: &RT, request: &Request<'_>, input: R, out: &mut W, err: &mut E) -> End
     ensures { IsRunEnd R.remaining RT.File.remaining request.now input (W.contents out.old) (W.contents out.new) (E.contents err.old) (E.contents err.new) result }
 {
     let mut explanation = explanation_for(rt.alloc(), request);
@@ -123,13 +184,8 @@ fn compare<RT: Files + AllocGlobal + Threads + Wait + Sync, R: Read + Drop, W: W
             return End::Failed(RunFault::Read);
         }
     };
-    let finished = run_explained(
-        rt,
-        rt.alloc(),
-        given_by(request, sources),
-        out,
-        if_asked(request, &mut explanation),
-    );
+    let given = given_by(request, sources);
+    let finished = run_asked(rt, request, given, out, &mut explanation);
     match finished {
         Ok(finished) => {
             warn(rt.alloc(), request, &finished.warnings, err);
@@ -152,13 +208,12 @@ fn shown(text: &Result<String, AllocError>) -> &str {
 }
 
 /// Reads the words, and does what they ask for.
-fn perform<RT: Files + AllocGlobal + Threads + Wait + Sync, R: Read + Drop, W: Write, E: Write>(
-    rt: &RT,
-    words: &[String],
-    input: R,
-    out: &mut W,
-    err: &mut E,
-) -> End
+fn perform<
+    RT: Files + AllocGlobal + Clock + Eprint + Threads + Wait + Sync,
+    R: Read + Drop,
+    W: Write,
+    E: Write,
+>(rt: &RT, words: &[String], input: R, out: &mut W, err: &mut E) -> End
     ensures { IsEnd R.remaining RT.File.remaining (map string_bytes words.now) input (W.contents out.old) (W.contents out.new) (E.contents err.old) (E.contents err.new) result }
 {
     let answers = answers(rt.alloc());
@@ -176,23 +231,23 @@ fn perform<RT: Files + AllocGlobal + Threads + Wait + Sync, R: Read + Drop, W: W
 ///
 /// The words are those of the command line, the program's name first; `input`, `out` and `err` are standard input,
 /// output and error. The options are `--workers N`, `--nodes N`, `--cells N`, `--forks N`, `--conflicts N`, `--order FILE`,
-/// `--assume FILE`, `--all`, `--output NAME` as often as wanted, `--first-model NAME`, `--second-model NAME` and `--explain`, and
-/// up to two files are compared. All files are opened before one is read. The report is written to `out`. Where it is a verdict on a model that a model of its text contains
-/// which isn't compared, `err` gets a warning on it. Where there is no verdict and `--explain` is given, `err` gets lines
-/// on what is at fault.
+/// `--assume FILE`, `--all`, `--output NAME` as often as wanted, `--first-model NAME`, `--second-model NAME`, `--explain` and
+/// `--progress`, and up to two files are compared. All files are opened before one is read. The report is written to `out`. Where
+/// it is a verdict on a model that a model of its text contains which isn't compared, `err` gets a warning on it. Where there is no
+/// verdict and `--explain` is given, `err` gets lines on what is at fault. With `--progress` the runtime's own standard error has a
+/// line that tells how far the run is, and which is gone before anything is written to `out` or `err`.
 ///
 /// The status is 0 where the netlists are equivalent, 1 where they differ, 2 where the input is refused and 3 where
 /// the comparison was stopped, and 6 where no assignment meets the assumption. It is 4 where a read or a write failed, and then `err` gets `fault 91` for a read, or
 /// a file that can't be opened, and `fault 92` for a write. It is 5 for a bad command line and for want of memory in
 /// reading it; `err` gets a text on it. For `--help` and `--version` what they ask for is written to `out`, and the
 /// status is 0. The call may wait, for the threads that compare.
-pub fn program<RT: Files + AllocGlobal + Threads + Wait + Sync, R: Read + Drop, W: Write, E: Write>(
-    rt: &RT,
-    words: &[String],
-    input: R,
-    out: &mut W,
-    err: &mut E,
-) -> u8
+pub fn program<
+    RT: Files + AllocGlobal + Clock + Eprint + Threads + Wait + Sync,
+    R: Read + Drop,
+    W: Write,
+    E: Write,
+>(rt: &RT, words: &[String], input: R, out: &mut W, err: &mut E) -> u8
     ensures { IsDone R.remaining RT.File.remaining (map string_bytes words.now) input (W.contents out.old) (W.contents out.new) (E.contents err.old) (E.contents err.new) result }
 {
     let end = perform(rt, words, input, out, err);

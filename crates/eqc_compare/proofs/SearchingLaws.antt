@@ -1,5 +1,5 @@
 -- What is found of literals that are true where an output differs, or where the assumption allows the inputs' values.
-use Rattle.std.proofs.Common.{◌≡◌, ◌≢◌, ℕ, ◌<◌, Bool, true, false, true≢false, ◌&&◌, List, [], ◌∷◌, length, find, get_or, is_none, refl, sym, ◌∙◌, ap, ap₂, Option, Some, None, Vec, Global, Result, Ok, Err, IfOk, subst}
+use Rattle.std.proofs.Common.{◌≡◌, ◌≢◌, ℕ, ◌<◌, Bool, true, false, true≢false, ◌&&◌, List, [], ◌∷◌, length, find, get_or, is_none, refl, sym, ◌∙◌, ap, ap₂, Option, Some, None, Vec, Global, Result, Ok, Err, IfOk, subst, arith}
 use Rattle.eqc_tree.specs.Assigned.{assigned, assignments}
 use Rattle.eqc_flat.specs.Graph.{value_of}
 use Rattle.eqc_graph.specs.declared.node.Node.{Node}
@@ -17,7 +17,8 @@ use Rattle.eqc_gates.proofs.EnteringLaws.{literals_stay}
 use Rattle.eqc_compare.specs.Verdict.{is_different, is_allowed, differs_under}
 use Rattle.eqc_compare.specs.Comparing.{netlist_of, assumption_of, values_differ_at, differs_at}
 use Rattle.eqc_compare.specs.Inside.{IsInside, literal_of}
-use Rattle.eqc_compare.specs.Searching.{IsWitnessAt, SaysAllowed, SaysDifferent, TellsVacuous}
+use Rattle.eqc_compare.specs.declared.asking.Question.{Question}
+use Rattle.eqc_compare.specs.Searching.{IsQuestionOf, IsWitnessAt, SaysAllowed, SaysDifferent, TellsVacuous}
 use Rattle.eqc_compare.proofs.AllowingLaws.{allowed_is, allowed_without, root_says, not_without}
 use Rattle.eqc_compare.proofs.DifferenceLaws.{differs_is}
 use Rattle.eqc_compare.proofs.InsideLaws.{has_value}
@@ -84,15 +85,26 @@ says_always g nodes l none has = record { within = has.within; value = λ a. has
 -- ---- what is found of them
 
 -- what is found of the literal of an output is found of the output
-pub witness_at : {E : Type 0} (p : PairOf) (nodes : List Node) (o l : ℕ) (variables : List ℕ) (found : Result Witness E) → IsPair p → variables ≡ first_variables p → o < length p.first.outputs → SaysDifferent p nodes o l
-    → IfOk found (IsWitness nodes l variables) → IfOk found (IsWitnessAt p o)
-witness_at p nodes o l variables (Err e) lawful are inside says is = tt
-witness_at p nodes o l variables (Ok found) lawful are inside says is =
+pub answer_at : (p : PairOf) (nodes : List Node) (o l : ℕ) (variables : List ℕ) (found : Witness) → IsPair p → variables ≡ first_variables p → o < length p.first.outputs → SaysDifferent p nodes o l
+    → IsWitness nodes l variables found → IsWitnessAt p o found
+answer_at p nodes o l variables found lawful are inside says is =
     let differs = differs_is p o (λ a. literal_value nodes a l) lawful inside (record { each = says.value }) in
     let agrees : (a : List Bool) → length a ≡ length p.first.inputs
     → is_true_under nodes l (first_variables p) a ≡ differs_under (netlist_of p.first) (netlist_of p.second) (assumption_of p) (get_or p.first.outputs o []) a = differs.agrees in
     found_as (length p.first.inputs) (is_true_under nodes l (first_variables p)) (differs_under (netlist_of p.first) (netlist_of p.second) (assumption_of p) (get_or p.first.outputs o [])) found agrees
     (rw (are, differs.size) at is)
+
+pub witness_at : {E : Type 0} (p : PairOf) (nodes : List Node) (o l : ℕ) (variables : List ℕ) (found : Result Witness E) → IsPair p → variables ≡ first_variables p → o < length p.first.outputs → SaysDifferent p nodes o l
+    → IfOk found (IsWitness nodes l variables) → IfOk found (IsWitnessAt p o)
+witness_at p nodes o l variables (Err e) lawful are inside says is = tt
+witness_at p nodes o l variables (Ok found) lawful are inside says is = answer_at p nodes o l variables found lawful are inside says is
+
+-- what is asked stays where the graph goes on
+question_stays : (p : PairOf) (old new : List Node) (q : Question) → Extends old new → IsQuestionOf p old q → IsQuestionOf p new q
+question_stays p old new q extends is = record {
+  within = is.within;
+  says = record { within = omega (arith, is.says.within, extends.longer); value = λ a. extends.same q.literal a is.says.within ∙ is.says.value a };
+}
 
 -- what is found of the assumption's literal is found of the assignments that are allowed
 pub allowed_found : (p : PairOf) (nodes : List Node) (l : ℕ) (variables : List ℕ) (found : Witness) → IsPair p → variables ≡ first_variables p → SaysAllowed p nodes l → IsWitness nodes l variables found

@@ -8,6 +8,8 @@ use Rattle.eqc_witness.specs.Witnesses.{IsFoundOf}
 use Rattle.eqc_pair.specs.PairOf.{PairOf}
 use Rattle.eqc_compare.specs.Verdict.{allows_none, differs_under}
 use Rattle.eqc_compare.specs.Comparing.{netlist_of, assumption_of, allowed_at, differs_at, IsOutcome}
+use Rattle.eqc_compare.specs.declared.asking.Question.{Question}
+use Rattle.eqc_compare.specs.declared.asking.Answer.{Answer}
 use Rattle.eqc_compare.specs.declared.searching.Searched.{Searched}
 use Rattle.eqc_compare.specs.declared.searching.Searched.TheVariants.{Found, Open, Unasked}
 
@@ -26,6 +28,15 @@ TellsVacuous p none = none ≡ allows_none (netlist_of p.first) (assumption_of p
 -- what is found of the assignments under which the output at a position differs: the least, or that there is none, or any
 abbrev pub IsWitnessAt : PairOf → ℕ → Witness → Type 0
 IsWitnessAt p output found = IsFoundOf (length p.first.inputs) (differs_under (netlist_of p.first) (netlist_of p.second) (assumption_of p) (slice_index_or p.first.outputs output [])) found
+
+-- an output is asked for by a literal that is true where it differs
+pub record IsQuestionOf (p : PairOf) (nodes : List Node) (q : Question) : Type 0 where
+  pub within : q.output < length p.first.outputs
+  pub says : SaysDifferent p nodes q.output q.literal
+
+-- what is found of an output that was asked for
+abbrev pub IsAnswerOf : PairOf → Answer → Type 0
+IsAnswerOf p a = IsWitnessAt p a.output a.witness
 
 -- what is found of a pair: what its comparison has to find; or an output that may differ; or nothing
 abbrev pub IsSearched : PairOf → Bool → Searched → Type 0

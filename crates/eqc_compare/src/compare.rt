@@ -13,7 +13,7 @@ use crate::alike::settled_outputs;
 use crate::allowing::allows_none;
 use crate::outcome::{Difference, Outcome};
 use eqc_build::{
-    Kept, Plan, Steps, Table, clear, complete, give_back_kept, is_marked, moment, nothing_built,
+    Kept, Plan, Steps, Table, clear, complete, give_back_kept, is_marked, nothing_built,
     nothing_kept_of_few, plan_below, plan_of, reference_at, release_due,
 };
 use eqc_cover::{is_false, least_over};
@@ -134,7 +134,7 @@ pub(crate) fn compare_turn<R, D: Diagrams<R>>(
     let goals = plan.steps.goals(output);
     complete(alloc, rt, d, plan, kept, goals.as_slice(), turn)?;
     let found = difference(alloc, rt, d, &plan.steps, &kept.table, output);
-    release_due(d, kept, &plan.last, moment(turn, plan.steps.len() + 1));
+    release_due(d, plan, kept, turn);
     found
 }
 

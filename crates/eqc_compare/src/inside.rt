@@ -7,6 +7,7 @@ ghost use Rattle.eqc_compare.specs.Comparing.{difference_at};
 ghost use Rattle.eqc_compare.specs.Inside.{HaveOneLiteral, TellEqual, literal_of};
 
 use crate::alike::Alike;
+use crate::gate::Progress;
 use eqc_build::{Steps, is_marked};
 use eqc_gates::{literals, needed};
 use eqc_pair::Pair;
@@ -164,18 +165,25 @@ fn unmarked(alloc: Global, pair: &Pair<'_>, marks: &[bool]) -> Result<Vec<bool>,
 
 impl<'a> Inside<'a> {
     /// Enters the steps of a pair that its chosen outputs need which are not marked, where this is known of it: a step that is chosen
-    /// in place of others is entered for them. It takes time and memory in proportion to the steps and their rows. Fails where
-    /// memory is refused.
-    pub fn of(alloc: Global, pair: &'a Pair<'a>, alike: &Alike) -> Result<Inside<'a>, AllocError>
+    /// in place of others is entered for them. It takes time and memory in proportion to the steps and their rows. The watch is
+    /// told of each step. Fails where memory is refused.
+    pub fn of<R, P: Progress<R>>(
+        rt: &R,
+        alloc: Global,
+        pair: &'a Pair<'a>,
+        alike: &Alike,
+        watch: &P,
+    ) -> Result<Inside<'a>, AllocError>
         requires { IsKnown pair.now alike.now }
         ensures { IfOk result (λ inside. inside ≡ pair.now) }
     {
         let steps = Steps::of(pair, alike.chosen.clone()?);
-        let _steps = steps.len();
+        let count = steps.len() as usize;
         let outputs = unmarked(alloc, pair, &alike.equal)?;
         let marks = needed(alloc, &steps, &outputs)?;
         let mut sweep = Sweep::new(alloc, Effort::usual())?;
-        let literals = literals(alloc, &steps, &marks, &mut sweep)?;
+        let told = |step: u32| watch.step(rt, step as usize, count);
+        let literals = literals(alloc, &steps, &marks, &mut sweep, &told)?;
         Ok(Inside {
             steps,
             sweep,
@@ -210,15 +218,23 @@ impl<'a> Inside<'a> {
     }
 
     /// Searches for differences of the chosen outputs that are not marked, with so many conflicts in all, and marks those for which
-    /// there is none. Whether there are any: the others may be equal too.
-    pub fn ask_outputs(&mut self, alike: &mut Alike, conflicts: u64) -> bool
+    /// there is none. Whether there are any: the others may be equal too. The watch is told of each output.
+    pub fn ask_outputs<R, P: Progress<R>>(
+        &mut self,
+        rt: &R,
+        alike: &mut Alike,
+        conflicts: u64,
+        watch: &P,
+    ) -> bool
         requires { IsKnown self.old alike.old }
         ensures pair { self.new ≡ self.old }
         ensures known { IsKnown self.new alike.new }
     {
         let mut left = conflicts;
         let mut found = false;
-        for output in 0..self.steps.pair().first().outputs().len() {
+        let outputs = self.steps.pair().first().outputs().len();
+        for output in 0..outputs {
+            watch.step(rt, output, outputs);
             if output >= alike.equal.len() || alike.equal[output] {
                 continue;
             }

@@ -11,11 +11,13 @@
 //! - `ticket`, the word from which outputs are drawn; `member`, what a member compares with; `gate`, what is told of it; `help`,
 //!   what a member does for others, and `patience`, for how long
 //! - `task`, what members do; `alike`, what structures tell of a pair, and `inside`, what the literals of a graph do, so that
-//!   members need not do it; `searching`, outputs that differ, found in that graph without a diagram
+//!   members need not do it; `searching`, outputs that differ, found in that graph without a diagram, and `asking`, by several
+//!   threads
 #![tactic(auto, using(eqc_tree::proofs::HoldingLemmas::counts_itself))]
 
 mod alike;
 mod allowing;
+mod asking;
 mod compare;
 mod gate;
 mod group;
@@ -36,7 +38,7 @@ mod verdict;
 pub use alike::{Alike, alike_or_nothing};
 pub use allowing::allows_none;
 pub use compare::{compare_output, compare_outputs};
-pub use gate::{Gate, NoGate};
+pub use gate::{Gate, NoGate, Progress, Stage};
 pub use inside::Inside;
 pub use laws::{
     difference_is_of_values, differences_are_each, first_alone_is_first_difference,

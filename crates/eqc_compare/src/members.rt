@@ -155,13 +155,14 @@ fn first_allows_none<R, D: Diagrams<R>>(
 /// positions and in their order, each with its least assignment; without `every` the first of them alone. Whether the assumption
 /// allows none is asked of the first member, before anything is drawn.
 ///
-/// There is at least one member, and each has at least as many variables as the pair has inputs; they are consumed. What is
-/// known of the pair need not be compared. The gate is told of each comparison before it begins. Without `every` a member that
-/// has found a difference compares no later output. One that has drawn its last helps the others, for as long as it has patience.
+/// There is at least one member, and each has at least as many variables as the pair has inputs; they are consumed. Members
+/// beyond the first 4,294,967,295 are let go, since 32 bits number those that compare. What is known of the pair need not be
+/// compared. The gate is told of each comparison before it begins. Without `every` a member that has found a difference compares
+/// no later output. One that has drawn its last helps the others, for as long as it has patience.
 /// The call may wait, since it waits for all members, and for the gate.
 ///
 /// The errors are those of the members' diagrams, 71, 72 and 73; 72 also where memory is refused, or where 32 bits don't
-/// number the members or the outputs; and 74 where a thread could not be started. Where several came it is one of them.
+/// number the outputs; and 74 where a thread could not be started. Where several came it is one of them.
 pub fn compare_by_members<
     R: Threads + Wait + Sync,
     D: Diagrams<R> + Send + Drop,
@@ -181,11 +182,12 @@ pub fn compare_by_members<
     requires known { IsKnown pair.now alike }
     ensures found { IfOk result (IsOutcome pair.now every) }
 {
-    let most = u32::MAX as usize;
-    if members.len() > most || pair.first().outputs().len() > most {
+    // No text has so many outputs, which no law of netlists says.
+    if pair.first().outputs().len() > u32::MAX as usize {
         return Err(Stop::Memory);
     }
     let mut members = members;
+    members.truncate(u32::MAX as usize);
     if first_allows_none(rt, alloc, pair, &mut members)? {
         return Ok(Outcome::Vacuous);
     }

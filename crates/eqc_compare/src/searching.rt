@@ -1,22 +1,26 @@
 //! What the comparison of a pair finds, found in the graph of its steps without a diagram: the outputs that differ, with their
 //! least assignments, and whether the assumption allows one.
 ghost use Rattle.std.specs.Prelude.{◌≡◌, ◌<◌, false, true, length, slice_set, IfOk, IfSome};
-ghost use Rattle.eqc_graph.specs.Graph.{IsWithin};
+ghost use Rattle.std.specs.List.{All};
+ghost use Rattle.eqc_graph.specs.Graph.{Extends, IsWithin};
 ghost use Rattle.eqc_witness.specs.Witnesses.{IsFoundOf};
 ghost use Rattle.eqc_compare.specs.Verdict.{is_allowed};
 ghost use Rattle.eqc_compare.specs.Comparing.{netlist_of, assumption_of};
 ghost use Rattle.eqc_compare.specs.Alike.{IsKnown};
 ghost use Rattle.eqc_compare.specs.Inside.{IsInside};
-ghost use Rattle.eqc_compare.specs.Searching.{IsSearched, IsWitnessAt, SaysAllowed, SaysDifferent, TellsVacuous};
+ghost use Rattle.eqc_compare.specs.Searching.{IsAnswerOf, IsSearched, IsWitnessAt, SaysAllowed, SaysDifferent, TellsVacuous};
 
 use crate::alike::{Alike, is_settled};
+use crate::asking::{Answer, ask_all, questions_of};
+use crate::gate::Progress;
 use crate::inside::{Inside, NONE, literal_of};
 use crate::outcome::{Difference, Outcome};
-use eqc_build::Steps;
+use eqc_build::{Steps, is_marked};
 use eqc_pair::Pair;
 use eqc_sweep::{Comparison, Sweep};
 use eqc_witness::{Witness, least_witness};
 use std::alloc::{AllocError, Global};
+use std::thread::Threads;
 
 /// What is found of a pair.
 #[derive(Drop)]
@@ -70,7 +74,7 @@ fn allowed_literal(steps: &Steps<'_>, sweep: &Sweep, literals: &[Option<u32>]) -
 
 /// The literal that is true where an output differs and the assumption allows it, or none where its steps have no literals.
 /// Fails where memory is refused.
-fn difference_literal(
+pub(crate) fn difference_literal(
     steps: &Steps<'_>,
     sweep: &mut Sweep,
     literals: &[Option<u32>],
@@ -79,6 +83,7 @@ fn difference_literal(
     requires inside { IsInside steps.now sweep.old literals.now }
     requires output { output < length steps.now.pair.first.outputs }
     ensures inside { IsInside steps.now sweep.new literals.now }
+    ensures extends { Extends sweep.old sweep.new }
     ensures literal { IfOk result (λ found. IfSome found (SaysDifferent steps.now.pair sweep.new output)) }
 {
     let Some(allowed) = allowed_literal(steps, sweep, literals) else {
@@ -96,7 +101,7 @@ fn difference_literal(
 }
 
 /// Variables and their values under which simulation saw the literal true: none where it didn't. Nothing is promised of it.
-fn seen_true(alloc: Global, sweep: &mut Sweep, literal: u32) -> Vec<(u32, bool)>
+pub(crate) fn seen_true(alloc: Global, sweep: &mut Sweep, literal: u32) -> Vec<(u32, bool)>
     requires { IsWithin sweep.old literal }
     ensures { sweep.new ≡ sweep.old }
 {
@@ -171,6 +176,28 @@ fn is_never_allowed(
     Ok(tells_vacuous(pair, found))
 }
 
+/// The next outputs from one on that are chosen and not marked, at most so many. Fails where memory is refused.
+fn open_outputs(
+    alloc: Global,
+    pair: &Pair<'_>,
+    marks: &[bool],
+    from: usize,
+    most: usize,
+) -> Result<Vec<usize>, AllocError>
+    ensures { IfOk result (λ next. All (λ o. o < length pair.now.first.outputs) next.items) }
+{
+    let mut open = Vec::with_capacity(alloc, most)?;
+    for output in from..pair.first().outputs().len() {
+        if open.len() >= most {
+            break;
+        }
+        if pair.is_chosen(output) && !is_marked(marks, output) {
+            open.push(output)?;
+        }
+    }
+    Ok(open)
+}
+
 /// Marks an output, if it has a mark.
 fn mark(alike: &mut Alike, output: usize)
     ensures equal { alike.new.equal.items ≡ slice_set alike.old.equal.items output true }
@@ -218,15 +245,69 @@ impl<'a> Inside<'a> {
         }
     }
 
-    /// The chosen outputs that differ, with their least assignments, where some assignment is allowed: all of them, or the first
-    /// alone. Outputs that are marked are not asked about, and those that never differ become marked. Fails where memory is
-    /// refused.
-    fn search_each(
+    /// What is found of the next outputs from one on that are chosen and not marked, one for each thread, the last one first.
+    /// Fails where memory is refused.
+    fn ask_ahead<R: Threads + Sync>(
         &mut self,
+        rt: &R,
+        alloc: Global,
+        marks: &[bool],
+        from: usize,
+        conflicts: u64,
+        threads: u32,
+    ) -> Result<Vec<Answer>, AllocError>
+        ensures pair { self.new ≡ self.old }
+        ensures found { IfOk result (λ all. All (IsAnswerOf self.old) all.items) }
+    {
+        let pair = self.steps.pair();
+        let open = open_outputs(alloc, pair, marks, from, threads as usize)?;
+        let questions = questions_of(alloc, &self.steps, &mut self.sweep, &self.literals, &open)?;
+        let graph = self.sweep.graph();
+        ask_all(rt, alloc, pair, graph, &questions, conflicts, threads)
+    }
+
+    /// What is found of an output: with several threads the next ones are asked for beside it, and what is found of these is
+    /// kept, the last one first. Fails where memory is refused.
+    fn next_witness<R: Threads + Sync>(
+        &mut self,
+        rt: &R,
+        alloc: Global,
+        marks: &[bool],
+        output: usize,
+        conflicts: &mut u64,
+        threads: u32,
+        ahead: &mut Vec<Answer>,
+    ) -> Result<Witness, AllocError>
+        requires output { output < length self.old.first.outputs }
+        requires ahead { All (IsAnswerOf self.old) ahead.old.items }
+        ensures pair { self.new ≡ self.old }
+        ensures ahead { All (IsAnswerOf self.old) ahead.new.items }
+        ensures found { IfOk result (IsWitnessAt self.old output) }
+    {
+        if threads > 1 && ahead.is_empty() {
+            *ahead = self.ask_ahead(rt, alloc, marks, output, *conflicts, threads)?;
+        }
+        if let Some(answer) = ahead.pop() {
+            if answer.output == output {
+                *conflicts = answer.left;
+                return Ok(answer.witness);
+            }
+        }
+        self.search_output(alloc, output, conflicts)
+    }
+
+    /// The chosen outputs that differ, with their least assignments, where some assignment is allowed: all of them, or the first
+    /// alone. Outputs that are marked are not asked about, and those that never differ become marked. The watch is told of each
+    /// output. Fails where memory is refused.
+    fn search_each<R: Threads + Sync, P: Progress<R>>(
+        &mut self,
+        rt: &R,
         alloc: Global,
         alike: &mut Alike,
         every: bool,
         conflicts: Conflicts,
+        threads: u32,
+        watch: &P,
     ) -> Result<Searched, AllocError>
         requires known { IsKnown self.old alike.old }
         requires allowed { TellsVacuous self.old false }
@@ -236,12 +317,18 @@ impl<'a> Inside<'a> {
     {
         let mut conflicts = conflicts;
         let mut found = Vec::new(alloc);
-        for output in 0..self.steps.pair().first().outputs().len() {
+        let mut ahead = Vec::new(alloc);
+        let outputs = self.steps.pair().first().outputs().len();
+        for output in 0..outputs {
+            watch.step(rt, output, outputs);
             if is_settled(self.steps.pair(), &alike.equal, output) {
                 continue;
             }
             let mut left = conflicts.next();
-            let witness = self.search_output(alloc, output, &mut left)?;
+            let marks = &alike.equal;
+            let witness = self.next_witness(
+                rt, alloc, marks, output, &mut left, threads, &mut ahead,
+            )?;
             conflicts.take_used(left);
             match witness {
                 Witness::Never => mark(alike, output),
@@ -259,13 +346,17 @@ impl<'a> Inside<'a> {
 
     /// What the comparison of the pair has to find, by searches with so many conflicts: with `every` each chosen output that
     /// differs, else the first; or `Vacuous`, where the assumption allows no assignment. Outputs that are marked are not asked
-    /// about, and those that never differ become marked. Fails where memory is refused.
-    pub fn search_outputs(
+    /// about, and those that never differ become marked. So many outputs are asked for side by side, each in a thread of its own,
+    /// or in this one where no thread can be started. The watch is told of each output. Fails where memory is refused.
+    pub fn search_outputs<R: Threads + Sync, P: Progress<R>>(
         &mut self,
+        rt: &R,
         alloc: Global,
         alike: &mut Alike,
         every: bool,
         conflicts: Conflicts,
+        threads: u32,
+        watch: &P,
     ) -> Result<Searched, AllocError>
         requires { IsKnown self.old alike.old }
         ensures pair { self.new ≡ self.old }
@@ -274,7 +365,7 @@ impl<'a> Inside<'a> {
     {
         match self.allows_none(alloc, conflicts.next())? {
             Some(true) => Ok(Searched::Found(Outcome::Vacuous)),
-            Some(false) => self.search_each(alloc, alike, every, conflicts),
+            Some(false) => { self.search_each(rt, alloc, alike, every, conflicts, threads, watch) }
             None => Ok(Searched::Unasked),
         }
     }

@@ -1,12 +1,16 @@
 //! The tests of comparisons of pairs: one output, and all by members and workers, with what they hold meanwhile.
 //!
 //! - `pairs`, the calls below a run, on one thread; `assumptions`, pairs under one
-//! - `workers`, by several in threads of their own; `parities`, how many nodes they take
+//! - `workers`, by several in threads of their own; `parities`, `covers` and `comparators`, how many nodes they take
 //! - `long_chains`, very many covers that stand one behind the other
 #![tactic(auto)]
 
 #[cfg(test)]
 mod assumptions;
+#[cfg(test)]
+mod comparators;
+#[cfg(test)]
+mod covers;
 #[cfg(test)]
 mod ends;
 #[cfg(test)]

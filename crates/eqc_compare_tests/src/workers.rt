@@ -12,6 +12,7 @@ use eqc_check::{
 use eqc_flat::Flat;
 use eqc_netlist_testing::two_flats;
 use eqc_plain::Plain;
+use eqc_report::{Comparison, Undecided, check_alike};
 use eqc_testing::{DIFFERENCE, EQUAL, Row, UNEQUAL, is_text, lines};
 use eqc_tree::{References, Stop};
 use std::alloc::{AllocError, Global};
@@ -95,6 +96,36 @@ pub enum Way {
     Within(u32, u32),
     /// By two members over stores of 16 nodes.
     Members,
+    /// In the course of a run with so many workers.
+    Course(u32),
+}
+
+/// Compares a pair in the course of a run, which has room for all that it may try.
+fn compared_in_course<R: Threads + Wait + Sync>(
+    rt: &R,
+    alloc: Global,
+    pair: &Pair<'_>,
+    workers: u32,
+) -> Result<Report, Stop> {
+    let options = Options {
+        workers,
+        nodes: 1_024,
+        cells: 1,
+        forks: 0,
+        conflicts: 1_000,
+        every: false,
+    };
+    let comparison = Comparison {
+        rt,
+        alloc,
+        pair,
+        options: &options,
+        watch: &NoGate,
+    };
+    match options_fault(&options) {
+        None => check_alike(&comparison, &mut Undecided::none(alloc)),
+        Some(_) => Err(Stop::NodeLimit),
+    }
 }
 
 /// Compares a pair.
@@ -112,6 +143,7 @@ fn compared<R: Threads + Wait + Sync, G: Gate<R> + Sync>(
             let members = two_stores(alloc, pair.first().inputs().len() as u16)?;
             return check_with(rt, alloc, pair, false, members, gate);
         }
+        Way::Course(workers) => return compared_in_course(rt, alloc, pair, workers),
     };
     let options = Options {
         workers,
@@ -207,6 +239,8 @@ static WAYS: &[Way] = &[
     Way::Workers(2),
     Way::Workers(64),
     Way::Members,
+    Way::Course(1),
+    Way::Course(2),
 ];
 
 /// What is compared, and what is reported of it.
@@ -226,6 +260,12 @@ fn pairs_are_compared_by_workers(rt: HostRuntime) {
             );
         }
     }
+}
+
+#[test]
+fn no_output_is_left_at_first(rt: HostRuntime) {
+    let left = Undecided::none(rt.alloc());
+    assert!(rt; left.count() == 0 && left.names().is_empty() && left.seen().is_none());
 }
 
 /// Whether two outputs are reported on, and were compared at once.

@@ -4,3 +4,6 @@ pub mod MakingLaws
 pub mod MappedLemmas
 pub mod RowLaws
 pub mod Blocks
+pub mod TableLaws
+pub mod RowTableLaws
+pub mod SplitLaws

@@ -8,7 +8,7 @@ use Rattle.eqc_tree.specs.Operation.{operate}
 use Rattle.eqc_tree.specs.declared.operation.Op.TheVariants.{Xor}
 use Rattle.eqc_tree.proofs.HoldingLemmas.{counts_itself}
 use Rattle.eqc_cover.specs.Matching.{AreHeld}
-use Rattle.eqc_cover.specs.Making.{Makes, OwnsMade, OwnsInTurn, HasBoth, Inverts, Joins}
+use Rattle.eqc_cover.specs.Making.{Makes, OwnsMade, OwnsInTurn, HasBoth, Inverts, Turns, Joins}
 use Rattle.eqc_cover.proofs.HeldLaws.{held_more}
 
 -- a call of diagrams by its clauses
@@ -87,22 +87,27 @@ joined_makes entry d0 d1 d2 d3 x (Ok y) (Ok r) f g h op same m n j = record {
 }
 joined_makes entry d0 d1 d2 d3 x (Err stop) (Ok r) f g h op same m n j = absurd j.function
 
--- the opposite of what a call made
-pub inverted_makes : {X : Type 0} (entry : X → Entry) (d0 d1 d2 : Holding) (x result : Result X Stop) (f h : (ℕ → Bool) → Bool)
-    → ((a : ℕ → Bool) → not (f a) ≡ h a) → Makes entry d0 d1 x f → Inverts entry d1 d2 x result → Makes entry d0 d2 result h
-inverted_makes entry d0 d1 d2 x (Err stop) f h same m j = record {
+-- an operation on what a call made
+pub turned_makes : {X : Type 0} (entry : X → Entry) (d0 d1 d2 : Holding) (x result : Result X Stop) (f h : (ℕ → Bool) → Bool)
+    (op : (ℕ → Bool) → Bool → Bool) → ((a : ℕ → Bool) → op a (f a) ≡ h a) → Makes entry d0 d1 x f → Turns entry d1 d2 x result op → Makes entry d0 d2 result h
+turned_makes entry d0 d1 d2 x (Err stop) f h op same m j = record {
   variables = j.variables ∙ m.variables;
   held = λ e. omega (arith, m.held e, j.held e);
   function = tt;
   only = j.only;
 }
-inverted_makes entry d0 d1 d2 (Ok x) (Ok r) f h same m j = record {
+turned_makes entry d0 d1 d2 (Ok x) (Ok r) f h op same m j = record {
   variables = j.variables ∙ m.variables;
   held = λ e. omega (arith, m.held e, j.held e);
-  function = λ a. j.function a ∙ (ap not (m.function a) ∙ same a);
+  function = λ a. j.function a ∙ (ap (op a) (m.function a) ∙ same a);
   only = tt;
 }
-inverted_makes entry d0 d1 d2 (Err stop) (Ok r) f h same m j = absurd j.function
+turned_makes entry d0 d1 d2 (Err stop) (Ok r) f h op same m j = absurd j.function
+
+-- the opposite of what a call made
+pub inverted_makes : {X : Type 0} (entry : X → Entry) (d0 d1 d2 : Holding) (x result : Result X Stop) (f h : (ℕ → Bool) → Bool)
+    → ((a : ℕ → Bool) → not (f a) ≡ h a) → Makes entry d0 d1 x f → Inverts entry d1 d2 x result → Makes entry d0 d2 result h
+inverted_makes entry d0 d1 d2 x result f h same m j = turned_makes entry d0 d1 d2 x result f h (λ _ v. not v) same m j
 
 -- both references are held, the second where it was made
 pub first_of_turn : {X : Type 0} (entry : X → Entry) (d : Holding) (x : X) (made_later : Result X Stop) → OwnsInTurn entry d x made_later → IsHeld d (entry x)

@@ -37,7 +37,7 @@ use Rattle.std.proofs.lemmas.List.{take_more, map-append}
 use Rattle.std.specs.Borrow.{Bor}
 use Rattle.eqc_blif.specs.Cover.{allows, row_matches, is_on, is_on_set, cover_value}
 use Rattle.eqc_tree.specs.Holding.{Entry, says}
-use Rattle.eqc_cover.specs.Matching.{some_match, cofactor, agrees, said, of_two, MatchAlike}
+use Rattle.eqc_cover.specs.Matching.{some_match, cofactor, agrees, said, MatchAlike}
 use Rattle.eqc_blif.proofs.RowLemmas.{row_over}
 
 -- a row matches where both its parts do
@@ -107,15 +107,6 @@ pub expansion : (on : Bool) (rows : List (List ℕ)) (v : Bool) (vs : List Bool)
     ≡ agrees on (some_match rows (v ∷ vs))
 expansion on rows true vs = ap (agrees on) (sym (some_match-cofactor rows true vs))
 expansion on rows false vs = ap (agrees on) (sym (some_match-cofactor rows false vs))
-
-pub of_two_values : (on : Bool) (rows : List (List ℕ)) (neither one other both x y : Bool)
-    → neither ≡ agrees on (some_match rows (false ∷ false ∷ [])) → one ≡ agrees on (some_match rows (false ∷ true ∷ []))
-    → other ≡ agrees on (some_match rows (true ∷ false ∷ [])) → both ≡ agrees on (some_match rows (true ∷ true ∷ []))
-    → of_two neither one other both x y ≡ agrees on (some_match rows (x ∷ y ∷ []))
-of_two_values on rows neither one other both true true e f g h = h
-of_two_values on rows neither one other both true false e f g h = g
-of_two_values on rows neither one other both false true e f g h = f
-of_two_values on rows neither one other both false false e f g h = e
 
 pub map_take : {A B : Type 0} (f : A → B) (n : ℕ) (xs : List A) → map f (take n xs) ≡ take n (map f xs)
 map_take f zero xs = refl
@@ -192,12 +183,6 @@ alone [] x some few is = absurd (omega arith)
 alone (y ∷ []) x some few is = ap (λ z. z ∷ []) (sym is)
 alone (y ∷ z ∷ xs) x some few is = absurd (omega arith)
 
--- two columns
-pub two_said : {X : Type 0} (entry : X → Entry) (on : Bool) (rows : List (List ℕ)) (x y : Bor X) (columns others : List (Bor X))
-    (a : ℕ → Bool) → columns ≡ x ∷ others → others ≡ y ∷ []
-    → agrees on (some_match rows (says (entry x.now) a ∷ says (entry y.now) a ∷ [])) ≡ agrees on (some_match rows (said entry columns a))
-two_said entry on rows x y columns others a e f = ap (λ cs. agrees on (some_match rows (said entry cs a))) (sym (e ∙ ap (λ rs. x ∷ rs) f))
-
 -- one column and the first byte of a row
 pub one_said : {X : Type 0} (entry : X → Entry) (row : List ℕ) (x : Bor X) (columns : List (Bor X)) (a : ℕ → Bool)
     → (length row == 0) ≡ false → columns ≡ x ∷ []
@@ -231,21 +216,6 @@ pub some_match-halves : (n : ℕ) (rows some others : List (Bor (List ℕ))) (vs
     → (some_match (map (λ r. r.now) some) vs || some_match (map (λ r. r.now) others) vs) ≡ some_match (map (λ r. r.now) rows) vs
 some_match-halves n rows some others vs e f =
     rw (e, f, map_take (λ (r : Bor (List ℕ)). r.now) n rows, map_drop (λ (r : Bor (List ℕ)). r.now) n rows) (sym (some_match-split n (map (λ (r : Bor (List ℕ)). r.now) rows) vs))
-
-not_not : (b : Bool) → not (not b) ≡ b
-not_not true = refl
-not_not false = refl
-
--- the opposite of the function of two values that has the opposite values
-pub opposite_of_two : (neither one other both x y : Bool) → neither ≡ true → not (of_two false (not one) (not other) (not both) x y) ≡ of_two neither one other both x y
-opposite_of_two neither one other both true true e = not_not both
-opposite_of_two neither one other both true false e = not_not other
-opposite_of_two neither one other both false true e = not_not one
-opposite_of_two neither one other both false false e = sym e
-
-pub of_two_neither : (neither one other both x y : Bool) → neither ≡ false → of_two false one other both x y ≡ of_two neither one other both x y
-of_two_neither true one other both x y e = absurd (false≢true (sym e))
-of_two_neither false one other both x y e = refl
 
 -- the value of a cover by rows that match alike
 pub covered_by : (on : Bool) (n : ℕ) (kept rows : List (List ℕ)) (vs : List Bool) → length vs ≡ n → (length rows == 0) ≡ false

@@ -1,3 +1,5 @@
 pub mod Matching
 pub mod Making
 pub mod Narrowing
+pub mod Table
+pub mod Splitting

@@ -31,12 +31,16 @@ abbrev pub HasBoth : {X : Type 0} → (X → Entry) → (old new : Holding) → 
 HasBoth entry old new x y (Ok both) = (both.0 ≡ x) × ((y ≡ Ok both.1) × (new ≡ old))
 HasBoth entry old new x y (Err stop) = (y ≡ Err stop) × Loses old new (entry x)
 
--- in place of the reference that a call may have made there is the one with the opposite function, or a stop
-pub record Inverts {X : Type 0} (entry : X → Entry) (old new : Holding) (x result : Result X Stop) : Type 0 where
+-- in place of the reference that a call may have made there is the one that an operation makes of its values, or a stop
+pub record Turns {X : Type 0} (entry : X → Entry) (old new : Holding) (x result : Result X Stop) (op : (ℕ → Bool) → Bool → Bool) : Type 0 where
   pub variables : new.variables ≡ old.variables
   pub held : (e : Entry) → copies new e + made entry x e ≡ copies old e + made entry result e
-  pub function : IfOk result (λ r. MatchResult x (λ f. (a : ℕ → Bool) → says (entry r) a ≡ not (says (entry f) a)) (λ stop. ⊥))
+  pub function : IfOk result (λ r. MatchResult x (λ f. (a : ℕ → Bool) → says (entry r) a ≡ op a (says (entry f) a)) (λ stop. ⊥))
   pub only : IfErr result (λ stop. stop ≢ Threads)
+
+-- in its place there is the one with the opposite function, or a stop
+abbrev pub Inverts : {X : Type 0} → (X → Entry) → (old new : Holding) → (x result : Result X Stop) → Type 0
+Inverts entry old new x result = Turns entry old new x result (λ _ v. not v)
 
 -- in place of a reference and of the one that a later call may have made there is the one that an operation makes of
 -- their values, or a stop

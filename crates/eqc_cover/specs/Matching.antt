@@ -49,11 +49,6 @@ pub record AreHeld {X : Type 0} (entry : X → Entry) (d : Holding) (rs : List (
 abbrev pub said : {X : Type 0} → (X → Entry) → List (Bor X) → (ℕ → Bool) → List Bool
 said entry rs a = map (λ r. says (entry r.now) a) rs
 
--- the function of two values that has these values where both are false, where only the second is true, where
--- only the first is, and where both are
-abbrev pub of_two : Bool → Bool → Bool → Bool → Bool → Bool → Bool
-of_two neither one other both x y = if x then (if y then both else other) else (if y then one else neither)
-
 -- one reference in place of another, with this function
 pub record Swaps (old new : Holding) (gone come : Entry) (f : (ℕ → Bool) → Bool) : Type 0 where
   pub variables : new.variables ≡ old.variables

@@ -1,91 +1,20 @@
-//! The diagram of a cover over the diagrams of its columns, by Shannon's expansion over these or row by row.
+//! The diagram of a cover over the diagrams of its columns: by its truth table, by Shannon's expansion, or row by row.
 ghost use Rattle.std.specs.Prelude.{◌≡◌, ◌≢◌, ℕ, ◌<◌, ◌-◌, Bool, true, false, List, [], ◌∷◌, length, map, not, if◌then◌else◌};
 ghost use Rattle.eqc_tree.specs.Holding.{IsHeld, says};
 ghost use Rattle.eqc_blif.specs.Cover.{allows, row_matches, cover_value};
-ghost use Rattle.eqc_cover.specs.Matching.{some_match, cofactor, agrees, AreHeld, said, of_two};
+ghost use Rattle.eqc_cover.specs.Matching.{some_match, cofactor, agrees, AreHeld, said};
 ghost use Rattle.eqc_cover.specs.Making.{Makes};
 
+use crate::expansion::by_table;
 use crate::making::{chosen, inverted, joined};
-use crate::rows::{cofactors, has_free_row, plan_cover, some_match};
+use crate::rows::{cofactors, has_free_row, plan_cover};
+use crate::table::{MOST_COLUMNS, cover_table, matching_table};
 use eqc_blif::{Rows, is_on_set};
 use eqc_tree::{Diagrams, Op, References, Stop};
 use std::alloc::Global;
 
-fn agrees(on: bool, value: bool) -> bool
-    ensures { result ≡ agrees on value }
-{
-    if on { value } else { !value }
-}
-
-/// The function of two references that is false where both are false, and else has these values: where only
-/// the second is true, where only the first is, and where both are.
-fn false_at_false<R, D: Diagrams<R>>(
-    rt: &R,
-    d: &mut D,
-    first: &D::Ref,
-    second: &D::Ref,
-    values: (bool, bool, bool),
-) -> Result<D::Ref, Stop>
-    requires first { IsHeld (D.holding d.old) (D.entry first.now) }
-    requires second { IsHeld (D.holding d.old) (D.entry second.now) }
-    ensures { Makes D.entry (D.holding d.old) (D.holding d.new) result (λ a. of_two false values.0 values.1 values.2 (says (D.entry first.now) a) (says (D.entry second.now) a)) }
-{
-    match values {
-        (false, false, false) => d.constant(false),
-        (false, false, true) => d.apply(rt, Op::And, first, second),
-        (false, true, false) => d.apply(rt, Op::AndNot, first, second),
-        (false, true, true) => d.copy(first),
-        (true, false, false) => d.apply(rt, Op::AndNot, second, first),
-        (true, false, true) => d.copy(second),
-        (true, true, false) => d.apply(rt, Op::Xor, first, second),
-        (true, true, true) => d.apply(rt, Op::Or, first, second),
-    }
-}
-
-/// The function of two references with these values: where both are false, where only the second is true,
-/// where only the first is, and where both are.
-fn two_columns<R, D: Diagrams<R>>(
-    rt: &R,
-    d: &mut D,
-    first: &D::Ref,
-    second: &D::Ref,
-    neither: bool,
-    values: (bool, bool, bool),
-) -> Result<D::Ref, Stop>
-    requires first { IsHeld (D.holding d.old) (D.entry first.now) }
-    requires second { IsHeld (D.holding d.old) (D.entry second.now) }
-    ensures { Makes D.entry (D.holding d.old) (D.holding d.new) result (λ a. of_two neither values.0 values.1 values.2 (says (D.entry first.now) a) (says (D.entry second.now) a)) }
-{
-    if !neither {
-        return false_at_false(rt, d, first, second, values);
-    }
-    let opposite = (!values.0, !values.1, !values.2);
-    let f = false_at_false(rt, d, first, second, opposite);
-    inverted(rt, d, f)
-}
-
-/// The diagram that is true where whether one of the rows matches two columns is `on`.
-fn by_two_columns<R, D: Diagrams<R>>(
-    rt: &R,
-    d: &mut D,
-    first: &D::Ref,
-    second: &D::Ref,
-    rows: &[&[u8]],
-    on: bool,
-) -> Result<D::Ref, Stop>
-    requires first { IsHeld (D.holding d.old) (D.entry first.now) }
-    requires second { IsHeld (D.holding d.old) (D.entry second.now) }
-    ensures { Makes D.entry (D.holding d.old) (D.holding d.new) result (λ a. agrees on (some_match (map (λ r. r.now) rows.now) (says (D.entry first.now) a ∷ says (D.entry second.now) a ∷ []))) }
-{
-    let neither = agrees(on, some_match(rows, &[false, false]));
-    let one = agrees(on, some_match(rows, &[false, true]));
-    let other = agrees(on, some_match(rows, &[true, false]));
-    let both = agrees(on, some_match(rows, &[true, true]));
-    two_columns(rt, d, first, second, neither, (one, other, both))
-}
-
 /// The diagram that is true where whether one of the rows matches the columns is `on`. It goes by Shannon's
-/// expansion over the columns, of which there are few.
+/// expansion over the columns, of which there are few, and by a table where a table has room for those that are left.
 fn by_columns<R, D: Diagrams<R>>(
     alloc: Global,
     rt: &R,
@@ -106,8 +35,10 @@ fn by_columns<R, D: Diagrams<R>>(
     if has_free_row(rows) {
         return d.constant(on);
     }
-    if let [second] = others {
-        return by_two_columns(rt, d, column, second, rows, on);
+    if columns.len() <= MOST_COLUMNS {
+        let matched = matching_table(rows, columns.len());
+        let table = if on { matched } else { !matched };
+        return by_table(rt, d, columns, table, [true; MOST_COLUMNS]);
     }
     let Ok(both) = cofactors(alloc, rows) else {
         return Err(Stop::Memory);
@@ -200,6 +131,10 @@ pub fn cover_diagram<R, D: Diagrams<R>>(
     requires { AreHeld D.entry (D.holding d.old) columns.now }
     ensures { Makes D.entry (D.holding d.old) (D.holding d.new) result (λ a. cover_value rows.now (said D.entry columns.now a)) }
 {
+    if columns.len() <= MOST_COLUMNS {
+        let table = cover_table(rows, columns.len());
+        return by_table(rt, d, columns, table, [true; MOST_COLUMNS]);
+    }
     if rows.is_empty() {
         return d.constant(false);
     }

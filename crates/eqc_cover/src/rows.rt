@@ -20,17 +20,6 @@ const VISITS: usize = 96;
 /// Where the bound that is quickly found is at most so many for each place, they aren't counted.
 const BOUND: usize = 160;
 
-pub(crate) fn some_match(rows: &[&[u8]], values: &[bool]) -> bool
-    ensures { result ≡ some_match (map (λ r. r.now) rows.now) values.now }
-{
-    for row in rows {
-        if row_matches(row, values) {
-            return true;
-        }
-    }
-    false
-}
-
 /// A row without its first column, where that allows the value.
 fn without_first<'a>(row: &'a [u8], value: bool) -> Option<&'a [u8]>
     ensures { option_to_list (option_copied result) ≡ cofactor value (row.now ∷ []) }
@@ -179,7 +168,8 @@ fn distinct<'a>(
 }
 
 /// What is left of a budget after an expansion of the rows over so many columns, which visits each row of each
-/// cofactor once, or none where the budget doesn't suffice. Fails where memory is refused.
+/// cofactor once, or none where the budget doesn't suffice. It is counted down to two columns: a table, by which the last
+/// ones go, takes less. Fails where memory is refused.
 fn left_after(
     alloc: Global,
     rows: &[&[u8]],

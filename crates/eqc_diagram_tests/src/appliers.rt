@@ -5,9 +5,8 @@ ghost use Rattle.std.specs.Prelude.{◌≡◌, ◌<◌, ◌+◌, ℕ, OnErr, IfO
 ghost use Rattle.eqc_tree.specs.Holding.{Entry, IsHeld, IsNew, Keeps, copies, weight};
 ghost use Rattle.std.specs.List.{All};
 
-use crate::builders::members;
 use crate::ends::same;
-use eqc_apply::Applier;
+use eqc_apply::{Applier, team};
 use eqc_tree::{Diagrams, Op, References, Stop};
 use std::process::Abort;
 use std::thread::join_mut;
@@ -116,6 +115,16 @@ fn builds_one<R, D: Diagrams<R>>(rt: &R, d: &mut D) -> Result<bool, Stop>
     Ok(alike)
 }
 
+/// Two new members of a team, which have three variables.
+fn two_members(rt: &(impl Abort + AllocGlobal)) -> Vec<Applier>
+    ensures { All (λ a. IsNew 3 (⟦<Applier as References>⟧.holding a)) result.items }
+{
+    match team(rt.alloc(), 3, 100, 64, 2, 0) {
+        Ok(members) => members,
+        Err(_) => panic!(rt; "there is no memory"),
+    }
+}
+
 /// The last of these members, which are new and have three variables.
 fn last(rt: &impl Abort, members: &mut Vec<Applier>) -> Applier
     requires { All (λ a. IsNew 3 (⟦<Applier as References>⟧.holding a)) members.old.items }
@@ -130,7 +139,7 @@ fn last(rt: &impl Abort, members: &mut Vec<Applier>) -> Applier
 
 #[test]
 fn two_members_build_at_once(rt: HostRuntime) {
-    let mut members = members(&rt, 3, 100, 64, 2, 0);
+    let mut members = two_members(&rt);
     let mut second = last(&rt, &mut members);
     let mut first = last(&rt, &mut members);
     let (one, other) = join_mut(

@@ -1,22 +1,12 @@
-//! The tests of diagrams, on one thread and by members of a team.
+//! The tests of diagrams, on one thread, and by appliers of one forest in threads of their own.
 //!
-//! - `diagrams`, of `eqc_plain`; `appliers`, `teams`, `arenas`, `forks` and `allowances`, of `eqc_apply`
-//! - `builders`, what makes a member's calls; `ends`, what ends a test
+//! - `diagrams`, of `eqc_plain`; `appliers`, of `eqc_apply`
+//! - `ends`, what ends a test
 #![tactic(auto)]
 
 #[cfg(test)]
-mod allowances;
-#[cfg(test)]
 mod appliers;
-#[cfg(test)]
-mod arenas;
-#[cfg(test)]
-mod builders;
 #[cfg(test)]
 mod diagrams;
 #[cfg(test)]
 mod ends;
-#[cfg(test)]
-mod forks;
-#[cfg(test)]
-mod teams;

@@ -12,9 +12,9 @@ use Rattle.eqc_graph.specs.Graph.{literal_value, IsWithin, Extends, differ}
 use Rattle.eqc_graph.proofs.GraphLemmas.{extends_itself, extends_along}
 use Rattle.eqc_sweep.specs.Sweeping.{HasValue}
 use Rattle.eqc_gates.specs.Literals.{AreWithin, AreAskedFor}
-use Rattle.eqc_gates.specs.Table.{table_value, IsCofactor, DependsOnOpen}
-use Rattle.eqc_gates.proofs.TableLaws.{table-zero, table-ones, table-not, expansion, none_open}
-use Rattle.eqc_gates.proofs.RowLaws.{some_matches, matches_more, matches_whole, one_ends}
+use Rattle.eqc_cover.specs.Table.{table_value, IsCofactor, DependsOnOpen}
+use Rattle.eqc_cover.proofs.TableLaws.{table-zero, table-ones, table-not, expansion, none_open}
+use Rattle.eqc_cover.proofs.RowTableLaws.{some_matches, matches_more, matches_whole, one_ends}
 
 -- ---- one literal
 

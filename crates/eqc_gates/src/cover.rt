@@ -8,8 +8,8 @@ ghost use Rattle.eqc_gates.specs.Literals.{AreWithin, AreAskedFor};
 
 use crate::expansion::table_literal;
 use crate::gate::all_of;
-use crate::table::{MOST_COLUMNS, cover_table};
 use eqc_blif::{Rows, is_on_set};
+use eqc_cover::table::{MOST_COLUMNS, cover_table};
 use eqc_graph::negated;
 use eqc_sweep::Sweep;
 use std::alloc::{AllocError, Global};

@@ -5,8 +5,7 @@
 //! - `steps`, the literals of steps in their order; `marks`, which steps are needed. What they say of a pair stands in
 //!   `specs/Entering.antt`
 //! - `cover`, the literal of a cover, by its table or by its rows; lists of literals stand in `specs/Literals.antt`
-//! - `table`, the truth table of a cover of few columns, with `specs/Table.antt`: what a table says
-//! - `expansion`, the literal of a table; `gate`, literals made of literals: or, multiplexer, conjunction
+//! - `expansion`, the literal of a table of `eqc_cover`; `gate`, literals made of literals: or, multiplexer, conjunction
 #![tactic(auto)]
 
 mod cover;
@@ -14,7 +13,6 @@ mod expansion;
 mod gate;
 mod marks;
 mod steps;
-mod table;
 
 pub use cover::cover_literal;
 pub use marks::needed;

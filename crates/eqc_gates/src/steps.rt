@@ -63,15 +63,17 @@ fn step_literal(
 /// variables, and older literals of the graph keep theirs.
 ///
 /// `marks` has a mark for each step; what a marked step uses is marked, as after `needed`. What enters the graph is in
-/// proportion to the covers' text, for each instance of a model anew. Fails where memory is refused, or where the graph
-/// has no room for more nodes.
-pub fn literals(
+/// proportion to the covers' text, for each instance of a model anew. `told` is told of each step before it is looked at, in
+/// their order, whether it is marked or not. Fails where memory is refused, or where the graph has no room for more nodes.
+pub fn literals<F: Fn(u32)>(
     alloc: Global,
     steps: &Steps<'_>,
     marks: &[bool],
     sweep: &mut Sweep,
+    told: &F,
 ) -> Result<Vec<Option<u32>>, AllocError>
-    requires { AreClosed steps.now marks.now }
+    requires closed { AreClosed steps.now marks.now }
+    requires told { F.IsAlwaysCallable told.now }
     ensures size { IfOk result (λ table. length table.items ≡ steps_in steps.now.pair) }
     ensures literals { IfOk result (λ table. AreLiterals steps.now.pair sweep.new table.items) }
     ensures entered { IfOk result (λ table. AreEntered marks.now table.items) }
@@ -80,6 +82,7 @@ pub fn literals(
     let count = steps.len();
     let mut table = Vec::with_capacity(alloc, count as usize)?;
     for step in 0..count {
+        told(step);
         if !marks[step as usize] {
             table.push(None)?;
             continue;

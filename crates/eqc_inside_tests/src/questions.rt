@@ -184,6 +184,39 @@ fn a_search_takes_what_it_spends_from_its_budget(rt: HostRuntime) {
     same(&rt, found, true, "the parities");
 }
 
+/// What one search answers of the parities anew, again, and where they agree, with the conflicts of the first two answers.
+fn answers_again(
+    graph: &Graph,
+    search: &mut Search,
+) -> Result<([Answer; 3], [u64; 2]), AllocError> {
+    let mut first = MUCH;
+    let mut second = MUCH;
+    let mut third = MUCH;
+    let answers = [
+        search.ask(graph, &[FORTH, 39], &mut first)?,
+        search.ask_again(graph, &[FORTH, 39], &mut second)?,
+        search.ask_again(graph, &[FORTH, BACK], &mut third)?,
+    ];
+    let conflicts = [
+        MUCH.conflicts.saturating_sub(first.conflicts),
+        MUCH.conflicts.saturating_sub(second.conflicts),
+    ];
+    Ok((answers, conflicts))
+}
+
+#[test]
+fn what_was_learned_helps_with_the_next_question(rt: HostRuntime) -> Result<(), AllocError> {
+    let graph = graph_of(&rt, PARITIES)?;
+    let mut search = Search::new(rt.alloc());
+    let (answers, conflicts) = answers_again(&graph, &mut search)?;
+    let wanted = [Answer::Refuted, Answer::Refuted, Answer::Satisfied];
+    same(&rt, answers, wanted, "anew, again, and where they agree");
+    same(&rt, conflicts[1] < conflicts[0], true, "fewer conflicts");
+    let right = are_true(rt.alloc(), &graph, &[FORTH, BACK], search.model())?;
+    same(&rt, right, true, "the assignment");
+    Ok(())
+}
+
 /// The values of the first two variables in what a search finds where not both may be true, and a decision on each begins with
 /// this value.
 fn preferred(
@@ -193,10 +226,8 @@ fn preferred(
     y: bool,
 ) -> Result<(bool, bool), AllocError> {
     let mut budget = MUCH;
-    // A search knows no node of a graph that it has not met.
-    search.ask(graph, &[], &mut budget)?;
-    search.prefer(1, x);
-    search.prefer(2, y);
+    search.prefer(1, x)?;
+    search.prefer(2, y)?;
     search.ask(graph, &[13], &mut budget)?;
     let mut found = (false, false);
     for (node, value) in search.model() {

@@ -35,6 +35,17 @@ grows_refl ws = ([], append-nil ws)
 pub grows_trans : (a b c : List ℕ) → Grows a b → Grows b c → Grows a c
 grows_trans a b c p q = (p.0 ++ q.0, sym (append_assoc a p.0 q.0) ∙ (ap (λ l. l ++ q.0) p.1 ∙ q.1))
 
+-- lists with one more number each are equal where these are
+pub snoc_same : (xs ys : List ℕ) (a b : ℕ) → xs ++ a ∷ [] ≡ ys ++ b ∷ [] → xs ≡ ys
+snoc_same [] [] a b e = refl
+snoc_same [] (y ∷ ys) a b e = let l = length-append ys (b ∷ []) in absurd (omega (arith, ap length e))
+snoc_same (x ∷ xs) [] a b e = let l = length-append xs (a ∷ []) in absurd (omega (arith, ap length e))
+snoc_same (x ∷ xs) (y ∷ ys) a b e =
+    let head : x ≡ y = cc in
+    let tail : xs ++ a ∷ [] ≡ ys ++ b ∷ [] = cc in
+    let same = snoc_same xs ys a b tail in
+    cc
+
 word_old : (ws : List ℕ) (w k : ℕ) → k < length ws → get_or (ws ++ w ∷ []) k 0 ≡ get_or ws k 0
 word_old ws w k h = get_or_append_left ws (w ∷ []) 0 k h
 

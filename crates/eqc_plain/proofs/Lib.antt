@@ -11,3 +11,5 @@ pub mod Extending
 pub mod Deciding
 pub mod Searching
 pub mod Choosing
+pub mod Slots
+pub mod Copying

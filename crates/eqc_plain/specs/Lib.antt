@@ -10,3 +10,4 @@ pub mod Cache
 pub mod Tasks
 pub mod Standing
 pub mod Searching
+pub mod Copying

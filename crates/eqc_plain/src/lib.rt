@@ -9,11 +9,12 @@
 //!   words that finds a word
 //! - `apply`, the loop; `task`, its stack; `terminal`, what needs no nodes; `cache`; `turns`, how long the loop may go on. The
 //!   last four know no store, and are public for other diagrams' loops
-//! - `least`, the least assignment; `search`, what it keeps
+//! - `least`, the least assignment; `search`, what it keeps; `diagram`, the copy of one function's nodes that is searched
 #![tactic(auto)]
 
 mod apply;
 pub mod cache;
+mod diagram;
 mod least;
 mod plain;
 mod reference;

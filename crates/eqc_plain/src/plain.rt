@@ -206,7 +206,8 @@ impl<R> Diagrams<R> for Plain {
         either
     }
 
-    /// Found by a search that makes no node, and stops for want of memory alone.
+    /// Found by a search on a copy of the function's diagram, however many other nodes there are. It makes no node, and stops
+    /// for want of memory alone.
     fn least(
         &mut self,
         _rt: &R,
@@ -225,7 +226,8 @@ impl<R> Diagrams<R> for Plain {
         ensures kept { Keeps (holding_in self.old.store) (holding_in self.new.store) }
         ensures only { IfErr result (λ s. s ≡ Stop.Memory) }
     {
-        match self.store.least(alloc, variables, f.node as usize) {
+        let diagram = self.store.diagram(alloc, f.node as usize)?;
+        match diagram.store.least(alloc, variables, diagram.top) {
             Ok(values) => Ok(Some(values)),
             Err(_) => Err(Stop::Memory),
         }

@@ -64,18 +64,20 @@ impl Store {
             return Ok(low);
         }
         let word = pack_node(variable, low, high);
-        if let Some(slot) = self.nodes.find(word) {
+        if self.nodes.len() == self.limit as usize {
+            return match self.nodes.find(word) {
+                Some(slot) => Ok(slot as u32 + 2),
+                None => Err(Stop::NodeLimit),
+            };
+        }
+        let Ok(slot) = self.nodes.find_or_add(word) else {
+            return Err(Stop::Memory);
+        };
+        if slot + 2 < self.counts.len() {
             return Ok(slot as u32 + 2);
         }
-        let slot = self.nodes.len();
-        if slot == self.limit as usize {
-            return Err(Stop::NodeLimit);
-        }
         if self.counts.push(0).is_err() {
-            return Err(Stop::Memory);
-        }
-        if self.nodes.push(word).is_err() {
-            self.counts.pop();
+            self.nodes.pop();
             return Err(Stop::Memory);
         }
         Ok(slot as u32 + 2)

@@ -1,5 +1,6 @@
 //! The unique table: the word of each node, which stands in one slot only and is found by slot or by word.
-ghost use Rattle.std.specs.Prelude.{◌≡◌, ◌≢◌, ℕ, ◌<◌, [], ◌∷◌, ◌++◌, length, slice_index, IfSome, IfNone, OnOk, OnErr};
+ghost use Rattle.std.specs.Prelude.{◌≡◌, ◌≢◌, ℕ, ◌<◌, [], ◌∷◌, ◌++◌, length, slice_index, IfSome, IfNone, IfOk, IfErr, OnErr};
+ghost use Rattle.eqc_plain.specs.Store.{IsSlotOf};
 
 use indexmap::IndexSet;
 use std::alloc::{AllocError, Global};
@@ -50,15 +51,23 @@ impl UniqueTable {
         self.words.get_index_of(&word)
     }
 
-    /// Puts a new word into the next slot.
-    pub fn push(&mut self, word: u64) -> Result<(), AllocError>
-        requires { (k : ℕ) → k < length self.old → slice_index self.old k ≢ word }
-        ensures ok { OnOk result (self.new ≡ self.old ++ word ∷ []) }
-        ensures err { OnErr result (self.new ≡ self.old) }
+    /// The slot of a word, which comes into the next one where no slot has it. It is looked for once.
+    pub fn find_or_add(&mut self, word: u64) -> Result<usize, AllocError>
+        ensures slot { IfOk result (IsSlotOf word self.old self.new) }
+        ensures still { OnErr result (self.new ≡ self.old) }
+        ensures absent { IfErr result (λ _. (k : ℕ) → k < length self.old → slice_index self.old k ≢ word) }
     {
-        match self.words.insert_full(word) {
-            Ok(_) => Ok(()),
-            Err(_) => Err(AllocError),
-        }
+        let Ok((slot, _)) = self.words.insert_full(word) else {
+            return Err(AllocError);
+        };
+        Ok(slot)
+    }
+
+    /// Takes the last word back.
+    pub fn pop(&mut self)
+        requires { 0 < length self.old }
+        ensures { (word : ℕ) × (self.old ≡ self.new ++ word ∷ []) }
+    {
+        self.words.pop();
     }
 }

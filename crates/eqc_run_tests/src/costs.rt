@@ -2,7 +2,8 @@
 //! what they cost is measured by scripts.
 
 use crate::ends::same;
-use crate::running::{TWO, reports_on};
+use crate::running::{TWO, options, reports_by, reports_on};
+use eqc_check::Options;
 use eqc_testing::{doubling, input_names};
 use std::alloc::{AllocError, Global};
 
@@ -106,6 +107,61 @@ fn the_least_assignment_of_many_inputs_needs_few_nodes(rt: HostRuntime) -> Resul
     let text = last_of_many(alloc)?;
     let report = difference_of_last(alloc)?;
     let found = reports_on(&rt, &text, (2, 5_000, 8_192, 0), &report);
+    same(&rt, found, true, "the report");
+    Ok(())
+}
+
+/// The eight bits of a number, the highest first.
+fn bits_of(alloc: Global, number: u32) -> Result<String, AllocError> {
+    let mut bits = String::with_capacity(alloc, 8)?;
+    for place in 0..8u32 {
+        let is_set = number & 128u32.wrapping_shr(place) != 0;
+        bits.push_str(if is_set { "1" } else { "0" })?;
+    }
+    Ok(bits)
+}
+
+/// Two models of eight inputs and 256 outputs, each true under one assignment in the first and never in the second.
+fn ones_and_none(alloc: Global) -> Result<String, AllocError> {
+    let inputs = input_names(alloc, 8)?;
+    let mut outputs = String::new(alloc);
+    let mut ones = String::new(alloc);
+    let mut none = String::new(alloc);
+    for k in 0..256 {
+        let bits = bits_of(alloc, k)?;
+        outputs.push_str(&format!(in alloc; " z{k}")?)?;
+        ones.push_str(&format!(in alloc; ".names{inputs} z{k};{bits} 1;")?)?;
+        none.push_str(&format!(in alloc; ".names z{k};")?)?;
+    }
+    format!(in alloc;
+        ".model f;.inputs{inputs};.outputs{outputs};{ones}.end;.model g;.inputs{inputs};.outputs{outputs};{none}.end;"
+    )
+}
+
+/// The report that each differs, under its assignment.
+fn each_differs(alloc: Global) -> Result<String, AllocError> {
+    let mut report = String::new(alloc);
+    for k in 0..256u32 {
+        report.push_str(&format!(in alloc; "differs at z{k};")?)?;
+        for place in 0..8u32 {
+            let value = u8::from(k & 128u32.wrapping_shr(place) != 0);
+            report.push_str(&format!(in alloc; "i{place}={value};")?)?;
+        }
+        report.push_str("first=1;second=0;")?;
+    }
+    Ok(report)
+}
+
+#[test]
+fn all_of_many_differences_are_told(rt: HostRuntime) -> Result<(), AllocError> {
+    let alloc = rt.alloc();
+    let text = ones_and_none(alloc)?;
+    let report = each_differs(alloc)?;
+    let every = Options {
+        every: true,
+        ..options(TWO)
+    };
+    let found = reports_by(&rt, &text, &every, &report);
     same(&rt, found, true, "the report");
     Ok(())
 }

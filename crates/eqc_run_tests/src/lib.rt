@@ -4,6 +4,7 @@
 //! - `assumptions`, runs in which not every assignment counts, each difference is wanted or outputs are chosen
 //! - `runs`, options, readers and writers; `reports`, their bytes; `messages`, what stops and faults say
 //! - `compared_hierarchies`, `structures` and `inside`, what is reported of netlists; `costs`, of texts that would like to be dear
+//! - `watching`, what a run tells of how far it is
 //! - `beginnings`, texts that are cut off; `failing_streams`, readers and writers that fail; `large_netlists`, very many models and signals
 #![tactic(auto)]
 
@@ -33,3 +34,5 @@ mod running;
 mod runs;
 #[cfg(test)]
 mod structures;
+#[cfg(test)]
+mod watching;

@@ -1,7 +1,8 @@
 //! Reports as bytes, and writers that fail under them.
 
 use eqc_blif::Name;
-use eqc_check::{Difference, Refused, Report, RunFault, Side, write_report};
+use eqc_check::{Difference, Differences, Refused, Report, RunFault, Side, write_report};
+use eqc_report::write_or_stop;
 use eqc_testing::{Drain, NEVER, is_text};
 use eqc_tree::Stop;
 use std::alloc::{AllocError, Global};
@@ -30,27 +31,26 @@ fn a_failed_write_leaves_a_prefix(rt: HostRuntime) {
     }
 }
 
-/// An output that differs, with inputs `a` and `b`.
+/// An output that differs under 0 and 1.
 fn difference(alloc: Global, name: &[u8], first: bool) -> Result<Difference, AllocError> {
-    let a = Name::new(alloc, b"a")?;
-    let b = Name::new(alloc, b"b")?;
-    let inputs = vec![in alloc; (a, false), (b, true)]?;
     Ok(Difference {
         name: Name::new(alloc, name)?,
-        inputs,
+        values: vec![in alloc; false, true]?,
         first,
-        second: !first,
     })
 }
 
-/// A report on one output that differs, or on two.
+/// A report on one output that differs, or on two, with inputs `a` and `b`.
 fn differs(alloc: Global, is_two: bool) -> Result<Report, AllocError> {
-    let mut all = Vec::new(alloc);
-    all.push(difference(alloc, b"y", true)?)?;
+    let a = Name::new(alloc, b"a")?;
+    let b = Name::new(alloc, b"b")?;
+    let inputs = vec![in alloc; a, b]?;
+    let mut each = Vec::new(alloc);
+    each.push(difference(alloc, b"y", true)?)?;
     if is_two {
-        all.push(difference(alloc, b"z", false)?)?;
+        each.push(difference(alloc, b"z", false)?)?;
     }
-    Ok(Report::Differs(all))
+    Ok(Report::Differs(Differences { inputs, each }))
 }
 
 #[test]
@@ -77,6 +77,10 @@ fn reports_have_their_bytes(rt: HostRuntime) {
     for (report, text) in &rows {
         let mut written = Vec::new(alloc);
         assert_eq!(rt; write_report(alloc, report, &mut written), Ok(()));
+        assert!(rt; is_text(&written, text), "{text}");
+        written.clear();
+        let kind = write_or_stop(alloc, report, &mut written).ok();
+        assert_eq!(rt; kind, Some(report.status()));
         assert!(rt; is_text(&written, text), "{text}");
     }
 }

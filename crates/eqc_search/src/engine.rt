@@ -9,12 +9,17 @@ use crate::window::Window;
 use eqc_graph::{Graph, Node, node_of};
 use std::alloc::{AllocError, Global};
 
-/// So many gates are in the first window, and so many times more in each further one.
-const FIRST_WINDOW: u32 = 200;
+/// So many gates are in the first window, and so many times more in each further one. To lay out a window takes as long as
+/// most refutations, so the first one is small.
+const FIRST_WINDOW: u32 = 20;
 
-const WINDOW_GROWTH: u32 = 4;
+const WINDOW_GROWTH: u32 = 8;
 
-/// All that a search keeps of a question, and of earlier ones to begin with.
+/// To take a gate into the window takes as long as so many visits.
+const TAKEN_IN: u64 = 4;
+
+/// All that a search keeps of a question, and of earlier ones to begin with. Where they are about one graph, the window and
+/// the learned clauses stay too.
 #[derive(Drop)]
 pub(crate) struct Engine {
     pub(crate) values: Values,
@@ -70,7 +75,7 @@ impl Engine {
         self.aim = most;
         self.window.expand(graph, most)?;
         let more = self.window.gates().saturating_sub(before);
-        self.visits = self.visits.wrapping_add(u64::from(more));
+        self.visits = self.visits.wrapping_add(u64::from(more) * TAKEN_IN);
         Ok(())
     }
 
@@ -81,11 +86,11 @@ impl Engine {
         assumptions: &[u32],
     ) -> Result<Option<u32>, AllocError> {
         self.grow(graph)?;
-        self.restarts = Restarts::new();
+        self.restarts = self.restarts.again();
         for literal in assumptions {
             self.window.enter(graph, node_of(*literal))?;
         }
-        self.expand(graph, FIRST_WINDOW)?;
+        self.expand(graph, self.aim)?;
         for literal in assumptions {
             match self.values.value(*literal) {
                 Value::True => {}
@@ -96,13 +101,19 @@ impl Engine {
         Ok(None)
     }
 
+    /// Takes back the last value. The next decision on its node, which is given, begins with it.
+    fn take_back(&mut self) -> u32 {
+        let literal = self.values.take_back();
+        let node = node_of(literal);
+        self.decisions
+            .set_phase(node, literal == literal_of(node, true));
+        node
+    }
+
     /// Takes back all values of higher levels.
     pub(crate) fn back_to(&mut self, level: u32) {
         for _ in self.values.start_above(level)..self.values.len() {
-            let literal = self.values.take_back();
-            let node = node_of(literal);
-            self.decisions
-                .set_phase(node, literal == literal_of(node, true));
+            let node = self.take_back();
             self.decisions.insert(node, self.window.height(node));
         }
         self.values.end_above(level);
@@ -169,17 +180,25 @@ impl Engine {
         Ok(())
     }
 
-    /// Forgets the question.
+    /// Takes back all values of a question.
     pub(crate) fn finish(&mut self) {
-        self.back_to(0);
+        for _ in self.values.start_above(0)..self.values.len() {
+            self.take_back();
+        }
         for _ in 0..self.values.len() {
             self.values.take_back();
         }
         self.values.end_above(0);
         self.values.propagate_anew();
         self.decisions.clear();
-        self.learned.clear();
         self.analysis.clear();
+    }
+
+    /// Forgets the window, and what was learned, since the next question is about another graph.
+    pub(crate) fn forget(&mut self) {
+        self.learned.clear();
+        self.restarts = Restarts::new();
         self.window.clear();
+        self.aim = FIRST_WINDOW;
     }
 }

@@ -1,4 +1,4 @@
-//! The learned clauses of a question, as the search reads them, and the two literals of each that are watched.
+//! The learned clauses, as the search reads them, and the two literals of each that are watched.
 use crate::reads::{NONE, lengthen, number, read, write};
 use crate::values::{Reason, Value, Values};
 use std::alloc::{AllocError, Global};
@@ -98,6 +98,12 @@ impl Learned {
     pub(crate) fn bounds(&self, place: u32) -> (u32, u32) {
         let clause = read(&self.clauses, place, NO_CLAUSE);
         (clause.begin, clause.end)
+    }
+
+    /// The literal of a clause that has no other.
+    pub(crate) fn unit(&self, place: u32) -> Option<u32> {
+        let (begin, end) = self.bounds(place);
+        (end.saturating_sub(begin) == 1).then_some(self.literal(begin))
     }
 
     #[inline(always)]

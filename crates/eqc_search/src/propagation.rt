@@ -36,6 +36,19 @@ impl Engine {
         None
     }
 
+    /// Makes true what learned clauses of one literal say. Gives one that is false, if there is one.
+    pub(crate) fn assert_units(&mut self) -> Option<Reason> {
+        for place in 0..self.learned.len() {
+            if let Some(literal) = self.learned.unit(place) {
+                let conflict = self.imply(literal, Reason::Learned(place));
+                if conflict.is_some() {
+                    return conflict;
+                }
+            }
+        }
+        None
+    }
+
     /// Makes true what follows from one literal.
     fn propagate_literal(&mut self, graph: &Graph, literal: u32) -> Option<Reason> {
         let node = node_of(literal);

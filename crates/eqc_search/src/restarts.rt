@@ -30,6 +30,14 @@ impl Restarts {
         }
     }
 
+    /// The account of a question that comes after others, whose clauses may stay.
+    pub(crate) fn again(self) -> Restarts {
+        Restarts {
+            limit: self.limit,
+            ..Restarts::new()
+        }
+    }
+
     pub(crate) fn count_conflict(&mut self) {
         self.conflicts = self.conflicts.saturating_add(1);
     }

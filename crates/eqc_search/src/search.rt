@@ -1,5 +1,6 @@
 //! The question whether assumptions can be true together.
-ghost use Rattle.std.specs.Prelude.{◌≡◌, IfOk, IsTrue};
+ghost use Rattle.std.specs.Prelude.{◌≡◌, IfOk, IsTrue, List};
+ghost use Rattle.eqc_graph.specs.declared.node.Node.{Node};
 ghost use Rattle.eqc_clause.specs.Clauses.{IsSound, IsRefuted};
 
 use crate::contradiction::contradict;
@@ -8,6 +9,7 @@ use crate::values::Reason;
 use eqc_clause::{Clauses, Marks};
 use eqc_graph::Graph;
 use std::alloc::{AllocError, Global};
+use std::marker::Model;
 
 /// What a search found.
 #[derive(Clone, Copy, PartialEq, Eq, Debug)]
@@ -42,7 +44,7 @@ pub struct Budget {
     pub visits: u64,
 }
 
-/// A search, with the memory that it needs for graphs of the largest size that it met.
+/// A search, with the memory that it needs for graphs of the largest size that it met. Contracts see the clauses that it learned.
 #[derive(Drop)]
 pub struct Search {
     engine: Engine,
@@ -51,9 +53,19 @@ pub struct Search {
     model: Vec<(u32, bool)>,
 }
 
+impl Model for Search {
+    ghost use Rattle.std.specs.Prelude.{ℕ, List};
+
+    ghost Value = { List (List ℕ) };
+
+    ghost view = { λ s. s.store };
+}
+
 impl Search {
     /// A search that has met no graph.
-    pub fn new(alloc: Global) -> Search {
+    pub fn new(alloc: Global) -> Search
+        ensures { (nodes : List Node) → IsSound nodes result }
+    {
         Search {
             engine: Engine::new(alloc),
             store: Clauses::new(alloc),
@@ -68,9 +80,10 @@ impl Search {
         self.model.as_slice()
     }
 
-    /// Lets a decision on a node begin with this value, until the search has given it another one.
-    pub fn prefer(&mut self, node: u32, value: bool) {
-        self.engine.decisions.set_phase(node, value);
+    /// Lets a decision on a node begin with this value, until the search has given it another one. The node may be one
+    /// that comes next in a graph. Fails where memory is refused.
+    pub fn prefer(&mut self, node: u32, value: bool) -> Result<(), AllocError> {
+        self.engine.decisions.set_first_phase(node, value)
     }
 
     /// Answers whether the assumptions, literals of the graph, can be true together, unless the budget is used up
@@ -81,10 +94,27 @@ impl Search {
         assumptions: &[u32],
         budget: &mut Budget,
     ) -> Result<Answer, AllocError>
-        ensures { IfOk result (λ answer. answer ≡ Answer.Refuted → IsRefuted graph.now assumptions.now) }
+        ensures answer { IfOk result (λ answer. answer ≡ Answer.Refuted → IsRefuted graph.now assumptions.now) }
+        ensures sound { IsSound graph.now self.new }
+    {
+        self.store.clear();
+        self.engine.forget();
+        self.ask_again(graph, assumptions, budget)
+    }
+
+    /// Answers the same, with what was learned from earlier questions about the graph. So many questions that are like one
+    /// another cost less together. Fails where memory is refused.
+    pub fn ask_again(
+        &mut self,
+        graph: &Graph,
+        assumptions: &[u32],
+        budget: &mut Budget,
+    ) -> Result<Answer, AllocError>
+        requires { IsSound graph.now self.old }
+        ensures answer { IfOk result (λ answer. answer ≡ Answer.Refuted → IsRefuted graph.now assumptions.now) }
+        ensures sound { IsSound graph.now self.new }
     {
         self.model.clear();
-        self.store.clear();
         let answer = self.run(graph, assumptions, budget);
         self.engine.charge(&mut budget.visits);
         self.engine.finish();
@@ -98,12 +128,17 @@ impl Search {
         assumptions: &[u32],
         budget: &mut Budget,
     ) -> Result<Answer, AllocError>
-        requires { IsSound graph.now self.old.store }
-        ensures { IfOk result (λ answer. answer ≡ Answer.Refuted → IsRefuted graph.now assumptions.now) }
+        requires { IsSound graph.now self.old }
+        ensures answer { IfOk result (λ answer. answer ≡ Answer.Refuted → IsRefuted graph.now assumptions.now) }
+        ensures sound { IsSound graph.now self.new }
     {
         if let Some(l) = self.engine.begin(graph, assumptions)? {
             let is_shown = contradict(graph, assumptions, l);
             return Ok(Answer::refuted_where(is_shown));
+        }
+        if let Some(conflict) = self.engine.assert_units() {
+            self.engine.explain(graph, conflict)?;
+            return self.close(graph, assumptions);
         }
         'rounds: for _ in 0..u32::MAX {
             match self.engine.propagate(graph) {
@@ -133,8 +168,8 @@ impl Search {
 
     /// Learns from a conflict, and goes on from there. Says whether the hints showed the clause.
     fn learn(&mut self, graph: &Graph, conflict: Reason) -> Result<bool, AllocError>
-        requires { IsSound graph.now self.old.store }
-        ensures { IsSound graph.now self.new.store }
+        requires { IsSound graph.now self.old }
+        ensures { IsSound graph.now self.new }
     {
         let (level, glue) = self.engine.analyze(graph, conflict)?;
         let analysis = &self.engine.analysis;
@@ -154,8 +189,8 @@ impl Search {
 
     /// Goes on where there is no conflict. Says whether there was something to do; if not, the model is read.
     fn go_on(&mut self, graph: &Graph) -> Result<bool, AllocError>
-        requires { IsSound graph.now self.old.store }
-        ensures { IsSound graph.now self.new.store }
+        requires { IsSound graph.now self.old }
+        ensures { IsSound graph.now self.new }
     {
         if !self.engine.go_on(graph)? {
             self.engine.read_model(graph, &mut self.model)?;
@@ -172,8 +207,9 @@ impl Search {
 
     /// Lets the store confirm that the assumptions can't be true together.
     fn close(&mut self, graph: &Graph, assumptions: &[u32]) -> Result<Answer, AllocError>
-        requires { IsSound graph.now self.old.store }
-        ensures { IfOk result (λ answer. answer ≡ Answer.Refuted → IsRefuted graph.now assumptions.now) }
+        requires { IsSound graph.now self.old }
+        ensures answer { IfOk result (λ answer. answer ≡ Answer.Refuted → IsRefuted graph.now assumptions.now) }
+        ensures sound { IsSound graph.now self.new }
     {
         let hints = self.engine.analysis.hints.as_slice();
         let is_shown = self

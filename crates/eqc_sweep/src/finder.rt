@@ -12,7 +12,7 @@ pub(crate) mod random;
 pub(crate) mod words;
 
 use crate::effort::Effort;
-use crate::finder::account::{Account, budget_of};
+use crate::finder::account::{Account, budget_of, conflicts_left};
 use crate::finder::classes::Classes;
 use crate::finder::comparison::Comparison;
 use crate::finder::counterexamples::{Counterexamples, ROOM};
@@ -110,7 +110,7 @@ impl Finder {
     /// Simulates a new node.
     fn enter(&mut self, k: u32, node: Node) -> Result<(), AllocError> {
         self.patterns.push(node)?;
-        self.search.prefer(k, self.patterns.phase(k));
+        self.search.prefer(k, self.patterns.phase(k))?;
         if let Node::Input(variable) = node {
             self.inputs.push((k, variable))?;
         }
@@ -218,7 +218,7 @@ impl Finder {
     }
 
     /// Whether two literals are equal, by simulation and for so many conflicts, of which those are taken away that
-    /// there were.
+    /// there were, or what the visited literals are worth.
     pub(crate) fn compare(
         &mut self,
         graph: &Graph,
@@ -234,9 +234,13 @@ impl Finder {
         if let Some((row, place)) = self.patterns.difference(x, y) {
             return Ok(Comparison::Differs(self.pattern(row, place)?));
         }
-        let mut budget = budget_of(*conflicts);
+        if *conflicts == 0 {
+            return Ok(Comparison::Unknown);
+        }
+        let given = budget_of(*conflicts);
+        let mut budget = given;
         let answer = ask_both(&mut self.search, graph, x, y, &mut budget);
-        *conflicts = budget.conflicts;
+        *conflicts = conflicts_left(given, budget, graph.len());
         match answer? {
             Answer::Refuted => Ok(Comparison::Equal),
             Answer::Satisfied => Ok(Comparison::Differs(self.model(graph)?)),

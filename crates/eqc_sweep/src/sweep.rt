@@ -143,8 +143,9 @@ impl Sweep {
         }
     }
 
-    /// Whether two literals are equal, by simulation and by a search with so many conflicts, of which those are taken
-    /// away that there were. Fails where memory is refused.
+    /// Whether two literals are equal, by simulation and, unless there are none, by a search with so many conflicts. Those
+    /// that there were are taken away, and at least one for each thousand literals that were visited. Fails where memory
+    /// is refused.
     pub fn equal(&mut self, x: u32, y: u32, conflicts: &mut u64) -> Result<Comparison, AllocError>
         requires x { IsWithin self.old x }
         requires y { IsWithin self.old y }

@@ -1,12 +1,15 @@
-//! Readers, writers and a disk: slow ones, and ones that fail.
+//! Readers, writers, a disk and a terminal: slow ones, and ones that fail.
 
 use std::alloc::Allocator;
+use std::fmt::Display;
 use std::fs::{Metadata, OpenFile, OpenOptions};
-use std::io;
 use std::io::{ErrorKind, Read, Seek, SeekFrom, Write};
-use std::rt::Files;
-use std::sync::Wait;
+use std::rt::{Clock, Files};
+use std::sync::atomic::{AtomicU64, Ordering};
+use std::sync::{Mutex, Wait};
 use std::thread::Threads;
+use std::time::Duration;
+use std::{io, thread};
 
 pub const NEVER: usize = usize::MAX;
 
@@ -136,11 +139,91 @@ impl Write for Drain {
     }
 }
 
-/// Files by their names, beside a runtime that has threads. A file whose name ends in `!` fails at its first read.
+/// For how many turns `Terminal::wait` waits.
+const TURNS: u32 = 10_000_000;
+
+/// Keeps what is written to standard error, and has a clock on which the same time goes by from each reading to the next.
+#[derive(Drop)]
+pub struct Terminal {
+    text: Mutex<Vec<u8>>,
+    writes: AtomicU64,
+    readings: AtomicU64,
+    /// The milliseconds from one reading to the next.
+    step: u32,
+}
+
+impl Terminal {
+    /// One that keeps what it gets in this text, and whose clock goes on by so many milliseconds.
+    pub fn new(text: Vec<u8>, step: u32) -> Terminal {
+        Terminal {
+            text: Mutex::new(text),
+            writes: AtomicU64::new(0),
+            readings: AtomicU64::new(0),
+            step,
+        }
+    }
+
+    /// Waits until something is written, or for very long.
+    pub fn wait(&self) {
+        for _ in 0..TURNS {
+            if self.writes.load(Ordering::SeqCst) > 0 {
+                return;
+            }
+            thread::yield_now();
+        }
+    }
+
+    /// What was written.
+    pub fn into_text(self) -> Vec<u8> {
+        self.text.into_inner()
+    }
+
+    fn put<R: Wait, D: Display + Drop>(&self, rt: &R, value: D) -> io::Result<()> {
+        let mut text = self.text.lock(rt);
+        let put = write!(text, "{value}");
+        self.writes.fetch_add(1, Ordering::SeqCst);
+        put
+    }
+
+    fn time(&self) -> Duration {
+        let readings = self.readings.fetch_add(1, Ordering::SeqCst);
+        Duration::from_millis(readings.saturating_mul(u64::from(self.step)))
+    }
+}
+
+/// Files by their names and a terminal, beside a runtime that has threads. A file whose name ends in `!` fails at its first read.
+/// Without a terminal the clock and standard error fail.
 #[derive(Clone, Copy)]
 pub struct Disk<'a, R> {
     pub files: &'a [(&'a str, &'a str)],
     pub rt: &'a R,
+    pub terminal: Option<&'a Terminal>,
+}
+
+impl<'a, R> Clock for Disk<'a, R> {
+    fn monotonic(&self) -> io::Result<Duration> {
+        match self.terminal {
+            Some(terminal) => Ok(terminal.time()),
+            None => Err(unsupported()),
+        }
+    }
+
+    fn since_1970(&self) -> io::Result<Duration> {
+        Err(unsupported())
+    }
+}
+
+impl<'a, R: Wait> Eprint for Disk<'a, R> {
+    fn eprint<D: Display + Drop>(&self, value: D) -> io::Result<()> {
+        match self.terminal {
+            Some(terminal) => terminal.put(self.rt, value),
+            None => Err(unsupported()),
+        }
+    }
+
+    fn eprintln<D: Display + Drop>(&self, _value: D) -> io::Result<()> {
+        Err(unsupported())
+    }
 }
 
 impl<'a, R: Threads> Threads for Disk<'a, R> {}

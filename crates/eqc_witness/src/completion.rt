@@ -1,5 +1,6 @@
 //! An assignment that begins with given values.
 ghost use Rattle.std.specs.Prelude.{◌≡◌, ◌≤◌, length, IfOk};
+ghost use Rattle.eqc_clause.specs.Clauses.{IsSound};
 ghost use Rattle.eqc_witness.specs.Cones.{holds_under};
 ghost use Rattle.eqc_witness.specs.Completing.{IsCompletion};
 
@@ -18,11 +19,29 @@ pub(crate) enum Completion {
     Unknown,
 }
 
-/// What a search may spend, and the memory that it needs.
+/// So many more literals may be visited for each conflict once an assignment was seen: to show that the first positions can't be
+/// false takes many visits, and who asks will be told of a difference.
+const ONCE_SEEN: u64 = 3_000;
+
+/// What a search may spend, and what it learned of the cone.
 #[derive(Drop)]
 pub(crate) struct Means {
     pub(crate) search: Search,
+    /// What it was given in all.
+    pub(crate) given: Budget,
+    /// What is left of that.
     pub(crate) budget: Budget,
+}
+
+impl Means {
+    /// Lets more be visited, since an assignment was seen.
+    pub(crate) fn see(&mut self)
+        ensures { self.new.search ≡ self.old.search }
+    {
+        let more = self.budget.conflicts.saturating_mul(ONCE_SEEN);
+        self.given.visits = self.given.visits.saturating_add(more);
+        self.budget.visits = self.budget.visits.saturating_add(more);
+    }
 }
 
 /// The values of positions in the assignment that a search found. What it leaves open is false.
@@ -72,7 +91,9 @@ pub(crate) fn complete(
 ) -> Result<Completion, AllocError>
     requires first { length first.now ≤ cone.now.positions }
     requires guess { length guess.now ≡ cone.now.positions }
-    ensures { IfOk result (IsCompletion cone.now.positions (holds_under cone.now.graph cone.now.root) first.now) }
+    requires sound { IsSound cone.now.graph means.old.search }
+    ensures sound { IsSound cone.now.graph means.new.search }
+    ensures found { IfOk result (IsCompletion cone.now.positions (holds_under cone.now.graph cone.now.root) first.now) }
 {
     if let Some(values) = cone.confirmed(alloc, first, guess)? {
         return Ok(Completion::Found(values));
@@ -80,7 +101,7 @@ pub(crate) fn complete(
     let assumptions = cone.assumptions(alloc, first)?;
     match means
         .search
-        .ask(&cone.graph, &assumptions, &mut means.budget)?
+        .ask_again(&cone.graph, &assumptions, &mut means.budget)?
     {
         Answer::Refuted => Ok(Completion::Nothing),
         Answer::GaveUp => Ok(Completion::Unknown),

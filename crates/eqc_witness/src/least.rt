@@ -1,6 +1,7 @@
 //! The least assignment under which a literal is true, position by position.
 ghost use Rattle.std.specs.Prelude.{◌≡◌, ◌∷◌, ◌++◌, [], ◌<◌, true, false, length, take, IfOk};
 ghost use Rattle.eqc_graph.specs.Graph.{IsWithin};
+ghost use Rattle.eqc_clause.specs.Clauses.{IsSound};
 ghost use Rattle.eqc_witness.specs.Cones.{holds_under};
 ghost use Rattle.eqc_witness.specs.Witnesses.{IsFoundOf, IsWitness};
 
@@ -19,6 +20,9 @@ const WITHOUT: u64 = 100;
 /// Visits of each node for each position, besides.
 const EACH: u64 = 16;
 
+/// So many visits, or nodes of the graph, count as a conflict, where there were fewer conflicts.
+const WORTH: u64 = 2_000;
+
 /// What may be spent where there may be so many conflicts.
 fn budget_of(conflicts: u64, cone: &Cone) -> Budget {
     let nodes = u64::from(cone.graph.len());
@@ -30,6 +34,16 @@ fn budget_of(conflicts: u64, cone: &Cone) -> Budget {
             .saturating_mul(VISITS)
             .saturating_add(questions.saturating_mul(nodes).saturating_mul(EACH)),
     }
+}
+
+/// The conflicts that are left of what was given. Where much was visited for each, that counts as more of them, and so does
+/// reading the graph.
+fn conflicts_left(given: Budget, left: Budget, nodes: u32) -> u64 {
+    let visits = given.visits.saturating_sub(left.visits);
+    let worth = given.conflicts.saturating_sub(visits / WORTH);
+    left.conflicts
+        .min(worth)
+        .saturating_sub(u64::from(nodes) / WORTH)
 }
 
 /// The values of variables as values of their positions, false where none is told. The last that is told of a variable
@@ -77,6 +91,7 @@ fn least_from(
 ) -> Result<Witness, AllocError>
     requires long { length values.items ≡ cone.now.positions }
     requires holds { holds_under cone.now.graph cone.now.root values.items ≡ true }
+    requires sound { IsSound cone.now.graph means.old.search }
     ensures { IfOk result (IsFoundOf cone.now.positions (holds_under cone.now.graph cone.now.root)) }
 {
     let mut values = values;
@@ -101,11 +116,15 @@ fn least_of(
     guess: &[bool],
     means: &mut Means,
 ) -> Result<Witness, AllocError>
-    requires { length guess.now ≡ cone.now.positions }
+    requires guess { length guess.now ≡ cone.now.positions }
+    requires sound { IsSound cone.now.graph means.old.search }
     ensures { IfOk result (IsFoundOf cone.now.positions (holds_under cone.now.graph cone.now.root)) }
 {
     match complete(alloc, cone, &[], guess, means)? {
-        Completion::Found(values) => least_from(alloc, cone, values, means),
+        Completion::Found(values) => {
+            means.see();
+            least_from(alloc, cone, values, means)
+        }
         Completion::Nothing => Ok(Witness::Never),
         Completion::Unknown => Ok(Witness::Unknown(None)),
     }
@@ -117,9 +136,10 @@ fn least_of(
 ///
 /// `variables` has the variable of each position; where one stands twice, its first position counts. Of a literal that
 /// depends on others less may be found. `seen` are variables and their values in an assignment that is tried first; what isn't there is false, and nothing is promised of it.
-/// `conflicts` are those that all questions together may have, of which those are taken away that there were. Time and
-/// memory are in proportion to the graph and the conflicts, and to the nodes below the literal times the positions. Fails
-/// where memory is refused.
+/// `conflicts` are those that all questions together may have: without any, nothing is found. Those that there were are taken away,
+/// and at least one for each two thousand literals that were visited, and one for each two thousand nodes of the graph, which is
+/// read whole. Time and memory are in proportion to the graph and the conflicts, and to the nodes below the literal times the
+/// positions. Fails where memory is refused.
 pub fn least_witness(
     alloc: Global,
     graph: &Graph,
@@ -131,13 +151,18 @@ pub fn least_witness(
     requires { IsWithin graph.now literal }
     ensures { IfOk result (IsWitness graph.now literal variables.now) }
 {
+    if *conflicts == 0 {
+        return Ok(Witness::Unknown(None));
+    }
     let cone = Cone::of(alloc, graph, literal, variables)?;
     let guess = values_told(alloc, variables, seen)?;
+    let given = budget_of(*conflicts, &cone);
     let mut means = Means {
         search: Search::new(alloc),
-        budget: budget_of(*conflicts, &cone),
+        given,
+        budget: given,
     };
     let found = least_of(alloc, &cone, &guess, &mut means);
-    *conflicts = means.budget.conflicts;
+    *conflicts = conflicts_left(means.given, means.budget, graph.len());
     found
 }

@@ -101,7 +101,8 @@ static LIMITS: &[Limit] = &[
     ("parities that differ", APART, &[], 10_000, Found::Never),
     ("without conflicts", APART, &[], 0, Found::Unknown(None)),
     ("the first variable alone", FIRST_OR_APART, &[], 10_000, Found::Least(0b1000000)),
-    ("what was seen is true", FIRST_OR_APART, &[(0, true), (6, true)], 0, Found::Unknown(Some(0b1000001))),
+    ("what was seen is true", FIRST_OR_APART, &[(0, true), (6, true)], 1, Found::Unknown(Some(0b1000001))),
+    ("nothing is asked without conflicts", FIRST_OR_APART, &[(0, true), (6, true)], 0, Found::Unknown(None)),
 ];
 
 /// Whether a node is made of nodes below this number.

@@ -10,7 +10,7 @@ use eqc_testing::{
 use eqc_tree::Stop;
 use std::alloc::{AllocError, Global};
 use std::process::Abort;
-use std::rt::Files;
+use std::rt::{Clock, Files};
 use std::sync::Wait;
 use std::thread::Threads;
 
@@ -240,7 +240,7 @@ const MANY_BYTES: &str =
 
 /// Whether a text without end is refused, with that explanation.
 fn has_many_bytes(
-    rt: &(impl AllocGlobal + Files + Threads + Wait + Sync),
+    rt: &(impl AllocGlobal + Clock + Eprint + Files + Threads + Wait + Sync),
     words: &[String],
 ) -> bool {
     let mut out = Vec::new(rt.alloc());
@@ -260,7 +260,7 @@ fn too_many_inputs_and_bytes_are_explained(rt: HostRuntime) -> Result<(), AllocE
 
 /// Whether these words end as a failed write, with this on standard error.
 fn is_write_fault(
-    rt: &(impl AllocGlobal + Files + Threads + Wait + Sync),
+    rt: &(impl AllocGlobal + Clock + Eprint + Files + Threads + Wait + Sync),
     words: &[String],
     said: &str,
 ) -> bool {
@@ -306,6 +306,7 @@ fn is_said_of(alloc: Global, stop: Stop, said: &str) -> bool {
             every: false,
         },
         explain: true,
+        progress: false,
         order: None,
         assume: None,
         outputs: Vec::new(alloc),

@@ -5,7 +5,7 @@ use super::program::{LEAF_FIRST, Line, words_of, writes, written_by};
 use eqc_command::program;
 use eqc_testing::{Drain, Feed, Row, is_text};
 use std::alloc::AllocError;
-use std::rt::Files;
+use std::rt::{Clock, Files};
 use std::sync::Wait;
 use std::thread::Threads;
 
@@ -72,7 +72,10 @@ fn containers_are_named(rt: HostRuntime) {
 }
 
 /// Whether these leaves are equivalent, with as much of a warning as standard error takes.
-fn is_cut_off(rt: &(impl AllocGlobal + Files + Threads + Wait + Sync), words: &[String]) -> bool {
+fn is_cut_off(
+    rt: &(impl AllocGlobal + Clock + Eprint + Files + Threads + Wait + Sync),
+    words: &[String],
+) -> bool {
     let mut out = Vec::new(rt.alloc());
     let mut err = Drain::new(Vec::new(rt.alloc()), 4, 1, true);
     let status = program(rt, words, Feed::whole(LEAF_FIRST), &mut out, &mut err);

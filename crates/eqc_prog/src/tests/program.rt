@@ -68,7 +68,11 @@ pub fn written_by<RT: AllocGlobal + Threads + Wait + Sync>(
 ) -> Result<Written, AllocError> {
     let alloc = rt.alloc();
     let words = words_of(alloc, line)?;
-    let disk = Disk { files: FILES, rt };
+    let disk = Disk {
+        files: FILES,
+        rt,
+        terminal: None,
+    };
     let mut out = Vec::new(alloc);
     let mut err = Vec::new(alloc);
     let status = program(&(disk, alloc), &words, input, &mut out, &mut err);
@@ -105,6 +109,7 @@ static BY_WORKERS: &[&str] = &[
     "eqc",
     "eqc --workers 8 --forks 16",
     "eqc --workers 64",
+    "eqc --progress",
 ];
 
 /// A report and its status.

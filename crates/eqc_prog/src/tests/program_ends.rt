@@ -6,7 +6,7 @@ use eqc_command::program;
 use eqc_testing::{DIFFERENCE, Drain, EQUAL, Endless, Feed, NEVER, UNEQUAL, is_text};
 use std::alloc::{AllocError, Global};
 use std::process::Abort;
-use std::rt::Files;
+use std::rt::{Clock, Files};
 use std::sync::Wait;
 use std::thread::Threads;
 
@@ -194,7 +194,7 @@ static CUT_OFF: &[(&str, usize, usize, bool, &str)] = &[
 
 /// Whether these words end as a fault that is told, where this writer takes no more than this text.
 fn is_write_fault(
-    rt: &(impl AllocGlobal + Files + Threads + Wait + Sync),
+    rt: &(impl AllocGlobal + Clock + Eprint + Files + Threads + Wait + Sync),
     words: &[String],
     step: usize,
     fails_at: usize,
@@ -220,7 +220,7 @@ fn a_failed_write_is_a_fault(rt: HostRuntime) -> Result<(), AllocError> {
 /// The status of these words, where standard error takes three bytes; none where it got others or anything is on standard
 /// output.
 fn status_unheard(
-    rt: &(impl AllocGlobal + Files + Threads + Wait + Sync),
+    rt: &(impl AllocGlobal + Clock + Eprint + Files + Threads + Wait + Sync),
     words: &[String],
 ) -> Option<u8> {
     let mut out = Vec::new(rt.alloc());
@@ -273,7 +273,7 @@ fn a_text_may_come_byte_by_byte(rt: HostRuntime) {
 
 /// Whether a reader without end is refused, and nothing else is told.
 fn refuses_endless(
-    rt: &(impl AllocGlobal + Files + Threads + Wait + Sync),
+    rt: &(impl AllocGlobal + Clock + Eprint + Files + Threads + Wait + Sync),
     words: &[String],
 ) -> bool {
     let mut out = Vec::new(rt.alloc());

@@ -19,10 +19,19 @@ const VISITS: u64 = 1_000;
 
 const WITHOUT: u64 = 100;
 
-/// How much all questions and simulations together may cost: so much for each node, and for the graph as a whole.
+/// So many visits count as a conflict, where there were fewer conflicts.
+const WORTH: u64 = 1_000;
+
+/// A visit counts once more for each so many nodes of the graph: it takes longer where these are far apart in memory.
+const LARGE: u32 = 200_000;
+
+/// How much all questions and simulations together may cost: so much for each node, and for the graph as a whole, and never more
+/// than so much, whatever the netlist.
 const EACH_NODE: u64 = 20_000;
 
 const WHOLE: u64 = 10_000_000;
+
+const AT_MOST: u64 = 200_000_000;
 
 /// How much of that may be in vain: simulations, and questions after which no node was found equal. A netlist of which no two
 /// nodes are equal costs no more, whatever its size.
@@ -54,6 +63,19 @@ pub(crate) fn budget_of(conflicts: u64) -> Budget {
     }
 }
 
+/// What visits count in a graph of so many nodes.
+fn weighed(visits: u64, nodes: u32) -> u64 {
+    visits.saturating_mul(1 + u64::from(nodes / LARGE))
+}
+
+/// The conflicts that are left of what a question about a graph of so many nodes was given. Where much was visited for each, that
+/// counts as more of them.
+pub(crate) fn conflicts_left(given: Budget, left: Budget, nodes: u32) -> u64 {
+    let visits = given.visits.saturating_sub(left.visits);
+    let worth = weighed(visits, nodes) / WORTH;
+    left.conflicts.min(given.conflicts.saturating_sub(worth))
+}
+
 impl Account {
     pub(crate) fn new() -> Account {
         Account {
@@ -66,7 +88,8 @@ impl Account {
 
     /// Whether more may be spent on a graph of so many nodes.
     pub(crate) fn has_room(&self, nodes: u32) -> bool {
-        self.spent <= u64::from(nodes) * EACH_NODE + WHOLE && self.vain <= IN_VAIN
+        let room = u64::from(nodes) * EACH_NODE + WHOLE;
+        weighed(self.spent, nodes) <= room.min(AT_MOST) && weighed(self.vain, nodes) <= IN_VAIN
     }
 
     /// What the next question may spend.

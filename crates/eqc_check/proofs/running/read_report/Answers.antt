@@ -1,7 +1,7 @@
 use Rattle.std.proofs.Common.{subst}
 use Rattle.eqc_check.specs.Answer.{IsComparison}
-use Rattle.eqc_check.specs.ReportView.{report_of}
-use Rattle.eqc_check.specs.declared.report.Report.{Report}
+use Rattle.eqc_report.specs.ReportView.{report_of}
+use Rattle.eqc_report.specs.declared.report.Report.{Report}
 use Rattle.eqc_check.proofs.RunLaws.{memory_reports, read_reports, read_warns}
 use Rattle.eqc_check.proofs.running.read_report.Goals as goal
 

@@ -20,5 +20,6 @@ returns c =
     let first_model = arg_added _ _ _ _ _ c.in_ok-arg-10.ensures c.text-3.ensures.own outputs c.text-3.ensures.rule in
     let second_model = arg_added _ _ _ _ _ c.in_ok-arg-11.ensures c.text-4.ensures.own first_model c.text-4.ensures.rule in
     let explain = arg_added _ _ _ _ _ c.in_ok-arg-12.ensures c.flag-2.ensures.own second_model c.flag-2.ensures.rule in
-    let first = arg_added _ _ _ _ _ c.in_ok-arg-13.ensures c.path.ensures.own explain c.path.ensures.rule in
-    IfOk-weaker c.arg-14.result _ _ (λ r adds. arg_added _ _ _ _ _ adds c.path-2.ensures.own first c.path-2.ensures.rule) c.arg-14.ensures
+    let progress = arg_added _ _ _ _ _ c.in_ok-arg-13.ensures c.flag-3.ensures.own explain c.flag-3.ensures.rule in
+    let first = arg_added _ _ _ _ _ c.in_ok-arg-14.ensures c.path.ensures.own progress c.path.ensures.rule in
+    IfOk-weaker c.arg-15.result _ _ (λ r adds. arg_added _ _ _ _ _ adds c.path-2.ensures.own first c.path-2.ensures.rule) c.arg-15.ensures

@@ -1,12 +1,16 @@
-use Rattle.std.proofs.Common.{rules, map, not, sym, ◌∙◌, cond}
+use Rattle.std.proofs.Common.{rules, length, map, not, sym, ◌∙◌, ap, cond, arith}
 use Rattle.std.proofs.lemmas.List.{nil_from_length}
 use Rattle.eqc_tree.specs.Holding.{says}
-use Rattle.eqc_cover.specs.Matching.{AreHeld}
+use Rattle.eqc_cover.specs.Matching.{AreHeld, said}
+use Rattle.eqc_cover.specs.Table.{table_value}
 use Rattle.eqc_cover.proofs.HeldLaws.{held_rest}
-use Rattle.eqc_cover.proofs.MatchingLaws.{no_rows, no_columns, alone, two_said, expansion_said}
+use Rattle.eqc_cover.proofs.MatchingLaws.{no_rows, no_columns, expansion_said}
 use Rattle.eqc_cover.proofs.MakingLaws.{reference_makes, makes_as, makes_held, makes_one_held, memory_makes, first_held, turns_owned, joined_makes}
-use Rattle.eqc_cover.proofs.RowLaws.{free_columns, unconstrained_said}
+use Rattle.eqc_cover.proofs.RowLaws.{free_columns, unconstrained_said, length_said}
+use Rattle.eqc_cover.proofs.TableLaws.{all_open}
+use Rattle.eqc_cover.proofs.SplitLaws.{on_said, off_said}
 use Rattle.eqc_cover.proofs.cover.+by_columns.Goals as goal
+use Rattle.eqc_cover.proofs.cover.+by_columns.Goals.{then-on, else-on}
 
 pub returns-then-is_empty : goal.returns-then-is_empty
 returns-then-is_empty g t c =
@@ -41,23 +45,18 @@ returns-then-not-both g t c =
     c.in-Some.others.now a c.in-Some.ensures.cases.0 (sym c.in-Ok.ensures.differ ∙ c.if-not-both.true)
     (rw c.deref.ensures.value c.in-Ok.ensures.when_true)) c.by_columns.ensures
 
-pub by_two_columns-requires-clause-first : goal.by_two_columns-requires-clause-first
-by_two_columns-requires-clause-first g t c = first_held g.D.References.entry _ c.in-Some.column.now c.args.columns.now c.in-Some.others.now c.in-Some.ensures.cases.0 c.requires
+pub by_table-requires-clause-depends : goal.by_table-requires-clause-depends
+by_table-requires-clause-depends g t c = all_open c.if-on.table (length c.args.columns.now) c.if-columns-le-MOST_COLUMNS.true
 
-pub by_two_columns-requires-clause-second : goal.by_two_columns-requires-clause-second
-by_two_columns-requires-clause-second g t c =
-    first_held g.D.References.entry _ c.second-item.result c.in-Some.others.now _
-    (alone c.in-Some.others.now c.second-item.result c.in-len1.len_at_least c.in-len1.len_below c.second-item.is)
-    (held_rest g.D.References.entry _ c.in-Some.column.now c.args.columns.now _ c.in-Some.ensures.cases.0 c.requires)
-
-pub returns-in-len1 : goal.returns-in-len1
-returns-in-len1 g t c =
-    makes_as g.D.References.entry _ _ c.by_two_columns.result _ _
-    (λ a.
-    two_said g.D.References.entry c.args.on (map (λ r. r.now) c.args.rows.now) c.in-Some.column.now c.second-item.result
-    c.args.columns.now c.in-Some.others.now a c.in-Some.ensures.cases.0
-    (alone c.in-Some.others.now c.second-item.result c.in-len1.len_at_least c.in-len1.len_below c.second-item.is))
-    c.by_two_columns.ensures
+pub returns-then-columns-le-MOST_COLUMNS : goal.returns-then-columns-le-MOST_COLUMNS
+returns-then-columns-le-MOST_COLUMNS g t c =
+    makes_as g.D.References.entry _ _ c.by_table.result _ _
+    (λ a. elim c.if-on.branch [
+      | then-on w ↦ ap (λ u. table_value u (said g.D.References.entry c.args.columns.now a)) w.table-is ∙ on_said c.matching_table-matched.result (length c.args.columns.now) c.args.on (map (λ r. r.now) c.args.rows.now)
+          (said g.D.References.entry c.args.columns.now a) (length_said g.D.References.entry c.args.columns.now a) c.matching_table-matched.ensures w.if-on.true
+      | else-on w ↦ ap (λ u. table_value u (said g.D.References.entry c.args.columns.now a)) w.table-is ∙ off_said c.matching_table-matched.result (length c.args.columns.now) c.args.on (map (λ r. r.now) c.args.rows.now)
+          (said g.D.References.entry c.args.columns.now a) (length_said g.D.References.entry c.args.columns.now a) c.if-columns-le-MOST_COLUMNS.true (omega arith) c.matching_table-matched.ensures w.if-on.false
+    ]) c.by_table.ensures
 
 pub by_columns-low-requires : goal.by_columns-low-requires
 by_columns-low-requires g t c =

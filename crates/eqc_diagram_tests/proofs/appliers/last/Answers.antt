@@ -1,4 +1,4 @@
-use Rattle.std.proofs.Common.{◌≡◌, Option, IfSome, subst}
+use Rattle.std.proofs.Common.{Option, IfSome, subst}
 use Rattle.std.proofs.lemmas.List.Elements.{All-pop}
 use Rattle.eqc_tree.specs.Holding.{IsNew}
 use Rattle.eqc_apply.specs.declared.applier.Applier.{Applier}

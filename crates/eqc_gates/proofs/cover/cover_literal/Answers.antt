@@ -1,5 +1,5 @@
 use Rattle.std.proofs.Common.{length}
-use Rattle.eqc_gates.proofs.TableLaws.{all_open}
+use Rattle.eqc_cover.proofs.TableLaws.{all_open}
 use Rattle.eqc_gates.proofs.cover.cover_literal.Goals as goal
 
 pub table_literal-requires-clause-depends : goal.table_literal-requires-clause-depends

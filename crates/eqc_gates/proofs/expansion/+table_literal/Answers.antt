@@ -1,8 +1,8 @@
 use Rattle.std.proofs.Common.{◌<◌, true, false, length, set, refl, sym, ◌∙◌, arith, rules}
 use Rattle.std.specs.List.{count_by}
-use Rattle.eqc_gates.specs.Table.{DependsOnOpen}
+use Rattle.eqc_cover.specs.Table.{DependsOnOpen}
 use Rattle.eqc_gates.specs.Literals.{AreWithin}
-use Rattle.eqc_gates.proofs.TableLaws.{one_closed, fewer_open}
+use Rattle.eqc_cover.proofs.TableLaws.{one_closed, fewer_open}
 use Rattle.eqc_gates.proofs.LiteralLaws.{table_constant, table_closed, still_within, opposite_made, chosen_made}
 use Rattle.eqc_gates.proofs.expansion.+table_literal.Goals as goal
 

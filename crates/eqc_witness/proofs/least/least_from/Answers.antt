@@ -17,6 +17,7 @@ loop-position-preserved-then-not-index c =
     record {
       long = i.long;
       holds = i.holds;
+      sound = i.sound;
       begun = next_false cone.positions k (holds_under cone.graph cone.root) values inside i.long i.holds is i.begun;
     }
 
@@ -32,19 +33,21 @@ loop-position-preserved c =
     c.deref-in-loop-position.ensures.value ∙ (c.in_ok-first.ensures ∙ ap (λ vs. take k vs ++ false ∷ []) c.deref.ensures.value) in
     elim c.match-branch-3.branch [
       | in-Found w ↦
-          let lower : Completes c.args.cone.now.positions (holds_under c.args.cone.now.graph c.args.cone.now.root) c.deref-in-loop-position.result.now w.in-Found.lower.items = rw w.in-Found.is at c.in_ok-lower.ensures in
+          let lower : Completes c.args.cone.now.positions (holds_under c.args.cone.now.graph c.args.cone.now.root) c.deref-in-loop-position.result.now w.in-Found.lower.items = rw w.in-Found.is at c.in_ok-lower.ensures.found in
           rw w.values-is
           (record {
             long = lower.long;
             holds = lower.passes;
+            sound = c.in_ok-lower.ensures.sound;
             begun = next_lower cone.positions k (holds_under cone.graph cone.root) values c.deref-in-loop-position.result.now w.in-Found.lower.items inside first lower i.begun;
           })
       | in-Nothing w ↦
-          let none = rw w.in-Nothing.is at c.in_ok-lower.ensures in
+          let none = rw w.in-Nothing.is at c.in_ok-lower.ensures.found in
           rw w.values-is
           (record {
             long = i.long;
             holds = i.holds;
+            sound = c.in_ok-lower.ensures.sound;
             begun = next_true cone.positions k (holds_under cone.graph cone.root) values inside is (rw first at none) i.begun;
           })
     ]

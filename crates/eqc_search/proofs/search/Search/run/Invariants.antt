@@ -3,4 +3,4 @@ use Rattle.eqc_search.proofs.search.Search.run.Given as goal
 
 -- the store is sound
 abbrev pub invariant-rounds : goal.invariant-rounds
-invariant-rounds l = IsSound l.graph l.self.store
+invariant-rounds l = IsSound l.graph l.self

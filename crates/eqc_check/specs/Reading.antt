@@ -1,0 +1,13 @@
+-- What is read of a text.
+use Rattle.std.specs.Prelude.{◌≡◌, ℕ, List, ◌++◌, take, Option}
+use Rattle.std.specs.Io.KnownBytes.{Consumes}
+
+-- a reader gave the bytes that a text grew by
+pub record Gives (left_before left : Option (List ℕ)) (text_before text : List ℕ) : Type 0 where
+  pub bytes : List ℕ
+  pub grown : text ≡ text_before ++ bytes
+  pub taken : Consumes left_before left bytes
+
+-- what is read of the bytes of a reader: all of them, but none after the 16,777,217th
+unfoldable pub bytes_read : List ℕ → List ℕ
+bytes_read bytes = take 16777217 bytes

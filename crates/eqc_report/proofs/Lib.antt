@@ -1,0 +1,7 @@
+pub mod OptionsLemmas
+pub mod KnownBytes
+pub mod SpoolLemmas
+pub mod ReportLemmas
+pub mod WrittenLemmas
+pub mod FoundLaws
+pub mod EvaluationLaws

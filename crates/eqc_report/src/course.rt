@@ -1,0 +1,272 @@
+//! The course of a run's comparison: equal structure, diagrams on one thread, equal signals inside the netlists, a search for the
+//! first output that differs, diagrams by all workers, and at last a longer search for the outputs that are left.
+ghost use Rattle.std.specs.Prelude.{◌≡◌, ◌<◌, None, length, IfOk};
+ghost use Rattle.eqc_compare.specs.Alike.{IsKnown};
+ghost use Rattle.eqc_report.specs.PairReport.{pair_report};
+ghost use Rattle.eqc_report.specs.ReportView.{report_of};
+ghost use Rattle.eqc_report.specs.Options.{options_code};
+
+use crate::checking::{copied, found_report, shown};
+use crate::options::Options;
+use crate::report::Report;
+use crate::undecided::{Seen, Undecided};
+use crate::workers::{Comparison, Room, check_in};
+use eqc_compare::{
+    Alike, Conflicts, Inside, Progress, Searched, Stage, alike_or_nothing, known_outcome,
+};
+use eqc_pair::Pair;
+use eqc_tree::Stop;
+use std::alloc::Global;
+use std::sync::Wait;
+use std::thread::Threads;
+
+/// The fewest nodes with which a run does more than to make diagrams by all its workers. Who allows fewer asks about these.
+const SWEPT_NODES: u32 = 1_024;
+
+/// The conflicts that the outputs left by sweeping are given at first.
+const FEW_CONFLICTS: u64 = 5_000;
+
+/// The conflicts with which all outputs are searched for differences at first.
+const SEARCH_CONFLICTS: u64 = 20_000;
+
+/// Tells of the stage in which outputs are compared in a room, before the first of them is.
+fn tell_room<R, P: Progress<R>>(comparison: &Comparison<'_, R, P>, room: Room) {
+    let Comparison {
+        rt,
+        pair,
+        watch,
+        ..
+    } = *comparison;
+    let stage = match room {
+        Room::First => Stage::FirstDiagrams,
+        Room::Whole => Stage::AllDiagrams,
+    };
+    watch.stage(rt, stage);
+    watch.step(rt, 0, pair.first().outputs().len());
+}
+
+/// The report by diagrams in a room, where this is known of the pair, or why it stopped.
+fn in_room<R: Threads + Wait + Sync, P: Progress<R> + Sync>(
+    comparison: &Comparison<'_, R, P>,
+    room: Room,
+    alike: &Alike,
+) -> Result<Report, Stop>
+    requires options { options_code comparison.now.options.now ≡ None }
+    requires known { IsKnown comparison.now.pair.now alike.now }
+    ensures report { IfOk result (λ report. report_of report ≡ pair_report comparison.now.options.now.every comparison.now.pair.now) }
+{
+    let Comparison {
+        alloc,
+        pair,
+        options,
+        ..
+    } = *comparison;
+    if let Some(outcome) = known_outcome(alloc, pair, &alike.equal) {
+        return found_report(alloc, pair, options.every, outcome);
+    }
+    let Ok(alike) = alike.clone() else {
+        return Err(Stop::Memory);
+    };
+    tell_room(comparison, room);
+    check_in(comparison, room, alike)
+}
+
+/// The report by diagrams alone: on one thread first, however many workers there are, since most comparisons take less time than
+/// a forest to begin. Not so with few nodes, which a forest has as fast, and uses again.
+fn by_diagrams<R: Threads + Wait + Sync, P: Progress<R> + Sync>(
+    comparison: &Comparison<'_, R, P>,
+    alike: &Alike,
+) -> Result<Report, Stop>
+    requires options { options_code comparison.now.options.now ≡ None }
+    requires known { IsKnown comparison.now.pair.now alike.now }
+    ensures report { IfOk result (λ report. report_of report ≡ pair_report comparison.now.options.now.every comparison.now.pair.now) }
+{
+    if comparison.options.nodes >= SWEPT_NODES {
+        match in_room(comparison, Room::First, alike) {
+            Err(Stop::NodeLimit) => {}
+            report => return report,
+        }
+    }
+    in_room(comparison, Room::Whole, alike)
+}
+
+/// Notes an output that differs under an assignment that was seen. Where memory is refused for it nothing is noted.
+fn note_seen(alloc: Global, pair: &Pair<'_>, left: &mut Undecided, output: usize, values: Vec<bool>)
+    requires within { output < length pair.now.first.outputs }
+    requires size { length values.items ≡ length pair.now.first.inputs }
+{
+    if let Ok(difference) = shown(alloc, pair.first(), output, values)
+        && let Ok(inputs) = copied(alloc, pair.first().inputs())
+    {
+        left.see(Seen { inputs, difference });
+    }
+}
+
+/// The report by searches for differences with so many conflicts, or 71 where these don't do, with the difference that was seen
+/// then. The outputs found equal on the way become known.
+fn by_search<R: Threads + Wait + Sync, P: Progress<R> + Sync>(
+    comparison: &Comparison<'_, R, P>,
+    inside: &mut Inside<'_>,
+    alike: &mut Alike,
+    conflicts: Conflicts,
+    left: &mut Undecided,
+) -> Result<Report, Stop>
+    requires inside { inside.old ≡ comparison.now.pair.now }
+    requires known { IsKnown comparison.now.pair.now alike.old }
+    ensures inside { inside.new ≡ inside.old }
+    ensures known { IsKnown comparison.now.pair.now alike.new }
+    ensures report { IfOk result (λ report. report_of report ≡ pair_report comparison.now.options.now.every comparison.now.pair.now) }
+{
+    let Comparison {
+        rt,
+        alloc,
+        pair,
+        options,
+        watch,
+    } = *comparison;
+    let Options { every, workers, .. } = *options;
+    watch.stage(rt, Stage::Searching);
+    match inside.search_outputs(rt, alloc, alike, every, conflicts, workers, watch) {
+        Ok(Searched::Found(outcome)) => found_report(alloc, pair, every, outcome),
+        Ok(Searched::Open(output, Some(values))) => {
+            note_seen(alloc, pair, left, output, values);
+            Err(Stop::NodeLimit)
+        }
+        // Where memory is refused nothing was learned, and the run goes on without it.
+        Ok(Searched::Open(_, None)) | Ok(Searched::Unasked) | Err(_) => Err(Stop::NodeLimit),
+    }
+}
+
+/// Searches for differences of the outputs that are left, with so many conflicts in all. Those for which there is none become
+/// known: whether there are any.
+fn ask_outputs<R, P: Progress<R>>(
+    comparison: &Comparison<'_, R, P>,
+    inside: &mut Inside<'_>,
+    alike: &mut Alike,
+    conflicts: u64,
+) -> bool
+    requires { IsKnown inside.old alike.old }
+    ensures pair { inside.new ≡ inside.old }
+    ensures known { IsKnown inside.new alike.new }
+{
+    let Comparison { rt, watch, .. } = *comparison;
+    watch.stage(rt, Stage::Asking);
+    inside.ask_outputs(rt, alike, conflicts, watch)
+}
+
+/// The report over what sweeping finds equal, which becomes known: by short searches for differences, by diagrams in all the room
+/// that there is, and then by longer searches. Where these find some outputs equal, diagrams are tried for the others once more.
+fn by_sweeping<R: Threads + Wait + Sync, P: Progress<R> + Sync>(
+    comparison: &Comparison<'_, R, P>,
+    inside: &mut Inside<'_>,
+    alike: &mut Alike,
+    left: &mut Undecided,
+) -> Result<Report, Stop>
+    requires options { options_code comparison.now.options.now ≡ None }
+    requires inside { inside.old ≡ comparison.now.pair.now }
+    requires known { IsKnown comparison.now.pair.now alike.old }
+    ensures report { IfOk result (λ report. report_of report ≡ pair_report comparison.now.options.now.every comparison.now.pair.now) }
+{
+    if let Ok(more) = inside.known(comparison.alloc, alike) {
+        *alike = more;
+    }
+    ask_outputs(comparison, inside, alike, FEW_CONFLICTS);
+    let few = Conflicts {
+        each: SEARCH_CONFLICTS,
+        all: SEARCH_CONFLICTS,
+    };
+    match by_search(comparison, inside, alike, few, left) {
+        Err(Stop::NodeLimit) => {}
+        report => return report,
+    }
+    match in_room(comparison, Room::Whole, alike) {
+        Err(Stop::NodeLimit) => {}
+        report => return report,
+    }
+    let each = comparison.options.conflicts as u64;
+    let more = ask_outputs(comparison, inside, alike, each);
+    let many = Conflicts {
+        each,
+        all: u64::MAX,
+    };
+    match by_search(comparison, inside, alike, many, left) {
+        Err(Stop::NodeLimit) if more => in_room(comparison, Room::Whole, alike),
+        report => report,
+    }
+}
+
+/// The report by all that there is. Most comparisons end in the first room.
+fn by_all<R: Threads + Wait + Sync, P: Progress<R> + Sync>(
+    comparison: &Comparison<'_, R, P>,
+    alike: &mut Alike,
+    left: &mut Undecided,
+) -> Result<Report, Stop>
+    requires options { options_code comparison.now.options.now ≡ None }
+    requires known { IsKnown comparison.now.pair.now alike.old }
+    ensures report { IfOk result (λ report. report_of report ≡ pair_report comparison.now.options.now.every comparison.now.pair.now) }
+{
+    match in_room(comparison, Room::First, alike) {
+        Err(Stop::NodeLimit) => {}
+        report => return report,
+    }
+    let Comparison {
+        rt,
+        alloc,
+        pair,
+        watch,
+        ..
+    } = *comparison;
+    watch.stage(rt, Stage::Sweeping);
+    match Inside::of(rt, alloc, pair, alike, watch) {
+        Ok(inside) => {
+            let mut inside = inside;
+            by_sweeping(comparison, &mut inside, alike, left)
+        }
+        // Nothing was learned, and the run goes on without it.
+        Err(_) => in_room(comparison, Room::Whole, alike),
+    }
+}
+
+/// The report, or why it stopped. What becomes known on the way stays known.
+fn course<R: Threads + Wait + Sync, P: Progress<R> + Sync>(
+    comparison: &Comparison<'_, R, P>,
+    alike: &mut Alike,
+    left: &mut Undecided,
+) -> Result<Report, Stop>
+    requires options { options_code comparison.now.options.now ≡ None }
+    requires known { IsKnown comparison.now.pair.now alike.old }
+    ensures report { IfOk result (λ report. report_of report ≡ pair_report comparison.now.options.now.every comparison.now.pair.now) }
+{
+    let options = comparison.options;
+    if options.nodes < SWEPT_NODES || options.conflicts == 0 {
+        return by_diagrams(comparison, alike);
+    }
+    by_all(comparison, alike, left)
+}
+
+/// Compares a pair for a run, which does more than `check`: an output whose two signals have one structure is equal, and is not
+/// compared, and one diagram is built for all signals of one structure, of both netlists. Where diagrams on one thread don't
+/// decide it, the same holds of signals that are proved equal inside the netlists, and outputs are searched for differences
+/// before all workers make diagrams, and once more where that doesn't do. Where memory for any of that is refused, the run goes
+/// on without it. Where there is an assumption, whether it allows an assignment is asked of diagrams on one thread all the same.
+///
+/// The options are in their ranges. With 0 conflicts, only diagrams are made; with fewer than 1,024 nodes, only by all workers. The
+/// call may wait, as `check` may. The watch is told of each stage as it begins, and how far it is; of each comparison by diagrams
+/// it is told before that begins. Where it is given up, the outputs that are left are added to those in `left`. The errors are
+/// the node limit 71, also where operations took too many turns, want of memory 72, the limit of references 73, and 74 where a thread
+/// could not be started.
+pub fn check_alike<R: Threads + Wait + Sync, P: Progress<R> + Sync>(
+    comparison: &Comparison<'_, R, P>,
+    left: &mut Undecided,
+) -> Result<Report, Stop>
+    requires { options_code comparison.now.options.now ≡ None }
+    ensures report { IfOk result (λ report. report_of report ≡ pair_report comparison.now.options.now.every comparison.now.pair.now) }
+{
+    comparison.watch.stage(comparison.rt, Stage::Structure);
+    let mut alike = alike_or_nothing(comparison.alloc, comparison.pair);
+    let report = course(comparison, &mut alike, left);
+    if report.is_err() {
+        left.add_unmarked(comparison.pair, &alike.equal);
+    }
+    report
+}

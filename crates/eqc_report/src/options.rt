@@ -1,0 +1,62 @@
+//! What a comparison may use: workers, nodes, cells and levels that are shared, each within its range, and conflicts.
+ghost use Rattle.std.specs.Prelude.{◌≡◌};
+ghost use Rattle.eqc_report.specs.Options.{options_code, is_cell_count};
+
+use eqc_pair::Rule;
+
+const MAX_WORKERS: u32 = 64;
+
+const MAX_NODES: u32 = 1_048_574;
+
+const MAX_CELLS: u32 = 1_048_576;
+
+const MAX_FORKS: u32 = 16;
+
+/// What a comparison may use, none of which changes the answer, and what it is to tell.
+#[derive(Clone, Copy, Debug, PartialEq, Eq)]
+pub struct Options {
+    /// Workers, each with a thread of its own, 1 to 64.
+    pub workers: u32,
+    /// Nodes of the diagrams that all workers share, 1 to 1,048,574.
+    pub nodes: u32,
+    /// Cells of the operation cache that all workers share, a power of two from 1 to 1,048,576.
+    pub cells: u32,
+    /// Levels of an operation that are shared among workers, 0 to 16.
+    pub forks: u32,
+    /// Conflicts of a search for each output that diagrams leave, 0 for diagrams alone.
+    pub conflicts: u32,
+    /// Whether each output that differs is told, and not the first alone.
+    pub every: bool,
+}
+
+/// The code of the first option that is out of its range: 81 workers, 82 nodes, 83 cells, 84 forks.
+pub fn options_fault(options: &Options) -> Option<u8>
+    ensures { result ≡ options_code options.now }
+{
+    let Options {
+        workers,
+        nodes,
+        cells,
+        forks,
+        ..
+    } = *options;
+    if !(1..=MAX_WORKERS).contains(&workers) {
+        return Some(Rule::Workers.code());
+    }
+    if !(1..=MAX_NODES).contains(&nodes) {
+        return Some(Rule::Nodes.code());
+    }
+    if !is_cell_count(cells) {
+        return Some(Rule::Cells.code());
+    }
+    if forks > MAX_FORKS {
+        return Some(Rule::Forks.code());
+    }
+    None
+}
+
+fn is_cell_count(cells: u32) -> bool
+    ensures { result ≡ is_cell_count cells }
+{
+    cells.is_power_of_two() && cells <= MAX_CELLS
+}

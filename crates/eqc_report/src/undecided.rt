@@ -1,0 +1,83 @@
+//! The outputs that are left where a comparison is given up.
+ghost use Rattle.std.specs.Prelude.{◌≡◌, vec_len, is_some, false};
+
+use crate::report::Difference;
+use eqc_blif::Name;
+use eqc_pair::Pair;
+use std::alloc::Global;
+
+/// So many names are kept.
+const KEPT: usize = 10;
+
+/// An output that was seen to differ, with the names of the first netlist's inputs in order, for which it has its values.
+#[derive(Drop)]
+pub struct Seen {
+    pub inputs: Vec<Name>,
+    pub difference: Difference,
+}
+
+/// The outputs that a comparison left undecided: the names of the first of them, and how many there are; and what was seen of
+/// the one at which it gave up.
+#[derive(Drop)]
+pub struct Undecided {
+    alloc: Global,
+    names: Vec<Vec<u8>>,
+    count: usize,
+    seen: Option<Seen>,
+}
+
+impl Undecided {
+    /// No output is left. Names that are added later are kept in this memory.
+    pub fn none(alloc: Global) -> Undecided
+        ensures names { vec_len result.names ≡ 0 }
+        ensures count { result.count ≡ 0 }
+        ensures seen { is_some result.seen ≡ false }
+    {
+        Undecided {
+            alloc,
+            names: Vec::new(alloc),
+            count: 0,
+            seen: None,
+        }
+    }
+
+    /// Takes one more name. Where memory is refused for it, it is only counted.
+    fn add(&mut self, name: &[u8]) {
+        self.count = self.count.saturating_add(1);
+        if self.names.len() < KEPT
+            && let Ok(name) = name.to_vec(self.alloc)
+        {
+            let _ = self.names.push(name);
+        }
+    }
+
+    /// Takes the names of the chosen outputs of a pair that are not marked.
+    pub(crate) fn add_unmarked(&mut self, pair: &Pair<'_>, marks: &[bool]) {
+        for (output, name) in pair.first().outputs().iter().enumerate() {
+            if pair.is_chosen(output) && !marks.get(output).copied().unwrap_or(false) {
+                self.add(name.as_bytes());
+            }
+        }
+    }
+
+    /// Takes what was seen of an output that differs.
+    pub(crate) fn see(&mut self, seen: Seen) {
+        self.seen = Some(seen);
+    }
+
+    /// An output that is left undecided though it differs, under an allowed assignment that was seen: maybe not the least, and
+    /// maybe an output before it differs too. None where none was seen.
+    pub fn seen(&self) -> Option<&Seen> {
+        self.seen.as_ref()
+    }
+
+    /// The names of the first, at most ten.
+    pub fn names(&self) -> &[Vec<u8>] {
+        self.names.as_slice()
+    }
+
+    /// How many there are, with those that `names` leaves out.
+    pub fn count(&self) -> usize {
+        self.count
+    }
+}

@@ -1,0 +1,252 @@
+//! Reports by workers: outputs that differ, found by members in threads of their own.
+ghost use Rattle.std.specs.Prelude.{◌≡◌, ◌≤◌, None, length, vec_len, IfOk, IfErr};
+ghost use Rattle.std.specs.List.{All};
+ghost use Rattle.eqc_tree.specs.Holding.{Holding};
+ghost use Rattle.eqc_compare.specs.Alike.{IsKnown};
+ghost use Rattle.eqc_report.specs.PairReport.{pair_report};
+ghost use Rattle.eqc_report.specs.ReportView.{report_of};
+ghost use Rattle.eqc_report.specs.Options.{options_code};
+
+use crate::checking::found_report;
+use crate::options::Options;
+use crate::report::Report;
+use eqc_apply::{Allowance, Applier, team_with};
+use eqc_compare::{Alike, Gate, Patience, compare_by_members};
+use eqc_pair::Pair;
+use eqc_plain::Plain;
+use eqc_tree::{Diagrams, References, Stop};
+use std::alloc::Global;
+use std::sync::Wait;
+use std::thread::Threads;
+
+/// The report by these members, where this is known of the pair, or why it stopped.
+fn check_known<R: Threads + Wait + Sync, D: Diagrams<R> + Send + Drop, G: Gate<R> + Sync>(
+    rt: &R,
+    alloc: Global,
+    pair: &Pair<'_>,
+    every: bool,
+    members: Vec<D>,
+    alike: Alike,
+    patience: Patience,
+    gate: &G,
+) -> Result<Report, Stop>
+    requires some { 1 ≤ vec_len members }
+    requires variables { All (λ d. length pair.now.first.inputs ≤ (D.holding d).variables) members.items }
+    requires known { IsKnown pair.now alike }
+    ensures report { IfOk result (λ report. report_of report ≡ pair_report every pair.now) }
+{
+    let outcome = compare_by_members(rt, alloc, pair, every, members, alike, patience, gate)?;
+    found_report(alloc, pair, every, outcome)
+}
+
+/// Compares a pair by these members, of which each runs in a thread of its own: the report, or why it stopped.
+///
+/// There is at least one member, and each has at least as many variables as the pair has inputs; they are consumed. The first
+/// is asked whether the assumption, if there is one, allows an assignment, before any output is drawn. The gate is told of each
+/// comparison before it begins. With `every` each output that differs is told. Else the first alone is, and a member that has
+/// found a difference compares no later output. One that has drawn its last helps the others. The call may wait, since it waits
+/// for all members, and for the gate.
+///
+/// The errors are those of the members' diagrams, 71, 72 and 73; 72 also where memory is refused, or where 32 bits don't
+/// number the members or the outputs; and 74 where a thread could not be started. Where several came it is one of them.
+pub fn check_with<R: Threads + Wait + Sync, D: Diagrams<R> + Send + Drop, G: Gate<R> + Sync>(
+    rt: &R,
+    alloc: Global,
+    pair: &Pair<'_>,
+    every: bool,
+    members: Vec<D>,
+    gate: &G,
+) -> Result<Report, Stop>
+    requires some { 1 ≤ vec_len members }
+    requires variables { All (λ d. length pair.now.first.inputs ≤ (D.holding d).variables) members.items }
+    ensures report { IfOk result (λ report. report_of report ≡ pair_report every pair.now) }
+{
+    check_known(
+        rt,
+        alloc,
+        pair,
+        every,
+        members,
+        Alike::nothing(alloc),
+        Patience::short(),
+        gate,
+    )
+}
+
+/// The most nodes of the store of one thread in which a run's comparison begins. None is laid out before it is needed, and none
+/// is taken back: most comparisons end there before a forest would have begun.
+const FIRST_NODES: u32 = 524_288;
+
+/// How many turns operations in it may take beyond the free ones: what isn't decided by then is better tried in other ways first.
+const FIRST_TURNS: u64 = 1_048_576;
+
+/// How many a worker's may take in the forest that the options ask for, and how many more for each of its nodes: an operation on
+/// two large diagrams may take as many as the product of their sizes, also where its result is small and the forest never full.
+/// A run that can't be decided ends then all the same.
+const TURNS: u64 = 8_388_608;
+
+const TURNS_PER_NODE: u64 = 8;
+
+/// Where a run's comparison is made.
+#[derive(Clone, Copy)]
+pub(crate) enum Room {
+    /// In a store of one thread, which is left as soon as it is full, or as the turns of its operations are spent.
+    First,
+    /// In the forest that the options ask for, by as many workers, which is left as the turns of one of them are spent.
+    Whole,
+}
+
+/// A pair that is compared, what that may use, and what is told of it.
+#[derive(Drop)]
+pub struct Comparison<'x, R, P> {
+    /// The runtime that starts threads and lets them wait.
+    pub rt: &'x R,
+    pub alloc: Global,
+    pub pair: &'x Pair<'x>,
+    pub options: &'x Options,
+    /// Told how far the comparison is.
+    pub watch: &'x P,
+}
+
+/// The only member in the first room, with a variable for each input of a pair. It has no more nodes than the options ask for.
+fn first_member(alloc: Global, pair: &Pair<'_>, options: &Options) -> Result<Vec<Plain>, Stop>
+    requires { options_code options.now ≡ None }
+    ensures one { IfOk result (λ all. vec_len all ≡ 1) }
+    ensures nodes { IfOk result (λ all. All (λ p. p.store.limit ≤ options.now.nodes) all.items) }
+    ensures variables { IfOk result (λ all. All (λ p. length pair.now.first.inputs ≤ (⟦<Plain as References>⟧.holding p).variables) all.items) }
+    ensures only { IfErr result (λ s. s ≡ Stop.Memory) }
+{
+    pair.recall_laws();
+    let inputs = pair.first().inputs().len() as u16;
+    let nodes = options.nodes.min(FIRST_NODES);
+    let member = Plain::with_turns(alloc, inputs, nodes, Some(FIRST_TURNS))?;
+    match vec![in alloc; member] {
+        Ok(all) => Ok(all),
+        Err(_) => Err(Stop::Memory),
+    }
+}
+
+/// The team of workers that the options ask for, with a variable for each input of a pair: they share one forest, and as many
+/// levels of an operation as there are forks, and each of them may take so many turns.
+fn team_for(
+    alloc: Global,
+    pair: &Pair<'_>,
+    options: &Options,
+    turns: Option<u64>,
+) -> Result<Vec<Applier>, Stop>
+    requires { options_code options.now ≡ None }
+    ensures some { IfOk result (λ all. 1 ≤ vec_len all) }
+    ensures variables { IfOk result (λ all. All (λ a. length pair.now.first.inputs ≤ (⟦<Applier as References>⟧.holding a).variables) all.items) }
+    ensures only { IfErr result (λ s. s ≡ Stop.Memory) }
+{
+    pair.recall_laws();
+    let Options {
+        workers,
+        nodes,
+        cells,
+        forks,
+        ..
+    } = *options;
+    let inputs = pair.first().inputs().len() as u16;
+    let allowance = Allowance { anew: true, turns };
+    team_with(alloc, inputs, nodes, cells, workers, forks, allowance)
+}
+
+/// The report by diagrams on one thread, where this is known of the pair, or why it stopped. A store that is full is left at
+/// once: what was given back there makes no room.
+fn check_first<R: Threads + Wait + Sync, P: Gate<R> + Sync>(
+    comparison: &Comparison<'_, R, P>,
+    alike: Alike,
+) -> Result<Report, Stop>
+    requires options { options_code comparison.now.options.now ≡ None }
+    requires known { IsKnown comparison.now.pair.now alike }
+    ensures report { IfOk result (λ report. report_of report ≡ pair_report comparison.now.options.now.every comparison.now.pair.now) }
+{
+    let Comparison {
+        rt,
+        alloc,
+        pair,
+        options,
+        watch,
+    } = *comparison;
+    let members = first_member(alloc, pair, options)?;
+    let brief = Patience::brief(0);
+    check_known(rt, alloc, pair, options.every, members, alike, brief, watch)
+}
+
+/// The report by the team that the options ask for, where this is known of the pair, or why it stopped.
+fn check_by_team<R: Threads + Wait + Sync, P: Gate<R> + Sync>(
+    comparison: &Comparison<'_, R, P>,
+    turns: Option<u64>,
+    alike: Alike,
+) -> Result<Report, Stop>
+    requires options { options_code comparison.now.options.now ≡ None }
+    requires known { IsKnown comparison.now.pair.now alike }
+    ensures report { IfOk result (λ report. report_of report ≡ pair_report comparison.now.options.now.every comparison.now.pair.now) }
+{
+    let Comparison {
+        rt,
+        alloc,
+        pair,
+        options,
+        watch,
+    } = *comparison;
+    let members = team_for(alloc, pair, options, turns)?;
+    let patience = Patience::of_forks(options.forks);
+    check_known(
+        rt,
+        alloc,
+        pair,
+        options.every,
+        members,
+        alike,
+        patience,
+        watch,
+    )
+}
+
+/// The report in a room, where this is known of the pair, or why it stopped. The watch is told of each comparison.
+pub(crate) fn check_in<R: Threads + Wait + Sync, P: Gate<R> + Sync>(
+    comparison: &Comparison<'_, R, P>,
+    room: Room,
+    alike: Alike,
+) -> Result<Report, Stop>
+    requires options { options_code comparison.now.options.now ≡ None }
+    requires known { IsKnown comparison.now.pair.now alike }
+    ensures report { IfOk result (λ report. report_of report ≡ pair_report comparison.now.options.now.every comparison.now.pair.now) }
+{
+    match room {
+        Room::First => check_first(comparison, alike),
+        Room::Whole => {
+            let turns = TURNS + TURNS_PER_NODE * u64::from(comparison.options.nodes);
+            check_by_team(comparison, Some(turns), alike)
+        }
+    }
+}
+
+/// Compares a pair by as many workers as the options say, each in a thread of its own: they share one forest of `nodes` nodes
+/// and one operation cache of `cells` cells. In the first `forks` levels of an operation one half is offered to members that
+/// have nothing to do. Gives the report, or why it stopped.
+///
+/// The options are in their ranges. The gate is told of each comparison before it begins. The call may wait, as `check_with`
+/// may. The errors are the node limit 71, want of memory 72, the limit of references 73, and 74 where a thread could not be
+/// started. It takes as long as it needs: only a run is given up where its operations take too many turns.
+pub fn check<R: Threads + Wait + Sync, G: Gate<R> + Sync>(
+    rt: &R,
+    alloc: Global,
+    pair: &Pair<'_>,
+    options: &Options,
+    gate: &G,
+) -> Result<Report, Stop>
+    requires { options_code options.now ≡ None }
+    ensures report { IfOk result (λ report. report_of report ≡ pair_report options.now.every pair.now) }
+{
+    let comparison = Comparison {
+        rt,
+        alloc,
+        pair,
+        options,
+        watch: gate,
+    };
+    check_by_team(&comparison, None, Alike::nothing(alloc))
+}

@@ -1,0 +1,126 @@
+//! What a run tells of how far it is.
+
+use crate::ends::same;
+use crate::inside::MULTIPLIERS;
+use crate::running::options;
+use eqc_check::{
+    Gate, Given, ModelNames, NoDiagnostics, OutputNames, Progress, Stage, Texts, run_explained,
+};
+use eqc_testing::{Feed, is_text};
+use std::sync::{Mutex, Wait};
+use std::thread::Threads;
+
+/// Three outputs that are equal, and of which no two signals have one structure.
+const THREE: &str =
+    ".model f;.inputs a b;.outputs p q r;.names a b p;11 1;.names a b q;1- 1;-1 1;.names a b r;10 1;01 1;.end;.model g;.inputs a b;.outputs p q r;.names a b p;0- 0;-0 0;.names a b q;00 0;.names a b r;11 0;00 0;.end;";
+
+/// The letter of a stage.
+fn letter(stage: Stage) -> u8 {
+    match stage {
+        Stage::Reading => b'r',
+        Stage::Structure => b's',
+        Stage::FirstDiagrams => b'd',
+        Stage::Sweeping => b'i',
+        Stage::Asking => b'a',
+        Stage::Searching => b'f',
+        Stage::AllDiagrams => b'w',
+        Stage::Writing => b'e',
+    }
+}
+
+/// Notes what it is told: a letter for each stage, and the digit of each output that is compared; and how many steps or outputs it
+/// was told of since the last stage began, each behind the one before.
+#[derive(Drop)]
+struct Notes {
+    told: Mutex<Vec<u8>>,
+    steps: Mutex<usize>,
+    /// How often something came out of its turn.
+    wrong: Mutex<u64>,
+}
+
+impl Notes {
+    fn note<R: Wait>(&self, rt: &R, byte: u8) {
+        let mut told = self.told.lock(rt);
+        let _ = told.push(byte);
+    }
+}
+
+impl<R: Wait> Gate<R> for Notes {
+    fn enter(&self, rt: &R, _worker: u32, output: u32) {
+        self.note(rt, b'0'.saturating_add(output.min(9) as u8));
+    }
+}
+
+impl<R: Wait> Progress<R> for Notes {
+    fn stage(&self, rt: &R, stage: Stage) {
+        self.note(rt, letter(stage));
+        let mut steps = self.steps.lock(rt);
+        *steps = 0;
+    }
+
+    fn step(&self, rt: &R, done: usize, all: usize) {
+        let mut steps = self.steps.lock(rt);
+        if done != *steps || done >= all {
+            let mut wrong = self.wrong.lock(rt);
+            *wrong = wrong.saturating_add(1);
+        }
+        *steps = steps.saturating_add(1);
+    }
+}
+
+/// The stages and outputs that a run on a text with so many workers and nodes tells: none where it doesn't report that all is
+/// equal, or where something came out of its turn.
+fn told_of(
+    rt: &(impl AllocGlobal + Threads + Wait + Sync),
+    text: &'static str,
+    workers: u32,
+    nodes: u32,
+) -> Option<Vec<u8>> {
+    let notes = Notes {
+        told: Mutex::new(Vec::new(rt.alloc())),
+        steps: Mutex::new(0),
+        wrong: Mutex::new(0),
+    };
+    let given = Given {
+        texts: Texts::One(Feed::whole(text)),
+        names: ModelNames::none(),
+        order: None,
+        assume: None,
+        outputs: OutputNames::none(),
+        options: options((workers, nodes, 8_192, 0)),
+    };
+    let mut out = Vec::new(rt.alloc());
+    let nobody: Option<&mut NoDiagnostics> = None;
+    let done = run_explained(rt, rt.alloc(), given, &mut out, nobody, &notes);
+    let Notes { told, wrong, .. } = notes;
+    let right = done.is_ok() && is_text(&out, "equivalent;") && wrong.into_inner() == 0;
+    right.then_some(told.into_inner())
+}
+
+/// Whether this was told.
+fn is_told(told: &Option<Vec<u8>>, wanted: &str) -> bool {
+    told.as_ref()
+        .is_some_and(|told| told.as_slice() == wanted.as_bytes())
+}
+
+/// Numbers of workers and nodes, and what is told of the text `THREE` with them.
+static ROWS: &[(u32, u32, &str)] = &[
+    (1, 65_536, "rsd012e"),
+    (8, 65_536, "rsd012e"),
+    (1, 1_023, "rsw012e"),
+];
+
+#[test]
+fn a_run_tells_its_stages_and_each_output_once(rt: HostRuntime) {
+    for (workers, nodes, wanted) in ROWS {
+        let told = told_of(&rt, THREE, *workers, *nodes);
+        same(&rt, is_told(&told, wanted), true, *wanted);
+    }
+}
+
+#[test]
+fn a_run_tells_how_far_it_sweeps(rt: HostRuntime) {
+    let wanted = "rsd23456iafe";
+    let told = told_of(&rt, MULTIPLIERS, 2, 1_024);
+    same(&rt, is_told(&told, wanted), true, wanted);
+}
