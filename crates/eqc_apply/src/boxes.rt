@@ -226,7 +226,7 @@ impl Held {
     pub(crate) fn other_box(&self, nth: u32) -> Option<u32>
         ensures { IfSome result (λ b. b < 16 * self.now.worker.known.core.sizes.workers) }
     {
-        let workers = self.worker.announcement_words().max(1);
+        let workers = self.worker.workers().max(1);
         let number = self.worker.number();
         let owner = number.checked_add(nth % workers)?.checked_add(1)? % workers;
         let b = owner.checked_mul(LEVELS)?.checked_add(nth / workers)?;

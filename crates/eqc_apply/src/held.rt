@@ -308,7 +308,7 @@ impl Held {
     /// How many of them a worker may hold. Once three quarters of the slots are taken, half of all are shared out among the
     /// workers for it, so that what one keeps for itself doesn't starve another. Until then a worker may keep all.
     pub(crate) fn share_of_slots(&self) -> u64 {
-        let workers = u64::from(self.worker.announcement_words().max(1));
+        let workers = u64::from(self.worker.workers().max(1));
         let slots = u64::from(self.worker.slots());
         if (self.worker.slots_about_taken() as u64) < slots / 4 * 3 {
             slots

@@ -119,7 +119,7 @@ impl Applier {
         if levels == 0 || self.names.is_spent() {
             return false;
         }
-        let boxes = levels.saturating_mul(self.names.worker.announcement_words());
+        let boxes = levels.saturating_mul(self.names.worker.workers());
         let backoff = Backoff::new();
         for pause in 0..PAUSES {
             let looks = if boxes.saturating_mul(pause) < LOOKS {

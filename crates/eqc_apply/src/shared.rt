@@ -13,7 +13,7 @@ impl Held {
     /// Whether there are other workers: what one of them finds in the shared cells, a worker that
     /// is alone has in its own.
     pub(crate) fn has_others(&self) -> bool {
-        self.worker.announcement_words() > 1
+        self.worker.workers() > 1
     }
 
     /// The result of an operation, where the shared cells have it. It is held then. The error is 72

@@ -30,7 +30,7 @@ const SLOTS_OF_A_DEAD_NODE: u32 = 4096;
 
 // The stripe with which a worker begins: workers begin apart, so that each takes nodes back that the others haven't come to.
 fn first_stripe(worker: &Worker) -> u32 {
-    let workers = u64::from(worker.announcement_words().max(1));
+    let workers = u64::from(worker.workers().max(1));
     (u64::from(worker.number()) * 16 / workers % 16) as u32
 }
 
@@ -79,7 +79,7 @@ fn sweep<R: Wait>(worker: &mut Worker, rt: &R, few: u32)
     for _turn in 0..TURNS {
         let taken = turn(worker, rt, &mut fallen, few);
         // Where there are others, they take what is left.
-        if worker.announcement_words() > 1 || taken <= worker.slots() / SLOTS_OF_A_TURN {
+        if worker.workers() > 1 || taken <= worker.slots() / SLOTS_OF_A_TURN {
             break;
         }
     }

@@ -1,4 +1,4 @@
 pub mod Hits
 pub mod Trading
 pub mod Cells
-pub mod Peeking
+pub mod Loading

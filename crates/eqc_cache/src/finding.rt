@@ -100,7 +100,7 @@ pub fn lookup(worker: &mut Worker, op: Op, f: &Ref, g: &Ref) -> Option<Ref>
     let (first, second) = key::ordered(op, f.number(), g.number());
     let cell = key::place(worker.cells(), op, first, second);
     // Most cells have another entry or none. A load tells that, and leaves the worker as it is.
-    let peeked = worker.peek(cell);
-    result_in(peeked, op, first, second)?;
+    let loaded = worker.load_cell(cell);
+    result_in(loaded, op, first, second)?;
     seek(worker, op, first, second, cell)
 }

@@ -1,7 +1,7 @@
 //! The running words of the shared forest: one table, whose rule is the machine's lawful state.
 //!
 //! Each worker is a seat of the table, and each of its step methods is one step of the machine in
-//! `eqc_core`, whatever the other workers do; `peek` loads a cell's word and leaves the machine's
+//! `eqc_core`, whatever the other workers do; `load_cell` loads a cell's word and leaves the machine's
 //! state as it is. What a worker knows, its view of the machine and the tree of each name that it
 //! names, is for proofs alone: at run time a held name costs its `Ref`.
 //! Read the modules in this order:

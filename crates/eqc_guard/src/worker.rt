@@ -162,7 +162,7 @@ impl Worker {
     }
 
     /// Loads a cell's word, and leaves all else as it is: nothing of the word may be announced.
-    pub fn peek(&mut self, cell: u32) -> u64
+    pub fn load_cell(&mut self, cell: u32) -> u64
         requires { cell < self.old.known.core.sizes.cells }
         ensures step { Steps self.old self.old.known.core self.new }
         ensures copies { Copies self.old.known (cells_from self.old.known.core.sizes + cell) result result self.new.known }
@@ -329,10 +329,11 @@ impl Worker {
         ensures none { result ≡ None → self.new.known.core.held ≡ self.old.known.core.held }
         ensures goes_on { (result ≡ None) ↔ (self.old.known.core.position + 1 < announced_words self.old.known.core.sizes) }
     {
+        let words = self.announcement_words();
         let place = self.position as usize;
         let name = self.table.shared.load::<ScanOne>(&mut self.seat, place);
         names::add_note(&mut self.noted, name);
-        if self.position + 1 < self.sizes.workers {
+        if self.position + 1 < words {
             self.position += 1;
             return None;
         }
@@ -347,7 +348,7 @@ impl Worker {
     fn has_number(&self) -> bool
         ensures { IsTrue result ↔ HasNumber self.now.known.core }
     {
-        self.number == 0 && self.given < self.sizes.workers
+        self.number == 0 && self.given < self.workers()
     }
 
     // Splits the next number off.
@@ -674,11 +675,19 @@ impl Worker {
     pub fn announcement_words(&self) -> u32
         ensures { result ≡ announced_words self.now.known.core.sizes }
     {
-        // Each worker has one.
+        let sizes = self.sizes;
+        sizes.workers * sizes.announcements
+    }
+
+    /// How many workers the forest can have at a time: those that are there, and those that could
+    /// still be split off.
+    pub fn workers(&self) -> u32
+        ensures { result ≡ self.now.known.core.sizes.workers }
+    {
         self.sizes.workers
     }
 
-    /// The worker's number.
+    /// The worker's number, counted from 0.
     pub fn number(&self) -> u32
         ensures { result ≡ self.now.known.core.number }
     {

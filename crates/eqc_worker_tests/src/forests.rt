@@ -80,6 +80,7 @@ fn a_forest_has_its_number_of_workers(rt: HostRuntime) {
     let mut first = bare(&rt, 2);
     let second = first.another(&rt);
     same(&rt, second.worker.number(), 1, "number");
+    same(&rt, second.worker.workers(), 2, "workers");
     match first.split(&rt) {
         Err(fault) => same(&rt, fault, SplitFault::NoneLeft, "third worker"),
         Ok(_) => panic!(rt; "two workers are all"),

@@ -26,19 +26,19 @@ use Rattle.eqc_cache.specs.Finding.{IsOrdered, IsHit}
 use Rattle.eqc_cache.specs.Placing.{in_order, place_of, IsEntry, HasResult, HasNone, HasResultAt, HasNoneAt}
 use Rattle.eqc_cache.proofs.Hits.{ordered_hit}
 
-module _ (old mid : Standing) (peeks : Steps old old.known.core mid) where
+module _ (old mid : Standing) (loads : Steps old old.known.core mid) where
   same_phase : with_phase old.known.core 0 (phase_at old.known.core 0) ≡ old.known.core
   same_phase = ap (λ (ps : List Phase). record old.known.core { phases = ps }) (set-get_or old.known.core.phases 0 Idle)
 
   -- the phase is what it was
   still : IsAt (phase_at old.known.core 0) old mid
-  still = starts old mid (phase_at old.known.core 0) (subst (λ (v : View). Steps old v mid) (sym same_phase) peeks)
+  still = starts old mid (phase_at old.known.core 0) (subst (λ (v : View). Steps old v mid) (sym same_phase) loads)
 
   pub passes : IsQuiet (phase_at old.known.core 0) → IsPassed old mid
   passes quiet = record { phase = phase_at old.known.core 0; quiet = quiet; stands = still }
 
   pub may_on : (cell : ℕ) → MayLook old.known.core 0 0 → cell < old.known.core.sizes.cells → MayLook mid.known.core 0 cell
-  may_on cell may there = subst (λ (v : View). MayLook v 0 cell) (sym peeks.known.core) (may.0, may.1, there, may.3)
+  may_on cell may there = subst (λ (v : View). MayLook v 0 cell) (sym loads.known.core) (may.0, may.1, there, may.3)
 
   pub passed_on : (new : Standing) → IsPassed mid new → IsPassed old new
   passed_on new p = record { phase = p.phase; quiet = p.quiet; stands = joins old mid new (phase_at old.known.core 0) p.phase still p.stands }
@@ -48,13 +48,13 @@ module _ (old mid : Standing) (peeks : Steps old old.known.core mid) where
       let left = held_tree_stays (phase_at old.known.core 0) old mid f still first in
       let right = held_tree_stays (phase_at old.known.core 0) old mid g still second in
       record {
-        forest = hit.forest ∙ peeks.forest;
+        forest = hit.forest ∙ loads.forest;
         phase = hit.phase;
         quiet = hit.quiet;
-        core = hit.core ∙ ap (λ (v : View). record v { held = v.held ++ slots_of (r ∷ []); phases = set v.phases 0 hit.phase }) peeks.known.core;
+        core = hit.core ∙ ap (λ (v : View). record v { held = v.held ++ slots_of (r ∷ []); phases = set v.phases 0 hit.phase }) loads.known.core;
         result = λ a. (λ i. operate op (value (sym left i) a) (value (sym right i) a)) ∙ hit.result a;
-        trees = λ x two h. hit.trees x two (subst (λ (v : View). 0 < times x v.held) (sym peeks.known.core) h) ∙ still.trees x two h;
-        copy = keeps_on old.known mid.known new.known peeks.known.copy hit.copy;
+        trees = λ x two h. hit.trees x two (subst (λ (v : View). 0 < times x v.held) (sym loads.known.core) h) ∙ still.trees x two h;
+        copy = keeps_on old.known mid.known new.known loads.known.copy hit.copy;
         known = hit.known;
       }
 
@@ -66,13 +66,13 @@ module _ (old mid : Standing) (peeks : Steps old old.known.core mid) where
   -- and so is a copy of the words
   module _ (i word : ℕ) (copies : Copies old.known i word word mid.known) where
     sizes : mid.known.core.sizes ≡ old.known.core.sizes
-    sizes = ap (λ (v : View). v.sizes) peeks.known.core
+    sizes = ap (λ (v : View). v.sizes) loads.known.core
 
-    pub peek_keeps : KeepsCells old.known mid.known
-    peek_keeps = load_keeps old.known mid.known i word copies
+    pub load_leaves : KeepsCells old.known mid.known
+    load_leaves = load_keeps old.known mid.known i word copies
 
     pub cells_after : (new : Standing) → KeepsCells mid.known new.known → KeepsCells old.known new.known
-    cells_after new keeps = cells_on old.known mid.known new.known sizes peek_keeps keeps
+    cells_after new keeps = cells_on old.known mid.known new.known sizes load_leaves keeps
 
     -- the cell is that of the operands in order
     module _ (op : Op) (f g m n cells cell : ℕ) (p : ℕ × ℕ) (left : m ≡ f) (right : n ≡ g) (order : p ≡ in_order op m n) (all : cells ≡ old.known.core.sizes.cells) (at : cell ≡ place_of cells op (p.0, p.1)) where
@@ -107,6 +107,6 @@ module _ (old mid : Standing) (peeks : Steps old old.known.core mid) where
 
       pub missed_after : (2 ^ 32 - 1 ≤ length mid.known.core.held) ⊎ HasNoneAt op p cell mid.known → (2 ^ 32 - 1 ≤ length old.known.core.held) ⊎ HasNone op f g old.known
       missed_after missed = ⊎_elim
-          (λ limit. inl (subst (λ (v : View). 2 ^ 32 - 1 ≤ length v.held) peeks.known.core limit))
+          (λ limit. inl (subst (λ (v : View). 2 ^ 32 - 1 ≤ length v.held) loads.known.core limit))
           (λ none. inr (none_after none))
           missed

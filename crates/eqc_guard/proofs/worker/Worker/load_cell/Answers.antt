@@ -3,7 +3,7 @@ use Rattle.eqc_core.specs.declared.sizes.Sizes.{Sizes}
 use Rattle.eqc_guard.specs.Rule.{cells_from}
 use Rattle.eqc_guard.specs.Standing.{Standing}
 use Rattle.eqc_guard.proofs.Stepping.{read_allows}
-use Rattle.eqc_guard.proofs.worker.Worker.peek.Goals as goal
+use Rattle.eqc_guard.proofs.worker.Worker.load_cell.Goals as goal
 
 pub load-requires : goal.load-requires
 load-requires c =
