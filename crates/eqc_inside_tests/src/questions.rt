@@ -193,10 +193,8 @@ fn preferred(
     y: bool,
 ) -> Result<(bool, bool), AllocError> {
     let mut budget = MUCH;
-    // A search knows no node of a graph that it has not met.
-    search.ask(graph, &[], &mut budget)?;
-    search.prefer(1, x);
-    search.prefer(2, y);
+    search.prefer(1, x)?;
+    search.prefer(2, y)?;
     search.ask(graph, &[13], &mut budget)?;
     let mut found = (false, false);
     for (node, value) in search.model() {

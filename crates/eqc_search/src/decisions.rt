@@ -71,6 +71,13 @@ impl Decisions {
         write(&mut self.phases, node, value);
     }
 
+    /// Sets the value of a node for which there may be no room yet.
+    pub(crate) fn set_first_phase(&mut self, node: u32, value: bool) -> Result<(), AllocError> {
+        lengthen(&mut self.phases, node.saturating_add(1), false)?;
+        self.set_phase(node, value);
+        Ok(())
+    }
+
     fn put(&mut self, at: u32, entry: Entry) {
         write(&mut self.heap, at, entry);
         write(&mut self.places, entry.node, at);

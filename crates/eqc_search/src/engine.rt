@@ -9,10 +9,11 @@ use crate::window::Window;
 use eqc_graph::{Graph, Node, node_of};
 use std::alloc::{AllocError, Global};
 
-/// So many gates are in the first window, and so many times more in each further one.
-const FIRST_WINDOW: u32 = 200;
+/// So many gates are in the first window, and so many times more in each further one. To lay out a window takes as long as
+/// most refutations, so the first one is small.
+const FIRST_WINDOW: u32 = 20;
 
-const WINDOW_GROWTH: u32 = 4;
+const WINDOW_GROWTH: u32 = 8;
 
 /// All that a search keeps of a question, and of earlier ones to begin with.
 #[derive(Drop)]
@@ -96,13 +97,19 @@ impl Engine {
         Ok(None)
     }
 
+    /// Takes back the last value. The next decision on its node, which is given, begins with it.
+    fn take_back(&mut self) -> u32 {
+        let literal = self.values.take_back();
+        let node = node_of(literal);
+        self.decisions
+            .set_phase(node, literal == literal_of(node, true));
+        node
+    }
+
     /// Takes back all values of higher levels.
     pub(crate) fn back_to(&mut self, level: u32) {
         for _ in self.values.start_above(level)..self.values.len() {
-            let literal = self.values.take_back();
-            let node = node_of(literal);
-            self.decisions
-                .set_phase(node, literal == literal_of(node, true));
+            let node = self.take_back();
             self.decisions.insert(node, self.window.height(node));
         }
         self.values.end_above(level);
@@ -171,7 +178,9 @@ impl Engine {
 
     /// Forgets the question.
     pub(crate) fn finish(&mut self) {
-        self.back_to(0);
+        for _ in self.values.start_above(0)..self.values.len() {
+            self.take_back();
+        }
         for _ in 0..self.values.len() {
             self.values.take_back();
         }

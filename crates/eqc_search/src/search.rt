@@ -68,9 +68,10 @@ impl Search {
         self.model.as_slice()
     }
 
-    /// Lets a decision on a node begin with this value, until the search has given it another one.
-    pub fn prefer(&mut self, node: u32, value: bool) {
-        self.engine.decisions.set_phase(node, value);
+    /// Lets a decision on a node begin with this value, until the search has given it another one. The node may be one
+    /// that comes next in a graph. Fails where memory is refused.
+    pub fn prefer(&mut self, node: u32, value: bool) -> Result<(), AllocError> {
+        self.engine.decisions.set_first_phase(node, value)
     }
 
     /// Answers whether the assumptions, literals of the graph, can be true together, unless the budget is used up

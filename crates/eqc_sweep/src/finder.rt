@@ -110,7 +110,7 @@ impl Finder {
     /// Simulates a new node.
     fn enter(&mut self, k: u32, node: Node) -> Result<(), AllocError> {
         self.patterns.push(node)?;
-        self.search.prefer(k, self.patterns.phase(k));
+        self.search.prefer(k, self.patterns.phase(k))?;
         if let Node::Input(variable) = node {
             self.inputs.push((k, variable))?;
         }
