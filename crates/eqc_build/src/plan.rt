@@ -22,12 +22,10 @@ pub fn plan_of<'a>(alloc: Global, steps: Steps<'a>, marks: &[bool]) -> Result<Pl
     ensures turns { IfOk result (λ plan. AreTurns plan marks.now) }
     ensures steps { IfOk result (λ plan. plan.steps ≡ steps.entry) }
 {
-    // The names alone of so many outputs would take a hundred gigabytes.
-    let outputs = steps.pair().first().outputs().len();
-    if outputs > 4294967295 {
-        return Err(AllocError);
-    }
-    let last = moments_of(alloc, &steps, outputs as u32, marks)?;
+    let pair = steps.pair();
+    pair.recall_laws();
+    let outputs = pair.first().outputs().len() as u32;
+    let last = moments_of(alloc, &steps, outputs, marks)?;
     Ok(Plan { steps, last })
 }
 
