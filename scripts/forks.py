@@ -1,16 +1,19 @@
 #!/usr/bin/env python3
 """Measures what workers and forks gain on netlists with a single output, where only forks can share the work.
 
-usage: forks.py [--eqc PROGRAM] [--repeat N] [--nodes N] [--cells N] [--least SECONDS] [--pairs DIR] [WORKERS:FORKS ..]
+usage: forks.py [--eqc PROGRAM] [--repeat N] [--nodes N] [--cells N] [--conflicts N] [--least SECONDS] [--pairs DIR]
+                [WORKERS:FORKS ..]
 
 It makes pairs of netlists: the middle output of multipliers, the hidden weighted bit, queens on a board. With `--pairs`
 it takes each NAME.a.blif with NAME.b.blif of a folder (and NAME.order, where there is one) in their place. For each
-pair it prints the wall time of one worker without forks, and the ratio to it of each WORKERS:FORKS (1:16, 4:0, 4:2, 4:4,
-4:8 and 4:16 where none is given): medians of REPEAT runs, 3 without the option, which alternate. Pairs that take one
-worker less than `--least` seconds, 0.5 without the option, are left out. The last line has the median of each column.
-Without `--eqc` it takes the program that `./eqc` has built.
+pair it prints the wall time and the processor time of one worker without forks, and the two ratios to them of each
+WORKERS:FORKS (1:16, 4:0, 4:2, 4:4, 4:8 and 4:16 where none is given): medians of REPEAT runs, 3 without the option,
+which alternate. Pairs that take one worker less than `--least` seconds of processor time, 0.5 without the option, are
+left out. The last lines have the median and the worst of each column. Without `--eqc` it takes the program that `./eqc`
+has built.
 """
 import argparse
+import resource
 import subprocess
 import sys
 import tempfile
@@ -184,22 +187,35 @@ def make(folder):
 
 
 def timed(pair, choice, options):
+    """The wall time and the processor time of a comparison, and its report."""
     workers, forks = choice.split(":")
     words = [str(options.eqc), "--nodes", options.nodes, "--cells", options.cells, "--workers", workers, "--forks", forks]
+    words += ["--conflicts", options.conflicts] if options.conflicts else []
     order = Path(f"{pair}.order")
     words += ["--order", str(order)] if order.exists() else []
-    start = time.perf_counter()
+    before, start = resource.getrusage(resource.RUSAGE_CHILDREN), time.perf_counter()
     done = subprocess.run([*words, f"{pair}.a.blif", f"{pair}.b.blif"], stdout=subprocess.PIPE, check=False)
-    return time.perf_counter() - start, done.stdout
+    wall, after = time.perf_counter() - start, resource.getrusage(resource.RUSAGE_CHILDREN)
+    return (wall, after.ru_utime + after.ru_stime - before.ru_utime - before.ru_stime), done.stdout
+
+
+def medians(found):
+    """Of wall times and of processor times."""
+    return [median(it) for it in zip(*found)]
+
+
+def shown(ratios):
+    return "{:6.2f}{:6.2f}".format(*ratios)
 
 
 def measure(folder, options):
     pairs = sorted(str(it)[: -len(".a.blif")] for it in folder.glob("*.a.blif"))
     ratios = {choice: [] for choice in options.choices}
-    print("pair".ljust(24), "1:0".rjust(7), *(choice.rjust(6) for choice in options.choices), flush=True)
+    heads = [it for choice in options.choices for it in (choice.rjust(6), "cpu".rjust(5))]
+    print("pair".ljust(24), "1:0".rjust(7), "cpu".rjust(6), *heads, flush=True)
     for pair in pairs:
         alone, said = timed(pair, "1:0", options)
-        if alone < options.least:
+        if alone[1] < options.least:
             continue
         times = {choice: [] for choice in ["1:0", *options.choices]}
         for _ in range(options.repeat):
@@ -208,12 +224,13 @@ def measure(folder, options):
                 found.append(spent)
                 if report != said:
                     print(f"{pair} with {choice}: {report} in place of {said}", file=sys.stderr)
-        base = median(times.pop("1:0"))
+        base = medians(times.pop("1:0"))
         for choice, found in times.items():
-            ratios[choice].append(median(found) / base)
-        figures = (f"{ratios[choice][-1]:6.2f}" for choice in options.choices)
-        print(Path(pair).name.ljust(24), f"{base:7.2f}", *figures, said.decode().split("\n")[0], flush=True)
-    print("median".ljust(24), " " * 7, *(f"{median(found):6.2f}" for found in ratios.values() if found))
+            ratios[choice].append([it / alone for it, alone in zip(medians(found), base)])
+        figures = (shown(ratios[choice][-1]) for choice in options.choices)
+        print(Path(pair).name.ljust(24), "{:7.2f}{:7.2f}".format(*base), *figures, said.decode().split("\n")[0], flush=True)
+    for what, of in (("median", median), ("worst", max)):
+        print(what.ljust(24), " " * 14, *(shown(map(of, zip(*found))) for found in ratios.values() if found))
 
 
 def main():
@@ -222,6 +239,7 @@ def main():
     asked.add_argument("--repeat", type=int, default=3)
     asked.add_argument("--nodes", default="1048574")
     asked.add_argument("--cells", default="65536")
+    asked.add_argument("--conflicts")
     asked.add_argument("--least", type=float, default=0.5)
     asked.add_argument("--pairs", type=Path)
     asked.add_argument("choices", nargs="*", default=CHOICES)
