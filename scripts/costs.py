@@ -1,11 +1,14 @@
 #!/usr/bin/env python3
-"""Measures what a text's author can make a comparison cost: covers of many kinds of rows, and least assignments.
+"""Measures what a text's author can make a comparison cost: covers of many kinds of rows, instances of one, and least
+assignments.
 
-usage: costs.py [covers|least] [PROGRAM ..]
+usage: costs.py [covers|instances|least] [PROGRAM ..]
 
 `covers` compares two netlists with the same rows in opposite orders, since two with one structure need no diagram, and prints
 for each kind of cover the processor time (the least of three runs), the time per byte of cover, and its ratio to that of
-random covers of eight columns. Where all rows of a cover are alike no diagram is built. `least` prints how many nodes the
+random covers of eight columns. Where all rows of a cover are alike no diagram is built. `instances` compares two netlists in
+which a model with one cover has many instances, each over other inputs; it prints the processor time of one instance and of
+all, and what a further one takes of the time of the first. `least` prints how many nodes the
 least assignment needs where a constant 0 is compared with a conjunction of some of the inputs. Without a program it takes
 the one that `./eqc` has built; with several, each has its column.
 """
@@ -20,12 +23,12 @@ BUILT = Path(__file__).resolve().parent.parent / "crates" / "eqc_prog" / "out" /
 MOST = 1_048_574
 
 
-def run(program, text, nodes):
+def run(program, text, nodes, *options):
     with tempfile.NamedTemporaryFile("w", suffix=".blif") as file:
         file.write(text)
         file.flush()
         before = resource.getrusage(resource.RUSAGE_CHILDREN)
-        ran = subprocess.run([program, "--nodes", str(nodes), file.name], capture_output=True, text=True)
+        ran = subprocess.run([program, "--nodes", str(nodes), *options, file.name], capture_output=True, text=True)
         after = resource.getrusage(resource.RUSAGE_CHILDREN)
     spent = after.ru_utime - before.ru_utime + after.ru_stime - before.ru_stime
     return spent, ran.stdout.split("\n")[0]
@@ -101,6 +104,42 @@ def measure_covers(programs):
         print(f"{name:36}" + "   ".join(cells), flush=True)
 
 
+def calling(name, called, columns, inputs, instances, seed=3):
+    """A model with so many instances of another, each over some of the inputs in their order."""
+    chance = random.Random(seed)
+    names = " ".join(f"i{k}" for k in range(inputs))
+    outputs = " ".join(f"z{k}" for k in range(instances))
+    body = ""
+    for k in range(instances):
+        chosen = sorted(chance.sample(range(inputs), columns))
+        actuals = " ".join(f"i{place}=i{actual}" for place, actual in enumerate(chosen))
+        body += f".subckt {called} {actuals} z0=z{k}\n"
+    return f".model {name}\n.inputs {names}\n.outputs {outputs}\n{body}.end\n"
+
+
+def instances():
+    """The name, the columns, the rows of the cover, and how many instances it has."""
+    yield "no dashes, 20 columns, 5000 rows", 20, dashed(20, 5_000, 0), 40
+    yield "random, 16 columns, 300 rows", 16, dashed(16, 300, 0.33), 40
+    yield "random, 10 columns, 40 rows", 10, dashed(10, 40, 0.5), 4_000
+    yield "no dashes, 8 columns, 200 rows", 8, dashed(8, 200, 0), 1_000
+
+
+def measure_instances(programs):
+    for name, columns, rows, most in instances():
+        parts = "".join(model(called, columns, [it])[0] for called, it in (("c", rows), ("d", rows[::-1])))
+        cells = []
+        for program in programs:
+            spent = []
+            for count in (1, most):
+                mains = "".join(calling(main, called, columns, 60, count) for main, called in (("f", "c"), ("g", "d")))
+                runs = [run(program, mains + parts, MOST, "--workers", "1", "--conflicts", "0") for _ in range(3)]
+                spent.append(min(it[0] for it in runs))
+            further = (spent[1] - spent[0]) / (most - 1) / spent[0]
+            cells.append(f"{spent[0] * 1e3:8.1f} ms {spent[1] * 1e3:8.1f} ms {further:6.3f} {runs[0][1]}")
+        print(f"{f'{most} instances: {name}':48}" + "   ".join(cells), flush=True)
+
+
 def conjunction(inputs, ones):
     names = " ".join(f"i{k}" for k in range(inputs))
     row = "".join("1" if k in ones else "-" for k in range(inputs))
@@ -140,12 +179,10 @@ def measure_least(programs):
 
 def main():
     words = sys.argv[1:]
-    what = words.pop(0) if words and words[0] in ("covers", "least") else None
-    programs = words or [str(BUILT)]
-    if what != "least":
-        measure_covers(programs)
-    if what != "covers":
-        measure_least(programs)
+    measures = {"covers": measure_covers, "instances": measure_instances, "least": measure_least}
+    wanted = [words.pop(0)] if words and words[0] in measures else list(measures)
+    for name in wanted:
+        measures[name](words or [str(BUILT)])
 
 
 if __name__ == "__main__":

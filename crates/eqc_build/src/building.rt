@@ -15,7 +15,7 @@ use crate::schedule::moment;
 use crate::steps::{StepDriver, Steps, Uses};
 use crate::table::{Table, put, reference_at};
 use crate::wanted::wanted;
-use eqc_cover::cover_diagram;
+use eqc_cover::{Covers, cover_diagram};
 use eqc_tree::{Diagrams, References, Stop};
 use std::alloc::{AllocError, Global};
 use std::cmp::Reverse;
@@ -43,6 +43,7 @@ fn step_diagram<R, D: Diagrams<R>>(
     alloc: Global,
     rt: &R,
     d: &mut D,
+    covers: &mut Covers,
     steps: &Steps<'_>,
     table: &Table<D::Ref>,
     step: u32,
@@ -60,7 +61,7 @@ fn step_diagram<R, D: Diagrams<R>>(
             let Ok(columns) = references(alloc, table, &columns) else {
                 return Err(Stop::Memory);
             };
-            cover_diagram(alloc, rt, d, &columns, rows)
+            cover_diagram(alloc, rt, d, covers, &columns, rows)
         }
     }
 }
@@ -70,6 +71,7 @@ fn build_step<R, D: Diagrams<R>>(
     alloc: Global,
     rt: &R,
     d: &mut D,
+    covers: &mut Covers,
     steps: &Steps<'_>,
     table: &mut Table<D::Ref>,
     step: u32,
@@ -82,7 +84,7 @@ fn build_step<R, D: Diagrams<R>>(
     ensures table { OnErr result (table.new ≡ table.old) }
     ensures only { IfErr result (λ s. s ≢ Stop.Threads) }
 {
-    let reference = step_diagram(alloc, rt, d, steps, table, step)?;
+    let reference = step_diagram(alloc, rt, d, covers, steps, table, step)?;
     put(d, table, step, reference)
 }
 
@@ -108,7 +110,15 @@ fn advance<R, D: Diagrams<R>>(
     ensures used { OnErr result (kept.new.used.items ≡ kept.old.used.items) }
     ensures only { IfErr result (λ s. s ≢ Stop.Threads) }
 {
-    build_step(alloc, rt, d, &plan.steps, &mut kept.table, step)?;
+    build_step(
+        alloc,
+        rt,
+        d,
+        &mut kept.covers,
+        &plan.steps,
+        &mut kept.table,
+        step,
+    )?;
     count(&mut kept.used, &plan.steps.uses(step));
     release(d, plan, kept, &plan.steps.uses(step), at);
     Ok(())

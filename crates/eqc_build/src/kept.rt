@@ -10,6 +10,7 @@ use crate::plan::Plan;
 use crate::schedule::moment;
 use crate::steps::Uses;
 use crate::table::{Table, give_back_all, take_back};
+use eqc_cover::Covers;
 use eqc_pair::Pair;
 use eqc_tree::References;
 use std::alloc::{AllocError, Global};
@@ -26,6 +27,8 @@ pub struct Kept<X> {
     pub(crate) used: Vec<u32>,
     /// The last moment at which each step is used in its last turn, where that is noted.
     pub(crate) until: Vec<u64>,
+    /// The covers whose diagrams were built.
+    pub(crate) covers: Covers,
 }
 
 /// No reference, for `count` steps.
@@ -41,6 +44,7 @@ fn nothing_kept<X>(alloc: Global, count: usize) -> Result<Kept<X>, AllocError>
         due: BinaryHeap::new(alloc),
         used,
         until,
+        covers: Covers::none(alloc),
     })
 }
 
@@ -68,6 +72,7 @@ pub fn nothing_kept_of_few<X>(alloc: Global, count: usize) -> Kept<X>
         due: BinaryHeap::new(alloc),
         used: Vec::new(alloc),
         until: Vec::new(alloc),
+        covers: Covers::none(alloc),
     }
 }
 
@@ -174,6 +179,7 @@ pub fn give_back_kept<D: References>(d: &mut D, kept: Kept<D::Ref>)
         due: _,
         used: _,
         until: _,
+        covers: _,
     } = kept;
     give_back_all(d, table);
 }

@@ -2,6 +2,7 @@
 //!
 //! - `pairs`, the calls below a run, on one thread; `assumptions`, pairs under one
 //! - `workers`, by several in threads of their own; `parities`, `covers` and `comparators`, how many nodes they take
+//! - `instances`, instances of one cover
 //! - `long_chains`, very many covers that stand one behind the other
 #![tactic(auto)]
 
@@ -13,6 +14,8 @@ mod comparators;
 mod covers;
 #[cfg(test)]
 mod ends;
+#[cfg(test)]
+mod instances;
 #[cfg(test)]
 mod long_chains;
 #[cfg(test)]

@@ -7,3 +7,4 @@ pub mod Blocks
 pub mod TableLaws
 pub mod RowTableLaws
 pub mod SplitLaws
+pub mod SplitsLaws

@@ -162,7 +162,7 @@ last_alike n places front row byte free is same = record { alike = λ vs few. by
 
 -- ---- rows that ask for nothing
 
-free_row : (rows : List (List ℕ)) (vs : List Bool) → has_free_row rows ≡ true → some_match rows vs ≡ true
+pub free_row : (rows : List (List ℕ)) (vs : List Bool) → has_free_row rows ≡ true → some_match rows vs ≡ true
 free_row [] vs free = absurd (true≢false (sym free))
 free_row (row ∷ rows) vs free = elim (or_cases (length row == 0) (has_free_row rows) free) [
   | inl here ↦ ap (λ b. b || some_match rows vs) (sym (row_matches-empty row vs here))
@@ -189,7 +189,7 @@ free_columns entry on rows columns a free = agrees-true on ∙ ap (agrees on) (s
 -- ---- columns that no row asks for
 
 -- both cofactors are one
-cofactors_alike : (rows : List (List ℕ)) → constrains_first rows ≡ false → cofactor true rows ≡ cofactor false rows
+pub cofactors_alike : (rows : List (List ℕ)) → constrains_first rows ≡ false → cofactor true rows ≡ cofactor false rows
 cofactors_alike [] h = refl
 cofactors_alike ([] ∷ rows) h = ap (λ rs. [] ∷ rs) (cofactors_alike rows h)
 cofactors_alike ((byte ∷ row) ∷ rows) h =

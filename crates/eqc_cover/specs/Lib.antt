@@ -3,3 +3,4 @@ pub mod Making
 pub mod Narrowing
 pub mod Table
 pub mod Splitting
+pub mod Splits

@@ -1,13 +1,15 @@
 //! The diagram of a cover over the diagrams of its columns: by its truth table, by Shannon's expansion, or row by row.
-ghost use Rattle.std.specs.Prelude.{◌≡◌, ◌≢◌, ℕ, ◌<◌, ◌-◌, Bool, true, false, List, [], ◌∷◌, length, map, not, if◌then◌else◌};
-ghost use Rattle.eqc_tree.specs.Holding.{IsHeld, says};
+ghost use Rattle.std.specs.Prelude.{◌≡◌, ◌≢◌, ℕ, ◌<◌, ◌≤◌, ◌-◌, ◌==◌, IfSome, IfNone, Bool, true, false, List, [], ◌∷◌, length, map, not, if◌then◌else◌};
+ghost use Rattle.eqc_tree.specs.Holding.{IsHeld, Gains, Keeps, says};
 ghost use Rattle.eqc_blif.specs.Cover.{allows, row_matches, cover_value};
 ghost use Rattle.eqc_cover.specs.Matching.{some_match, cofactor, agrees, AreHeld, said};
 ghost use Rattle.eqc_cover.specs.Making.{Makes};
 
+use crate::covers::Covers;
 use crate::expansion::by_table;
 use crate::making::{chosen, inverted, joined};
 use crate::rows::{cofactors, has_free_row, plan_cover};
+use crate::splitting::by_splits;
 use crate::table::{MOST_COLUMNS, cover_table, matching_table};
 use eqc_blif::{Rows, is_on_set};
 use eqc_tree::{Diagrams, Op, References, Stop};
@@ -117,14 +119,63 @@ fn by_rows<R, D: Diagrams<R>>(
     joined(rt, d, Op::Or, front, back)
 }
 
+/// The diagram of a cover that has rows and more than six columns, by its rows.
+fn by_all_rows<R, D: Diagrams<R>>(
+    alloc: Global,
+    rt: &R,
+    d: &mut D,
+    columns: &[&D::Ref],
+    rows: &Rows<'_>,
+) -> Result<D::Ref, Stop>
+    requires held { AreHeld D.entry (D.holding d.old) columns.now }
+    requires some { (length rows.now == 0) ≡ false }
+    ensures { Makes D.entry (D.holding d.old) (D.holding d.new) result (λ a. cover_value rows.now (said D.entry columns.now a)) }
+{
+    let on = is_on_set(rows);
+    let Ok(plan) = plan_cover(alloc, rows, columns.len()) else {
+        return Err(Stop::Memory);
+    };
+    if plan.expands {
+        return by_columns(alloc, rt, d, columns, &plan.rows, on);
+    }
+    let matched = by_rows(rt, d, columns, &plan.rows);
+    if on {
+        return matched;
+    }
+    inverted(rt, d, matched)
+}
+
+/// The diagram of a cover that has more than six columns, where its splits are kept and there is room for all of them at once.
+fn by_kept<R, D: Diagrams<R>>(
+    alloc: Global,
+    rt: &R,
+    d: &mut D,
+    covers: &mut Covers,
+    columns: &[&D::Ref],
+    rows: &Rows<'_>,
+) -> Option<D::Ref>
+    requires held { AreHeld D.entry (D.holding d.old) columns.now }
+    requires wide { 6 ≤ length columns.now }
+    ensures made { IfSome result (λ r. Gains (D.holding d.old) (D.holding d.new) (D.entry r) (λ a. cover_value rows.now (said D.entry columns.now a))) }
+    ensures none { IfNone result (Keeps (D.holding d.old) (D.holding d.new)) }
+{
+    let cover = covers.splits_of(alloc, rows, columns.len())?;
+    match by_splits(alloc, rt, d, columns, cover.splits(), cover.place()) {
+        Ok(made) => Some(made),
+        Err(_) => None,
+    }
+}
+
 /// The diagram of a cover (BLIF 1992, logic gates): the value of its rows where the columns have these functions.
 ///
-/// `columns` are references of `d`, one for each column, and `rows` are those of the cover. The errors are those of the
-/// diagrams, 71, 72 and 73, and 72 where memory is refused. All other references are given back, whatever the answer.
+/// `columns` are references of `d`, one for each column, and `rows` are those of the cover. Where `covers` has met the cover
+/// before, its rows needn't be gone through again. The errors are those of the diagrams, 71, 72 and 73, and 72 where memory is
+/// refused. All other references are given back, whatever the answer.
 pub fn cover_diagram<R, D: Diagrams<R>>(
     alloc: Global,
     rt: &R,
     d: &mut D,
+    covers: &mut Covers,
     columns: &[&D::Ref],
     rows: &Rows<'_>,
 ) -> Result<D::Ref, Stop>
@@ -138,16 +189,8 @@ pub fn cover_diagram<R, D: Diagrams<R>>(
     if rows.is_empty() {
         return d.constant(false);
     }
-    let on = is_on_set(rows);
-    let Ok(plan) = plan_cover(alloc, rows, columns.len()) else {
-        return Err(Stop::Memory);
-    };
-    if plan.expands {
-        return by_columns(alloc, rt, d, columns, &plan.rows, on);
+    if let Some(made) = by_kept(alloc, rt, d, covers, columns, rows) {
+        return Ok(made);
     }
-    let matched = by_rows(rt, d, columns, &plan.rows);
-    if on {
-        return matched;
-    }
-    inverted(rt, d, matched)
+    by_all_rows(alloc, rt, d, columns, rows)
 }

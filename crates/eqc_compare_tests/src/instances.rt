@@ -1,0 +1,54 @@
+//! Instances of one cover over different columns, of which the later ones are made by what was kept of the cover, against
+//! covers of two columns.
+#![tactic(auto)]
+
+use crate::ends::holds;
+use crate::pairs::{Ask, is_ordered_answer};
+use std::alloc::{AllocError, Global};
+
+/// A cover of seven columns: an odd number of the first five is true, and so is the sixth.
+const ODD: &str =
+    ".model odd;.inputs a b c d e f g;.outputs o;.names a b c d e f g o;000011- 1;000101- 1;001001- 1;001111- 1;010001- 1;010111- 1;011011- 1;011101- 1;100001- 1;100111- 1;101011- 1;101101- 1;110011- 1;110101- 1;111001- 1;111111- 1;.end;";
+
+/// The same by covers of two columns.
+const CHAIN: &str =
+    ".model chain;.inputs a b c d e f g;.outputs o;.names a b s;10 1;01 1;.names s c t;10 1;01 1;.names t d u;10 1;01 1;.names u e v;10 1;01 1;.names v f o;11 1;.end;";
+
+/// The formals' actuals in three instances.
+const ACTUALS: [&str; 3] = [
+    "a=a b=b c=c d=d e=e f=f g=g",
+    "a=g b=f c=e d=d e=c f=b g=a",
+    "a=a b=c c=e d=g e=b f=d g=f",
+];
+
+/// The third instance with two of the actuals exchanged.
+const EXCHANGED: &str = "a=a b=c c=e d=g e=b f=f g=d";
+
+/// A model whose output is the exclusive or of three instances of a model.
+fn three_of(alloc: Global, name: &str, model: &str, third: &str) -> Result<String, AllocError> {
+    let [first, second, _] = ACTUALS;
+    format!(in alloc;
+        ".model {name};.inputs a b c d e f g;.outputs z;.subckt {model} {first} o=x;.subckt {model} {second} o=y;.subckt {model} {third} o=w;.names x y v;10 1;01 1;.names v w z;10 1;01 1;.end;"
+    )
+}
+
+/// A pair of them: the cover's instances in the one, and those by covers of two columns in the other, with this third one.
+fn pair_of_three(alloc: Global, third: &str) -> Result<String, AllocError> {
+    let [_, _, same] = ACTUALS;
+    let first = three_of(alloc, "f", "odd", same)?;
+    let second = three_of(alloc, "g", "chain", third)?;
+    format!(in alloc; "{first}{second}{ODD}{CHAIN}")
+}
+
+/// Whether the comparison of the output of such a pair answers so.
+fn answers(rt: &impl AllocGlobal, third: &str, wanted: &str) -> Result<bool, AllocError> {
+    let text = pair_of_three(rt.alloc(), third)?;
+    is_ordered_answer(rt, rt.alloc(), &text, "", Ask::Output(0, 4_096), wanted)
+}
+
+#[test]
+fn instances_of_one_cover_have_columns_of_their_own(rt: HostRuntime) {
+    let [_, _, same] = ACTUALS;
+    holds(&rt, answers(&rt, same, "none"), "equal");
+    holds(&rt, answers(&rt, EXCHANGED, "0000011"), "exchanged");
+}

@@ -1,0 +1,220 @@
+//! Covers whose splits were made, so that instances of one model needn't make them again.
+ghost use Rattle.std.specs.Prelude.{◌≡◌, ◌≤◌, ◌==◌, Bool, true, false, length, map, IfSome, IfOk};
+ghost use Rattle.eqc_cover.specs.Splits.{CoverSplits, IsSplitCover};
+
+use crate::rows::plan_cover;
+use crate::splits::{Split, Splits, expand};
+use crate::table::MOST_COLUMNS;
+use eqc_blif::{Rows, is_on_set};
+use indexmap::IndexMap;
+use std::alloc::{AllocError, Global};
+use std::marker::Model;
+
+/// A cover with fewer rows isn't kept.
+const FEWEST_ROWS: usize = 16;
+
+/// So many rows and splits are kept at most.
+const MOST_KEPT: usize = 131_072;
+
+/// A cover, and its value as splits.
+#[derive(Drop)]
+pub(crate) struct SplitCover {
+    rows: Vec<Vec<u8>>,
+    columns: usize,
+    splits: Vec<Split>,
+    place: usize,
+}
+
+impl Model for SplitCover {
+    ghost use Rattle.std.specs.Prelude.{ℕ, Bool, List, length, ◌≡◌, map};
+    ghost use Rattle.eqc_cover.specs.Splits.{CoverSplits, IsSplitCover};
+
+    ghost Value = { CoverSplits };
+
+    ghost view = { λ c. record { rows = map (λ r. r.items) c.rows.items; columns = c.columns; splits = c.splits.items; place = c.place } };
+
+    ghost invariant = { λ c. IsSplitCover (record { rows = map (λ r. r.items) c.rows.items; columns = c.columns; splits = c.splits.items; place = c.place }) };
+}
+
+/// Whether a row of a cover that is kept is this one.
+fn is_row(kept: &[u8], row: &[u8]) -> bool
+    ensures { result ≡ true → kept.now ≡ row.now }
+{
+    kept == row
+}
+
+/// A copy of the rows of a cover.
+fn copied(alloc: Global, rows: &Rows<'_>) -> Result<Vec<Vec<u8>>, AllocError>
+    ensures { IfOk result (λ copy. map (λ r. r.items) copy.items ≡ rows.now) }
+{
+    let mut copy = Vec::with_capacity(alloc, rows.len())?;
+    for k in 0..rows.len() {
+        copy.push(Vec::from_slice(alloc, rows.get(k))?)?;
+    }
+    Ok(copy)
+}
+
+impl SplitCover {
+    /// The cover of these rows over so many columns, at least six. None where it isn't expanded, and where it has too many
+    /// splits. Fails where memory is refused.
+    fn of(alloc: Global, rows: &Rows<'_>, columns: usize) -> Result<Option<SplitCover>, AllocError>
+        requires columns { 6 ≤ columns }
+        requires rows { (length rows.now == 0) ≡ false }
+        ensures { IfOk result (λ made. IfSome made (λ cover. (cover.rows ≡ rows.now) × (cover.columns ≡ columns))) }
+    {
+        let plan = plan_cover(alloc, rows, columns)?;
+        if !plan.expands {
+            return Ok(None);
+        }
+        let mut splits = Splits::none(alloc);
+        let place = expand(alloc, &mut splits, &plan.rows, 0, columns, is_on_set(rows))?;
+        Ok(Some(SplitCover {
+            rows: copied(alloc, rows)?,
+            columns,
+            splits: splits.list,
+            place,
+        }))
+    }
+
+    /// Its splits.
+    pub(crate) fn splits(&self) -> &[Split]
+        ensures splits { result.now ≡ self.now.splits }
+        ensures lawful { IsSplitCover self.now }
+    {
+        self.splits.as_slice()
+    }
+
+    /// The place of the split that has its value.
+    pub(crate) fn place(&self) -> usize
+        ensures { result ≡ self.now.place }
+    {
+        self.place
+    }
+
+    /// How many rows and splits it has.
+    fn size(&self) -> usize {
+        self.rows.len().saturating_add(self.splits.len())
+    }
+
+    /// Whether it is the cover of these rows over so many columns.
+    fn is_of(&self, rows: &Rows<'_>, columns: usize) -> bool
+        ensures { result ≡ true → (self.now.rows ≡ rows.now) × (self.now.columns ≡ columns) }
+    {
+        if self.columns != columns || self.rows.len() != rows.len() {
+            return false;
+        }
+        for k in 0..rows.len() {
+            if !is_row(&self.rows[k], rows.get(k)) {
+                return false;
+            }
+        }
+        true
+    }
+}
+
+/// What is known of a cover that was met.
+#[derive(Drop)]
+enum Met {
+    /// It was met once.
+    Once,
+    /// It isn't kept: it isn't expanded, or there was no room for its splits.
+    Left,
+    /// It is kept as splits.
+    Split(SplitCover),
+}
+
+/// Covers that were met, each by a number. One that is met again is kept as splits from then on, if it is expanded and there is
+/// room.
+#[derive(Drop)]
+pub struct Covers {
+    met: IndexMap<u64, Met>,
+    /// How many rows and splits there is room for.
+    room: usize,
+}
+
+/// A number, and what a row says.
+fn with_row(number: u64, row: &[u8]) -> u64 {
+    let mut number = number;
+    for byte in row {
+        number = number.wrapping_mul(31).wrapping_add(*byte as u64);
+    }
+    number
+}
+
+/// A number for a cover, out of four of its rows. Covers that share it are told apart by all their rows.
+fn number_of(rows: &Rows<'_>, columns: usize) -> u64
+    requires { (length rows.now == 0) ≡ false }
+{
+    let count = rows.len();
+    let number = with_row((columns as u64).wrapping_add(count as u64), rows.get(0));
+    let number = with_row(number, rows.get(count / 4));
+    let number = with_row(number, rows.get(count / 2));
+    with_row(number, rows.get(count - 1))
+}
+
+impl Covers {
+    /// None.
+    pub fn none(alloc: Global) -> Covers {
+        Covers {
+            met: IndexMap::new(alloc),
+            room: MOST_KEPT,
+        }
+    }
+
+    /// What is kept of a cover of these rows over so many columns that was met before.
+    fn split(&mut self, alloc: Global, rows: &Rows<'_>, columns: usize) -> Met
+        requires columns { 6 ≤ columns }
+        requires rows { (length rows.now == 0) ≡ false }
+    {
+        let Ok(Some(cover)) = SplitCover::of(alloc, rows, columns) else {
+            return Met::Left;
+        };
+        let size = cover.size();
+        if size > self.room {
+            return Met::Left;
+        }
+        self.room -= size;
+        Met::Split(cover)
+    }
+
+    /// Notes that a cover of these rows over so many columns, which has this number, is met. Fails where memory is refused.
+    fn meet(
+        &mut self,
+        alloc: Global,
+        rows: &Rows<'_>,
+        columns: usize,
+        number: u64,
+    ) -> Result<(), AllocError>
+        requires columns { 6 ≤ columns }
+        requires rows { (length rows.now == 0) ≡ false }
+    {
+        let met = match self.met.get(&number) {
+            None => Met::Once,
+            Some(Met::Once) => self.split(alloc, rows, columns),
+            Some(_) => return Ok(()),
+        };
+        self.met.insert(number, met)?;
+        Ok(())
+    }
+
+    /// The cover of these rows over so many columns as splits, if it is kept. It is noted that it is met.
+    pub(crate) fn splits_of(
+        &mut self,
+        alloc: Global,
+        rows: &Rows<'_>,
+        columns: usize,
+    ) -> Option<&SplitCover>
+        requires { 6 ≤ columns }
+        ensures { IfSome result (λ cover. (cover.now.rows ≡ rows.now) × (cover.now.columns ≡ columns)) }
+    {
+        if rows.len() < FEWEST_ROWS {
+            return None;
+        }
+        let number = number_of(rows, columns);
+        self.meet(alloc, rows, columns, number).ok()?;
+        match self.met.get(&number) {
+            Some(Met::Split(cover)) if cover.is_of(rows, columns) => Some(cover),
+            _ => None,
+        }
+    }
+}
