@@ -7,10 +7,4 @@ pub mod DifferenceLaws
 pub mod ToldLaws
 pub mod OutcomeLaws
 pub mod InputLemmas
-pub mod TicketCounts
-pub mod TicketSteps
-pub mod ShareLemmas
-pub mod VerdictPlaces
 pub mod AlikeLaws
-pub mod InsideLaws
-pub mod SearchingLaws

@@ -2,8 +2,4 @@ pub mod Verdict
 pub mod VerdictLaws
 pub mod Assigned
 pub mod Comparing
-pub mod Ticket
-pub mod Verdicts
 pub mod Alike
-pub mod Inside
-pub mod Searching

@@ -129,7 +129,7 @@ pub fn alike_or_nothing(alloc: Global, pair: &Pair<'_>) -> Alike
 }
 
 /// Whether nothing is to be told of an output: it is not chosen, or it is marked. Those that are marked are equal.
-pub(crate) fn is_settled(pair: &Pair<'_>, equal: &[bool], output: usize) -> bool
+pub fn is_settled(pair: &Pair<'_>, equal: &[bool], output: usize) -> bool
     requires equal { AreEqual pair.now equal.now }
     requires output { output < length pair.now.first.outputs }
     ensures none { IsTrue result → told_at pair.now output ≡ None }
@@ -156,7 +156,7 @@ pub(crate) fn are_all_settled(pair: &Pair<'_>, equal: &[bool]) -> bool
 
 /// Marks the outputs of which nothing is to be told: those that are not chosen, and those that are marked already, which are
 /// equal. Fails where memory is refused.
-pub(crate) fn settled_outputs(
+pub fn settled_outputs(
     alloc: Global,
     pair: &Pair<'_>,
     equal: &[bool],

@@ -117,7 +117,7 @@ fn difference<R, D: Diagrams<R>>(
 
 /// Compares an output in its turn, counted from 1; outputs come in rising order. The references that later turns need
 /// stay in the table.
-pub(crate) fn compare_turn<R, D: Diagrams<R>>(
+pub fn compare_turn<R, D: Diagrams<R>>(
     alloc: Global,
     rt: &R,
     d: &mut D,
@@ -138,8 +138,8 @@ pub(crate) fn compare_turn<R, D: Diagrams<R>>(
     found
 }
 
-/// The same, and where the store is full and references of earlier turns are kept, once more without them.
-pub(crate) fn compare_kept<R, D: Diagrams<R>>(
+/// Compares an output in its turn, and where the store is full and references of earlier turns are kept, once more without them.
+pub fn compare_kept<R, D: Diagrams<R>>(
     alloc: Global,
     rt: &R,
     d: &mut D,

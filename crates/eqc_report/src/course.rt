@@ -11,9 +11,8 @@ use crate::options::Options;
 use crate::report::Report;
 use crate::undecided::{Seen, Undecided};
 use crate::workers::{Comparison, Room, check_in};
-use eqc_compare::{
-    Alike, Conflicts, Inside, Progress, Searched, Stage, alike_or_nothing, known_outcome,
-};
+use eqc_compare::{Alike, Progress, Stage, alike_or_nothing, known_outcome};
+use eqc_inside::{Conflicts, Inside, Searched};
 use eqc_pair::Pair;
 use eqc_tree::Stop;
 use std::alloc::Global;

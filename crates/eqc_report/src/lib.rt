@@ -1,5 +1,5 @@
 //! The report on a pair: by one thread, by workers, in the course of a run; and its bytes. What makes a pair stands in `eqc_pair`, and
-//! how its outputs are compared in `eqc_compare`.
+//! how its outputs are compared in `eqc_compare`, `eqc_members` and `eqc_inside`.
 //!
 //! What the report has to be is said in `specs/Report.antt` and `specs/PairReport.antt`. Read the modules in this order, the way of
 //! the data:

@@ -1,8 +1,8 @@
 //! Runs in which an assumption says which assignments count, each difference is wanted, or outputs are chosen by their names.
 
 use crate::ends::holds_at;
-use crate::running::{Numbers, TEAMS, options, status_of};
 use eqc_check::{Given, ModelNames, Options, OutputNames, Texts, run, run_models};
+use eqc_run_testing::{Numbers, TEAMS, options, status_of};
 use eqc_testing::{EQUAL, Feed, is_text};
 use std::process::Abort;
 use std::sync::Wait;

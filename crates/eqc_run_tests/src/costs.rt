@@ -2,8 +2,8 @@
 //! what they cost is measured by scripts.
 
 use crate::ends::same;
-use crate::running::{TWO, options, reports_by, reports_on};
 use eqc_check::Options;
+use eqc_run_testing::{TWO, options, reports_by, reports_on};
 use eqc_testing::{doubling, input_names};
 use std::alloc::{AllocError, Global};
 

@@ -2,8 +2,8 @@
 //! for inside them, with fewer, and with 0 conflicts, diagrams alone are made.
 
 use crate::ends::same;
-use crate::running::{CONFLICTS, options};
 use eqc_check::{Options, Texts, run};
+use eqc_run_testing::{CONFLICTS, options};
 use eqc_testing::{Feed, is_text};
 use std::sync::Wait;
 use std::thread::Threads;

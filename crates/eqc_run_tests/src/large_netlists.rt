@@ -2,7 +2,7 @@
 //! recursion that would be as deep, and one signal more than there may be is refused.
 
 use crate::ends::same;
-use crate::running::{TWO, reports_on};
+use eqc_run_testing::{TWO, reports_on};
 use std::alloc::{AllocError, Global};
 
 /// How many models stand below one another.

@@ -2,9 +2,10 @@
 //! them. Covers that only mean the same are not looked into.
 ghost use Rattle.std.specs.Prelude.{◌+◌, ◌<◌, ◌^◌};
 
-use crate::ends::{holds, holds_at, same};
-use crate::running::{Numbers, TWO, check_runs, options, reports_by, reports_on};
+use crate::ends::{holds, same};
+use crate::rows::check_runs;
 use eqc_check::Options;
+use eqc_run_testing::{Numbers, TWO, options, reports_by, reports_on};
 use eqc_testing::Row;
 use std::alloc::{AllocError, Global};
 use std::sync::Wait;

@@ -2,10 +2,10 @@
 
 use crate::ends::same;
 use crate::inside::MULTIPLIERS;
-use crate::running::options;
 use eqc_check::{
     Gate, Given, ModelNames, NoDiagnostics, OutputNames, Progress, Stage, Texts, run_explained,
 };
+use eqc_run_testing::options;
 use eqc_testing::{Feed, is_text};
 use std::sync::{Mutex, Wait};
 use std::thread::Threads;

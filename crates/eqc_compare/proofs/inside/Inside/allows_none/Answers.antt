@@ -1,7 +1,0 @@
-use Rattle.std.proofs.Common.{false, subst}
-use Rattle.eqc_compare.specs.Searching.{TellsVacuous}
-use Rattle.eqc_compare.proofs.SearchingLaws.{tells_without}
-use Rattle.eqc_compare.proofs.inside.Inside.allows_none.Goals as goal
-
-pub returns-in_default-clause-found : goal.returns-in_default-clause-found
-returns-in_default-clause-found c = subst (λ p. TellsVacuous p false) c.self.view_is (tells_without c.self.inside.steps c.in_default.ensures)

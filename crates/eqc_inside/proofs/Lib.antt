@@ -1,0 +1,2 @@
+pub mod InsideLaws
+pub mod SearchingLaws

@@ -1,0 +1,14 @@
+use Rattle.std.proofs.Common.{◌≡◌}
+use Rattle.std.specs.List.{All}
+use Rattle.eqc_compare.specs.Alike.{IsKnown}
+use Rattle.eqc_inside.specs.Searching.{IsAnswerOf}
+use Rattle.eqc_compare.proofs.ToldLaws.{AreToldBefore}
+use Rattle.eqc_inside.proofs.inside.Inside.search_each.Given as goal
+
+abbrev pub invariant-loop-output : goal.invariant-loop-output
+invariant-loop-output g l = record {
+  pair : l.self ≡ l.initial.self;
+  known : IsKnown l.initial.self l.alike;
+  ahead : All (IsAnswerOf l.initial.self) l.ahead.items;
+  told : AreToldBefore l.initial.self l.every l.found.items l.output;
+}

@@ -1,0 +1,45 @@
+-- What is found of a pair in the graph of its steps, without a diagram.
+use Rattle.std.specs.Prelude.{◌≡◌, ℕ, ◌<◌, Bool, List, [], length, slice_index_or, ⊤}
+use Rattle.eqc_graph.specs.declared.node.Node.{Node}
+use Rattle.eqc_sweep.specs.Sweeping.{HasValue}
+use Rattle.eqc_witness.specs.declared.witness.Witness.{Witness}
+use Rattle.eqc_witness.specs.declared.witness.Witness.TheVariants.{Unknown}
+use Rattle.eqc_witness.specs.Witnesses.{IsFoundOf}
+use Rattle.eqc_pair.specs.PairOf.{PairOf}
+use Rattle.eqc_compare.specs.Verdict.{allows_none, differs_under}
+use Rattle.eqc_compare.specs.Comparing.{netlist_of, assumption_of, allowed_at, differs_at, IsOutcome}
+use Rattle.eqc_inside.specs.declared.asking.Question.{Question}
+use Rattle.eqc_inside.specs.declared.asking.Answer.{Answer}
+use Rattle.eqc_inside.specs.declared.searching.Searched.{Searched}
+use Rattle.eqc_inside.specs.declared.searching.Searched.TheVariants.{Found, Open, Unasked}
+
+-- a literal is true where the assumption allows the values of the variables
+abbrev pub SaysAllowed : PairOf → List Node → ℕ → Type 0
+SaysAllowed p nodes l = HasValue nodes l (allowed_at p)
+
+-- a literal is true where an output differs
+abbrev pub SaysDifferent : PairOf → List Node → ℕ → ℕ → Type 0
+SaysDifferent p nodes output l = HasValue nodes l (differs_at p output)
+
+-- whether the assumption allows no assignment is told
+abbrev pub TellsVacuous : PairOf → Bool → Type 0
+TellsVacuous p none = none ≡ allows_none (netlist_of p.first) (assumption_of p)
+
+-- what is found of the assignments under which the output at a position differs: the least, or that there is none, or any
+abbrev pub IsWitnessAt : PairOf → ℕ → Witness → Type 0
+IsWitnessAt p output found = IsFoundOf (length p.first.inputs) (differs_under (netlist_of p.first) (netlist_of p.second) (assumption_of p) (slice_index_or p.first.outputs output [])) found
+
+-- an output is asked for by a literal that is true where it differs
+pub record IsQuestionOf (p : PairOf) (nodes : List Node) (q : Question) : Type 0 where
+  pub within : q.output < length p.first.outputs
+  pub says : SaysDifferent p nodes q.output q.literal
+
+-- what is found of an output that was asked for
+abbrev pub IsAnswerOf : PairOf → Answer → Type 0
+IsAnswerOf p a = IsWitnessAt p a.output a.witness
+
+-- what is found of a pair: what its comparison has to find; or an output that may differ; or nothing
+abbrev pub IsSearched : PairOf → Bool → Searched → Type 0
+IsSearched p every (Found outcome) = IsOutcome p every outcome
+IsSearched p every (Open output seen) = (output < length p.first.outputs) × IsWitnessAt p output (Unknown seen)
+IsSearched p every Unasked = ⊤

@@ -1,0 +1,145 @@
+//! Outputs that are asked for ahead by several threads, each with searches of its own over the one graph.
+ghost use Rattle.std.specs.Prelude.{◌≡◌, ◌<◌, length, IfOk};
+ghost use Rattle.std.specs.List.{All};
+ghost use Rattle.std.specs.Thread.{IsSync};
+ghost use Rattle.eqc_inside.specs.Inside.{IsInside};
+ghost use Rattle.eqc_inside.specs.Searching.{IsAnswerOf, IsQuestionOf};
+
+use crate::searching::{difference_literal, seen_true};
+use eqc_build::Steps;
+use eqc_graph::Graph;
+use eqc_pair::Pair;
+use eqc_sweep::Sweep;
+use eqc_witness::{Witness, least_witness};
+use std::alloc::{AllocError, Global};
+use std::thread::{Threads, join};
+
+/// An output that is asked for.
+#[derive(Drop)]
+pub(crate) struct Question {
+    /// Its position in the first netlist.
+    pub output: usize,
+    /// The literal that is true where it differs.
+    pub literal: u32,
+    /// Variables and their values under which simulation saw that: none where it didn't.
+    pub seen: Vec<(u32, bool)>,
+}
+
+/// What was found of an output.
+#[derive(Drop)]
+pub(crate) struct Answer {
+    /// Its position in the first netlist.
+    pub output: usize,
+    pub witness: Witness,
+    /// The conflicts that were left of those that it could have.
+    pub left: u64,
+}
+
+/// The questions for these outputs, the last one first. An output whose steps have no literals isn't asked for. Fails where
+/// memory is refused.
+pub(crate) fn questions_of(
+    alloc: Global,
+    steps: &Steps<'_>,
+    sweep: &mut Sweep,
+    literals: &[Option<u32>],
+    outputs: &[usize],
+) -> Result<Vec<Question>, AllocError>
+    requires inside { IsInside steps.now sweep.old literals.now }
+    requires outputs { All (λ o. o < length steps.now.pair.first.outputs) outputs.now }
+    ensures inside { IsInside steps.now sweep.new literals.now }
+    ensures each { IfOk result (λ all. All (IsQuestionOf steps.now.pair sweep.new) all.items) }
+{
+    let mut all = Vec::with_capacity(alloc, outputs.len())?;
+    for k in 0..outputs.len() {
+        let output = outputs[outputs.len() - 1 - k];
+        let Some(literal) = difference_literal(steps, sweep, literals, output)? else {
+            continue;
+        };
+        let seen = seen_true(alloc, sweep, literal);
+        all.push(Question {
+            output,
+            literal,
+            seen,
+        })?;
+    }
+    Ok(all)
+}
+
+/// What is found of an output by a search with so many conflicts. Fails where memory is refused.
+fn ask(
+    alloc: Global,
+    pair: &Pair<'_>,
+    graph: &Graph,
+    question: &Question,
+    conflicts: u64,
+) -> Result<Answer, AllocError>
+    requires { IsQuestionOf pair.now graph.now question.now }
+    ensures { IfOk result (IsAnswerOf pair.now) }
+{
+    let mut left = conflicts;
+    let Question {
+        output,
+        literal,
+        seen,
+    } = question;
+    let witness = least_witness(alloc, graph, *literal, pair.variables(), seen, &mut left)?;
+    Ok(Answer {
+        output: *output,
+        witness,
+        left,
+    })
+}
+
+/// What is found of each of these outputs, one after the other.
+fn ask_each(
+    alloc: Global,
+    pair: &Pair<'_>,
+    graph: &Graph,
+    questions: &[Question],
+    conflicts: u64,
+) -> Result<Vec<Answer>, AllocError>
+    requires { All (IsQuestionOf pair.now graph.now) questions.now }
+    ensures { IfOk result (λ all. All (IsAnswerOf pair.now) all.items) }
+{
+    let mut all = Vec::with_capacity(alloc, questions.len())?;
+    for question in questions {
+        all.push(ask(alloc, pair, graph, question, conflicts)?)?;
+    }
+    Ok(all)
+}
+
+/// What is found of each of these outputs, in their order, by so many threads, of which each takes a part. Each output may have so
+/// many conflicts. Fails where memory is refused. Where a thread can't be started its part is done here.
+#[cycle(questions)]
+pub(crate) fn ask_all<R: Threads + Sync>(
+    rt: &R,
+    alloc: Global,
+    pair: &Pair<'_>,
+    graph: &Graph,
+    questions: &[Question],
+    conflicts: u64,
+    threads: u32,
+) -> Result<Vec<Answer>, AllocError>
+    requires { All (IsQuestionOf pair.now graph.now) questions.now }
+    ensures { IfOk result (λ all. All (IsAnswerOf pair.now) all.items) }
+{
+    if threads < 2 || questions.len() < 2 {
+        return ask_each(alloc, pair, graph, questions, conflicts);
+    }
+    let (some, others) = questions.split_at(questions.len() / 2);
+    let here = threads / 2;
+    let there = threads - here;
+    let front = move || -> Result<Vec<Answer>, AllocError>
+        requires { IsSync R.row × All (IsQuestionOf pair.now graph.now) some.now }
+        ensures { IfOk result (λ all. All (IsAnswerOf pair.entry.now) all.items) }
+    { ask_all(rt, alloc, pair, graph, some, conflicts, here) };
+    let back = move || -> Result<Vec<Answer>, AllocError>
+        requires { IsSync R.row × All (IsQuestionOf pair.now graph.now) others.now }
+        ensures { IfOk result (λ all. All (IsAnswerOf pair.entry.now) all.items) }
+    { ask_all(rt, alloc, pair, graph, others, conflicts, there) };
+    let (front, back) = join(rt, front, back);
+    let mut all = front?;
+    let mut others = back?;
+    all.append(&mut others)?;
+    Ok(all)
+}

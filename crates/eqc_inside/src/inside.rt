@@ -1,0 +1,250 @@
+//! What literals of a graph tell of a pair: steps of one literal have one value, so that one of them needs to be made, and
+//! outputs whose two steps have one literal are equal.
+ghost use Rattle.std.specs.Prelude.{◌≡◌, ◌<◌, IsTrue, None, length, min, slice_index, slice_index_or, slice_set, IfOk};
+ghost use Rattle.eqc_build.specs.Steps.{AreSteps, IsChoice, chosen_for};
+ghost use Rattle.eqc_compare.specs.Alike.{AreEqual, IsKnown};
+ghost use Rattle.eqc_compare.specs.Comparing.{difference_at};
+ghost use Rattle.eqc_inside.specs.Inside.{HaveOneLiteral, TellEqual, literal_of};
+
+use eqc_build::{Steps, is_marked};
+use eqc_compare::{Alike, Progress};
+use eqc_gates::{literals, needed};
+use eqc_pair::Pair;
+use eqc_sweep::{Comparison, Effort, Sweep};
+use std::alloc::{AllocError, Global};
+use std::marker::Model;
+
+/// The literal of a step that has none.
+pub(crate) const NONE: u32 = 4_294_967_295;
+
+/// A graph of the steps of a pair in which nodes that were found equal are one, and the literal of each step that was entered.
+/// Contracts see the pair.
+#[derive(Drop)]
+pub struct Inside<'a> {
+    pub(crate) steps: Steps<'a>,
+    pub(crate) sweep: Sweep,
+    pub(crate) literals: Vec<Option<u32>>,
+}
+
+impl<'a> Model for Inside<'a> {
+    ghost use Rattle.eqc_pair.specs.PairOf.{PairOf};
+    ghost use Rattle.eqc_inside.specs.Inside.{IsInside};
+
+    ghost Value = { PairOf };
+
+    ghost view = { λ a. a.steps.pair };
+
+    ghost invariant = { λ a. IsInside a.steps a.sweep a.literals.items };
+}
+
+/// The literal of a step, or none.
+pub(crate) fn literal_of(literals: &[Option<u32>], step: u32) -> u32
+    ensures { result ≡ literal_of literals.now step }
+{
+    literals
+        .get(step as usize)
+        .copied()
+        .flatten()
+        .unwrap_or(NONE)
+}
+
+/// The step that is chosen in place of one.
+fn chosen_for(chosen: &[u32], step: u32) -> u32
+    ensures { result ≡ chosen_for chosen.now step }
+{
+    chosen.get(step as usize).copied().unwrap_or(step)
+}
+
+/// The lowest step that came with a literal, of those before and this one, which is noted. It is this one where the literal
+/// is none.
+fn first_with(firsts: &mut Vec<u32>, literal: usize, step: u32) -> u32
+    ensures first { result ≡ min (slice_index_or firsts.old.items literal step) step }
+    ensures noted { firsts.new.items ≡ slice_set firsts.old.items literal result }
+{
+    let first = firsts.get(literal).copied().unwrap_or(step).min(step);
+    if literal >= firsts.len() {
+        return first;
+    }
+    firsts[literal] = first;
+    first
+}
+
+/// A number above all literals of steps.
+fn above_all(literals: &[Option<u32>]) -> u32 {
+    let mut above = 0;
+    for literal in literals {
+        let literal = literal.unwrap_or(NONE);
+        if literal != NONE && literal >= above {
+            above = literal + 1;
+        }
+    }
+    above
+}
+
+/// Chooses in place of each step the first one of its literal, and the one that is chosen already where it has none. Fails
+/// where memory is refused.
+fn first_of_literal(
+    alloc: Global,
+    steps: &Steps<'_>,
+    chosen: &[u32],
+    literals: &[Option<u32>],
+) -> Result<Vec<u32>, AllocError>
+    requires choice { IsChoice steps.now.pair chosen.now }
+    requires tell { TellEqual steps.now.pair literals.now }
+    ensures { IfOk result (λ more. IsChoice steps.now.pair more.items) }
+{
+    let mut firsts = vec![in alloc; NONE; above_all(literals) as usize]?;
+    let mut more = Vec::with_capacity(alloc, steps.len() as usize)?;
+    for k in 0..steps.len() {
+        let step = chosen_for(chosen, k);
+        let literal = literal_of(literals, step) as usize;
+        more.push(first_with(&mut firsts, literal, step))?;
+    }
+    Ok(more)
+}
+
+/// Whether two steps have one literal.
+fn have_one_literal(literals: &[Option<u32>], steps: [u32; 2]) -> bool
+    ensures { IsTrue result → HaveOneLiteral literals.now (slice_index steps 0) (slice_index steps 1) }
+{
+    let literal = literal_of(literals, steps[0]);
+    literal != NONE && literal == literal_of(literals, steps[1])
+}
+
+/// Whether an output is marked, or its two steps have one literal.
+fn is_known_equal(
+    steps: &Steps<'_>,
+    literals: &[Option<u32>],
+    marks: &[bool],
+    output: usize,
+) -> bool
+    requires lawful { AreSteps steps.now }
+    requires tell { TellEqual steps.now.pair literals.now }
+    requires equal { AreEqual steps.now.pair marks.now }
+    requires output { output < length steps.now.pair.first.outputs }
+    ensures { IsTrue result → difference_at steps.now.pair output ≡ None }
+{
+    if is_marked(marks, output) {
+        return true;
+    }
+    have_one_literal(literals, steps.roots(output))
+}
+
+/// Marks the outputs whose two steps have one literal, and those that are marked already. Fails where memory is refused.
+fn outputs_of_one_literal(
+    alloc: Global,
+    steps: &Steps<'_>,
+    literals: &[Option<u32>],
+    marks: &[bool],
+) -> Result<Vec<bool>, AllocError>
+    requires lawful { AreSteps steps.now }
+    requires tell { TellEqual steps.now.pair literals.now }
+    requires equal { AreEqual steps.now.pair marks.now }
+    ensures { IfOk result (λ more. AreEqual steps.now.pair more.items) }
+{
+    let outputs = steps.pair().first().outputs().len();
+    let mut more = Vec::with_capacity(alloc, outputs)?;
+    for output in 0..outputs {
+        more.push(is_known_equal(steps, literals, marks, output))?;
+    }
+    Ok(more)
+}
+
+/// Marks the chosen outputs that are not marked. Fails where memory is refused.
+fn unmarked(alloc: Global, pair: &Pair<'_>, marks: &[bool]) -> Result<Vec<bool>, AllocError>
+    ensures size { IfOk result (λ wanted. length wanted.items ≡ length pair.now.first.outputs) }
+{
+    let outputs = pair.first().outputs().len();
+    let mut wanted = Vec::with_capacity(alloc, outputs)?;
+    for output in 0..outputs {
+        wanted.push(pair.is_chosen(output) && !is_marked(marks, output))?;
+    }
+    Ok(wanted)
+}
+
+impl<'a> Inside<'a> {
+    /// Enters the steps of a pair that its chosen outputs need which are not marked, where this is known of it: a step that is chosen
+    /// in place of others is entered for them. It takes time and memory in proportion to the steps and their rows. The watch is
+    /// told of each step. Fails where memory is refused.
+    pub fn of<R, P: Progress<R>>(
+        rt: &R,
+        alloc: Global,
+        pair: &'a Pair<'a>,
+        alike: &Alike,
+        watch: &P,
+    ) -> Result<Inside<'a>, AllocError>
+        requires { IsKnown pair.now alike.now }
+        ensures { IfOk result (λ inside. inside ≡ pair.now) }
+    {
+        let steps = Steps::of(pair, alike.chosen.clone()?);
+        let count = steps.len() as usize;
+        let outputs = unmarked(alloc, pair, &alike.equal)?;
+        let marks = needed(alloc, &steps, &outputs)?;
+        let mut sweep = Sweep::new(alloc, Effort::usual())?;
+        let told = |step: u32| watch.step(rt, step as usize, count);
+        let literals = literals(alloc, &steps, &marks, &mut sweep, &told)?;
+        Ok(Inside {
+            steps,
+            sweep,
+            literals,
+        })
+    }
+
+    /// What is known of the pair, with what the literals tell. Fails where memory is refused.
+    pub fn known(&self, alloc: Global, alike: &Alike) -> Result<Alike, AllocError>
+        requires { IsKnown self.now alike.now }
+        ensures { IfOk result (IsKnown self.now) }
+    {
+        let equal = outputs_of_one_literal(alloc, &self.steps, &self.literals, &alike.equal)?;
+        let chosen = first_of_literal(alloc, &self.steps, &alike.chosen, &self.literals)?;
+        Ok(Alike { equal, chosen })
+    }
+
+    /// Whether an output is found equal within so many conflicts, which are counted down. It may be equal without.
+    fn is_equal(&mut self, output: usize, conflicts: &mut u64) -> bool
+        requires { output < length self.old.first.outputs }
+        ensures pair { self.new ≡ self.old }
+        ensures equal { IsTrue result → difference_at self.old output ≡ None }
+    {
+        let roots = self.steps.roots(output);
+        let x = literal_of(&self.literals, roots[0]);
+        let y = literal_of(&self.literals, roots[1]);
+        if x == NONE || y == NONE {
+            return false;
+        }
+        // Where memory is refused nothing is known.
+        matches!(self.sweep.equal(x, y, conflicts), Ok(Comparison::Equal))
+    }
+
+    /// Searches for differences of the chosen outputs that are not marked, with so many conflicts in all, and marks those for which
+    /// there is none. Whether there are any: the others may be equal too. The watch is told of each output.
+    pub fn ask_outputs<R, P: Progress<R>>(
+        &mut self,
+        rt: &R,
+        alike: &mut Alike,
+        conflicts: u64,
+        watch: &P,
+    ) -> bool
+        requires { IsKnown self.old alike.old }
+        ensures pair { self.new ≡ self.old }
+        ensures known { IsKnown self.new alike.new }
+    {
+        let mut left = conflicts;
+        let mut found = false;
+        let outputs = self.steps.pair().first().outputs().len();
+        for output in 0..outputs {
+            watch.step(rt, output, outputs);
+            if output >= alike.equal.len() || alike.equal[output] {
+                continue;
+            }
+            if !self.steps.pair().is_chosen(output) {
+                continue;
+            }
+            if self.is_equal(output, &mut left) {
+                alike.equal[output] = true;
+                found = true;
+            }
+        }
+        found
+    }
+}

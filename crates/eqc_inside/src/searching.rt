@@ -1,0 +1,370 @@
+//! What the comparison of a pair finds, found in the graph of its steps without a diagram: the outputs that differ, with their
+//! least assignments, and whether the assumption allows one.
+ghost use Rattle.std.specs.Prelude.{◌≡◌, ◌<◌, false, true, length, slice_set, IfOk, IfSome};
+ghost use Rattle.std.specs.List.{All};
+ghost use Rattle.eqc_graph.specs.Graph.{Extends, IsWithin};
+ghost use Rattle.eqc_witness.specs.Witnesses.{IsFoundOf};
+ghost use Rattle.eqc_compare.specs.Verdict.{is_allowed};
+ghost use Rattle.eqc_compare.specs.Comparing.{netlist_of, assumption_of};
+ghost use Rattle.eqc_compare.specs.Alike.{IsKnown};
+ghost use Rattle.eqc_inside.specs.Inside.{IsInside};
+ghost use Rattle.eqc_inside.specs.Searching.{IsAnswerOf, IsSearched, IsWitnessAt, SaysAllowed, SaysDifferent, TellsVacuous};
+
+use crate::asking::{Answer, ask_all, questions_of};
+use crate::inside::{Inside, NONE, literal_of};
+use eqc_build::{Steps, is_marked};
+use eqc_compare::{Alike, Difference, Outcome, Progress, is_settled};
+use eqc_pair::Pair;
+use eqc_sweep::{Comparison, Sweep};
+use eqc_witness::{Witness, least_witness};
+use std::alloc::{AllocError, Global};
+use std::thread::Threads;
+
+/// What is found of a pair.
+#[derive(Drop)]
+pub enum Searched {
+    /// What its comparison has to find.
+    Found(Outcome),
+    /// The search gave up at this output, by its position in the first netlist, with an assignment that is allowed and under which
+    /// it differs, if one was seen: maybe not the least.
+    Open(usize, Option<Vec<bool>>),
+    /// It gave up before any output, at the question whether the assumption allows an assignment.
+    Unasked,
+}
+
+/// The conflicts that the searches of a pair may have.
+#[derive(Drop, Clone, Copy)]
+pub struct Conflicts {
+    /// Those of each output.
+    pub each: u64,
+    /// Those of all outputs together.
+    pub all: u64,
+}
+
+impl Conflicts {
+    /// Those that the next output may have.
+    fn next(&self) -> u64 {
+        self.each.min(self.all)
+    }
+
+    /// Takes those away that an output used, of which so many were left.
+    fn take_used(&mut self, left: u64) {
+        let used = self.next().saturating_sub(left);
+        self.all = self.all.saturating_sub(used);
+    }
+}
+
+/// The literal that is true where the assumption allows the inputs' values: always, if there is none. None where its step has
+/// no literal.
+fn allowed_literal(steps: &Steps<'_>, sweep: &Sweep, literals: &[Option<u32>]) -> Option<u32>
+    requires { IsInside steps.now sweep.now literals.now }
+    ensures { IfSome result (SaysAllowed steps.now.pair sweep.now) }
+{
+    let Some(root) = steps.assumed_root() else {
+        return Some(sweep.constant(true));
+    };
+    let literal = literal_of(literals, root);
+    if literal == NONE {
+        return None;
+    }
+    Some(literal)
+}
+
+/// The literal that is true where an output differs and the assumption allows it, or none where its steps have no literals.
+/// Fails where memory is refused.
+pub(crate) fn difference_literal(
+    steps: &Steps<'_>,
+    sweep: &mut Sweep,
+    literals: &[Option<u32>],
+    output: usize,
+) -> Result<Option<u32>, AllocError>
+    requires inside { IsInside steps.now sweep.old literals.now }
+    requires output { output < length steps.now.pair.first.outputs }
+    ensures inside { IsInside steps.now sweep.new literals.now }
+    ensures extends { Extends sweep.old sweep.new }
+    ensures literal { IfOk result (λ found. IfSome found (SaysDifferent steps.now.pair sweep.new output)) }
+{
+    let Some(allowed) = allowed_literal(steps, sweep, literals) else {
+        return Ok(None);
+    };
+    let roots = steps.roots(output);
+    let x = literal_of(literals, roots[0]);
+    let y = literal_of(literals, roots[1]);
+    if x == NONE || y == NONE {
+        return Ok(None);
+    }
+    let differ = sweep.xor(x, y)?;
+    let literal = sweep.and(allowed, differ)?;
+    Ok(Some(literal))
+}
+
+/// Variables and their values under which simulation saw the literal true: none where it didn't. Nothing is promised of it.
+pub(crate) fn seen_true(alloc: Global, sweep: &mut Sweep, literal: u32) -> Vec<(u32, bool)>
+    requires { IsWithin sweep.old literal }
+    ensures { sweep.new ≡ sweep.old }
+{
+    let never = sweep.constant(false);
+    match sweep.equal(literal, never, &mut 0) {
+        Ok(Comparison::Differs(values)) => values,
+        _ => Vec::new(alloc),
+    }
+}
+
+/// The least assignment under which an output differs, where a literal of the graph says when it does, by a search with so many
+/// conflicts, which are counted down. Fails where memory is refused.
+fn witness_of(
+    alloc: Global,
+    pair: &Pair<'_>,
+    sweep: &mut Sweep,
+    output: usize,
+    literal: u32,
+    conflicts: &mut u64,
+) -> Result<Witness, AllocError>
+    requires output { output < length pair.now.first.outputs }
+    requires literal { SaysDifferent pair.now sweep.old output literal }
+    ensures unchanged { sweep.new ≡ sweep.old }
+    ensures found { IfOk result (IsWitnessAt pair.now output) }
+{
+    let seen = seen_true(alloc, sweep, literal);
+    least_witness(
+        alloc,
+        sweep.graph(),
+        literal,
+        pair.variables(),
+        &seen,
+        conflicts,
+    )
+}
+
+/// Whether no assignment is allowed, by what is found of those that are: none where nothing is.
+fn tells_vacuous(pair: &Pair<'_>, found: Witness) -> Option<bool>
+    requires { IsFoundOf (length pair.now.first.inputs) (is_allowed (netlist_of pair.now.first) (assumption_of pair.now)) found }
+    ensures { IfSome result (TellsVacuous pair.now) }
+{
+    let _pair = pair;
+    match found {
+        Witness::Least(_) => Some(false),
+        Witness::Never => Some(true),
+        Witness::Unknown(seen) => {
+            let Some(_) = seen else {
+                return None;
+            };
+            Some(false)
+        }
+    }
+}
+
+/// Whether no assignment is allowed, where a literal of the graph says which are, by a search with so many conflicts: none where
+/// it gave up. Fails where memory is refused.
+fn is_never_allowed(
+    alloc: Global,
+    pair: &Pair<'_>,
+    sweep: &mut Sweep,
+    literal: u32,
+    conflicts: u64,
+) -> Result<Option<bool>, AllocError>
+    requires { SaysAllowed pair.now sweep.old literal }
+    ensures unchanged { sweep.new ≡ sweep.old }
+    ensures found { IfOk result (λ found. IfSome found (TellsVacuous pair.now)) }
+{
+    let seen = seen_true(alloc, sweep, literal);
+    let mut left = conflicts;
+    let variables = pair.variables();
+    let found = least_witness(alloc, sweep.graph(), literal, variables, &seen, &mut left)?;
+    Ok(tells_vacuous(pair, found))
+}
+
+/// The next outputs from one on that are chosen and not marked, at most so many. Fails where memory is refused.
+fn open_outputs(
+    alloc: Global,
+    pair: &Pair<'_>,
+    marks: &[bool],
+    from: usize,
+    most: usize,
+) -> Result<Vec<usize>, AllocError>
+    ensures { IfOk result (λ next. All (λ o. o < length pair.now.first.outputs) next.items) }
+{
+    let mut open = Vec::with_capacity(alloc, most)?;
+    for output in from..pair.first().outputs().len() {
+        if open.len() >= most {
+            break;
+        }
+        if pair.is_chosen(output) && !is_marked(marks, output) {
+            open.push(output)?;
+        }
+    }
+    Ok(open)
+}
+
+/// Marks an output, if it has a mark.
+fn mark(alike: &mut Alike, output: usize)
+    ensures equal { alike.new.equal.items ≡ slice_set alike.old.equal.items output true }
+    ensures chosen { alike.new.chosen ≡ alike.old.chosen }
+{
+    if output < alike.equal.len() {
+        alike.equal[output] = true;
+    }
+}
+
+impl<'a> Inside<'a> {
+    /// The least assignment that is allowed and under which an output differs, in lexicographic order over the first netlist's
+    /// inputs, 0 before 1, by a search with so many conflicts, which are counted down; or that it differs under none. `output` is
+    /// its position in the first netlist. Fails where memory is refused.
+    pub fn search_output(
+        &mut self,
+        alloc: Global,
+        output: usize,
+        conflicts: &mut u64,
+    ) -> Result<Witness, AllocError>
+        requires { output < length self.old.first.outputs }
+        ensures pair { self.new ≡ self.old }
+        ensures found { IfOk result (IsWitnessAt self.old output) }
+    {
+        let pair = self.steps.pair();
+        match difference_literal(&self.steps, &mut self.sweep, &self.literals, output)? {
+            Some(literal) => witness_of(alloc, pair, &mut self.sweep, output, literal, conflicts),
+            None => Ok(Witness::Unknown(None)),
+        }
+    }
+
+    /// Whether the assumption allows no assignment, by a search with so many conflicts: none where it gave up. Without an
+    /// assumption each is allowed. Fails where memory is refused.
+    pub fn allows_none(&mut self, alloc: Global, conflicts: u64) -> Result<Option<bool>, AllocError>
+        ensures pair { self.new ≡ self.old }
+        ensures found { IfOk result (λ found. IfSome found (TellsVacuous self.old)) }
+    {
+        let pair = self.steps.pair();
+        let Some(_) = self.steps.assumed_root() else {
+            return Ok(Some(false));
+        };
+        match allowed_literal(&self.steps, &self.sweep, &self.literals) {
+            Some(literal) => is_never_allowed(alloc, pair, &mut self.sweep, literal, conflicts),
+            None => Ok(None),
+        }
+    }
+
+    /// What is found of the next outputs from one on that are chosen and not marked, one for each thread, the last one first.
+    /// Fails where memory is refused.
+    fn ask_ahead<R: Threads + Sync>(
+        &mut self,
+        rt: &R,
+        alloc: Global,
+        marks: &[bool],
+        from: usize,
+        conflicts: u64,
+        threads: u32,
+    ) -> Result<Vec<Answer>, AllocError>
+        ensures pair { self.new ≡ self.old }
+        ensures found { IfOk result (λ all. All (IsAnswerOf self.old) all.items) }
+    {
+        let pair = self.steps.pair();
+        let open = open_outputs(alloc, pair, marks, from, threads as usize)?;
+        let questions = questions_of(alloc, &self.steps, &mut self.sweep, &self.literals, &open)?;
+        let graph = self.sweep.graph();
+        ask_all(rt, alloc, pair, graph, &questions, conflicts, threads)
+    }
+
+    /// What is found of an output: with several threads the next ones are asked for beside it, and what is found of these is
+    /// kept, the last one first. Fails where memory is refused.
+    fn next_witness<R: Threads + Sync>(
+        &mut self,
+        rt: &R,
+        alloc: Global,
+        marks: &[bool],
+        output: usize,
+        conflicts: &mut u64,
+        threads: u32,
+        ahead: &mut Vec<Answer>,
+    ) -> Result<Witness, AllocError>
+        requires output { output < length self.old.first.outputs }
+        requires ahead { All (IsAnswerOf self.old) ahead.old.items }
+        ensures pair { self.new ≡ self.old }
+        ensures ahead { All (IsAnswerOf self.old) ahead.new.items }
+        ensures found { IfOk result (IsWitnessAt self.old output) }
+    {
+        if threads > 1 && ahead.is_empty() {
+            *ahead = self.ask_ahead(rt, alloc, marks, output, *conflicts, threads)?;
+        }
+        if let Some(answer) = ahead.pop() {
+            if answer.output == output {
+                *conflicts = answer.left;
+                return Ok(answer.witness);
+            }
+        }
+        self.search_output(alloc, output, conflicts)
+    }
+
+    /// The chosen outputs that differ, with their least assignments, where some assignment is allowed: all of them, or the first
+    /// alone. Outputs that are marked are not asked about, and those that never differ become marked. The watch is told of each
+    /// output. Fails where memory is refused.
+    fn search_each<R: Threads + Sync, P: Progress<R>>(
+        &mut self,
+        rt: &R,
+        alloc: Global,
+        alike: &mut Alike,
+        every: bool,
+        conflicts: Conflicts,
+        threads: u32,
+        watch: &P,
+    ) -> Result<Searched, AllocError>
+        requires known { IsKnown self.old alike.old }
+        requires allowed { TellsVacuous self.old false }
+        ensures pair { self.new ≡ self.old }
+        ensures known { IsKnown self.new alike.new }
+        ensures found { IfOk result (IsSearched self.old every) }
+    {
+        let mut conflicts = conflicts;
+        let mut found = Vec::new(alloc);
+        let mut ahead = Vec::new(alloc);
+        let outputs = self.steps.pair().first().outputs().len();
+        for output in 0..outputs {
+            watch.step(rt, output, outputs);
+            if is_settled(self.steps.pair(), &alike.equal, output) {
+                continue;
+            }
+            let mut left = conflicts.next();
+            let marks = &alike.equal;
+            let witness = self.next_witness(
+                rt, alloc, marks, output, &mut left, threads, &mut ahead,
+            )?;
+            conflicts.take_used(left);
+            match witness {
+                Witness::Never => mark(alike, output),
+                Witness::Unknown(seen) => return Ok(Searched::Open(output, seen)),
+                Witness::Least(values) => {
+                    found.push(Difference { output, values })?;
+                    if !every {
+                        return Ok(Searched::Found(Outcome::Compared(found)));
+                    }
+                }
+            }
+        }
+        Ok(Searched::Found(Outcome::Compared(found)))
+    }
+
+    /// What the comparison of the pair has to find, by searches with so many conflicts: with `every` each chosen output that
+    /// differs, else the first; or `Vacuous`, where the assumption allows no assignment. Outputs that are marked are not asked
+    /// about, and those that never differ become marked. So many outputs are asked for side by side, each in a thread of its own,
+    /// or in this one where no thread can be started. The watch is told of each output. Fails where memory is refused.
+    pub fn search_outputs<R: Threads + Sync, P: Progress<R>>(
+        &mut self,
+        rt: &R,
+        alloc: Global,
+        alike: &mut Alike,
+        every: bool,
+        conflicts: Conflicts,
+        threads: u32,
+        watch: &P,
+    ) -> Result<Searched, AllocError>
+        requires { IsKnown self.old alike.old }
+        ensures pair { self.new ≡ self.old }
+        ensures known { IsKnown self.new alike.new }
+        ensures found { IfOk result (IsSearched self.old every) }
+    {
+        match self.allows_none(alloc, conflicts.next())? {
+            Some(true) => Ok(Searched::Found(Outcome::Vacuous)),
+            Some(false) => { self.search_each(rt, alloc, alike, every, conflicts, threads, watch) }
+            None => Ok(Searched::Unasked),
+        }
+    }
+}

@@ -1,0 +1,4 @@
+pub mod TicketCounts
+pub mod TicketSteps
+pub mod ShareLemmas
+pub mod VerdictPlaces

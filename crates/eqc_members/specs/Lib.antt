@@ -1,0 +1,2 @@
+pub mod Ticket
+pub mod Verdicts

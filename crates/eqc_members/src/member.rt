@@ -1,0 +1,69 @@
+//! What a member compares with.
+ghost use Rattle.std.specs.Prelude.{◌≡◌, ◌≢◌, ◌<◌, ◌≤◌, false, length, IfOk, IfErr};
+ghost use Rattle.eqc_build.specs.Turns.{AreKept, is_marked};
+ghost use Rattle.eqc_compare.specs.Comparing.{IsDifferenceAt};
+ghost use Rattle.eqc_members.specs.Verdicts.{IsTask};
+
+use crate::task::Task;
+use eqc_build::{Kept, give_back_kept, nothing_built};
+use eqc_compare::{compare_kept, compare_turn};
+use eqc_pair::Pair;
+use eqc_tree::{Diagrams, References, Stop};
+use std::alloc::Global;
+
+/// The diagrams of a member, from its first draw to its last, and those of steps that later outputs need.
+pub(crate) struct Member<D: References> {
+    pub diagrams: D,
+    pub kept: Kept<D::Ref>,
+}
+
+/// A member over diagrams.
+pub(crate) fn begin<D: References + Drop>(
+    alloc: Global,
+    diagrams: D,
+    pair: &Pair<'_>,
+) -> Result<Member<D>, Stop>
+    requires variables { length pair.now.first.inputs ≤ (D.holding diagrams).variables }
+    ensures kept { IfOk result (λ m. AreKept D.entry pair.now (D.holding m.diagrams) m.kept.table) }
+    ensures only { IfErr result (λ s. s ≡ Stop.Memory) }
+{
+    match nothing_built::<D>(alloc, pair) {
+        Ok(kept) => Ok(Member { diagrams, kept }),
+        Err(_) => Err(Stop::Memory),
+    }
+}
+
+/// The least assignment under which an output differs that is not marked. A member's outputs come in rising order.
+pub(crate) fn compare<R, D: Diagrams<R>>(
+    rt: &R,
+    alloc: Global,
+    member: &mut Member<D>,
+    pair: &Pair<'_>,
+    task: &Task<'_>,
+    output: u32,
+) -> Result<Option<Vec<bool>>, Stop>
+    requires kept { AreKept D.entry pair.now (D.holding member.old.diagrams) member.old.kept.table }
+    requires task { IsTask pair.now task.now }
+    requires output { output < length pair.now.first.outputs }
+    requires unmarked { is_marked task.now.settled.items output ≡ false }
+    ensures least { IfOk result (IsDifferenceAt pair.now output) }
+    ensures kept { AreKept D.entry pair.now (D.holding member.new.diagrams) member.new.kept.table }
+    ensures only { IfErr result (λ s. s ≢ Stop.Threads) }
+{
+    let Member { diagrams, kept } = member;
+    let (output, turn) = (output as usize, output + 1);
+    if task.patience.tries_again() {
+        compare_kept(alloc, rt, diagrams, &task.plan, kept, output, turn)
+    } else {
+        compare_turn(alloc, rt, diagrams, &task.plan, kept, output, turn)
+    }
+}
+
+/// The member's diagrams, with what they held at first.
+pub(crate) fn end<D: References>(member: Member<D>, pair: &Pair<'_>) -> D
+    requires { AreKept D.entry pair.now (D.holding member.diagrams) member.kept.table }
+{
+    let Member { mut diagrams, kept } = member;
+    give_back_kept(&mut diagrams, kept);
+    diagrams
+}
