@@ -11,6 +11,7 @@ ghost use Rattle.eqc_plain.specs.Spending.{Spends};
 
 use crate::applier::Applier;
 use crate::reference::Ref;
+use eqc_plain::NodeCount;
 use eqc_tree::{Diagrams, Op, References, Stop};
 use std::alloc::Global;
 use std::sync::Wait;
@@ -260,5 +261,23 @@ impl<R: Wait> Diagrams<R> for Applier {
             Ok(values) => Ok(Some(values)),
             Err(stop) => Err(stop),
         }
+    }
+}
+
+impl NodeCount for Applier {
+    ghost use Rattle.std.specs.Prelude.{length};
+
+    ghost room = { λ a. a.names.worker.known.core.sizes.names - 2 };
+
+    /// About as many as all workers' nodes take, by the stripe that this worker saw last, and no fewer than those that it holds by
+    /// itself, where there is room for as many.
+    fn nodes_in_use(&self) -> u32
+        ensures room { result ≤ self.now.names.worker.known.core.sizes.names - 2 }
+        ensures own { result < self.now.names.worker.known.core.sizes.names - 2 → length self.now.names.worker.known.core.held ≤ result }
+    {
+        let slots = self.names.worker.slots();
+        let about = self.names.worker.slots_about_taken() as u64;
+        let own = self.names.worker.held();
+        about.max(own).min(u64::from(slots)) as u32
     }
 }

@@ -3,6 +3,7 @@
 //! The run tells a `Watch` what it does, which takes a few steps in memory. A thread beside it shows that line, ten times a second
 //! and at first when a tenth of a second is over, so a short run shows nothing.
 
+use crossbeam_utils::atomic::AtomicCell;
 use eqc_check::{Gate, Progress, Stage};
 use std::fmt;
 use std::fmt::{Display, Formatter};
@@ -21,6 +22,8 @@ pub struct Told {
     done: usize,
     /// Of how many; 0 where the stage doesn't come by them.
     all: usize,
+    /// How many nodes are in use; 0 where the stage makes no diagrams, or hasn't yet.
+    nodes: u32,
     elapsed: Duration,
 }
 
@@ -36,6 +39,8 @@ struct Screen {
 pub struct Watch {
     start: Option<Instant>,
     told: Mutex<Told>,
+    /// Told behind each operation on diagrams, by each worker, so that none waits for it.
+    nodes: AtomicCell<u32>,
     screen: Mutex<Screen>,
     ended: Condvar,
 }
@@ -67,6 +72,18 @@ impl Told {
         }
     }
 
+    /// Puts how many nodes are in use. Those that workers share aren't counted one by one.
+    fn put_nodes<W: fmt::Write>(&self, f: &mut Formatter<W>) -> fmt::Result {
+        let nodes = self.nodes;
+        if nodes == 0 {
+            return Ok(());
+        }
+        match self.stage {
+            Stage::AllDiagrams => write!(f, ", about {nodes} nodes"),
+            _ => write!(f, ", {nodes} nodes"),
+        }
+    }
+
     /// Puts for how long the run has run.
     fn put_time<W: fmt::Write>(&self, f: &mut Formatter<W>) -> fmt::Result {
         let seconds = self.elapsed.as_secs();
@@ -81,6 +98,7 @@ impl Display for Told {
     fn fmt<W: fmt::Write>(&self, f: &mut Formatter<W>) -> fmt::Result {
         write!(f, "eqc: {}", words(self.stage))?;
         self.put_place(f)?;
+        self.put_nodes(f)?;
         self.put_time(f)
     }
 }
@@ -94,8 +112,10 @@ impl Watch {
                 stage: Stage::Reading,
                 done: 0,
                 all: 0,
+                nodes: 0,
                 elapsed: Duration::from_secs(0),
             }),
+            nodes: AtomicCell::new(0),
             screen: Mutex::new(Screen {
                 stands: false,
                 ended: false,
@@ -117,6 +137,7 @@ impl Watch {
             stage,
             done,
             all,
+            nodes: self.nodes.load(),
             elapsed,
         })
     }
@@ -172,11 +193,16 @@ impl<R: Eprint + Wait> Progress<R> for Watch {
         told.stage = stage;
         told.done = 0;
         told.all = 0;
+        self.nodes.store(0);
     }
 
     fn step(&self, rt: &R, done: usize, all: usize) {
         let mut told = self.told.lock(rt);
         told.done = done;
         told.all = all;
+    }
+
+    fn nodes(&self, _rt: &R, nodes: u32) {
+        self.nodes.store(nodes);
     }
 }

@@ -36,6 +36,10 @@ pub trait Progress<R>: Gate<R> {
     /// Called on the run's own thread at any time in a stage: it is through with `done` of `all` steps while it sweeps, and with
     /// so many outputs in each other stage that comes by them. Outputs that aren't compared or asked about count too.
     fn step(&self, rt: &R, done: usize, all: usize);
+
+    /// Called on a member's own thread behind each operation on diagrams: so many nodes are in use. Where members share them it
+    /// is about so many, and they may tell of it in any order.
+    fn nodes(&self, rt: &R, nodes: u32);
 }
 
 /// A gate that returns at once, and knows nothing of how far a run is.
@@ -49,4 +53,6 @@ impl<R> Progress<R> for NoGate {
     fn stage(&self, _rt: &R, _stage: Stage) {}
 
     fn step(&self, _rt: &R, _done: usize, _all: usize) {}
+
+    fn nodes(&self, _rt: &R, _nodes: u32) {}
 }

@@ -7,7 +7,7 @@ ghost use Rattle.eqc_tree.specs.Holding.{Entry, IsHeld, Gains, Loses, Keeps, cop
 ghost use Rattle.eqc_tree.specs.Operation.{operate};
 
 use crate::ends::same;
-use eqc_plain::Plain;
+use eqc_plain::{NodeCount, Plain};
 use eqc_tree::{Diagrams, Op, References, Stop};
 
 /// The exclusive or by two operations.
@@ -132,6 +132,15 @@ fn two_ways_agree(rt: HostRuntime) {
     let mut d = Plain::new(rt.alloc(), 2, 100).expect(&rt, "memory");
     same(&rt, agrees(&rt, &mut d), Ok(true), "two ways");
     hand_over(d);
+}
+
+/// Two variables, the complement of the second, and one node each for the three operations on both.
+#[test]
+fn each_node_that_was_made_is_in_use(rt: HostRuntime) {
+    let mut d = Plain::new(rt.alloc(), 2, 100).expect(&rt, "memory");
+    same(&rt, d.nodes_in_use(), 0, "before the first");
+    same(&rt, agrees(&rt, &mut d), Ok(true), "two ways");
+    same(&rt, d.nodes_in_use(), 6, "all are given back");
 }
 
 /// Whether a variable is this function.

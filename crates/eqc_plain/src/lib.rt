@@ -4,7 +4,7 @@
 //! open tasks on a stack of its own, so it passes through any number of variables in little of
 //! the thread's stack. Read the modules in this order:
 //!
-//! - `plain`, the public type and its calls; `reference`, what is handed out
+//! - `plain`, the public type and its calls; `reference`, what is handed out; `node_count`, what tells how many nodes are in use
 //! - `store`, the nodes and counts, which is public for copies of other diagrams; `unique_table`, the list of node
 //!   words that finds a word
 //! - `apply`, the loop; `task`, its stack; `terminal`, what needs no nodes; `cache`; `turns`, how long the loop may go on. The
@@ -16,6 +16,7 @@ mod apply;
 pub mod cache;
 mod diagram;
 mod least;
+mod node_count;
 mod plain;
 mod reference;
 mod search;
@@ -25,5 +26,6 @@ pub mod terminal;
 pub mod turns;
 mod unique_table;
 
+pub use node_count::NodeCount;
 pub use plain::Plain;
 pub use reference::Ref;

@@ -4,6 +4,7 @@ ghost use Rattle.eqc_plain.specs.Cache.{IsCache};
 ghost use Rattle.eqc_plain.specs.Meaning.{meaning_of};
 
 use crate::cache::Cache;
+use crate::node_count::NodeCount;
 use crate::reference::Ref;
 use crate::store::Store;
 use crate::task::Task;
@@ -231,5 +232,19 @@ impl<R> Diagrams<R> for Plain {
             Ok(values) => Ok(Some(values)),
             Err(_) => Err(Stop::Memory),
         }
+    }
+}
+
+impl NodeCount for Plain {
+    ghost use Rattle.std.specs.Prelude.{◌≤◌, length};
+
+    ghost room = { λ p. p.store.limit };
+
+    /// Each node that was made, since none is given back.
+    fn nodes_in_use(&self) -> u32
+        ensures room { result ≤ self.now.store.limit }
+        ensures each { result ≡ length self.now.store.nodes }
+    {
+        self.store.nodes.len() as u32
     }
 }

@@ -5,3 +5,4 @@ pub mod ReportLemmas
 pub mod WrittenLemmas
 pub mod FoundLaws
 pub mod EvaluationLaws
+pub mod WatchedLemmas

@@ -5,8 +5,8 @@
 //! the data:
 //!
 //! - `options`, what a comparison may use
-//! - `checking`, a pair's report by one thread, and `evaluating`, an output's value; `workers`, by several; `course`, that of a run, and `undecided`, the outputs that a
-//!   stop leaves
+//! - `checking`, a pair's report by one thread, and `evaluating`, an output's value; `workers`, by several, and `watched`, how these
+//!   tell of their nodes; `course`, that of a run, and `undecided`, the outputs that a stop leaves
 //! - `report`, reports and their bytes; `io`, how a text is written, and what may go wrong there
 #![tactic(auto, using(eqc_tree::proofs::HoldingLemmas::counts_itself))]
 
@@ -17,6 +17,7 @@ mod io;
 mod options;
 mod report;
 mod undecided;
+mod watched;
 mod workers;
 
 pub use checking::check_plain;

@@ -10,8 +10,9 @@ ghost use Rattle.eqc_report.specs.Options.{options_code};
 use crate::checking::found_report;
 use crate::options::Options;
 use crate::report::Report;
+use crate::watched::all_watched;
 use eqc_apply::{Allowance, Applier, team_with};
-use eqc_compare::{Alike, Gate};
+use eqc_compare::{Alike, Gate, Progress};
 use eqc_members::{Patience, compare_by_members};
 use eqc_pair::Pair;
 use eqc_plain::Plain;
@@ -155,7 +156,7 @@ fn team_for(
 
 /// The report by diagrams on one thread, where this is known of the pair, or why it stopped. A store that is full is left at
 /// once: what was given back there makes no room.
-fn check_first<R: Threads + Wait + Sync, P: Gate<R> + Sync>(
+fn check_first<R: Threads + Wait + Sync, P: Progress<R> + Sync>(
     comparison: &Comparison<'_, R, P>,
     alike: Alike,
 ) -> Result<Report, Stop>
@@ -170,15 +171,15 @@ fn check_first<R: Threads + Wait + Sync, P: Gate<R> + Sync>(
         options,
         watch,
     } = *comparison;
-    let members = first_member(alloc, pair, options)?;
+    let members = all_watched(alloc, first_member(alloc, pair, options)?, watch)?;
     let brief = Patience::brief(0);
     check_known(rt, alloc, pair, options.every, members, alike, brief, watch)
 }
 
-/// The report by the team that the options ask for, where this is known of the pair, or why it stopped.
-fn check_by_team<R: Threads + Wait + Sync, P: Gate<R> + Sync>(
+/// The report by the team that the options ask for, where this is known of the pair, or why it stopped. It is given up as the
+/// turns of one of its workers are spent.
+fn check_by_team<R: Threads + Wait + Sync, P: Progress<R> + Sync>(
     comparison: &Comparison<'_, R, P>,
-    turns: Option<u64>,
     alike: Alike,
 ) -> Result<Report, Stop>
     requires options { options_code comparison.now.options.now ≡ None }
@@ -192,7 +193,9 @@ fn check_by_team<R: Threads + Wait + Sync, P: Gate<R> + Sync>(
         options,
         watch,
     } = *comparison;
-    let members = team_for(alloc, pair, options, turns)?;
+    let turns = TURNS + TURNS_PER_NODE * u64::from(options.nodes);
+    let team = team_for(alloc, pair, options, Some(turns))?;
+    let members = all_watched(alloc, team, watch)?;
     let patience = Patience::of_forks(options.forks);
     check_known(
         rt,
@@ -206,8 +209,9 @@ fn check_by_team<R: Threads + Wait + Sync, P: Gate<R> + Sync>(
     )
 }
 
-/// The report in a room, where this is known of the pair, or why it stopped. The watch is told of each comparison.
-pub(crate) fn check_in<R: Threads + Wait + Sync, P: Gate<R> + Sync>(
+/// The report in a room, where this is known of the pair, or why it stopped. The watch is told of each comparison, and of the
+/// nodes in use behind each operation.
+pub(crate) fn check_in<R: Threads + Wait + Sync, P: Progress<R> + Sync>(
     comparison: &Comparison<'_, R, P>,
     room: Room,
     alike: Alike,
@@ -218,10 +222,7 @@ pub(crate) fn check_in<R: Threads + Wait + Sync, P: Gate<R> + Sync>(
 {
     match room {
         Room::First => check_first(comparison, alike),
-        Room::Whole => {
-            let turns = TURNS + TURNS_PER_NODE * u64::from(comparison.options.nodes);
-            check_by_team(comparison, Some(turns), alike)
-        }
+        Room::Whole => check_by_team(comparison, alike),
     }
 }
 
@@ -242,12 +243,16 @@ pub fn check<R: Threads + Wait + Sync, G: Gate<R> + Sync>(
     requires { options_code options.now ≡ None }
     ensures report { IfOk result (λ report. report_of report ≡ pair_report options.now.every pair.now) }
 {
-    let comparison = Comparison {
+    let members = team_for(alloc, pair, options, None)?;
+    let patience = Patience::of_forks(options.forks);
+    check_known(
         rt,
         alloc,
         pair,
-        options,
-        watch: gate,
-    };
-    check_by_team(&comparison, None, Alike::nothing(alloc))
+        options.every,
+        members,
+        Alike::nothing(alloc),
+        patience,
+        gate,
+    )
 }

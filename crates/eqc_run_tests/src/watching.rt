@@ -29,11 +29,12 @@ fn letter(stage: Stage) -> u8 {
 }
 
 /// Notes what it is told: a letter for each stage, and the digit of each output that is compared; and how many steps or outputs it
-/// was told of since the last stage began, each behind the one before.
+/// was told of since the last stage began, each behind the one before; and the most nodes that were ever in use.
 #[derive(Drop)]
 struct Notes {
     told: Mutex<Vec<u8>>,
     steps: Mutex<usize>,
+    most_nodes: Mutex<u32>,
     /// How often something came out of its turn.
     wrong: Mutex<u64>,
 }
@@ -66,19 +67,25 @@ impl<R: Wait> Progress<R> for Notes {
         }
         *steps = steps.saturating_add(1);
     }
+
+    fn nodes(&self, rt: &R, nodes: u32) {
+        let mut most = self.most_nodes.lock(rt);
+        *most = nodes.max(*most);
+    }
 }
 
-/// The stages and outputs that a run on a text with so many workers and nodes tells: none where it doesn't report that all is
-/// equal, or where something came out of its turn.
+/// The stages and outputs that a run on a text with so many workers and nodes tells, and the most nodes in use: none where it
+/// doesn't report that all is equal, or where something came out of its turn.
 fn told_of(
     rt: &(impl AllocGlobal + Threads + Wait + Sync),
     text: &'static str,
     workers: u32,
     nodes: u32,
-) -> Option<Vec<u8>> {
+) -> Option<(Vec<u8>, u32)> {
     let notes = Notes {
         told: Mutex::new(Vec::new(rt.alloc())),
         steps: Mutex::new(0),
+        most_nodes: Mutex::new(0),
         wrong: Mutex::new(0),
     };
     let given = Given {
@@ -92,35 +99,44 @@ fn told_of(
     let mut out = Vec::new(rt.alloc());
     let nobody: Option<&mut NoDiagnostics> = None;
     let done = run_explained(rt, rt.alloc(), given, &mut out, nobody, &notes);
-    let Notes { told, wrong, .. } = notes;
+    let Notes {
+        told,
+        most_nodes,
+        wrong,
+        ..
+    } = notes;
     let right = done.is_ok() && is_text(&out, "equivalent;") && wrong.into_inner() == 0;
-    right.then_some(told.into_inner())
+    right.then_some((told.into_inner(), most_nodes.into_inner()))
 }
 
-/// Whether this was told.
-fn is_told(told: &Option<Vec<u8>>, wanted: &str) -> bool {
-    told.as_ref()
-        .is_some_and(|told| told.as_slice() == wanted.as_bytes())
+/// Whether this was told, and the most nodes in use were so many.
+fn is_told(told: &Option<(Vec<u8>, u32)>, wanted: &str, few: u32, many: u32) -> bool {
+    told.as_ref().is_some_and(|(told, nodes)| {
+        told.as_slice() == wanted.as_bytes() && few <= *nodes && *nodes <= many
+    })
 }
 
-/// Numbers of workers and nodes, and what is told of the text `THREE` with them.
-static ROWS: &[(u32, u32, &str)] = &[
-    (1, 65_536, "rsd012e"),
-    (8, 65_536, "rsd012e"),
-    (1, 1_023, "rsw012e"),
+/// Numbers of workers and nodes, what is told of the text `THREE` with them, and how many nodes at least and at most. The three
+/// outputs have five; over two variables there are fourteen in all, which workers that share them don't count one by one.
+#[rattlefmt::skip]
+static ROWS: &[(u32, u32, &str, u32, u32)] = &[
+    (1, 65_536, "rsd012e", 5, 14),
+    (8, 65_536, "rsd012e", 5, 14),
+    (1, 1_023, "rsw012e", 5, 1_023),
 ];
 
 #[test]
-fn a_run_tells_its_stages_and_each_output_once(rt: HostRuntime) {
-    for (workers, nodes, wanted) in ROWS {
+fn a_run_tells_its_stages_each_output_once_and_its_nodes(rt: HostRuntime) {
+    for (workers, nodes, wanted, few, many) in ROWS {
         let told = told_of(&rt, THREE, *workers, *nodes);
-        same(&rt, is_told(&told, wanted), true, *wanted);
+        same(&rt, is_told(&told, wanted, *few, *many), true, *wanted);
     }
 }
 
+/// The first room is left where it is full.
 #[test]
 fn a_run_tells_how_far_it_sweeps(rt: HostRuntime) {
     let wanted = "rsd23456iafe";
     let told = told_of(&rt, MULTIPLIERS, 2, 1_024);
-    same(&rt, is_told(&told, wanted), true, wanted);
+    same(&rt, is_told(&told, wanted, 1_024, 1_024), true, wanted);
 }

@@ -10,6 +10,7 @@ ghost use Rattle.eqc_team_tests.specs.Building.{AreHeld, IsSame, IsBeside, IsBui
 
 use crate::ends::{keep, keep_all};
 use eqc_apply::{Allowance, Applier, Ref, team, team_with};
+use eqc_plain::NodeCount;
 use eqc_tree::{Diagrams, Op, References, Stop};
 use std::mem::ManuallyDrop;
 use std::process::Abort;
@@ -205,6 +206,11 @@ impl Builder {
     /// How many references there are.
     pub fn count(&self) -> usize {
         self.references.len()
+    }
+
+    /// How many nodes are in use, as the member tells it.
+    pub fn nodes_in_use(&self) -> u32 {
+        self.member.nodes_in_use()
     }
 
     /// Does an operation of another member, if one is offered, and tells whether it did.

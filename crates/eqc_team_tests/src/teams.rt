@@ -36,6 +36,24 @@ fn a_lone_member_builds_and_closes(rt: HostRuntime) {
     same(&rt, lone.close(&rt), 0, "close");
 }
 
+/// Both variables and their conjunction are nodes that it holds.
+#[test]
+fn a_member_tells_of_its_nodes_at_least(rt: HostRuntime) {
+    let (mut lone, _) = first(&rt, 3, 100, 64, 1, 0);
+    same(&rt, lone.nodes_in_use(), 0, "before the first");
+    let x = place_of(&rt, &mut lone, Wanted::Literal(0));
+    let y = place_of(&rt, &mut lone, Wanted::Literal(1));
+    place_of(&rt, &mut lone, Wanted::Applied(Op::And, x, y));
+    let nodes = lone.nodes_in_use();
+    same(
+        &rt,
+        nodes >= 3 && nodes <= 100,
+        true,
+        "three nodes of a hundred",
+    );
+    same(&rt, lone.close(&rt), 0, "close");
+}
+
 /// The exclusive or of these variables, from the first one on, of which the result alone stays: at the place that is told.
 pub fn parity(
     rt: &(impl Abort + Wait),

@@ -91,18 +91,18 @@ fn a_line_stands_until_the_report_comes(rt: HostRuntime) {
     }
 }
 
-/// A stage, how far it is, and its line after as many readings of the clock as rows.
-type Line = (Stage, usize, usize, &'static str);
+/// A stage, how far it is, the nodes that it tells of, if any, and its line after as many readings of the clock as rows.
+type Line = (Stage, usize, usize, Option<u32>, &'static str);
 
 #[rattlefmt::skip]
 static LINES: &[Line] = &[
-    (Stage::Reading, 0, 0, "eqc: reading, 25.0 s"),
-    (Stage::Structure, 0, 0, "eqc: comparing structure, 50.0 s"),
-    (Stage::FirstDiagrams, 0, 64, "eqc: diagrams, output 1 of 64, 1 min 15 s"),
-    (Stage::Sweeping, 1_200, 50_000, "eqc: sweeping, step 1200 of 50000, 1 min 40 s"),
-    (Stage::Asking, 2, 64, "eqc: asking what is equal, output 3 of 64, 2 min 5 s"),
-    (Stage::Searching, 63, 64, "eqc: searching for differences, output 64 of 64, 2 min 30 s"),
-    (Stage::AllDiagrams, 64, 64, "eqc: diagrams by all workers, output 64 of 64, 2 min 55 s"),
+    (Stage::Reading, 0, 0, None, "eqc: reading, 25.0 s"),
+    (Stage::Structure, 0, 0, None, "eqc: comparing structure, 50.0 s"),
+    (Stage::FirstDiagrams, 0, 64, Some(41_310), "eqc: diagrams, output 1 of 64, 41310 nodes, 1 min 15 s"),
+    (Stage::Sweeping, 1_200, 50_000, None, "eqc: sweeping, step 1200 of 50000, 1 min 40 s"),
+    (Stage::Asking, 2, 64, None, "eqc: asking what is equal, output 3 of 64, 2 min 5 s"),
+    (Stage::Searching, 63, 64, None, "eqc: searching for differences, output 64 of 64, 2 min 30 s"),
+    (Stage::AllDiagrams, 64, 64, Some(524_288), "eqc: diagrams by all workers, output 64 of 64, about 524288 nodes, 2 min 55 s"),
 ];
 
 /// A runtime whose clock is a terminal's.
@@ -133,9 +133,12 @@ fn have_lines<R: AllocGlobal + Wait>(rt: &R) -> Result<bool, AllocError> {
     let terminal = Terminal::new(Vec::new(rt.alloc()), 25_000);
     let clock = with_clock(rt, &terminal);
     let watch = Watch::new(&clock);
-    for (stage, done, all, line) in LINES {
+    for (stage, done, all, nodes, line) in LINES {
         watch.stage(&clock, *stage);
         watch.step(&clock, *done, *all);
+        if let Some(nodes) = nodes {
+            watch.nodes(&clock, *nodes);
+        }
         if !has_line(&clock, rt.alloc(), &watch, line)? {
             return Ok(false);
         }
