@@ -13,6 +13,7 @@ use crate::drivers::driver::Driver;
 use crate::drivers::stored_driver::StoredDriver;
 use crate::flat::signals::Signals;
 use eqc_hierarchy::Graph;
+use smallvec::SmallVec;
 use std::marker::Model;
 
 /// The driver of each flat signal. The columns of a cover are kept once for all instances of its model, by the number of
@@ -20,7 +21,7 @@ use std::marker::Model;
 #[derive(Drop)]
 pub(crate) struct Drivers {
     stored: Vec<StoredDriver>,
-    columns: Vec<Vec<u32>>,
+    columns: Vec<SmallVec<u32, 4>>,
 }
 
 impl Model for Drivers {
@@ -37,7 +38,7 @@ impl Model for Drivers {
 
 impl Drivers {
     /// These drivers, over the columns of the covers by their numbers.
-    pub(crate) fn new(stored: Vec<StoredDriver>, columns: Vec<Vec<u32>>) -> Drivers
+    pub(crate) fn new(stored: Vec<StoredDriver>, columns: Vec<SmallVec<u32, 4>>) -> Drivers
         requires { AreInRange (length (map (λ c. c.items) columns.items)) (map (driver_from (map (λ c. c.items) columns.items)) stored.items) }
         ensures { result ≡ map (driver_from (map (λ c. c.items) columns.items)) stored.items }
     {

@@ -21,6 +21,7 @@ use crate::flat::signal_order::order_of;
 use crate::hierarchy::Hierarchy;
 use eqc_blif::{Library, Name};
 use eqc_hierarchy::{Calls, Rule, first_model_fault};
+use smallvec::SmallVec;
 use std::alloc::{AllocError, Global};
 
 /// How many inputs a main model may have.
@@ -91,7 +92,7 @@ fn ordered_drivers(
     alloc: Global,
     hierarchy: &Hierarchy<'_>,
     rows: &RowTable<'_>,
-    columns: Vec<Vec<u32>>,
+    columns: Vec<SmallVec<u32, 4>>,
 ) -> Result<(Drivers, Vec<u32>), Fault>
     requires same { rows.now ≡ hierarchy.now.0 }
     requires numbered { IsNumberable hierarchy.now.0 hierarchy.now.1 }
@@ -115,7 +116,7 @@ fn driven_in_order<'a>(
     alloc: Global,
     library: &'a Library,
     hierarchy: &Hierarchy<'a>,
-    columns: Vec<Vec<u32>>,
+    columns: Vec<SmallVec<u32, 4>>,
 ) -> Result<(RowTable<'a>, (Drivers, Vec<u32>)), Fault>
     requires same { library.now ≡ hierarchy.now.0 }
     requires numbered { IsNumberable hierarchy.now.0 hierarchy.now.1 }
@@ -136,7 +137,7 @@ fn netlist<'a>(
     alloc: Global,
     library: &'a Library,
     hierarchy: Hierarchy<'a>,
-    columns: Vec<Vec<u32>>,
+    columns: Vec<SmallVec<u32, 4>>,
 ) -> Result<Flat<'a>, Fault>
     requires same { library.now ≡ hierarchy.0 }
     requires numbered { IsNumberable hierarchy.0 hierarchy.1 }
@@ -174,7 +175,7 @@ fn expanded(
     alloc: Global,
     library: &Library,
     top: usize,
-) -> Result<(Hierarchy<'_>, Vec<Vec<u32>>), Fault>
+) -> Result<(Hierarchy<'_>, Vec<SmallVec<u32, 4>>), Fault>
     requires { top < length library.now }
     ensures models { IfOk result (λ made. HasNoModelFault library.now top) }
     ensures made { IfOk result (λ made. IsExpansion library.now top made.0 (map (λ c. c.items) made.1.items)) }

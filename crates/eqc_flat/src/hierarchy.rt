@@ -14,6 +14,7 @@ use crate::finding::hierarchical_name::{HierarchicalName, Step};
 use crate::hierarchy::instances::Instances;
 use eqc_blif::Library;
 use eqc_hierarchy::{Calls, Naming};
+use smallvec::SmallVec;
 use std::alloc::{AllocError, Global};
 use std::marker::Model;
 
@@ -44,7 +45,7 @@ impl<'a> Hierarchy<'a> {
         alloc: Global,
         calls: Calls<'a>,
         top: usize,
-    ) -> Result<Option<(Hierarchy<'a>, Vec<Vec<u32>>)>, AllocError>
+    ) -> Result<Option<(Hierarchy<'a>, Vec<SmallVec<u32, 4>>)>, AllocError>
         requires there { top < length calls }
         requires ends { is_recursive calls top ≡ false }
         ensures { IfOk result (λ found. MatchOption found
@@ -137,6 +138,19 @@ impl<'a> Hierarchy<'a> {
         ensures signal { signal_at self.now.0 self.now.1 result ≡ record { path = path_at self.now.0 self.now.1 i; name = name.now } }
     {
         let k = self.naming.position(self.model(i), name);
+        self.signal_of(i, k)
+    }
+
+    /// The signal of a name that occurs in the model of instance `i`, which is found at once where it is the output of the
+    /// cover of a number there.
+    pub(crate) fn output_signal(&self, i: usize, name: &[u8], cover: u32) -> usize
+        requires instance { i < length (paths self.now.0 self.now.1) }
+        requires named { is_named (names_of (model_of self.now.0 self.now.1 i)) name.now ≡ true }
+        ensures within { result < length (signals self.now.0 self.now.1) }
+        ensures small { result < 1048576 }
+        ensures signal { signal_at self.now.0 self.now.1 result ≡ record { path = path_at self.now.0 self.now.1 i; name = name.now } }
+    {
+        let k = self.naming.output_position(self.model(i), name, cover);
         self.signal_of(i, k)
     }
 

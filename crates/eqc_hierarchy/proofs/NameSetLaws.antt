@@ -40,10 +40,11 @@ use Rattle.std.proofs.Common.{
   None,
   IfSome,
 }
-use Rattle.std.specs.List.{list_any, position_or_len, fold, flat_map}
+use Rattle.std.specs.List.{list_any, position_or_len, fold, flat_map, IsDistinct}
 use Rattle.std.specs.Str.{bytes_eq}
 use Rattle.std.proofs.Math.Seq.{split_at}
 use Rattle.std.proofs.lemmas.List.{map-append, append-nil, append_assoc, length-map, take_more}
+use Rattle.std.proofs.lemmas.Map.Keys.{apart_from_distinct, IsDistinct-tail}
 use Rattle.std.proofs.lemmas.List.Folds.{list_any_at}
 use Rattle.std.proofs.lemmas.List.Sums.{fold-append}
 use Rattle.std.proofs.lemmas.List.Elements.{filter-append}
@@ -356,6 +357,29 @@ place_stays names (x ∷ later) name e =
         → place_in (fold with_name (with_name names x) later) name ≡ place_in names name
     by true h same more = ap (λ ns. place_in (fold with_name ns later) name) (let kept : with_name names x ≡ names = rw h refl in kept) ∙ same
     by false h same more = ap (λ ns. place_in (fold with_name ns later) name) (with_new names x h) ∙ (more ∙ place_before names (x ∷ []) name e)
+
+-- a name that stands at a place first stands there, where no name stands twice
+first_there : (names : List (List ℕ)) (k : ℕ) (name : List ℕ) → IsDistinct bytes_eq names → k < length names → get_or names k [] ≡ name
+    → position_or_len (λ other. bytes_eq name other) names ≡ k
+first_there [] k name once inside here = absurd (omega arith)
+first_there (x ∷ xs) zero name once inside here =
+    let same : bytes_eq name x ≡ true = ap (bytes_eq name) here ∙ bytes_self name in
+    rw same refl
+first_there (x ∷ xs) (suc k) name once inside here =
+    let apart : bytes_eq x name ≡ false = ap (bytes_eq x) (sym here) ∙ apart_from_distinct bytes_eq (x ∷ xs) 0 (suc k) [] once (omega arith) inside in
+    let other : bytes_eq name x ≡ false = bytes_eq-sym name x ∙ apart in
+    let rest : position_or_len (λ other. bytes_eq name other) xs ≡ k = first_there xs k name (IsDistinct-tail bytes_eq x xs once) (omega arith) here in
+    let more : 1 + k ≡ suc k = omega arith in
+    rw other (ap (λ n. 1 + n) rest ∙ more)
+
+-- and is found there
+pub place_there : (names : List (List ℕ)) (k : ℕ) (name : List ℕ) → IsDistinct bytes_eq names → k < length names → get_or names k [] ≡ name
+    → position (λ other. bytes_eq name other) names ≡ Some k
+place_there names k name once inside here =
+    let at : position_or_len (λ other. bytes_eq name other) names ≡ k = first_there names k name once inside here in
+    let less : ltb (position_or_len (λ other. bytes_eq name other) names) (length names) ≡ true =
+    lt-ltb (position_or_len (λ other. bytes_eq name other) names) (length names) (omega (arith, at, inside)) in
+    rw less (ap Some at)
 
 -- what an answer says of itself
 pub if_answered : {X : Type 0} (found known : Option X) → found ≡ known → IfSome found (λ k. known ≡ Some k)

@@ -14,6 +14,7 @@ pub(crate) mod name_set;
 use crate::naming::model_names::names_of;
 use crate::naming::name_set::NameSet;
 use eqc_blif::Library;
+use smallvec::SmallVec;
 use std::alloc::{AllocError, Global};
 use std::marker::Model;
 
@@ -22,6 +23,9 @@ use std::marker::Model;
 pub struct Naming<'a> {
     library: &'a Library,
     sets: Vec<NameSet<'a>>,
+    /// Where the output of each cover stands among the names of its model, by the number of the cover among all of the
+    /// library: only looked at first, so that nothing but the time depends on it.
+    outputs: Vec<u32>,
 }
 
 impl<'a> Model for Naming<'a> {
@@ -42,16 +46,22 @@ impl<'a> Naming<'a> {
     pub fn of(
         alloc: Global,
         library: &'a Library,
-    ) -> Result<(Naming<'a>, Vec<Vec<u32>>), AllocError>
+    ) -> Result<(Naming<'a>, Vec<SmallVec<u32, 4>>), AllocError>
         ensures library { IfOk result (λ made. made.0 ≡ library.now) }
         ensures columns { IfOk result (λ made. map (λ c. c.items) made.1.items ≡ all_columns library.now) }
     {
         let mut sets = Vec::new(alloc);
         let mut columns = Vec::new(alloc);
+        let mut outputs = Vec::new(alloc);
         for m in 0..library.models() {
-            sets.push(names_of(alloc, library, m, &mut columns)?)?;
+            sets.push(names_of(alloc, library, m, &mut columns, &mut outputs)?)?;
         }
-        Ok((Naming { library, sets }, columns))
+        let naming = Naming {
+            library,
+            sets,
+            outputs,
+        };
+        Ok((naming, columns))
     }
 
     /// The number of names in model `m`; there are none in a model that isn't there.
@@ -81,6 +91,26 @@ impl<'a> Naming<'a> {
         ensures named { slice_index_or (names_of (model self.now m)) result [] ≡ name.now }
     {
         self.sets[m].position(name).unwrap()
+    }
+
+    /// A place at which the output of a cover may stand, by the number of the cover among all of the library.
+    fn output_place(&self, cover: u32) -> u32 {
+        match self.outputs.get(cover as usize) {
+            Some(place) => *place,
+            None => 0,
+        }
+    }
+
+    /// Where a name that occurs in model `m` stands among its names, which is found at once where it is the output of a
+    /// cover, by the number of the cover among all of the library.
+    pub fn output_position(&self, m: usize, name: &[u8], cover: u32) -> usize
+        requires { is_named (names_of (model self.now m)) name.now ≡ true }
+        ensures first { result ≡ position_or_len (λ other. bytes_eq name.now other) (names_of (model self.now m)) }
+        ensures within { result < length (names_of (model self.now m)) }
+        ensures named { slice_index_or (names_of (model self.now m)) result [] ≡ name.now }
+    {
+        let near = self.output_place(cover);
+        self.sets[m].position_near(name, near).unwrap()
     }
 
     /// Where a name that occurs in model `m` stands among its names, and whether it is an input of it.

@@ -14,6 +14,7 @@ use crate::reader::Reader;
 use crate::reader::kind::{Kind, kind_of};
 use crate::rule::Rule;
 use crate::text::words::{append_without_blanks, first_no_pair, split_first};
+use smallvec::SmallVec;
 use std::alloc::{AllocError, Global};
 
 /// The first word of a line. Fails where memory is refused.
@@ -36,9 +37,9 @@ fn second_word(alloc: Global, line: &[u8]) -> Result<Name, AllocError>
 fn row_of(alloc: Global, line: &[u8]) -> Result<Name, AllocError>
     ensures { IfOk result (λ row. row ≡ without_blanks line.now) }
 {
-    let mut row = Vec::new(alloc);
+    let mut row = SmallVec::new(alloc);
     append_without_blanks(&mut row, line)?;
-    Name::new(alloc, &row)
+    Name::new(alloc, row.as_slice())
 }
 
 /// The first word behind the model of `.subckt` that is no pair. Fails where memory is refused.

@@ -10,6 +10,7 @@ use crate::model::rows::{Rows, cover_value};
 use crate::name::Name;
 use crate::rule::Rule;
 use crate::text::words::{append_without_blanks, names_in};
+use smallvec::SmallVec;
 use std::alloc::{AllocError, Global};
 use std::marker::Model;
 
@@ -18,8 +19,9 @@ use std::marker::Model;
 pub struct Cover {
     pub columns: Vec<Name>,
     pub output: Name,
-    /// The rows, one behind another. Each has a byte for each column, and one for the output.
-    bytes: Vec<u8>,
+    /// The rows, one behind another. Each has a byte for each column, and one for the output. Most covers have few, so that
+    /// up to sixteen bytes need no allocation.
+    bytes: SmallVec<u8, 16>,
 }
 
 impl Model for Cover {
@@ -130,7 +132,7 @@ impl Cover {
         Ok(Some(Cover {
             columns,
             output,
-            bytes: Vec::new(alloc),
+            bytes: SmallVec::new(alloc),
         }))
     }
 
@@ -141,7 +143,7 @@ impl Cover {
     {
         let end = self.bytes.len();
         append_without_blanks(&mut self.bytes, line)?;
-        let (before, row) = self.bytes.split_at(end);
+        let (before, row) = self.bytes.as_slice().split_at(end);
         let columns = self.columns.len();
         let code = row_code(columns, &Rows::of(before, columns + 1), row);
         if let Some(code) = code {

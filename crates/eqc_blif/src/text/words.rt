@@ -1,7 +1,8 @@
 //! How a logical line is cut into words: into names, into pairs of formal and actual, or into a row without blanks.
-ghost use Rattle.std.specs.Prelude.{◌≡◌, ◌<◌, ◌≤◌, ◌++◌, [], ◌∷◌, length, IfOk, IfSome, MatchOption, map, true, false, ◌+◌, is_ok, if◌then◌else◌, vec_len, vec_capacity};
+ghost use Rattle.std.specs.Prelude.{◌≡◌, ◌<◌, ◌≤◌, ◌++◌, [], ◌∷◌, length, IfOk, IfSome, MatchOption, map, true, false, ◌+◌, is_ok, if◌then◌else◌};
 ghost use Rattle.std.specs.List.{position_or_len, list_all};
 ghost use Rattle.std.specs.Option.{option_map};
+ghost use Rattle.smallvec.specs.SmallVec.{HasRoomFor};
 ghost use Rattle.eqc_blif.specs.Lines.{is_blank};
 ghost use Rattle.eqc_blif.specs.Words.{words, first_of, arguments, without_blanks, is_equals_sign, is_pair};
 ghost use Rattle.eqc_blif.specs.Names.{is_named};
@@ -10,6 +11,7 @@ ghost use Rattle.eqc_blif.specs.Steps.{ArePairs, IsPair};
 use crate::name::Name;
 use crate::sparing::reserve_sparing;
 use crate::text::near::{NEAR, find_either};
+use smallvec::SmallVec;
 use std::alloc::{AllocError, Global};
 
 pub(crate) fn is_blank(byte: u8) -> bool
@@ -79,8 +81,8 @@ pub(crate) fn names_in(alloc: Global, line: &[u8]) -> Result<Vec<Name>, AllocErr
 }
 
 /// Puts the words of a line behind the bytes, which have room for them.
-fn append_words(bytes: &mut Vec<u8>, line: &[u8])
-    requires { vec_len bytes.old + length (without_blanks line.now) ≤ vec_capacity bytes.old }
+fn append_words(bytes: &mut SmallVec<u8, 16>, line: &[u8])
+    requires { HasRoomFor bytes.old (length (without_blanks line.now)) }
     ensures { bytes.new.items ≡ bytes.old.items ++ without_blanks line.now }
 {
     let mut rest = line;
@@ -92,7 +94,10 @@ fn append_words(bytes: &mut Vec<u8>, line: &[u8])
 
 /// Puts the bytes of a line that are no spaces and tabs behind others. Where memory is refused, none are put there.
 #[inline(always)]
-pub(crate) fn append_without_blanks(bytes: &mut Vec<u8>, line: &[u8]) -> Result<(), AllocError>
+pub(crate) fn append_without_blanks(
+    bytes: &mut SmallVec<u8, 16>,
+    line: &[u8],
+) -> Result<(), AllocError>
     ensures { bytes.new.items ≡ (if is_ok result then bytes.old.items ++ without_blanks line.now else bytes.old.items) }
 {
     reserve_sparing(bytes, line.len())?;

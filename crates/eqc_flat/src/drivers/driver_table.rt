@@ -21,6 +21,7 @@ use crate::fault::Fault;
 use crate::hierarchy::Hierarchy;
 use eqc_blif::{Cover, Library, Name};
 use eqc_hierarchy::{Rule, instances};
+use smallvec::SmallVec;
 use std::alloc::{AllocError, Global};
 use std::marker::Model;
 
@@ -147,8 +148,8 @@ impl DriverTable {
                 return;
             }
             let one = &covers[k];
-            let signal = hierarchy.signal(i, one.output.as_bytes());
             let cover = rows.number(m, k);
+            let signal = hierarchy.output_signal(i, one.output.as_bytes(), cover);
             self.drive(signal, StoredDriver::Cover { first, cover });
         }
     }
@@ -284,7 +285,7 @@ pub(crate) fn drivers_of(
     alloc: Global,
     hierarchy: &Hierarchy<'_>,
     rows: &RowTable<'_>,
-    columns: Vec<Vec<u32>>,
+    columns: Vec<SmallVec<u32, 4>>,
 ) -> Result<Drivers, Fault>
     requires same { rows.now ≡ hierarchy.now.0 }
     requires few { length (model hierarchy.now.0 hierarchy.now.1).inputs ≤ 2048 }

@@ -16,6 +16,7 @@ use crate::finding::hierarchical_name::HierarchicalName;
 use crate::flat::signal_order::trail_of;
 use crate::hierarchy::Hierarchy;
 use eqc_blif::Library;
+use smallvec::SmallVec;
 use std::alloc::{AllocError, Global};
 
 /// How many signals of a circle are named.
@@ -73,7 +74,7 @@ fn trail_in(
     alloc: Global,
     library: &Library,
     hierarchy: &Hierarchy<'_>,
-    columns: Vec<Vec<u32>>,
+    columns: Vec<SmallVec<u32, 4>>,
 ) -> Result<Vec<usize>, AllocError>
     requires same { library.now ≡ hierarchy.now.0 }
     requires refused { flat_code hierarchy.now.0 hierarchy.now.1 ≡ Some 28 }
@@ -93,7 +94,7 @@ fn circle_in<'a>(
     alloc: Global,
     library: &Library,
     hierarchy: &Hierarchy<'a>,
-    columns: Vec<Vec<u32>>,
+    columns: Vec<SmallVec<u32, 4>>,
 ) -> Result<Circle<'a>, AllocError>
     requires same { library.now ≡ hierarchy.now.0 }
     requires refused { flat_code hierarchy.now.0 hierarchy.now.1 ≡ Some 28 }

@@ -13,6 +13,7 @@ use crate::finding::hierarchical_name::HierarchicalName;
 use crate::hierarchy::Hierarchy;
 use eqc_blif::Library;
 use eqc_hierarchy::Calls;
+use smallvec::SmallVec;
 use std::alloc::{AllocError, Global};
 
 /// The hierarchy below model `top` of a library, which is neither recursive nor too large, and the places of the columns
@@ -21,7 +22,7 @@ pub(crate) fn expanded_below(
     alloc: Global,
     library: &Library,
     top: usize,
-) -> Result<(Hierarchy<'_>, Vec<Vec<u32>>), AllocError>
+) -> Result<(Hierarchy<'_>, Vec<SmallVec<u32, 4>>), AllocError>
     requires there { top < length library.now }
     requires ends { is_recursive library.now top ≡ false }
     requires small { is_too_large library.now top ≡ false }

@@ -1,5 +1,5 @@
 //! Sets of names, each of which has a place by the order in which they came.
-ghost use Rattle.std.specs.Prelude.{◌≡◌, ℕ, ◌<◌, List, [], length, position, slice_index_or, not, Some, IfOk, OnOk, IfSome};
+ghost use Rattle.std.specs.Prelude.{◌≡◌, ℕ, ◌<◌, List, [], length, position, slice_index_or, not, Some, IfOk, OnOk, IfSome, IsTrue};
 ghost use Rattle.std.specs.List.{fold};
 ghost use Rattle.std.specs.Str.{bytes_eq};
 ghost use Rattle.eqc_blif.specs.Names.{is_named};
@@ -57,6 +57,14 @@ impl<'a> NameSet<'a> {
         }
     }
 
+    /// Whether a name stands at a place, which may be any number.
+    fn stands_at(&self, name: &[u8], place: usize) -> bool
+        ensures { IsTrue result → position (λ other. bytes_eq name.now other) self.now ≡ Some place }
+    {
+        let names = self.names.as_slice();
+        place < names.len() && name == names[place].get()
+    }
+
     /// Puts the name of these bytes in, unless it is there, and answers whether it was not. Fails where memory is refused.
     pub fn insert_bytes(&mut self, name: &'a [u8]) -> Result<bool, AllocError>
         ensures fresh { IfOk result (λ fresh. fresh ≡ not (is_named self.old name.now)) }
@@ -95,6 +103,27 @@ impl<'a> NameSet<'a> {
         Ok(place as u32)
     }
 
+    /// Does what `place` does, and sooner where the name stands at one of two places, which may be any numbers.
+    pub(crate) fn place_near(
+        &mut self,
+        name: &'a Name,
+        near: u32,
+        last: u32,
+    ) -> Result<u32, AllocError>
+        ensures names { OnOk result (self.new ≡ with_name self.old name.now) }
+        ensures place { IfOk result (λ place. (later : List (List ℕ)) → place ≡ place_in (fold with_name self.new later) name.now) }
+    {
+        let bytes = name.as_bytes();
+        if self.stands_at(bytes, near as usize) {
+            return Ok(near);
+        }
+        if self.stands_at(bytes, last as usize) {
+            return Ok(last);
+        }
+        let place = self.place(name)?;
+        Ok(place)
+    }
+
     /// Puts these names in, in order. Fails where memory is refused.
     pub(crate) fn insert_all(&mut self, names: &'a [Name]) -> Result<(), AllocError>
         ensures { OnOk result (self.new ≡ fold with_name self.old names.now) }
@@ -128,6 +157,17 @@ impl<'a> NameSet<'a> {
             place_among(self.names.as_slice(), name)
         } else {
             self.names.get_index_of(&NameBytes::of(name))
+        }
+    }
+
+    /// Does what `position` does, and sooner where the name stands at a place, which may be any number.
+    pub(crate) fn position_near(&self, name: &[u8], near: u32) -> Option<usize>
+        ensures { result ≡ position (λ other. bytes_eq name.now other) self.now }
+    {
+        if self.stands_at(name, near as usize) {
+            Some(near as usize)
+        } else {
+            self.position(name)
         }
     }
 

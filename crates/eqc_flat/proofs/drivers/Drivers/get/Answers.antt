@@ -1,4 +1,5 @@
-use Rattle.std.proofs.Common.{◌≡◌, ◌+◌, ◌<◌, ◌∙◌, [], ℕ, List, Vec, Global, length, map, get_or, slice_index_or, arith, sym, ap, subst}
+use Rattle.std.proofs.Common.{◌≡◌, ◌+◌, ◌<◌, ◌∙◌, [], ℕ, List, length, map, get_or, slice_index_or, arith, sym, ap, subst}
+use Rattle.smallvec.specs.SmallVec.{SmallVec}
 use Rattle.std.proofs.lemmas.List.{get_or-map, length-map}
 use Rattle.eqc_flat.specs.Graph.{DriverOf, input, cover, IsWithinSizes}
 use Rattle.eqc_flat.specs.StoredDrivers.{driver_from}
@@ -7,7 +8,7 @@ use Rattle.eqc_flat.proofs.drivers.Drivers.get.Goals as goal
 
 pub index-requires-in-Cover : goal.index-requires-in-Cover
 index-requires-in-Cover c =
-    let items = λ (v : Vec ℕ Global). v.items in
+    let items = λ (v : SmallVec ℕ). v.items in
     let columns = map items c.self.inside.columns.items in
     let from = driver_from columns in
     let all = c.self.inside.stored.items in
@@ -22,7 +23,7 @@ index-requires-in-Cover c =
 
 pub behind-requires : goal.behind-requires
 behind-requires c =
-    let items = λ (v : Vec ℕ Global). v.items in
+    let items = λ (v : SmallVec ℕ). v.items in
     let columns = map items c.self.inside.columns.items in
     let from = driver_from columns in
     let all = c.self.inside.stored.items in
@@ -36,13 +37,13 @@ behind-requires c =
     let there : c.in-Cover.cover < length c.self.inside.columns.items = omega (arith, less, length-map c.self.inside.columns.items items) in
     let same : get_or columns c.in-Cover.cover [] ≡ c.as_slice-places.result.now =
     get_or-map items c.self.inside.columns.items c.in-Cover.cover c.index-in-Cover.result.now [] there
-    ∙ (ap items (sym c.index-in-Cover.ensures) ∙ sym c.as_slice-places.ensures.value) in
+    ∙ (ap items (sym c.index-in-Cover.ensures) ∙ sym c.as_slice-places.ensures) in
     let Q : List ℕ → Type 0 = λ l. (k : ℕ) → k < length (map (λ d. c.in-Cover.first + d) l) → slice_index_or (map (λ d. c.in-Cover.first + d) l) k 0 < 4294967296 in
     subst Q same here.0
 
 pub returns-in-Cover : goal.returns-in-Cover
 returns-in-Cover c =
-    let items = λ (v : Vec ℕ Global). v.items in
+    let items = λ (v : SmallVec ℕ). v.items in
     let columns = map items c.self.inside.columns.items in
     let from = driver_from columns in
     let all = c.self.inside.stored.items in
@@ -56,6 +57,6 @@ returns-in-Cover c =
     let there : c.in-Cover.cover < length c.self.inside.columns.items = omega (arith, less, length-map c.self.inside.columns.items items) in
     let same : get_or columns c.in-Cover.cover [] ≡ c.as_slice-places.result.now =
     get_or-map items c.self.inside.columns.items c.in-Cover.cover c.index-in-Cover.result.now [] there
-    ∙ (ap items (sym c.index-in-Cover.ensures) ∙ sym c.as_slice-places.ensures.value) in
+    ∙ (ap items (sym c.index-in-Cover.ensures) ∙ sym c.as_slice-places.ensures) in
     ap (λ l. cover l c.in-Cover.cover) (c.behind.ensures ∙ ap (map (λ d. c.in-Cover.first + d)) (sym same))
     ∙ (sym at ∙ ap (λ (l : List DriverOf). get_or l c.args.s (input 0)) c.self.view_is)

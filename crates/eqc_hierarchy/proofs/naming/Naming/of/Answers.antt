@@ -17,8 +17,8 @@ loop-m-preserved c =
       columns = c.in_ok-names_of.ensures.columns ∙ (ap (λ (l : List (List ℕ)). l ++ columns_of (model library m)) c.loop-m.invariant.columns ∙ sym (columns_more library m inside));
     }
 
-pub invariant_of-result : goal.invariant_of-result
-invariant_of-result c = c.loop-m.invariant.sets ∙ ap (map names_of) (take_all c.loop-m.m c.args.library.now (omega (arith, c.loop-m-test.false, c.models-m-end.ensures)))
+pub invariant_of-naming : goal.invariant_of-naming
+invariant_of-naming c = c.loop-m.invariant.sets ∙ ap (map names_of) (take_all c.loop-m.m c.args.library.now (omega (arith, c.loop-m-test.false, c.models-m-end.ensures)))
 
 pub returns-clause-columns : goal.returns-clause-columns
 returns-clause-columns c = c.loop-m.invariant.columns ∙ ap (flat_map columns_of) (take_all c.loop-m.m c.args.library.now (omega (arith, c.loop-m-test.false, c.models-m-end.ensures)))

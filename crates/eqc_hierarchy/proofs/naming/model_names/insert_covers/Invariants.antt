@@ -1,4 +1,5 @@
-use Rattle.std.proofs.Common.{◌≡◌, ◌++◌, take, map, ℕ, List, Vec, Global}
+use Rattle.std.proofs.Common.{◌≡◌, ◌++◌, take, map, ℕ, List}
+use Rattle.smallvec.specs.SmallVec.{SmallVec}
 use Rattle.std.specs.List.{fold, flat_map}
 use Rattle.eqc_hierarchy.specs.NameSets.{with_name}
 use Rattle.eqc_hierarchy.specs.Signals.{cover_names}
@@ -9,7 +10,7 @@ abbrev pub invariant-covers : goal.invariant-covers
 invariant-covers l = record {
   names : l.names ≡ fold with_name l.fn.names (flat_map cover_names (take l.cover-index l.covers));
   columns : (later : List (List ℕ))
-      → map (λ (c : Vec ℕ Global). c.items) l.columns.items
-      ≡ map (λ (c : Vec ℕ Global). c.items) l.fn.columns.items
+      → map (λ (c : SmallVec ℕ). c.items) l.columns.items
+      ≡ map (λ (c : SmallVec ℕ). c.items) l.fn.columns.items
       ++ columns_in (fold with_name l.names later) (take l.cover-index l.covers);
 }

@@ -1,4 +1,5 @@
-use Rattle.std.proofs.Common.{◌≡◌, ◌++◌, ◌∙◌, sym, ap, map, ℕ, Vec, Global}
+use Rattle.std.proofs.Common.{◌≡◌, ◌++◌, ◌∙◌, sym, ap, map, ℕ}
+use Rattle.smallvec.specs.SmallVec.{SmallVec}
 use Rattle.std.specs.List.{fold, flat_map}
 use Rattle.eqc_hierarchy.specs.Hierarchy.{model}
 use Rattle.eqc_hierarchy.specs.NameSets.{with_name}
@@ -28,5 +29,5 @@ returns-clause-columns c =
     rw c.instances.ensures at c.in_ok-insert_actuals.ensures in
     sym put ∙ names) in
     c.in_ok-insert_covers.ensures.columns (flat_map actuals m.instances)
-    ∙ (ap (λ cs. map (λ (v : Vec ℕ Global). v.items) c.args.columns.now.items ++ columns_in (fold with_name c.insert_covers.new.names (flat_map actuals m.instances)) cs) c.covers.ensures
-    ∙ ap (λ ns. map (λ (v : Vec ℕ Global). v.items) c.args.columns.now.items ++ columns_in ns m.covers) all)
+    ∙ (ap (λ cs. map (λ (v : SmallVec ℕ). v.items) c.args.columns.now.items ++ columns_in (fold with_name c.insert_covers.new.names (flat_map actuals m.instances)) cs) c.covers.ensures
+    ∙ ap (λ ns. map (λ (v : SmallVec ℕ). v.items) c.args.columns.now.items ++ columns_in ns m.covers) all)

@@ -15,8 +15,8 @@ use Rattle.eqc_hierarchy.proofs.NamingLaws.{column_named, driven_named}
 use Rattle.eqc_flat.proofs.DrivingLaws.{no_driving, behind_more, behind_all, cover_at, cover_source, covers_of, cover_there, column_signals, columns_inside}
 use Rattle.eqc_flat.proofs.drivers.driver_table.DriverTable.fill_covers.Goals as goal
 
-pub signal-signal-requires-clause-named : goal.signal-signal-requires-clause-named
-signal-signal-requires-clause-named c =
+pub output_signal-signal-requires-clause-named : goal.output_signal-signal-requires-clause-named
+output_signal-signal-requires-clause-named c =
     let here = model_of c.args.hierarchy.now.0 c.args.hierarchy.now.1 c.args.i in
     let covers =
     covers_of c.args.hierarchy.now.0 c.library.result.now c.args.hierarchy.now.1 c.args.i c.model-m.result c.covers-covers.result.now
@@ -57,8 +57,8 @@ loop-k-preserved c =
     let all = map (cover_driving path) here.covers in
     let driving = cover_at path here.covers c.loop-k.k one inside read in
     let name : c.as_bytes.result.now ≡ one.output = c.as_bytes.ensures ∙ ap (λ (o : CoverOf). o.output) c.one.view_is in
-    let target : (get_or all c.loop-k.k no_driving).0 ≡ signal_at library top c.signal-signal.result =
-    ap (λ (d : Driving). d.0) driving ∙ (ap (λ (x : List ℕ). record { path = path; name = x }) (sym name) ∙ sym c.signal-signal.ensures.signal) in
+    let target : (get_or all c.loop-k.k no_driving).0 ≡ signal_at library top c.output_signal-signal.result =
+    ap (λ (d : Driving). d.0) driving ∙ (ap (λ (x : List ℕ). record { path = path; name = x }) (sym name) ∙ sym c.output_signal-signal.ensures.signal) in
     let cov : c.covers-covers.result.now ≡ (model c.args.rows.now c.model-m.result).covers =
     c.covers-covers.ensures
     ∙ (ap (λ (l : List ModelOf). (model l c.model-m.result).covers) c.library.ensures
