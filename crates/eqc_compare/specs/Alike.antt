@@ -5,8 +5,9 @@ use Rattle.eqc_class.specs.Structure.{Structure, structure_of}
 use Rattle.eqc_pair.specs.PairOf.{PairOf, first_variables, second_variables, second_signals}
 use Rattle.eqc_compare.specs.Comparing.{difference_at, told_at, is_chosen_at}
 use Rattle.eqc_build.specs.Steps.{IsChoice, assumed_start, chosen_for}
-use Rattle.eqc_build.specs.Turns.{is_marked}
+use Rattle.eqc_build.specs.Turns.{is_marked, AreTurns}
 use Rattle.eqc_compare.specs.declared.alike.Alike.{Alike}
+use Rattle.eqc_compare.specs.declared.schedule.Schedule.{Schedule}
 
 -- an output's signal in the first netlist has the structure of its signal in the second
 abbrev pub IsAlike : PairOf → ℕ → Type 0
@@ -54,3 +55,9 @@ pub record IsKnown (p : PairOf) (alike : Alike) : Type 0 where
 pub record AreSettled (p : PairOf) (marks : List Bool) : Type 0 where
   pub none : (o : ℕ) → o < length p.first.outputs → is_marked marks o ≡ true → told_at p o ≡ None
   pub chosen : (o : ℕ) → o < length p.first.outputs → is_marked marks o ≡ false → is_chosen_at p o ≡ true
+
+-- what is compared of a pair: outputs that are marked need nothing, and each other one has its turn
+pub record IsSchedule (p : PairOf) (schedule : Schedule) : Type 0 where
+  pub pair : schedule.plan.steps.pair ≡ p
+  pub turns : AreTurns schedule.plan schedule.settled.items
+  pub settled : AreSettled p schedule.settled.items

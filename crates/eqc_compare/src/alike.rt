@@ -156,7 +156,7 @@ pub(crate) fn are_all_settled(pair: &Pair<'_>, equal: &[bool]) -> bool
 
 /// Marks the outputs of which nothing is to be told: those that are not chosen, and those that are marked already, which are
 /// equal. Fails where memory is refused.
-pub fn settled_outputs(
+pub(crate) fn settled_outputs(
     alloc: Global,
     pair: &Pair<'_>,
     equal: &[bool],

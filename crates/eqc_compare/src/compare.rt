@@ -6,15 +6,17 @@ ghost use Rattle.eqc_compare.specs.Verdict.{least_difference};
 ghost use Rattle.eqc_build.specs.Building.{AreReady};
 ghost use Rattle.eqc_build.specs.Steps.{goals_of};
 ghost use Rattle.eqc_build.specs.Turns.{IsTurn, AreTurns, AreKept, IsComparable, MovesKept};
-ghost use Rattle.eqc_compare.specs.Alike.{AreSettled};
+ghost use Rattle.eqc_compare.specs.Alike.{AreSettled, IsKnown};
 ghost use Rattle.eqc_compare.specs.Comparing.{netlist_of, assumption_of, differs_at, values_differ_at, SaysDifference, IsDifferenceAt, AreTold, IsOutcome};
 
-use crate::alike::settled_outputs;
+use crate::alike::Alike;
 use crate::allowing::allows_none;
+use crate::gate::{Gate, NoGate};
 use crate::outcome::{Difference, Outcome};
+use crate::schedule::Schedule;
 use eqc_build::{
     Kept, Plan, Steps, Table, clear, complete, give_back_kept, is_marked, nothing_built,
-    nothing_kept_of_few, plan_below, plan_of, reference_at, release_due,
+    nothing_kept_of_few, plan_below, reference_at, release_due,
 };
 use eqc_cover::{is_false, least_over};
 use eqc_pair::Pair;
@@ -117,7 +119,7 @@ fn difference<R, D: Diagrams<R>>(
 
 /// Compares an output in its turn, counted from 1; outputs come in rising order. The references that later turns need
 /// stay in the table.
-pub fn compare_turn<R, D: Diagrams<R>>(
+fn compare_turn<R, D: Diagrams<R>>(
     alloc: Global,
     rt: &R,
     d: &mut D,
@@ -138,7 +140,7 @@ pub fn compare_turn<R, D: Diagrams<R>>(
     found
 }
 
-/// Compares an output in its turn, and where the store is full and references of earlier turns are kept, once more without them.
+/// The same, and with `again`, where the store is full and references of earlier turns are kept, once more without them.
 pub fn compare_kept<R, D: Diagrams<R>>(
     alloc: Global,
     rt: &R,
@@ -147,13 +149,14 @@ pub fn compare_kept<R, D: Diagrams<R>>(
     kept: &mut Kept<D::Ref>,
     output: usize,
     turn: u32,
+    again: bool,
 ) -> Result<Option<Vec<bool>>, Stop>
     requires { IsComparable D.entry plan.now (D.holding d.old) kept.old.table output turn }
     ensures found { IfOk result (IsDifferenceAt plan.now.steps.pair output) }
     ensures moves { MovesKept D.entry plan.now.steps.pair (D.holding d.old) kept.old.table (D.holding d.new) kept.new.table }
     ensures only { IfErr result (λ s. s ≢ Stop.Threads) }
 {
-    let keeps = !kept.due.is_empty();
+    let keeps = again && !kept.due.is_empty();
     let found = compare_turn(alloc, rt, d, plan, kept, output, turn);
     if !keeps {
         return found;
@@ -166,37 +169,40 @@ pub fn compare_kept<R, D: Diagrams<R>>(
     compare_turn(alloc, rt, d, plan, kept, output, turn)
 }
 
-/// The outputs that are not marked and differ, in their order, or the first of them alone.
-fn compare_in_turn<R, D: Diagrams<R>>(
+/// The outputs that are not settled and differ, in their order, or the first of them alone. The gate is told of each before it
+/// is compared.
+fn compare_in_turn<R, D: Diagrams<R>, G: Gate<R>>(
     alloc: Global,
     rt: &R,
     d: &mut D,
-    plan: &Plan<'_>,
-    marks: &[bool],
-    every: bool,
+    schedule: &Schedule<'_>,
+    again: bool,
     kept: &mut Kept<D::Ref>,
+    gate: &G,
 ) -> Result<Vec<Difference>, Stop>
-    requires turns { AreTurns plan.now marks.now }
-    requires settled { AreSettled plan.now.steps.pair marks.now }
-    requires kept { AreKept D.entry plan.now.steps.pair (D.holding d.old) kept.old.table }
-    ensures found { IfOk result (λ found. AreTold plan.now.steps.pair every found.items) }
-    ensures moves { MovesKept D.entry plan.now.steps.pair (D.holding d.old) kept.old.table (D.holding d.new) kept.new.table }
+    requires turns { AreTurns schedule.now.plan schedule.now.settled.items }
+    requires settled { AreSettled schedule.now.plan.steps.pair schedule.now.settled.items }
+    requires kept { AreKept D.entry schedule.now.plan.steps.pair (D.holding d.old) kept.old.table }
+    ensures found { IfOk result (λ found. AreTold schedule.now.plan.steps.pair schedule.now.every found.items) }
+    ensures moves { MovesKept D.entry schedule.now.plan.steps.pair (D.holding d.old) kept.old.table (D.holding d.new) kept.new.table }
     ensures only { IfErr result (λ s. s ≢ Stop.Threads) }
 {
+    let plan = &schedule.plan;
     let mut found = Vec::new(alloc);
     for output in 0..plan.steps.pair().first().outputs().len() {
-        if is_marked(marks, output) {
+        if is_marked(&schedule.settled, output) {
             continue;
         }
+        gate.enter(rt, 0, output as u32);
         let turn = output as u32 + 1;
-        let values = match compare_kept(alloc, rt, d, plan, kept, output, turn)? {
+        let values = match compare_kept(alloc, rt, d, plan, kept, output, turn, again)? {
             None => continue,
             Some(values) => values,
         };
         let Ok(()) = found.push(Difference { output, values }) else {
             return Err(Stop::Memory);
         };
-        if !every {
+        if !schedule.every {
             return Ok(found);
         }
     }
@@ -204,49 +210,57 @@ fn compare_in_turn<R, D: Diagrams<R>>(
 }
 
 /// The same, from no references to none.
-fn compare_planned<R, D: Diagrams<R>>(
+fn compare_alone<R, D: Diagrams<R>, G: Gate<R>>(
     alloc: Global,
     rt: &R,
     d: &mut D,
-    plan: &Plan<'_>,
-    marks: &[bool],
-    every: bool,
+    schedule: &Schedule<'_>,
+    again: bool,
+    gate: &G,
 ) -> Result<Vec<Difference>, Stop>
-    requires variables { length plan.now.steps.pair.first.inputs ≤ (D.holding d.old).variables }
-    requires turns { AreTurns plan.now marks.now }
-    requires settled { AreSettled plan.now.steps.pair marks.now }
-    ensures found { IfOk result (λ found. AreTold plan.now.steps.pair every found.items) }
+    requires variables { length schedule.now.plan.steps.pair.first.inputs ≤ (D.holding d.old).variables }
+    requires turns { AreTurns schedule.now.plan schedule.now.settled.items }
+    requires settled { AreSettled schedule.now.plan.steps.pair schedule.now.settled.items }
+    ensures found { IfOk result (λ found. AreTold schedule.now.plan.steps.pair schedule.now.every found.items) }
     ensures kept { Keeps (D.holding d.old) (D.holding d.new) }
     ensures only { IfErr result (λ s. s ≢ Stop.Threads) }
 {
-    let Ok(mut kept) = nothing_built::<D>(alloc, plan.steps.pair()) else {
+    let Ok(mut kept) = nothing_built::<D>(alloc, schedule.plan.steps.pair()) else {
         return Err(Stop::Memory);
     };
-    let found = compare_in_turn(alloc, rt, d, plan, marks, every, &mut kept);
+    let found = compare_in_turn(alloc, rt, d, schedule, again, &mut kept, gate);
     give_back_kept(d, kept);
     found
 }
 
-/// The chosen outputs that differ, in their order, or the first of them alone.
-fn compare_chosen<R, D: Diagrams<R>>(
+/// Compares the chosen outputs of a pair on this thread, where this is known of it: the report of `compare_outputs`, with less
+/// work. Outputs that are known to be equal are not compared, and a step that is chosen is built in place of those that it is
+/// chosen for. The gate is told of each comparison before it begins. Where the store is full and `again` is set, an output is compared
+/// once more without what was built for later ones. All references are given back.
+pub fn compare_known<R, D: Diagrams<R>, G: Gate<R>>(
     alloc: Global,
     rt: &R,
     d: &mut D,
     pair: &Pair<'_>,
     every: bool,
-) -> Result<Vec<Difference>, Stop>
-    requires { length pair.now.first.inputs ≤ (D.holding d.old).variables }
-    ensures found { IfOk result (λ found. AreTold pair.now every found.items) }
+    alike: Alike,
+    again: bool,
+    gate: &G,
+) -> Result<Outcome, Stop>
+    requires variables { length pair.now.first.inputs ≤ (D.holding d.old).variables }
+    requires known { IsKnown pair.now alike }
+    ensures found { IfOk result (IsOutcome pair.now every) }
     ensures kept { Keeps (D.holding d.old) (D.holding d.new) }
     ensures only { IfErr result (λ s. s ≢ Stop.Threads) }
 {
-    let Ok(marks) = settled_outputs(alloc, pair, &[]) else {
+    if allows_none(rt, alloc, d, pair)? {
+        return Ok(Outcome::Vacuous);
+    }
+    let Ok(schedule) = Schedule::of(alloc, pair, every, alike) else {
         return Err(Stop::Memory);
     };
-    match plan_of(alloc, Steps::each(alloc, pair), &marks) {
-        Ok(plan) => compare_planned(alloc, rt, d, &plan, &marks, every),
-        Err(_) => Err(Stop::Memory),
-    }
+    let found = compare_alone(alloc, rt, d, &schedule, again, gate)?;
+    Ok(Outcome::Compared(found))
 }
 
 /// Compares the chosen outputs of a pair: those that differ, by their positions in the first netlist and in their order, each
@@ -265,11 +279,8 @@ pub fn compare_outputs<R, D: Diagrams<R>>(
     ensures kept { Keeps (D.holding d.old) (D.holding d.new) }
     ensures only { IfErr result (λ s. s ≢ Stop.Threads) }
 {
-    if allows_none(rt, alloc, d, pair)? {
-        return Ok(Outcome::Vacuous);
-    }
-    let found = compare_chosen(alloc, rt, d, pair, every)?;
-    Ok(Outcome::Compared(found))
+    let nothing = Alike::nothing(alloc);
+    compare_known(alloc, rt, d, pair, every, nothing, true, &NoGate)
 }
 
 /// Compares one output in the only turn, from no references to none.

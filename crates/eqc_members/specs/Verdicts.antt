@@ -9,7 +9,6 @@ use Rattle.eqc_members.specs.declared.ticket.View.{View}
 use Rattle.eqc_members.specs.declared.verdict.Finding.{Finding}
 use Rattle.eqc_members.specs.declared.verdict.Finding.TheVariants.{Equal, Differs, Behind}
 use Rattle.eqc_members.specs.declared.verdict.Verdict.{Verdict}
-use Rattle.eqc_members.specs.declared.task.Task.{Task}
 use Rattle.eqc_pair.specs.PairOf.{PairOf}
 use Rattle.eqc_build.specs.Turns.{AreTurns}
 use Rattle.eqc_compare.specs.Alike.{AreSettled}
@@ -74,12 +73,6 @@ pub record AreMembers {D : Type 0} (holding : D → Holding) (p : PairOf) (membe
   pub some : 1 ≤ vec_len members
   pub numbers : vec_len members < 2 ^ 32
   pub variables : All (λ d. length p.first.inputs ≤ (holding d).variables) members.items
-
--- what members do for a pair: outputs that are marked need nothing, and each other one has its turn
-pub record IsTask (p : PairOf) (task : Task) : Type 0 where
-  pub pair : task.plan.steps.pair ≡ p
-  pub turns : AreTurns task.plan task.settled.items
-  pub settled : AreSettled p task.settled.items
 
 -- members that share a seat: each has diagrams with a variable for each input, and all have numbers, from the first one's on
 pub record AreSeated {D : Type 0} (holding : D → Holding) (p : PairOf) (id : TableId) (key : Key) (seat : Seat ℕ View) (first : ℕ) (members : Vec D Global) : Type 0 where

@@ -1,12 +1,12 @@
 //! What a member compares with.
 ghost use Rattle.std.specs.Prelude.{◌≡◌, ◌≢◌, ◌<◌, ◌≤◌, false, length, IfOk, IfErr};
 ghost use Rattle.eqc_build.specs.Turns.{AreKept, is_marked};
+ghost use Rattle.eqc_compare.specs.Alike.{IsSchedule};
 ghost use Rattle.eqc_compare.specs.Comparing.{IsDifferenceAt};
-ghost use Rattle.eqc_members.specs.Verdicts.{IsTask};
 
 use crate::task::Task;
 use eqc_build::{Kept, give_back_kept, nothing_built};
-use eqc_compare::{compare_kept, compare_turn};
+use eqc_compare::compare_kept;
 use eqc_pair::Pair;
 use eqc_tree::{Diagrams, References, Stop};
 use std::alloc::Global;
@@ -43,20 +43,17 @@ pub(crate) fn compare<R, D: Diagrams<R>>(
     output: u32,
 ) -> Result<Option<Vec<bool>>, Stop>
     requires kept { AreKept D.entry pair.now (D.holding member.old.diagrams) member.old.kept.table }
-    requires task { IsTask pair.now task.now }
+    requires task { IsSchedule pair.now task.now.schedule }
     requires output { output < length pair.now.first.outputs }
-    requires unmarked { is_marked task.now.settled.items output ≡ false }
+    requires unmarked { is_marked task.now.schedule.settled.items output ≡ false }
     ensures least { IfOk result (IsDifferenceAt pair.now output) }
     ensures kept { AreKept D.entry pair.now (D.holding member.new.diagrams) member.new.kept.table }
     ensures only { IfErr result (λ s. s ≢ Stop.Threads) }
 {
     let Member { diagrams, kept } = member;
     let (output, turn) = (output as usize, output + 1);
-    if task.patience.tries_again() {
-        compare_kept(alloc, rt, diagrams, &task.plan, kept, output, turn)
-    } else {
-        compare_turn(alloc, rt, diagrams, &task.plan, kept, output, turn)
-    }
+    let plan = &task.schedule.plan;
+    compare_kept(alloc, rt, diagrams, plan, kept, output, turn, true)
 }
 
 /// The member's diagrams, with what they held at first.

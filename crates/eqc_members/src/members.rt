@@ -5,8 +5,8 @@ ghost use Rattle.std.specs.List.{All};
 ghost use Rattle.eqc_tree.specs.Holding.{Holding};
 ghost use Rattle.eqc_compare.specs.Verdict.{allows_none};
 ghost use Rattle.eqc_compare.specs.Comparing.{assumption_of, netlist_of, AreTold, IsOutcome};
-ghost use Rattle.eqc_compare.specs.Alike.{IsKnown};
-ghost use Rattle.eqc_members.specs.Verdicts.{asked, AreMembers, AreVerdicts, IsShare, IsTask};
+ghost use Rattle.eqc_compare.specs.Alike.{IsKnown, IsSchedule};
+ghost use Rattle.eqc_members.specs.Verdicts.{asked, AreMembers, AreVerdicts, IsShare};
 
 use crate::group::Group;
 use crate::patience::Patience;
@@ -14,8 +14,7 @@ use crate::share::{Share, work_together};
 use crate::task::Task;
 use crate::ticket::{Key, TicketTable, open, settle};
 use crate::verdict::{Verdict, in_order, told_of};
-use eqc_build::{Steps, plan_of};
-use eqc_compare::{Alike, Difference, Gate, Outcome, allows_none, settled_outputs};
+use eqc_compare::{Alike, Difference, Gate, Outcome, Schedule, allows_none};
 use eqc_pair::Pair;
 use eqc_tree::{Diagrams, References, Stop};
 use std::alloc::{AllocError, Global};
@@ -44,8 +43,8 @@ fn all_verdicts<R: Threads + Wait + Sync, D: Diagrams<R> + Send + Drop, G: Gate<
     gate: &G,
 ) -> Result<Vec<Verdict>, Stop>
     requires members { AreMembers D.holding pair.now members }
-    requires task { IsTask pair.now task.now }
-    ensures { IfOk result (λ verdicts. AreVerdicts (asked pair.now task.now.every) verdicts.items) }
+    requires task { IsSchedule pair.now task.now.schedule }
+    ensures { IfOk result (λ verdicts. AreVerdicts (asked pair.now task.now.schedule.every) verdicts.items) }
 {
     let key = Key {
         outputs: pair.first().outputs().len() as u32,
@@ -60,42 +59,7 @@ fn all_verdicts<R: Threads + Wait + Sync, D: Diagrams<R> + Send + Drop, G: Gate<
         members,
     };
     let share = work_together(rt, alloc, pair, task, &table.shared, gate, group)?;
-    Ok(verdicts_of(table, pair, task.every, share))
-}
-
-/// The verdicts of all outputs, by these members, where this is known of the pair: outputs that are not chosen, and those that
-/// are marked as equal, are not compared, and a step that is chosen is made in place of those that it is chosen for.
-fn scheduled_verdicts<R: Threads + Wait + Sync, D: Diagrams<R> + Send + Drop, G: Gate<R> + Sync>(
-    rt: &R,
-    alloc: Global,
-    pair: &Pair<'_>,
-    every: bool,
-    members: Vec<D>,
-    alike: Alike,
-    patience: Patience,
-    gate: &G,
-) -> Result<Vec<Verdict>, Stop>
-    requires members { AreMembers D.holding pair.now members }
-    requires known { IsKnown pair.now alike }
-    ensures { IfOk result (λ verdicts. AreVerdicts (asked pair.now every) verdicts.items) }
-{
-    let Alike { equal, chosen } = alike;
-    let Ok(settled) = settled_outputs(alloc, pair, &equal) else {
-        return Err(Stop::Memory);
-    };
-    let Ok(plan) = plan_of(alloc, Steps::of(pair, chosen), &settled) else {
-        return Err(Stop::Memory);
-    };
-    let outputs = pair.first().outputs().len() as u64;
-    let draws = outputs.saturating_add(members.len() as u64);
-    let task = Task {
-        plan,
-        settled,
-        every,
-        draws,
-        patience,
-    };
-    all_verdicts(rt, alloc, pair, &task, members, gate)
+    Ok(verdicts_of(table, pair, task.schedule.every, share))
 }
 
 /// The outputs that differ, as verdicts of all outputs tell them.
@@ -127,7 +91,17 @@ fn told_by_members<R: Threads + Wait + Sync, D: Diagrams<R> + Send + Drop, G: Ga
     requires known { IsKnown pair.now alike }
     ensures found { IfOk result (λ found. AreTold pair.now every found.items) }
 {
-    let verdicts = scheduled_verdicts(rt, alloc, pair, every, members, alike, patience, gate)?;
+    let outputs = pair.first().outputs().len() as u64;
+    let draws = outputs.saturating_add(members.len() as u64);
+    let Ok(schedule) = Schedule::of(alloc, pair, every, alike) else {
+        return Err(Stop::Memory);
+    };
+    let task = Task {
+        schedule,
+        draws,
+        patience,
+    };
+    let verdicts = all_verdicts(rt, alloc, pair, &task, members, gate)?;
     match told_by(alloc, pair, every, verdicts) {
         Ok(found) => Ok(found),
         Err(_) => Err(Stop::Memory),

@@ -1,5 +1,4 @@
-//! How long a member that has nothing left to draw goes on asking others for operations, and whether one whose store is full
-//! tries once more.
+//! How long a member that has nothing left to draw goes on asking others for operations.
 ghost use Rattle.std.specs.Prelude.{◌≡◌};
 
 use crossbeam_utils::atomic::AtomicCell;
@@ -8,13 +7,11 @@ use eqc_tree::Stop;
 /// So often in succession members ask in vain before they end.
 const VAIN_ASKS: u64 = 1_000;
 
-/// How long members ask, and how often they try. None of it has a part in what they find.
+/// How long members ask. It has no part in what they find.
 #[derive(Drop)]
 pub struct Patience {
     /// So often in succession a member asks in vain before it ends.
     asks: u64,
-    /// Whether an output is compared once more, without what was kept for later ones, where the store is full.
-    again: bool,
     /// Whether a member stopped, or a thread could not be started: then some numbers are never drawn.
     stopped: AtomicCell<bool>,
 }
@@ -24,7 +21,6 @@ impl Patience {
     pub fn short() -> Patience {
         Patience {
             asks: VAIN_ASKS,
-            again: true,
             stopped: AtomicCell::new(false),
         }
     }
@@ -34,27 +30,13 @@ impl Patience {
     pub fn of_forks(forks: u32) -> Patience {
         Patience {
             asks: if forks == 0 { 1 } else { u64::MAX },
-            again: true,
             stopped: AtomicCell::new(false),
-        }
-    }
-
-    /// That of workers with so many forks who leave a store that is full for a larger one: nothing is compared once more.
-    pub fn brief(forks: u32) -> Patience {
-        Patience {
-            again: false,
-            ..Patience::of_forks(forks)
         }
     }
 
     /// So often in succession a member asks in vain before it ends.
     pub(crate) fn asks(&self) -> u64 {
         self.asks
-    }
-
-    /// Whether an output is compared once more where the store is full.
-    pub(crate) fn tries_again(&self) -> bool {
-        self.again
     }
 
     /// Tells all members that this stop came.

@@ -2,7 +2,8 @@
 ghost use Rattle.std.specs.Prelude.{◌≡◌, ◌≢◌, ◌+◌, ◌<◌, ◌≤◌, IsTrue, length, vec_len, IfOk, IfErr};
 ghost use Rattle.std.specs.Thread.{IsSync, IsSend};
 ghost use Rattle.eqc_build.specs.Turns.{AreKept};
-ghost use Rattle.eqc_members.specs.Verdicts.{asked, DiffersBefore, IsFoundAt, IsShare, IsFresh, AreSeated, IsTask};
+ghost use Rattle.eqc_compare.specs.Alike.{IsSchedule};
+ghost use Rattle.eqc_members.specs.Verdicts.{asked, DiffersBefore, IsFoundAt, IsShare, IsFresh, AreSeated};
 
 use crate::group::{Group, halves};
 use crate::help::help_others;
@@ -40,17 +41,17 @@ fn finding<R, D: Diagrams<R>, G: Gate<R>>(
     behind: bool,
 ) -> Result<Finding, Stop>
     requires kept { AreKept D.entry pair.now (D.holding member.old.diagrams) member.old.kept.table }
-    requires task { IsTask pair.now task.now }
+    requires task { IsSchedule pair.now task.now.schedule }
     requires output { output < length pair.now.first.outputs }
-    requires knows { IsTrue behind → DiffersBefore (asked pair.now task.now.every) output }
-    ensures found { IfOk result (λ found. IsFoundAt (asked pair.now task.now.every) output found) }
+    requires knows { IsTrue behind → DiffersBefore (asked pair.now task.now.schedule.every) output }
+    ensures found { IfOk result (λ found. IsFoundAt (asked pair.now task.now.schedule.every) output found) }
     ensures kept { AreKept D.entry pair.now (D.holding member.new.diagrams) member.new.kept.table }
     ensures only { IfErr result (λ s. s ≢ Stop.Threads) }
 {
     if behind {
         return Ok(Finding::Behind);
     }
-    if is_marked(&task.settled, output as usize) {
+    if is_marked(&task.schedule.settled, output as usize) {
         return Ok(Finding::Equal);
     }
     gate.enter(rt, worker, output);
@@ -75,8 +76,8 @@ fn draw_all<R, D: Diagrams<R>, G: Gate<R>>(
 ) -> Result<Share, Stop>
     requires fresh { IsFresh pair.now words.now.table_id words.now.key 1 seat }
     requires kept { AreKept D.entry pair.now (D.holding member.old.diagrams) member.old.kept.table }
-    requires task { IsTask pair.now task.now }
-    ensures share { IfOk result (λ s. IsShare (asked pair.now task.now.every) words.now.table_id 1 s.seat s.verdicts.items) }
+    requires task { IsSchedule pair.now task.now.schedule }
+    ensures share { IfOk result (λ s. IsShare (asked pair.now task.now.schedule.every) words.now.table_id 1 s.seat s.verdicts.items) }
     ensures only { IfErr result (λ s. s ≢ Stop.Threads) }
     ensures kept { AreKept D.entry pair.now (D.holding member.new.diagrams) member.new.kept.table }
 {
@@ -92,7 +93,7 @@ fn draw_all<R, D: Diagrams<R>, G: Gate<R>>(
         }
         let output = number as u32;
         let finding = finding(rt, alloc, pair, task, gate, worker, member, output, behind)?;
-        behind = finding.ends(task.every);
+        behind = finding.ends(task.schedule.every);
         let Ok(()) = verdicts.push(Verdict { output, finding }) else {
             return Err(Stop::Memory);
         };
@@ -116,8 +117,8 @@ fn work_alone<R: Wait, D: Diagrams<R> + Drop, G: Gate<R>>(
 ) -> Result<Share, Stop>
     requires fresh { IsFresh pair.now words.now.table_id words.now.key 1 seat }
     requires variables { length pair.now.first.inputs ≤ (D.holding diagrams).variables }
-    requires task { IsTask pair.now task.now }
-    ensures share { IfOk result (λ s. IsShare (asked pair.now task.now.every) words.now.table_id 1 s.seat s.verdicts.items) }
+    requires task { IsSchedule pair.now task.now.schedule }
+    ensures share { IfOk result (λ s. IsShare (asked pair.now task.now.schedule.every) words.now.table_id 1 s.seat s.verdicts.items) }
     ensures only { IfErr result (λ s. s ≢ Stop.Threads) }
 {
     let mut member = member::begin(alloc, diagrams, pair)?;
@@ -150,8 +151,8 @@ fn work_only<R: Wait, D: Diagrams<R> + Drop, G: Gate<R>>(
 ) -> Result<Share, Stop>
     requires seated { AreSeated D.holding pair.now words.now.table_id words.now.key group.seat group.worker group.members }
     requires only { vec_len group.members ≡ 1 }
-    requires task { IsTask pair.now task.now }
-    ensures share { IfOk result (λ s. IsShare (asked pair.now task.now.every) words.now.table_id 1 s.seat s.verdicts.items) }
+    requires task { IsSchedule pair.now task.now.schedule }
+    ensures share { IfOk result (λ s. IsShare (asked pair.now task.now.schedule.every) words.now.table_id 1 s.seat s.verdicts.items) }
 {
     let Group {
         worker,
@@ -244,8 +245,8 @@ fn work<
     group: Group<D>,
 ) -> Result<Share, Stop>
     requires seated { AreSeated D.holding pair.now words.now.table_id words.now.key group.seat group.worker group.members }
-    requires task { IsTask pair.now task.now }
-    ensures share { IfOk result (λ s. IsShare (asked pair.now task.now.every) words.now.table_id (vec_len group.members) s.seat s.verdicts.items) }
+    requires task { IsSchedule pair.now task.now.schedule }
+    ensures share { IfOk result (λ s. IsShare (asked pair.now task.now.schedule.every) words.now.table_id (vec_len group.members) s.seat s.verdicts.items) }
 {
     if group.members.len() == 1 {
         return work_only(rt, alloc, pair, task, words, gate, group);
@@ -253,18 +254,18 @@ fn work<
     let Ok((mine, theirs)) = halves(words, pair, group) else {
         return Err(task.patience.note(Stop::Memory));
     };
-    let kept = Pledge::of(pair, words, task.every, theirs.members.len());
+    let kept = Pledge::of(pair, words, task.schedule.every, theirs.members.len());
     let there = move || -> Result<Share, Stop>
-        requires { IsSync R.row × IsSync G.row × IsSend D.row × IsTask pair.now task.now
+        requires { IsSync R.row × IsSync G.row × IsSend D.row × IsSchedule pair.now task.now.schedule
             × AreSeated D.holding pair.now words.now.table_id words.now.key theirs.seat theirs.worker theirs.members }
-        ensures { IfOk result (λ s. IsShare (asked pair.entry.now task.entry.now.every) words.entry.now.table_id (vec_len theirs.members) s.seat s.verdicts.items) }
+        ensures { IfOk result (λ s. IsShare (asked pair.entry.now task.entry.now.schedule.every) words.entry.now.table_id (vec_len theirs.members) s.seat s.verdicts.items) }
     { work(rt, scope, alloc, pair, task, words, gate, theirs) };
     let Ok(child) = scope.spawn_with(kept, there) else {
         return Err(task.patience.note(Stop::Threads));
     };
     let mine = work(rt, scope, alloc, pair, task, words, gate, mine);
     let theirs = child.join(rt);
-    put_together(words, pair, task.every, mine?, theirs?)
+    put_together(words, pair, task.schedule.every, mine?, theirs?)
 }
 
 /// Runs the members, each in a thread of its own, and waits for all of them.
@@ -282,16 +283,16 @@ pub(crate) fn work_together<
     group: Group<D>,
 ) -> Result<Share, Stop>
     requires seated { AreSeated D.holding pair.now words.now.table_id words.now.key group.seat group.worker group.members }
-    requires task { IsTask pair.now task.now }
-    ensures share { IfOk result (λ s. IsShare (asked pair.now task.now.every) words.now.table_id (vec_len group.members) s.seat s.verdicts.items) }
+    requires task { IsSchedule pair.now task.now.schedule }
+    ensures share { IfOk result (λ s. IsShare (asked pair.now task.now.schedule.every) words.now.table_id (vec_len group.members) s.seat s.verdicts.items) }
 {
     scope(
         scope_env(),
         rt,
         move |scope| -> Result<Share, Stop>
-            requires { IsTask pair.now task.now
+            requires { IsSchedule pair.now task.now.schedule
                 × AreSeated D.holding pair.now words.now.table_id words.now.key group.seat group.worker group.members }
-            ensures { IfOk result (λ s. IsShare (asked pair.entry.now task.entry.now.every) words.entry.now.table_id (vec_len group.members) s.seat s.verdicts.items) }
+            ensures { IfOk result (λ s. IsShare (asked pair.entry.now task.entry.now.schedule.every) words.entry.now.table_id (vec_len group.members) s.seat s.verdicts.items) }
         { work(rt, scope, alloc, pair, task, words, gate, group) },
     )
 }

@@ -10,7 +10,7 @@ use crate::checking::{copied, found_report, shown};
 use crate::options::Options;
 use crate::report::Report;
 use crate::undecided::{Seen, Undecided};
-use crate::workers::{Comparison, Room, check_in};
+use crate::workers::{Comparison, check_by_team, check_first};
 use eqc_compare::{Alike, Progress, Stage, alike_or_nothing, known_outcome};
 use eqc_inside::{Conflicts, Inside, Searched};
 use eqc_pair::Pair;
@@ -27,6 +27,15 @@ const FEW_CONFLICTS: u64 = 5_000;
 
 /// The conflicts with which all outputs are searched for differences at first.
 const SEARCH_CONFLICTS: u64 = 20_000;
+
+/// Where a run's comparison is made.
+#[derive(Clone, Copy)]
+enum Room {
+    /// In a store of one thread, which is left as soon as it is full, or as the turns of its operations are spent.
+    First,
+    /// In the forest that the options ask for, by as many workers, which is left as the turns of one of them are spent.
+    Whole,
+}
 
 /// Tells of the stage in which outputs are compared in a room, before the first of them is.
 fn tell_room<R, P: Progress<R>>(comparison: &Comparison<'_, R, P>, room: Room) {
@@ -67,7 +76,10 @@ fn in_room<R: Threads + Wait + Sync, P: Progress<R> + Sync>(
         return Err(Stop::Memory);
     };
     tell_room(comparison, room);
-    check_in(comparison, room, alike)
+    match room {
+        Room::First => check_first(comparison, alike),
+        Room::Whole => check_by_team(comparison, alike),
+    }
 }
 
 /// The report by diagrams alone: on one thread first, however many workers there are, since most comparisons take less time than
@@ -226,23 +238,6 @@ fn by_all<R: Threads + Wait + Sync, P: Progress<R> + Sync>(
     }
 }
 
-/// The report, or why it stopped. What becomes known on the way stays known.
-fn course<R: Threads + Wait + Sync, P: Progress<R> + Sync>(
-    comparison: &Comparison<'_, R, P>,
-    alike: &mut Alike,
-    left: &mut Undecided,
-) -> Result<Report, Stop>
-    requires options { options_code comparison.now.options.now ≡ None }
-    requires known { IsKnown comparison.now.pair.now alike.old }
-    ensures report { IfOk result (λ report. report_of report ≡ pair_report comparison.now.options.now.every comparison.now.pair.now) }
-{
-    let options = comparison.options;
-    if options.nodes < SWEPT_NODES || options.conflicts == 0 {
-        return by_diagrams(comparison, alike);
-    }
-    by_all(comparison, alike, left)
-}
-
 /// Compares a pair for a run, which does more than `check`: an output whose two signals have one structure is equal, and is not
 /// compared, and one diagram is built for all signals of one structure, of both netlists. Where diagrams on one thread don't
 /// decide it, the same holds of signals that are proved equal inside the netlists, and outputs are searched for differences
@@ -261,9 +256,14 @@ pub fn check_alike<R: Threads + Wait + Sync, P: Progress<R> + Sync>(
     requires { options_code comparison.now.options.now ≡ None }
     ensures report { IfOk result (λ report. report_of report ≡ pair_report comparison.now.options.now.every comparison.now.pair.now) }
 {
+    let options = comparison.options;
     comparison.watch.stage(comparison.rt, Stage::Structure);
     let mut alike = alike_or_nothing(comparison.alloc, comparison.pair);
-    let report = course(comparison, &mut alike, left);
+    let report = if options.nodes < SWEPT_NODES || options.conflicts == 0 {
+        by_diagrams(comparison, &alike)
+    } else {
+        by_all(comparison, &mut alike, left)
+    };
     if report.is_err() {
         left.add_unmarked(comparison.pair, &alike.equal);
     }

@@ -9,8 +9,8 @@ use std::alloc::Global;
 /// Diagrams, and what is told of them.
 #[derive(Drop)]
 pub(crate) struct Watched<'x, D, P> {
-    diagrams: D,
-    watch: &'x P,
+    pub diagrams: D,
+    pub watch: &'x P,
 }
 
 impl<D: References, P> References for Watched<'_, D, P> {

@@ -10,9 +10,9 @@ ghost use Rattle.eqc_report.specs.Options.{options_code};
 use crate::checking::found_report;
 use crate::options::Options;
 use crate::report::Report;
-use crate::watched::all_watched;
+use crate::watched::{Watched, all_watched};
 use eqc_apply::{Allowance, Applier, team_with};
-use eqc_compare::{Alike, Gate, Progress};
+use eqc_compare::{Alike, Gate, Progress, compare_known};
 use eqc_members::{Patience, compare_by_members};
 use eqc_pair::Pair;
 use eqc_plain::Plain;
@@ -89,15 +89,6 @@ const TURNS: u64 = 8_388_608;
 
 const TURNS_PER_NODE: u64 = 8;
 
-/// Where a run's comparison is made.
-#[derive(Clone, Copy)]
-pub(crate) enum Room {
-    /// In a store of one thread, which is left as soon as it is full, or as the turns of its operations are spent.
-    First,
-    /// In the forest that the options ask for, by as many workers, which is left as the turns of one of them are spent.
-    Whole,
-}
-
 /// A pair that is compared, what that may use, and what is told of it.
 #[derive(Drop)]
 pub struct Comparison<'x, R, P> {
@@ -110,22 +101,17 @@ pub struct Comparison<'x, R, P> {
     pub watch: &'x P,
 }
 
-/// The only member in the first room, with a variable for each input of a pair. It has no more nodes than the options ask for.
-fn first_member(alloc: Global, pair: &Pair<'_>, options: &Options) -> Result<Vec<Plain>, Stop>
+/// The store of the first room, with a variable for each input of a pair. It has no more nodes than the options ask for.
+fn first_store(alloc: Global, pair: &Pair<'_>, options: &Options) -> Result<Plain, Stop>
     requires { options_code options.now ≡ None }
-    ensures one { IfOk result (λ all. vec_len all ≡ 1) }
-    ensures nodes { IfOk result (λ all. All (λ p. p.store.limit ≤ options.now.nodes) all.items) }
-    ensures variables { IfOk result (λ all. All (λ p. length pair.now.first.inputs ≤ (⟦<Plain as References>⟧.holding p).variables) all.items) }
+    ensures nodes { IfOk result (λ p. p.store.limit ≤ options.now.nodes) }
+    ensures variables { IfOk result (λ p. length pair.now.first.inputs ≤ (⟦<Plain as References>⟧.holding p).variables) }
     ensures only { IfErr result (λ s. s ≡ Stop.Memory) }
 {
     pair.recall_laws();
     let inputs = pair.first().inputs().len() as u16;
     let nodes = options.nodes.min(FIRST_NODES);
-    let member = Plain::with_turns(alloc, inputs, nodes, Some(FIRST_TURNS))?;
-    match vec![in alloc; member] {
-        Ok(all) => Ok(all),
-        Err(_) => Err(Stop::Memory),
-    }
+    Plain::with_turns(alloc, inputs, nodes, Some(FIRST_TURNS))
 }
 
 /// The team of workers that the options ask for, with a variable for each input of a pair: they share one forest, and as many
@@ -154,9 +140,10 @@ fn team_for(
     team_with(alloc, inputs, nodes, cells, workers, forks, allowance)
 }
 
-/// The report by diagrams on one thread, where this is known of the pair, or why it stopped. A store that is full is left at
-/// once: what was given back there makes no room.
-fn check_first<R: Threads + Wait + Sync, P: Progress<R> + Sync>(
+/// The report by diagrams on this thread, where this is known of the pair, or why it stopped. A store that is full is left at
+/// once: what was given back there makes no room. The watch is told of each comparison, and of the nodes in use behind each
+/// operation.
+pub(crate) fn check_first<R, P: Progress<R>>(
     comparison: &Comparison<'_, R, P>,
     alike: Alike,
 ) -> Result<Report, Stop>
@@ -171,14 +158,18 @@ fn check_first<R: Threads + Wait + Sync, P: Progress<R> + Sync>(
         options,
         watch,
     } = *comparison;
-    let members = all_watched(alloc, first_member(alloc, pair, options)?, watch)?;
-    let brief = Patience::brief(0);
-    check_known(rt, alloc, pair, options.every, members, alike, brief, watch)
+    let every = options.every;
+    let mut store = Watched {
+        diagrams: first_store(alloc, pair, options)?,
+        watch,
+    };
+    let outcome = compare_known(alloc, rt, &mut store, pair, every, alike, false, watch)?;
+    found_report(alloc, pair, every, outcome)
 }
 
 /// The report by the team that the options ask for, where this is known of the pair, or why it stopped. It is given up as the
-/// turns of one of its workers are spent.
-fn check_by_team<R: Threads + Wait + Sync, P: Progress<R> + Sync>(
+/// turns of one of its workers are spent. The watch is told as in the first room.
+pub(crate) fn check_by_team<R: Threads + Wait + Sync, P: Progress<R> + Sync>(
     comparison: &Comparison<'_, R, P>,
     alike: Alike,
 ) -> Result<Report, Stop>
@@ -207,23 +198,6 @@ fn check_by_team<R: Threads + Wait + Sync, P: Progress<R> + Sync>(
         patience,
         watch,
     )
-}
-
-/// The report in a room, where this is known of the pair, or why it stopped. The watch is told of each comparison, and of the
-/// nodes in use behind each operation.
-pub(crate) fn check_in<R: Threads + Wait + Sync, P: Progress<R> + Sync>(
-    comparison: &Comparison<'_, R, P>,
-    room: Room,
-    alike: Alike,
-) -> Result<Report, Stop>
-    requires options { options_code comparison.now.options.now ≡ None }
-    requires known { IsKnown comparison.now.pair.now alike }
-    ensures report { IfOk result (λ report. report_of report ≡ pair_report comparison.now.options.now.every comparison.now.pair.now) }
-{
-    match room {
-        Room::First => check_first(comparison, alike),
-        Room::Whole => check_by_team(comparison, alike),
-    }
 }
 
 /// Compares a pair by as many workers as the options say, each in a thread of its own: they share one forest of `nodes` nodes
