@@ -30,12 +30,12 @@ pub use eqc_compare::{
     least_difference_is_unique,
 };
 pub use eqc_pair::{
-    Finding, OPTION_RULES, PAIR_RULES, Pair, Refused, Rule, Side, Unmatched, explain_assumption,
-    explain_pair, pair, pair_assuming, pair_choosing,
+    Finding, PAIR_RULES, Pair, Refused, Rule, Side, Unmatched, explain_assumption, explain_pair,
+    pair, pair_assuming, pair_choosing,
 };
 pub use eqc_report::{
-    Difference, Differences, Options, Report, RunFault, Seen, Status, Undecided, check,
-    check_plain, check_with, options_fault, write_report, write_text,
+    Difference, Differences, OPTION_RULES, OptionRule, Options, Report, RunFault, Seen, Status,
+    Undecided, check, check_plain, check_with, options_fault, write_report, write_text,
 };
 pub use given::{Given, Texts};
 pub use laws::{

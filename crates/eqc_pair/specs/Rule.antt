@@ -1,7 +1,7 @@
--- The codes of the rules of a pair, of an order text, of an assumption and of options.
+-- The codes of the rules of a pair, of an order text and of an assumption.
 use Rattle.std.specs.Prelude.{ℕ}
 use Rattle.eqc_pair.specs.declared.rule.Rule.{Rule}
-use Rattle.eqc_pair.specs.declared.rule.Rule.TheVariants.{OtherInputs, OtherOutputs, UnknownOutput, UnknownWord, WordTwice, InputLeftOut, AssumeInputs, AssumeOutput, Workers, Nodes, Cells, Forks}
+use Rattle.eqc_pair.specs.declared.rule.Rule.TheVariants.{OtherInputs, OtherOutputs, UnknownOutput, UnknownWord, WordTwice, InputLeftOut, AssumeInputs, AssumeOutput}
 
 abbrev pub rule_code : Rule → ℕ
 rule_code OtherInputs = 41
@@ -12,7 +12,3 @@ rule_code WordTwice = 52
 rule_code InputLeftOut = 53
 rule_code AssumeInputs = 61
 rule_code AssumeOutput = 62
-rule_code Workers = 81
-rule_code Nodes = 82
-rule_code Cells = 83
-rule_code Forks = 84

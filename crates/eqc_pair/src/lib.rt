@@ -28,5 +28,5 @@ pub use finding::Finding;
 pub use matched_pair::{Pair, recall_laws};
 pub use pairing::{pair, pair_choosing};
 pub use refused::{Refused, Side};
-pub use rule::{OPTION_RULES, PAIR_RULES, Rule};
+pub use rule::{PAIR_RULES, Rule};
 pub use unmatched::Unmatched;

@@ -1,11 +1,10 @@
-//! The rules of a pair, of an order text, of an assumption and of options, with their codes and their words.
+//! The rules of a pair, of an order text and of an assumption, with their codes and their words.
 ghost use Rattle.std.specs.Prelude.{◌≡◌};
 ghost use Rattle.eqc_pair.specs.Rule.{rule_code};
 
 use thiserror::Error;
 
-/// What two netlists are refused for as a pair, what an order text or an assumption is, or what options are
-/// (`docs/report.md`).
+/// What two netlists are refused for as a pair, or what an order text or an assumption is (`docs/report.md`).
 #[derive(Clone, Copy, Debug, PartialEq, Eq, Error)]
 pub enum Rule {
     #[error("the two netlists have different inputs")]
@@ -24,14 +23,6 @@ pub enum Rule {
     AssumeInputs,
     #[error("the assumption hasn't exactly one output")]
     AssumeOutput,
-    #[error("workers are from 1 to 64")]
-    Workers,
-    #[error("nodes are from 1 to 1048574")]
-    Nodes,
-    #[error("cells are a power of two from 1 to 1048576")]
-    Cells,
-    #[error("forks are from 0 to 16")]
-    Forks,
 }
 
 /// The rules of a pair, of an order text and of an assumption, in the order of their codes.
@@ -46,12 +37,9 @@ pub const PAIR_RULES: [Rule; 8] = [
     Rule::AssumeOutput,
 ];
 
-/// The rules of options, in the order of their codes.
-pub const OPTION_RULES: [Rule; 4] = [Rule::Workers, Rule::Nodes, Rule::Cells, Rule::Forks];
-
 impl Rule {
-    /// The number that a report shows: 41 to 43 for the pair, 51 to 53 for the order text, 61 and 62 for the assumption, 81
-    /// to 84 for the options, in the order of the variants.
+    /// The number that a report shows: 41 to 43 for the pair, 51 to 53 for the order text, 61 and 62 for the assumption, in
+    /// the order of the variants.
     pub fn code(self) -> u8
         ensures { result ≡ rule_code self }
     {
@@ -64,15 +52,12 @@ impl Rule {
             Rule::InputLeftOut => 53,
             Rule::AssumeInputs => 61,
             Rule::AssumeOutput => 62,
-            Rule::Workers => 81,
-            Rule::Nodes => 82,
-            Rule::Cells => 83,
-            Rule::Forks => 84,
         }
     }
 }
 
-/// What a refusal is for: a text, a hierarchy, or what is asked of both together.
+/// What a refusal is for: a text, a hierarchy, what is asked of both together, or what the caller refuses by a number of its
+/// own, as options.
 #[derive(Clone, Copy, Debug, PartialEq, Eq, Error)]
 pub(crate) enum Reason {
     #[error(transparent)]
@@ -81,6 +66,8 @@ pub(crate) enum Reason {
     Hierarchy(eqc_flat::Rule),
     #[error(transparent)]
     Both(Rule),
+    #[error("out of its range")]
+    Other,
 }
 
 /// The reason of a code of a refusal.
@@ -100,10 +87,5 @@ pub(crate) fn reason_of(code: &u8) -> Reason {
             return Reason::Both(*rule);
         }
     }
-    for rule in &OPTION_RULES {
-        if rule.code() == *code {
-            return Reason::Both(*rule);
-        }
-    }
-    Reason::Text(eqc_blif::Rule::Memory)
+    Reason::Other
 }

@@ -1,4 +1,5 @@
 pub mod Options
+pub mod OptionRule
 pub mod Ends
 pub mod Spooling
 pub mod Report

@@ -4,7 +4,7 @@
 //! What the report has to be is said in `specs/Report.antt` and `specs/PairReport.antt`. Read the modules in this order, the way of
 //! the data:
 //!
-//! - `options`, what a comparison may use
+//! - `options`, what a comparison may use, and `option_rule`, what options are refused for
 //! - `checking`, a pair's report by one thread, and `evaluating`, an output's value; `workers`, by several, and `watched`, how these
 //!   tell of their nodes; `course`, that of a run, and `undecided`, the outputs that a stop leaves
 //! - `report`, reports and their bytes; `io`, how a text is written, and what may go wrong there
@@ -14,6 +14,7 @@ mod checking;
 mod course;
 mod evaluating;
 mod io;
+mod option_rule;
 mod options;
 mod report;
 mod undecided;
@@ -24,6 +25,7 @@ pub use checking::check_plain;
 pub use course::check_alike;
 pub use io::fault::{RunFault, StreamFault};
 pub use io::writing::write_text;
+pub use option_rule::{OPTION_RULES, OptionRule};
 pub use options::{Options, options_fault};
 pub use report::text::{write_or_stop, write_report};
 pub use report::{Difference, Differences, Report, Status};

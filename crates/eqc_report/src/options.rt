@@ -2,7 +2,7 @@
 ghost use Rattle.std.specs.Prelude.{◌≡◌};
 ghost use Rattle.eqc_report.specs.Options.{options_code, is_cell_count};
 
-use eqc_pair::Rule;
+use crate::option_rule::OptionRule;
 
 const MAX_WORKERS: u32 = 64;
 
@@ -41,16 +41,16 @@ pub fn options_fault(options: &Options) -> Option<u8>
         ..
     } = *options;
     if !(1..=MAX_WORKERS).contains(&workers) {
-        return Some(Rule::Workers.code());
+        return Some(OptionRule::Workers.code());
     }
     if !(1..=MAX_NODES).contains(&nodes) {
-        return Some(Rule::Nodes.code());
+        return Some(OptionRule::Nodes.code());
     }
     if !is_cell_count(cells) {
-        return Some(Rule::Cells.code());
+        return Some(OptionRule::Cells.code());
     }
     if forks > MAX_FORKS {
-        return Some(Rule::Forks.code());
+        return Some(OptionRule::Forks.code());
     }
     None
 }
