@@ -1,5 +1,5 @@
 //! The course of a run's comparison: equal structure, diagrams on one thread, equal signals inside the netlists, a search for the
-//! first output that differs, diagrams by all workers, and at last a longer search for the outputs that are left.
+//! outputs that differ, diagrams by all workers, and at last a longer search for the outputs that are left.
 ghost use Rattle.std.specs.Prelude.{◌≡◌, ◌<◌, None, length, IfOk};
 ghost use Rattle.eqc_compare.specs.Alike.{IsKnown};
 ghost use Rattle.eqc_report.specs.PairReport.{pair_report};
