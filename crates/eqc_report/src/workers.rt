@@ -167,6 +167,19 @@ pub(crate) fn check_first<R, P: Progress<R>>(
     found_report(alloc, pair, every, outcome)
 }
 
+/// How many turns each worker of a team may take. Workers that share operations take them for one another, so all of them together
+/// may take twice what one may: else a run that can't be decided would take as many times longer as there are workers.
+fn turns_for(options: &Options) -> u64
+    requires { options_code options.now ≡ None }
+{
+    let alone = TURNS + TURNS_PER_NODE * u64::from(options.nodes);
+    if options.forks == 0 {
+        alone
+    } else {
+        alone * 2 / u64::from(options.workers.max(2))
+    }
+}
+
 /// The report by the team that the options ask for, where this is known of the pair, or why it stopped. It is given up as the
 /// turns of one of its workers are spent. The watch is told as in the first room.
 pub(crate) fn check_by_team<R: Threads + Wait + Sync, P: Progress<R> + Sync>(
@@ -184,7 +197,7 @@ pub(crate) fn check_by_team<R: Threads + Wait + Sync, P: Progress<R> + Sync>(
         options,
         watch,
     } = *comparison;
-    let turns = TURNS + TURNS_PER_NODE * u64::from(options.nodes);
+    let turns = turns_for(options);
     let team = team_for(alloc, pair, options, Some(turns))?;
     let members = all_watched(alloc, team, watch)?;
     let patience = Patience::of_forks(options.forks);
