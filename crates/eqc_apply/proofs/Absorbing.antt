@@ -75,7 +75,8 @@ unfolding holding_of
 refs_held n k cs x = refs_listed k 0 x cs
 
 -- the list of a table for two workers' references is both lists
-module _ (n m : ℕ) (k l j : Known) (cs ds es : List ℕ) (refs : (x : ℕ) → refs_of es x ≡ both_refs cs ds x) (mine : (x : ℕ) → 0 < refs_of cs x → tree_of j x ≡ tree_of k x) (theirs : (x : ℕ) → 0 < refs_of ds x → tree_of j x ≡ tree_of l x) where
+module _ (n m : ℕ) (k l j : Known) (cs ds es : List ℕ) (refs : (x : ℕ) → refs_of es x ≡ both_refs cs ds x)
+    (mine : (x : ℕ) → 0 < refs_of cs x → tree_of j x ≡ tree_of k x) (theirs : (x : ℕ) → 0 < refs_of ds x → tree_of j x ≡ tree_of l x) where
   split : (b : Bool) (r s : ℕ) → cond b (r + s) 0 ≡ cond b r 0 + cond b s 0
   split true r s = refl
   split false r s = omega arith
@@ -90,7 +91,13 @@ module _ (n m : ℕ) (k l j : Known) (cs ds es : List ℕ) (refs : (x : ℕ) →
       listed_stands j es e
       ∙ (ap (λ (r : ℕ). stands j e r) (refs e.number)
       ∙ (split (tree_eq e.tree (tree_of j e.number)) (refs_of cs e.number) (refs_of ds e.number)
-      ∙ omega (arith, part k e (refs_of cs e.number) (refs_of cs e.number) refl (mine e.number), part l e (refs_of ds e.number) (refs_of ds e.number) refl (theirs e.number), listed_stands k cs e, listed_stands l ds e)))
+      ∙ omega (
+        arith,
+        part k e (refs_of cs e.number) (refs_of cs e.number) refl (mine e.number),
+        part l e (refs_of ds e.number) (refs_of ds e.number) refl (theirs e.number),
+        listed_stands k cs e,
+        listed_stands l ds e,
+      )))
 
   pub both_held : (v : ℕ) → v ≡ n → Joins (holding_of n k cs) (holding_of m l ds) (holding_of v j es)
   unfolding holding_of

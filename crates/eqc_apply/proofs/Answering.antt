@@ -59,7 +59,8 @@ stays_keeps old new s = keeps old.variables new.variables old.worker.known new.w
 
 -- numbers of one function are one
 pub same_names : (k : Known) (x y : ℕ) → IsKnown k → IsHeld k.core x → IsHeld k.core y → ((a : ℕ → Bool) → value (tree_of k x) a ≡ value (tree_of k y) a) → x ≡ y
-same_names k x y known hx hy same = known.one x y (held_is_named k x hx) (held_is_named k y hy) (bryant (tree_of k x) (tree_of k y) (known.canonical x (held_is_named k x hx)) (known.canonical y (held_is_named k y hy)) same)
+same_names k x y known hx hy same =
+    known.one x y (held_is_named k x hx) (held_is_named k y hy) (bryant (tree_of k x) (tree_of k y) (known.canonical x (held_is_named k x hx)) (known.canonical y (held_is_named k y hy)) same)
 
 module _ (n : Held) (s t : Standing) (x y : ℕ) (known : IsKnown n.worker.known) (hx : IsIn (holding_in n) (entry_in s.known x)) (hy : IsIn (holding_in n) (entry_in t.known y)) where
   pub says_same : IsTrue (nat_eq x y) ↔ ((a : ℕ → Bool) → says (entry_in s.known x) a ≡ says (entry_in t.known y) a)
@@ -108,8 +109,11 @@ on_err (Err e) p = p
 
 -- a reference to a result, or none
 module _ (old mid new : Held) (o : Result Ref Stop) (x : ℕ) (s : Stays old mid) where
-  pub answer_gains : (f : (ℕ → Bool) → Bool) → ((a : ℕ → Bool) → value (tree_of mid.worker.known x) a ≡ f a) → IfOk o (λ r. Gains (holding_in mid) (holding_in new) (entry_of r) (says (entry_in mid.worker.known x))) → IfOk o (λ r. Gains (holding_in old) (holding_in new) (entry_of r) f)
-  answer_gains f is g = IfOk-weaker o _ _ (λ r h. keeps_then_gains (holding_in old) (holding_in mid) (holding_in new) (entry_of r) (says (entry_in mid.worker.known x)) f (stays_keeps old mid s) h is) g
+  pub answer_gains : (f : (ℕ → Bool) → Bool) → ((a : ℕ → Bool) → value (tree_of mid.worker.known x) a ≡ f a) →
+      IfOk o (λ r. Gains (holding_in mid) (holding_in new) (entry_of r) (says (entry_in mid.worker.known x))) →
+      IfOk o (λ r. Gains (holding_in old) (holding_in new) (entry_of r) f)
+  answer_gains f is g =
+      IfOk-weaker o _ _ (λ r h. keeps_then_gains (holding_in old) (holding_in mid) (holding_in new) (entry_of r) (says (entry_in mid.worker.known x)) f (stays_keeps old mid s) h is) g
 
   pub answer_keeps : OnErr o (new ≡ mid) → OnErr o (Keeps (holding_in old) (holding_in new))
   answer_keeps e = keep o e
@@ -119,7 +123,12 @@ module _ (old mid new : Held) (o : Result Ref Stop) (x : ℕ) (s : Stays old mid
       keep (Err t) e = subst (λ (n : Held). Keeps (holding_in old) (holding_in n)) (sym e) (stays_keeps old mid s)
 
   pub answer_full : (t : Stop) (e : Entry) → OnErr o (2 ^ 32 - 1 ≤ copies (holding_in mid) e) → o ≡ Err t → (d : Entry) × (2 ^ 32 - 1 ≤ copies (holding_in old) d)
-  answer_full t e full is = (e, let f : 2 ^ 32 - 1 ≤ copies (holding_in mid) e = subst (λ (q : Result Ref Stop). OnErr q (2 ^ 32 - 1 ≤ copies (holding_in mid) e)) is full in let k = (stays_keeps old mid s).held e in omega arith)
+  answer_full t e full is = (
+    e,
+    let f : 2 ^ 32 - 1 ≤ copies (holding_in mid) e = subst (λ (q : Result Ref Stop). OnErr q (2 ^ 32 - 1 ≤ copies (holding_in mid) e)) is full in
+        let k = (stays_keeps old mid s).held e in
+        omega arith,
+  )
 
 -- an operation on what two references say
 pub operate_referred : (op : Op) (n : Held) (s t : Standing) (x y : ℕ) → IsIn (holding_in n) (entry_in s.known x) → IsIn (holding_in n) (entry_in t.known y) → (a : ℕ → Bool)
@@ -142,7 +151,8 @@ module _ (old mid : Held) (s : Stays old mid) (x : ℕ) where
   referenced_tree (inr some) = s.tree x (omega arith)
 
 -- a result is the answer
-pub answer_is : (op : Op) (old mid new : Held) (f g : ℕ) (o : Result ℕ Stop) → Stays old mid → Extends mid new → IsReferenced old f → IsReferenced old g → IfOk o (λ x. IsResult new.variables op new.worker.known f g x) → IfOk o (IsAnswer op old f g new)
+pub answer_is : (op : Op) (old mid new : Held) (f g : ℕ) (o : Result ℕ Stop) → Stays old mid → Extends mid new → IsReferenced old f →
+    IsReferenced old g → IfOk o (λ x. IsResult new.variables op new.worker.known f g x) → IfOk o (IsAnswer op old f g new)
 answer_is op old mid new f g o s e hf hg r = IfOk-weaker o _ _ (λ x h. (h.within, λ a. h.function a ∙ (λ i. operate op (value (tree f hf i) a) (value (tree g hg i) a)))) r
   where
     tree : (x : ℕ) → IsReferenced old x → tree_of new.worker.known x ≡ tree_of old.worker.known x

@@ -23,7 +23,8 @@ two_stops Memory a b = inr refl
 two_stops Threads a b = absurd (a refl)
 two_stops References a b = absurd (b refl)
 
-module _ (variable low high n : ℕ) (counts : List ℕ) (s0 s1 : Standing) (h : Has [] n s0 counts) (known : IsKnown s0.known) (low_held : IsHeld s0.known.core low) (high_held : IsHeld s0.known.core high) where
+module _ (variable low high n : ℕ) (counts : List ℕ) (s0 s1 : Standing) (h : Has [] n s0 counts) (known : IsKnown s0.known)
+    (low_held : IsHeld s0.known.core low) (high_held : IsHeld s0.known.core high) where
   -- a worker may ask for a node over its names
   pub may_ask : variable < n → StartsAbove variable (tree_of s0.known low) → StartsAbove variable (tree_of s0.known high) → MayAsk s0.known variable low high
   may_ask few l u = record {

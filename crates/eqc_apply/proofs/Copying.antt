@@ -175,12 +175,14 @@ opened n m c d vs x v l h e w s p is over =
     let three : List Visit = Opened x v l h ∷ Reached h ∷ Reached l ∷ [] in
     let due = due_apart n vs (Reached x) w.due in
     let all : All (IsDue m) (vs ++ three) = All-append (IsDue m) vs three (due_stay n m vs e due.0)
-    (All-cons (IsDue m) (Opened x v l h) (Reached h ∷ Reached l ∷ []) over (All-cons (IsDue m) (Reached h) (Reached l ∷ []) over.halves.high_within (All-cons (IsDue m) (Reached l) [] over.halves.low_within (All-nil (IsDue m))))) in
+    (All-cons (IsDue m) (Opened x v l h) (Reached h ∷ Reached l ∷ []) over
+    (All-cons (IsDue m) (Reached h) (Reached l ∷ []) over.halves.high_within (All-cons (IsDue m) (Reached l) [] over.halves.low_within (All-nil (IsDue m))))) in
     let before_it : toil n (vs ++ Reached x ∷ []) ≡ toil n vs + toil n (Reached x ∷ []) = sum_by-append (toil_of n) vs (Reached x ∷ []) in
     let after_it : toil m (vs ++ three) ≡ toil m vs + toil m three = sum_by-append (toil_of m) vs three in
     let parts : toil m three ≡ 1 + (toil_of m (Reached h) + toil_of m (Reached l)) = omega arith in
     let less : 1 + (toil_of m (Reached h) + toil_of m (Reached l)) < toil_of m (Reached x) =
-    less_toil m.variables (root m.variables (tree_of m.worker.known x)) v (root m.variables (tree_of m.worker.known l)) (root m.variables (tree_of m.worker.known h)) over.below over.halves.above_low over.halves.above_high over.top in
+    less_toil m.variables (root m.variables (tree_of m.worker.known x)) v (root m.variables (tree_of m.worker.known l))
+    (root m.variables (tree_of m.worker.known h)) over.below over.halves.above_low over.halves.above_high over.top in
     record {
       way = record {
         faithful = faithful_stays n m c d e s p w.faithful;
@@ -235,7 +237,8 @@ module _ (n : Held) (c d : PlainCopy) (x v l h p q m : ℕ) (w : IsOnWay n c (c.
   pub closed : IsAdvance n c (c.visits.items ++ Opened x v l h ∷ []) n d
   closed =
       let f = w.faithful in
-      let fewer : sum_by free (set c.places.items x (Some m)) + free (get_or c.places.items x None) ≡ sum_by free c.places.items + free (Some m) = sum_by-set free c.places.items x (Some m) None within in
+      let fewer : sum_by free (set c.places.items x (Some m)) + free (get_or c.places.items x None) ≡ sum_by free c.places.items + free (Some m) =
+      sum_by-set free c.places.items x (Some m) None within in
       let counted : sum_by free (set c.places.items x (Some m)) + 1 ≡ sum_by free c.places.items + 0 = rw none at fewer in
       record {
         way = record {
@@ -290,7 +293,8 @@ module _ (n : Held) (c : PlainCopy) (size : ℕ) (variables : c.store.variables 
       let none0 : get_or blank 0 None ≡ None = get_or-replicate size 0 None None (omega arith) in
       let none1 : get_or (set blank 0 (Some 0)) 1 None ≡ None = get_or-set_other blank 0 1 (Some 0) None (λ z. omega arith) ∙ get_or-replicate size 1 None None (omega arith) in
       let count0 : sum_by free (set blank 0 (Some 0)) + free (get_or blank 0 None) ≡ sum_by free blank + 0 = sum_by-set free blank 0 (Some 0) None (omega arith) in
-      let count1 : sum_by free (set (set blank 0 (Some 0)) 1 (Some 1)) + free (get_or (set blank 0 (Some 0)) 1 None) ≡ sum_by free (set blank 0 (Some 0)) + 0 = sum_by-set free (set blank 0 (Some 0)) 1 (Some 1) None (omega arith) in
+      let count1 : sum_by free (set (set blank 0 (Some 0)) 1 (Some 1)) + free (get_or (set blank 0 (Some 0)) 1 None) ≡ sum_by free (set blank 0 (Some 0)) + 0 =
+      sum_by-set free (set blank 0 (Some 0)) 1 (Some 1) None (omega arith) in
       let all : sum_by free blank ≡ size * 1 = sum_by-replicate free size no_number in
       record {
         variables = variables;
@@ -301,8 +305,10 @@ module _ (n : Held) (c : PlainCopy) (size : ℕ) (variables : c.store.variables 
       }
     where
       constant : (x : ℕ) → x < 2 → get_or (set (set (replicate size None) 0 (Some 0)) 1 (Some 1)) x None ≡ Some x
-      constant zero small = get_or-set_other (set (replicate size None) 0 (Some 0)) 1 0 (Some 1) None (λ z. omega arith) ∙ get_or-set_same (replicate size None) 0 (Some 0) None (omega (arith, length-replicate size no_number))
-      constant (suc zero) small = get_or-set_same (set (replicate size None) 0 (Some 0)) 1 (Some 1) None (omega (arith, length-set {A = Option ℕ} (replicate size None) 0 (Some 0), length-replicate size no_number))
+      constant zero small = get_or-set_other (set (replicate size None) 0 (Some 0)) 1 0 (Some 1) None (λ z. omega arith)
+          ∙ get_or-set_same (replicate size None) 0 (Some 0) None (omega (arith, length-replicate size no_number))
+      constant (suc zero) small =
+          get_or-set_same (set (replicate size None) 0 (Some 0)) 1 (Some 1) None (omega (arith, length-set {A = Option ℕ} (replicate size None) 0 (Some 0), length-replicate size no_number))
       constant (suc (suc x)) small = absurd (omega arith)
 
       number : (x m : ℕ) → get_or (set (set (replicate size None) 0 (Some 0)) 1 (Some 1)) x None ≡ Some m → IsCopyOf n c.store x m
@@ -313,9 +319,17 @@ module _ (n : Held) (c : PlainCopy) (size : ℕ) (variables : c.store.variables 
             subst (IsCopyOf n c.store x) is (constant_copy n c.store x small variables)
         | inr large ↦
             let within : x < length (set (set (replicate size None) 0 (Some 0)) 1 (Some 1)) = placed_within (set (set (replicate size None) 0 (Some 0)) 1 (Some 1)) x m e in
-            let inside : x < size = omega (arith, within, length-set {A = Option ℕ} (set (replicate size None) 0 (Some 0)) 1 (Some 1), length-set {A = Option ℕ} (replicate size None) 0 (Some 0), length-replicate size no_number) in
+            let inside : x < size =
+            omega (
+              arith,
+              within,
+              length-set {A = Option ℕ} (set (replicate size None) 0 (Some 0)) 1 (Some 1),
+              length-set {A = Option ℕ} (replicate size None) 0 (Some 0),
+              length-replicate size no_number,
+            ) in
             let none : get_or (set (set (replicate size None) 0 (Some 0)) 1 (Some 1)) x None ≡ None =
-            get_or-set_other (set (replicate size None) 0 (Some 0)) 1 x (Some 1) None (λ z. omega arith) ∙ (get_or-set_other (replicate size None) 0 x (Some 0) None (λ z. omega arith) ∙ get_or-replicate size x None None inside) in
+            get_or-set_other (set (replicate size None) 0 (Some 0)) 1 x (Some 1) None (λ z. omega arith)
+            ∙ (get_or-set_other (replicate size None) 0 x (Some 0) None (λ z. omega arith) ∙ get_or-replicate size x None None inside) in
             let clash : None ≡ Some m = sym none ∙ e in
             cc
       ]
@@ -325,7 +339,8 @@ pub way_as : (n : Held) (c d : PlainCopy) (vs us : List Visit) → d.store ≡ c
 way_as n c d vs us s p e w = record { faithful = faithful_stays n n c d (extends_refl n) s p w.faithful; due = rw (← e) w.due; order = rw (← e, p) w.order }
 
 -- one name is to be copied
-pub sets_out : (n : Held) (c d : PlainCopy) (f : ℕ) → IsFaithful n c → IsHeld n.worker.known.core f → d.store ≡ c.store → d.places ≡ c.places → d.visits.items ≡ Reached f ∷ [] → IsOnWay n d d.visits.items × IsComing d.places.items d.visits.items f
+pub sets_out : (n : Held) (c d : PlainCopy) (f : ℕ) → IsFaithful n c → IsHeld n.worker.known.core f → d.store ≡ c.store → d.places ≡ c.places →
+    d.visits.items ≡ Reached f ∷ [] → IsOnWay n d d.visits.items × IsComing d.places.items d.visits.items f
 sets_out n c d f faithful held s p e =
     let way : IsOnWay n d (Reached f ∷ []) = record { faithful = faithful_stays n n c d (extends_refl n) s p faithful; due = All-cons (IsDue n) (Reached f) [] held (All-nil (IsDue n)); order = tt } in
     let coming : IsComing d.places.items (Reached f ∷ []) f = inr (inl refl) in
@@ -343,8 +358,13 @@ module _ (n : Held) (s : Store) (x m : ℕ) (c : IsCopyOf n s x m) where
   pub copy_depends : (variables : List ℕ) → DependsOnlyOn variables (value (tree_of n.worker.known x)) → DependsOnlyOn variables (value (tree_at s.nodes m))
   copy_depends variables depends a b same = c.function a ∙ (depends a b same ∙ sym (c.function b))
 
-  pub copy_least : (variables : List ℕ) → find (λ values. value (tree_at s.nodes m) (assigned variables values)) (assignments (length variables)) ≡ find (λ values. value (tree_of n.worker.known x) (assigned variables values)) (assignments (length variables))
-  copy_least variables = find_same (λ values. value (tree_at s.nodes m) (assigned variables values)) (λ values. value (tree_of n.worker.known x) (assigned variables values)) (λ values. c.function (assigned variables values)) (assignments (length variables))
+  pub copy_least : (variables : List ℕ) →
+      find (λ values. value (tree_at s.nodes m) (assigned variables values)) (assignments (length variables)) ≡ find
+      (λ values. value (tree_of n.worker.known x) (assigned variables values)) (assignments (length variables))
+  copy_least variables =
+      find_same (λ values. value (tree_at s.nodes m) (assigned variables values))
+      (λ values. value (tree_of n.worker.known x) (assigned variables values)) (λ values. c.function (assigned variables values))
+      (assignments (length variables))
 
 -- a copy of what a name was
 pub copy_was : (n m : Held) (s : Store) (x k : ℕ) → Extends n m → IsHeld n.worker.known.core x → IsCopyOf m s x k → IsCopyOf n s x k
@@ -368,7 +388,8 @@ last_inner n c vs v w none = elim (cases_lt (name_of v) 2) [
 ]
 
 -- what was read of a node that is opened: its root, and then its cofactors
-pub over_of : (n0 n1 n2 : Held) (x v l h : ℕ) → Extends n0 n1 → Extends n1 n2 → IsHeld n0.worker.known.core x → v ≡ root n1.variables (tree_of n1.worker.known x) → v < n1.variables → AreCofactors n2.variables n2.worker.known v x l h → IsNodeOver n2 x v l h
+pub over_of : (n0 n1 n2 : Held) (x v l h : ℕ) → Extends n0 n1 → Extends n1 n2 → IsHeld n0.worker.known.core x →
+    v ≡ root n1.variables (tree_of n1.worker.known x) → v < n1.variables → AreCofactors n2.variables n2.worker.known v x l h → IsNodeOver n2 x v l h
 over_of n0 n1 n2 x v l h e f held top below cofactors =
     let held1 = e.before.held x held in
     let below2 : v < n2.variables = omega (arith, below, f.variables) in
@@ -391,7 +412,8 @@ last_over n c vs x v l h w = (due_apart n vs (Opened x v l h) w.due).1
 -- where a name has no number, the store has room
 pub has_room : (n : Held) (c : PlainCopy) (x : ℕ) → IsFaithful n c → get_or c.places.items x None ≡ None → x < length c.places.items → length c.store.nodes < c.store.limit
 has_room n c x f none within =
-    let fewer : sum_by free (set c.places.items x (Some 0)) + free (get_or c.places.items x None) ≡ sum_by free c.places.items + free (Some 0) = sum_by-set free c.places.items x (Some 0) None within in
+    let fewer : sum_by free (set c.places.items x (Some 0)) + free (get_or c.places.items x None) ≡ sum_by free c.places.items + free (Some 0) =
+    sum_by-set free c.places.items x (Some 0) None within in
     let counted : sum_by free (set c.places.items x (Some 0)) + 1 ≡ sum_by free c.places.items + 0 = rw none at fewer in
     let room = f.room in
     omega (arith, counted)

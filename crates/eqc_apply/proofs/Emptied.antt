@@ -46,7 +46,8 @@ left_nothing old mid s known gone none =
     (λ x. omega (arith, s.references x, refs_held old.variables old.worker.known old.counts.items x, ap {B = ℕ} (λ l. length l) none)) gone
 
 -- from the copy of all words on to the end
-module _ (s0 s1 : Standing) (alone : IsAlone s0.known.core) (rest : IsAtRest s0.known.core) (cells : 0 < s0.known.core.sizes.cells) (room : length s0.known.core.held ≤ 2 ^ 39) (c : IsCopied s0 s1) where
+module _ (s0 s1 : Standing) (alone : IsAlone s0.known.core) (rest : IsAtRest s0.known.core) (cells : 0 < s0.known.core.sizes.cells)
+    (room : length s0.known.core.held ≤ 2 ^ 39) (c : IsCopied s0 s1) where
   pub copied_rest : IsAtRest s1.known.core
   copied_rest = subst IsAtRest (sym c.step.known.core) rest
 
@@ -72,6 +73,8 @@ module _ (s0 s1 : Standing) (alone : IsAlone s0.known.core) (rest : IsAtRest s0.
 
       pub none_told : (counted : ℕ) → IsTallied counted s3.known → s0.known.core.held ≡ [] → s0.known.core.sizes.variables ≤ 2048 → counted ≡ 0
       none_told counted told none few =
-          let may = may_empty s1 s2 c.words c.copy (ap (λ (v : View). v.held) c.step.known.core ∙ none) (subst (λ (v : View). v.sizes.variables ≤ 2048) (sym c.step.known.core) few) (λ k p lt at. unboxed_rest.quiet k p at) t u in
+          let may =
+          may_empty s1 s2 c.words c.copy (ap (λ (v : View). v.held) c.step.known.core ∙ none)
+          (subst (λ (v : View). v.sizes.variables ≤ 2048) (sym c.step.known.core) few) (λ k p lt at. unboxed_rest.quiet k p at) t u in
           let left = w.copy may.words may.copy in
           tells_none counted left.0 s3.known (e may) left.1 told

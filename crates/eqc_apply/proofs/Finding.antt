@@ -58,7 +58,10 @@ hits op f g r old new s = record {
 }
 
 -- it is a result among the names then
-module _ (n : ℕ) (counts : List ℕ) (op : Op) (f g r x : ℕ) (s0 s1 s2 : Standing) (function : (a : ℕ → Bool) → operate op (value (tree_of s0.known f) a) (value (tree_of s0.known g) a) ≡ value (tree_of s1.known r) a) (hf : IsHeld s0.known.core f) (hg : IsHeld s0.known.core g) (b : IsBefore s0.known s2.known) (is : x ≡ r) (there : IsThere x s1 s2) (known : IsKnown s2.known) where
+module _ (n : ℕ) (counts : List ℕ) (op : Op) (f g r x : ℕ) (s0 s1 s2 : Standing)
+    (function : (a : ℕ → Bool) → operate op (value (tree_of s0.known f) a) (value (tree_of s0.known g) a) ≡ value (tree_of s1.known r) a)
+    (hf : IsHeld s0.known.core f) (hg : IsHeld s0.known.core g) (b : IsBefore s0.known s2.known) (is : x ≡ r) (there : IsThere x s1 s2)
+    (known : IsKnown s2.known) where
   pub found_result : IsResult n op s2.known f g x
   found_result = record {
     first = b.held f hf;

@@ -38,7 +38,8 @@ module _ (names : List ℕ) {old new : Standing} (t : Exchanges [] (slots_of nam
   pub come_few : (n : ℕ) → length old.known.core.held ≤ n → length new.known.core.held ≤ n + length names
   come_few n few = omega (arith, lengths_now t, slots_few names)
 
-  pub come_may : (b : ℕ) (parcel : Parcel) → IsReady old.known.core → b < 16 * old.known.core.sizes.workers → length old.known.core.held ≤ 2 ^ 30 → length names ≤ 8 → HasParcel new.known parcel → MayPut new.known b parcel
+  pub come_may : (b : ℕ) (parcel : Parcel) → IsReady old.known.core → b < 16 * old.known.core.sizes.workers →
+      length old.known.core.held ≤ 2 ^ 30 → length names ≤ 8 → HasParcel new.known parcel → MayPut new.known b parcel
   come_may b parcel ready there few short has = record {
     ready = ready_now t ready;
     there = subst (λ (v : View). b < 16 * v.sizes.workers) (sym t.core) there;
@@ -50,7 +51,8 @@ module _ (names : List ℕ) {old new : Standing} (t : Exchanges [] (slots_of nam
 pub pair_comes : {s0 s1 s2 : Standing} (x y : ℕ) → Exchanges [] (slots_of (x ∷ [])) s0 s1 → Exchanges [] (slots_of (y ∷ [])) s1 s2 → Exchanges [] (slots_of (x ∷ y ∷ [])) s0 s2
 pair_comes x y t u = and t (slots_of (x ∷ y ∷ [])) (here t u) (λ w. slots_times w x (y ∷ [])) (slots_length x (y ∷ []))
 
-pub three_come : {s0 s1 s2 s3 : Standing} (x y z : ℕ) → Exchanges [] (slots_of (y ∷ [])) s0 s1 → Exchanges [] (slots_of (z ∷ [])) s1 s2 → Exchanges [] (slots_of (x ∷ [])) s2 s3 → Exchanges [] (slots_of (x ∷ y ∷ z ∷ [])) s0 s3
+pub three_come : {s0 s1 s2 s3 : Standing} (x y z : ℕ) → Exchanges [] (slots_of (y ∷ [])) s0 s1 → Exchanges [] (slots_of (z ∷ [])) s1 s2 →
+    Exchanges [] (slots_of (x ∷ [])) s2 s3 → Exchanges [] (slots_of (x ∷ y ∷ z ∷ [])) s0 s3
 three_come x y z t u v =
     let a = pair_comes y z t u in
     and a (slots_of (x ∷ y ∷ z ∷ [])) (here a v) (λ w. omega (arith, slots_times w x (y ∷ z ∷ []))) (omega (arith, slots_length x (y ∷ z ∷ [])))
@@ -101,11 +103,13 @@ pub operands_held : (v : View) (op : Op) (e : Filled) → HoldsParcel v (Done e)
 operands_held v op e h x = let t = h x in omega (arith, slots_times x e.r.number (e.f.number ∷ e.g.number ∷ []))
 
 -- the result is right, in the words of the names that were asked for
-module _ (op : Op) (f g x p q r : ℕ) (old new : Known) (same : (y : ℕ) → IsHeld old.core y → tree_of new y ≡ tree_of old y) (hf : IsHeld old.core f) (hg : IsHeld old.core g) (hx : IsHeld old.core x) (is_f : p ≡ f) (is_g : q ≡ g) (is_x : r ≡ x) where
+module _ (op : Op) (f g x p q r : ℕ) (old new : Known) (same : (y : ℕ) → IsHeld old.core y → tree_of new y ≡ tree_of old y)
+    (hf : IsHeld old.core f) (hg : IsHeld old.core g) (hx : IsHeld old.core x) (is_f : p ≡ f) (is_g : q ≡ g) (is_x : r ≡ x) where
   there : (y z : ℕ) → z ≡ y → IsHeld old.core y → tree_of new z ≡ tree_of old y
   there y z e h = ap (tree_of new) e ∙ same y h
 
-  pub done_right : ((a : ℕ → Bool) → operate op (value (tree_of old f) a) (value (tree_of old g) a) ≡ value (tree_of old x) a) → (a : ℕ → Bool) → operate op (value (tree_of new p) a) (value (tree_of new q) a) ≡ value (tree_of new r) a
+  pub done_right : ((a : ℕ → Bool) → operate op (value (tree_of old f) a) (value (tree_of old g) a) ≡ value (tree_of old x) a) → (a : ℕ → Bool) →
+      operate op (value (tree_of new p) a) (value (tree_of new q) a) ≡ value (tree_of new r) a
   done_right right a = (λ i. operate op (value (there f p is_f hf i) a) (value (there g q is_g hg i) a)) ∙ (right a ∙ sym (ap (λ (t : Tree). value t a) (there x r is_x hx)))
 
 -- a name that came keeps its tree while the names that came with it go
@@ -116,10 +120,12 @@ came_tree {s0} {s1} {s2} x y z t u = elim (two_cases x) [
 ]
 
 -- what came out of a box is the operation's own result, and its operands were given back
-pub own_come : (op : Op) (f g r : ℕ) (e : Filled) (s0 s1 s2 : Standing) → Exchanges [] (parcel_names (Done e)) s0 s1 → IsGenuine s1.known (Done e) → IsHeld s0.known.core f → IsHeld s0.known.core g → IsOwn op f g e r s1 s2 → HasCome op f g r s0 s2
+pub own_come : (op : Op) (f g r : ℕ) (e : Filled) (s0 s1 s2 : Standing) → Exchanges [] (parcel_names (Done e)) s0 s1 →
+    IsGenuine s1.known (Done e) → IsHeld s0.known.core f → IsHeld s0.known.core g → IsOwn op f g e r s1 s2 → HasCome op f g r s0 s2
 own_come op f g r e s0 s1 s2 t right hf hg own = record {
   came = subst (λ (z : ℕ). Exchanges [] (slots_of (z ∷ [])) s0 s2) (sym own.result) (two_went e.r.number f g came own.gone);
-  function = λ a. (λ i. operate (sym own.op_is i) (value (was f e.f.number own.first hf i) a) (value (was g e.g.number own.second hg i) a)) ∙ (right a ∙ ap (λ (u : Tree). value u a) (sym (ap (tree_of s2.known) own.result ∙ came_tree e.r.number f g came own.gone)));
+  function = λ a. (λ i. operate (sym own.op_is i) (value (was f e.f.number own.first hf i) a) (value (was g e.g.number own.second hg i) a))
+      ∙ (right a ∙ ap (λ (u : Tree). value u a) (sym (ap (tree_of s2.known) own.result ∙ came_tree e.r.number f g came own.gone)));
 }
   where
     came : Exchanges [] (slots_of (e.r.number ∷ f ∷ g ∷ [])) s0 s1
@@ -128,6 +134,8 @@ own_come op f g r e s0 s1 s2 t right hf hg own = record {
     was : (y z : ℕ) → z ≡ y → IsHeld s0.known.core y → tree_of s0.known y ≡ tree_of s1.known z
     was y z is h = sym (ap (tree_of s1.known) is ∙ same_tree t y h)
 
-pub own_comes : (op : Op) (f g : ℕ) (e : Filled) (s0 s1 s2 : Standing) (o : Option Ref) → Exchanges [] (parcel_names (Done e)) s0 s1 → IsGenuine s1.known (Done e) → IsHeld s0.known.core f → IsHeld s0.known.core g → IfSome o (λ r. IsOwn op f g e r.number s1 s2) → IfSome o (λ r. HasCome op f g r.number s0 s2)
+pub own_comes : (op : Op) (f g : ℕ) (e : Filled) (s0 s1 s2 : Standing) (o : Option Ref) → Exchanges [] (parcel_names (Done e)) s0 s1 →
+    IsGenuine s1.known (Done e) → IsHeld s0.known.core f → IsHeld s0.known.core g → IfSome o (λ r. IsOwn op f g e r.number s1 s2) →
+    IfSome o (λ r. HasCome op f g r.number s0 s2)
 own_comes op f g e s0 s1 s2 (Some r) t right hf hg own = own_come op f g r.number e s0 s1 s2 t right hf hg own
 own_comes op f g e s0 s1 s2 None t right hf hg own = tt

@@ -86,21 +86,25 @@ unfolding weight
 weight_constant x t e small = rw (lt-ltb x 2 small) refl
 
 -- one reference more stands on the name x
-pub one_more : (n : ℕ) (k : Known) (cs ds : List ℕ) (x : ℕ) → 2 ≤ x → refs_of ds x ≡ refs_of cs x + 1 → ((y : ℕ) → y ≢ x → refs_of ds y ≡ refs_of cs y) → (e : Entry) → copies (holding_of n k ds) e ≡ copies (holding_of n k cs) e + weight (entry_in k x) e
+pub one_more : (n : ℕ) (k : Known) (cs ds : List ℕ) (x : ℕ) → 2 ≤ x → refs_of ds x ≡ refs_of cs x + 1 →
+    ((y : ℕ) → y ≢ x → refs_of ds y ≡ refs_of cs y) → (e : Entry) →
+    copies (holding_of n k ds) e ≡ copies (holding_of n k cs) e + weight (entry_in k x) e
 one_more n k cs ds x two more others e = copies_are n k ds e ∙ omega (arith, copies_are n k cs e, weight_node x (tree_of k x) e two, go (ℕ_discrete e.number x))
   where
     go : Dec (e.number ≡ x) → stands k e (refs_of ds e.number) ≡ stands k e (refs_of cs e.number) + cond (nat_eq e.number x && tree_eq e.tree (tree_of k x)) 1 0
     go (yes at) = rw at (omega (arith, by_one (tree_eq e.tree (tree_of k x)) (refs_of cs x) (refs_of ds x) more, same_number x 1 (tree_eq e.tree (tree_of k x))))
     go (no d) = rw (others e.number d) (omega (arith, other_number e.number x 1 (tree_eq e.tree (tree_of k x)) d))
 
-pub gains_node : (n : ℕ) (k : Known) (cs ds : List ℕ) (x : ℕ) → 2 ≤ x → refs_of ds x ≡ refs_of cs x + 1 → ((y : ℕ) → y ≢ x → refs_of ds y ≡ refs_of cs y) → Gains (holding_of n k cs) (holding_of n k ds) (entry_in k x) (says (entry_in k x))
+pub gains_node : (n : ℕ) (k : Known) (cs ds : List ℕ) (x : ℕ) → 2 ≤ x → refs_of ds x ≡ refs_of cs x + 1 →
+    ((y : ℕ) → y ≢ x → refs_of ds y ≡ refs_of cs y) → Gains (holding_of n k cs) (holding_of n k ds) (entry_in k x) (says (entry_in k x))
 unfolding holding_of
 gains_node n k cs ds x two more others = record { variables = refl; held = one_more n k cs ds x two more others; function = λ a. refl }
 
 pub gains_constant : (n : ℕ) (k : Known) (cs : List ℕ) (x : ℕ) → x < 2 → Gains (holding_of n k cs) (holding_of n k cs) (entry_in k x) (says (entry_in k x))
 gains_constant n k cs x small = record { variables = refl; held = λ e. omega (arith, weight_constant x (tree_of k x) e small); function = λ a. refl }
 
-pub loses_node : (n : ℕ) (k : Known) (cs ds : List ℕ) (x : ℕ) (t : Tree) → t ≡ tree_of k x → 2 ≤ x → refs_of cs x ≡ refs_of ds x + 1 → ((y : ℕ) → y ≢ x → refs_of cs y ≡ refs_of ds y) → Loses (holding_of n k cs) (holding_of n k ds) (record { number = x; tree = t })
+pub loses_node : (n : ℕ) (k : Known) (cs ds : List ℕ) (x : ℕ) (t : Tree) → t ≡ tree_of k x → 2 ≤ x → refs_of cs x ≡ refs_of ds x + 1 →
+    ((y : ℕ) → y ≢ x → refs_of cs y ≡ refs_of ds y) → Loses (holding_of n k cs) (holding_of n k ds) (record { number = x; tree = t })
 unfolding holding_of
 loses_node n k cs ds x t is two less others = record { variables = refl; held = λ e. rw is (sym (one_more n k ds cs x two less others e)) }
 

@@ -83,6 +83,7 @@ pub whole_of : {variables : ℕ} {k : Known} {v low high x : ℕ} → v < variab
 whole_of {variables} {k} {v} {low} {high} {x} below n = record { within = n.within; root_at = starts_from variables v (tree_of k x) below n.starts; function = n.function }
 
 -- the node over both results has the operation's result
-pub node_right : (old new : Held) (op : Op) (f g v low high x : ℕ) → Extends old new → HasBoth (meaning_in old) op f g v low high → IsNode new.variables new.worker.known v low high x → IsResult new.variables op new.worker.known f g x
+pub node_right : (old new : Held) (op : Op) (f g v low high x : ℕ) → Extends old new → HasBoth (meaning_in old) op f g v low high →
+    IsNode new.variables new.worker.known v low high x → IsResult new.variables op new.worker.known f g x
 node_right old new op f g v low high x e b n =
     combined (meaning_in new) op v f g low high x (both_stay (names_stay old new e) b) (whole_of (omega (arith, b.expansion.below, e.variables)) n)

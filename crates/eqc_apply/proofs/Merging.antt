@@ -42,7 +42,10 @@ two_set n x m c d old new in_c in_d two h rest sizes one others = record {
 }
   where
     go : (y : ℕ) → 2 ≤ y → Dec (x ≡ y) → times y new.known.core.held ≡ min 1 (get_or (set c x m) y 0) + min 1 (get_or (set d x 0) y 0)
-    go y up (yes is) = subst (λ (z : ℕ). times z new.known.core.held ≡ min 1 (get_or (set c x m) z 0) + min 1 (get_or (set d x 0) z 0)) is (omega (arith, one, get_or-set_same c x m 0 in_c, get_or-set_same d x 0 0 in_d))
+    go y up (yes is) =
+        subst
+        (λ (z : ℕ).
+        times z new.known.core.held ≡ min 1 (get_or (set c x m) z 0) + min 1 (get_or (set d x 0) z 0)) is (omega (arith, one, get_or-set_same c x m 0 in_c, get_or-set_same d x 0 0 in_d))
     go y up (no n) = omega (arith, others y (λ e. n (sym e)) up, h.both y up, get_or-set_other c x y m 0 (λ e. n (sym e)), get_or-set_other d x y 0 0 (λ e. n (sym e)))
 
 -- nothing happened
@@ -60,7 +63,8 @@ merges_trans p q = record {
 }
 
 -- the counts of x that were read
-module _ (x n first second : ℕ) (c d : List ℕ) (old : Standing) (in_c : x < length c) (in_d : x < length d) (read : first ≡ get_or c x first) (read_more : second ≡ get_or d x second) (some : second ≢ 0) (h : HasTwo n old c d) where
+module _ (x n first second : ℕ) (c d : List ℕ) (old : Standing) (in_c : x < length c) (in_d : x < length d) (read : first ≡ get_or c x first)
+    (read_more : second ≡ get_or d x second) (some : second ≢ 0) (h : HasTwo n old c d) where
   pub first_is : get_or c x 0 ≡ first
   first_is = sym (get_or_default c x first 0 in_c) ∙ sym read
 
@@ -129,7 +133,9 @@ module _ (x n first second : ℕ) (c d : List ℕ) (old : Standing) (in_c : x < 
             where
               go : Dec (2 ≤ y) → Dec (x ≡ y) → tree_of new.known y ≡ tree_of old.known y
               go (no m) d = constant_trees new.known.trees old.known.trees y (omega arith) (ℕ_discrete y 0) (ℕ_discrete y 1)
-              go (yes up) (yes e) = subst (λ (z : ℕ). tree_of new.known z ≡ tree_of old.known z) e (gone.trees x is_slot (omega (arith, held_twice, times-slots_of x (x ∷ []) is_slot, times-same x x [] refl, times-nil x)))
+              go (yes up) (yes e) =
+                  subst (λ (z : ℕ). tree_of new.known z ≡ tree_of old.known z) e
+                  (gone.trees x is_slot (omega (arith, held_twice, times-slots_of x (x ∷ []) is_slot, times-same x x [] refl, times-nil x)))
               go (yes up) (no n) = gone.trees y up (omega (arith, times-slots_of y (x ∷ []) up, times-other y x [] n, times-nil y))
 
       pub merged : (m : ℕ) → m ≡ first + (second - 1) → Merges old c d new (set c x m) (set d x 0)

@@ -110,7 +110,8 @@ has_same more n s old new same h = record {
 }
 
 -- a name that stands beside the counts, or comes, is counted
-pub has_counted : (more : List ℕ) (x n : ℕ) (s : Standing) (old new : List ℕ) → 2 ≤ x → ((y : ℕ) → get_or new y 0 ≡ get_or old y 0) → get_or old x 0 ≡ 0 → x < length new → Has (x ∷ more) n s old → Has more n s (set new x 1)
+pub has_counted : (more : List ℕ) (x n : ℕ) (s : Standing) (old new : List ℕ) → 2 ≤ x → ((y : ℕ) → get_or new y 0 ≡ get_or old y 0) →
+    get_or old x 0 ≡ 0 → x < length new → Has (x ∷ more) n s old → Has more n s (set new x 1)
 has_counted more x n s old new two same none room h = record {
   rest = h.rest;
   cells = h.cells;
@@ -120,7 +121,9 @@ has_counted more x n s old new two same none room h = record {
 }
   where
     once : (y : ℕ) → 2 ≤ y → Dec (x ≡ y) → times y s.known.core.held ≡ min 1 (get_or (set new x 1) y 0) + times y more
-    once y two (yes e) = subst (λ (z : ℕ). times z s.known.core.held ≡ min 1 (get_or (set new x 1) z 0) + times z more) e (omega (arith, h.once x (omega arith), get_or-set_same new x 1 0 room, times-same x x more refl, none))
+    once y two (yes e) =
+        subst (λ (z : ℕ). times z s.known.core.held ≡ min 1 (get_or (set new x 1) z 0) + times z more) e
+        (omega (arith, h.once x (omega arith), get_or-set_same new x 1 0 room, times-same x x more refl, none))
     once y two (no d) = omega (arith, h.once y two, get_or-set_other new x y 1 0 (λ e. d (sym e)), same y, times-other y x more d)
 
 -- no references stand on it
@@ -182,7 +185,9 @@ module _ (x n : ℕ) (more : List ℕ) (s : Standing) (counts : List ℕ) (h : H
 
   -- it is counted instead
   pub kept_has : 2 ≤ x → get_or counts x 0 ≡ 0 → x < length counts → Has more n s (set counts x 1)
-  kept_has two none room = has_counted more x n s counts counts two (λ y. refl) none room (has_as (slots_of (x ∷ []) ++ more) (x ∷ more) n s counts (λ y. omega (arith, times-append y (slots_of (x ∷ [])) more, times-slot y, times-one y more)) h)
+  kept_has two none room =
+      has_counted more x n s counts counts two (λ y. refl) none room
+      (has_as (slots_of (x ∷ []) ++ more) (x ∷ more) n s counts (λ y. omega (arith, times-append y (slots_of (x ∷ [])) more, times-slot y, times-one y more)) h)
     where
       times-slot : (y : ℕ) → times y (slots_of (x ∷ [])) ≡ times y (x ∷ [])
       times-slot y = elim (two_cases x) [ inl t ↦ absurd (let small = t.1 in omega arith) | inr t ↦ ap (λ (b : Bool). times y (if b then [] else x ∷ [])) t.0 ]
@@ -191,7 +196,8 @@ module _ (x n : ℕ) (more : List ℕ) (s : Standing) (counts : List ℕ) (h : H
       times-one y ys = times-append y (x ∷ []) ys
 
 -- one name more comes, and is counted
-module _ (x n : ℕ) (old new : List ℕ) (s t : Standing) (two : 2 ≤ x) (none : get_or old x 0 ≡ 0) (same : (y : ℕ) → get_or new y 0 ≡ get_or old y 0) (room : x < length new) (step : Steps s (upped s.known.core x) t) where
+module _ (x n : ℕ) (old new : List ℕ) (s t : Standing) (two : 2 ≤ x) (none : get_or old x 0 ≡ 0)
+    (same : (y : ℕ) → get_or new y 0 ≡ get_or old y 0) (room : x < length new) (step : Steps s (upped s.known.core x) t) where
   come : Exchanges [] (x ∷ []) s t
   come = ups x s t step
 

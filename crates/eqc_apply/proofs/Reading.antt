@@ -24,7 +24,8 @@ root_constant n k (suc zero) small = refl
 root_constant n k (suc (suc x)) small = absurd (omega arith)
 
 -- a node was read
-module _ (x word n : ℕ) (counts : List ℕ) (old new : Standing) (step : Steps old (read_node old.known.core x word) new) (tells : Reads old.known x word new.known) (held : IsHeld old.known.core x) (h : Has [] n old counts) where
+module _ (x word n : ℕ) (counts : List ℕ) (old new : Standing) (step : Steps old (read_node old.known.core x word) new)
+    (tells : Reads old.known x word new.known) (held : IsHeld old.known.core x) (h : Has [] n old counts) where
   pub read : Changes [] [] old.known.core.hand old.known.core.draft old new
   read = reads x word old new step
 
@@ -75,7 +76,8 @@ pub less : (v top r : ℕ) → top ≡ r → top ≢ v → v ≤ r → v < r
 less v top r is differ h = elim (dec_le (v + 1) r) [ yes below ↦ omega arith | no m ↦ absurd (differ (omega arith)) ]
 
 -- the children are taken, and are the cofactors then
-module _ (x word n : ℕ) (c0 c1 : List ℕ) (s0 s1 s2 s3 : Standing) (step : Steps s0 (read_node s0.known.core x word) s1) (tells : Reads s0.known x word s1.known) (held : IsHeld s0.known.core x) (h : Has [] n s0 c0)
+module _ (x word n : ℕ) (c0 c1 : List ℕ) (s0 s1 s2 s3 : Standing) (step : Steps s0 (read_node s0.known.core x word) s1)
+    (tells : Reads s0.known x word s1.known) (held : IsHeld s0.known.core x) (h : Has [] n s0 c0)
     (low high : ℕ) (first : Settles c0 s1 s2) (has : Has [] n s2 c1) (low_there : IsHeld s2.known.core low) (second : Settles c1 s2 s3) where
   pub taken_before : IsBefore s0.known s3.known
   taken_before = before_trans (read_before x word n c0 s0 s1 step tells held h) (before_trans (settles_before (read_has x word n c0 s0 s1 step tells held h) first) (settles_before has second))
@@ -83,7 +85,9 @@ module _ (x word n : ℕ) (c0 c1 : List ℕ) (s0 s1 s2 s3 : Standing) (step : St
   pub taken_seat : IsSeat s0.known.core s3.known.core
   taken_seat = seat_trans (read_seat x word n c0 s0 s1 step tells held h) (seat_trans first.seat second.seat)
 
-  pub cofactors_taken : (known : IsKnown s0.known) (p : ℕ × ℕ × ℕ) (v : ℕ) → tree_of s0.known x ≡ Node p.0 (tree_of s3.known low) (tree_of s3.known high) → p.0 ≡ v → IsHeld s3.known.core high → AreCofactors n s3.known v x low high
+  pub cofactors_taken : (known : IsKnown s0.known) (p : ℕ × ℕ × ℕ) (v : ℕ) →
+      tree_of s0.known x ≡ Node p.0 (tree_of s3.known low) (tree_of s3.known high) → p.0 ≡ v → IsHeld s3.known.core high →
+      AreCofactors n s3.known v x low high
   cofactors_taken known p v is top high_there = record {
     low_within = (settles_before has second).held low low_there;
     high_within = high_there;

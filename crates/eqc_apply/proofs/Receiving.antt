@@ -33,7 +33,8 @@ module _ (f g n : ℕ) (s0 s1 : Standing) (counts room : List ℕ) (h : Has [] n
       (has_same (slots_of (f ∷ g ∷ [])) n s1 counts room same (has_after t [] (slots_of (f ∷ g ∷ [])) n counts (λ y. omega (arith, times-nil y)) h))
 
   -- the first one is counted
-  module _ (s2 : Standing) (one : List ℕ) (has : (m : ℕ) (more : List ℕ) → Has (slots_of (f ∷ []) ++ more) m s1 room → Has more m s2 one) (settles : Settles room s1 s2) (still : (x : ℕ) → IsCounted room x → IsCounted one x) where
+  module _ (s2 : Standing) (one : List ℕ) (has : (m : ℕ) (more : List ℕ) → Has (slots_of (f ∷ []) ++ more) m s1 room → Has more m s2 one)
+      (settles : Settles room s1 s2) (still : (x : ℕ) → IsCounted room x → IsCounted one x) where
     pub second_has : Has (slots_of (g ∷ []) ++ []) n s2 one
     second_has = has_as (slots_of (g ∷ [])) (slots_of (g ∷ []) ++ []) n s2 one (λ y. omega (arith, times-append y (slots_of (g ∷ [])) [], times-nil y)) (has n (slots_of (g ∷ [])) first_has)
 

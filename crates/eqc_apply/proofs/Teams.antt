@@ -21,12 +21,21 @@ use Rattle.eqc_apply.specs.Teaming.{IsTeam, IsLead, AreOthers, number_of, forest
 
 -- who splits a number off holds what it held
 left_has : (n : ℕ) (counts : List ℕ) (old new : Standing) → new.known ≡ split_left old.known → Has [] n old counts → Has [] n new counts
-left_has n counts old new is h = subst (λ (k : Known). Has [] n (record { forest = new.forest; known = k }) counts) (sym is) (record { rest = record { ready = h.rest.ready; quiet = h.rest.quiet; no_draft = h.rest.no_draft; no_hand = h.rest.no_hand }; cells = h.cells; range = h.range; constants = h.constants; once = h.once })
+left_has n counts old new is h =
+    subst (λ (k : Known). Has [] n (record { forest = new.forest; known = k }) counts) (sym is)
+    (record {
+      rest = record { ready = h.rest.ready; quiet = h.rest.quiet; no_draft = h.rest.no_draft; no_hand = h.rest.no_hand };
+      cells = h.cells;
+      range = h.range;
+      constants = h.constants;
+      once = h.once;
+    })
 
 left_cached : (n : ℕ) (cells : List ℕ) (old new : Standing) → new.known ≡ split_left old.known → IsCache (kept_of n old.known) cells → IsCache (kept_of n new.known) cells
 left_cached n cells old new is c = subst (λ (k : Known). IsCache (kept_of n k) cells) (sym is) c
 
-pub splits : (n : ℕ) (counts cells : List ℕ) (old new : Standing) (o : Result Standing SplitFault) → IfOk o (λ other. IsSplit old new other) → OnErr o (new ≡ old) → Has [] n old counts → IsCache (kept_of n old.known) cells → Has [] n new counts × IsCache (kept_of n new.known) cells
+pub splits : (n : ℕ) (counts cells : List ℕ) (old new : Standing) (o : Result Standing SplitFault) → IfOk o (λ other. IsSplit old new other) →
+    OnErr o (new ≡ old) → Has [] n old counts → IsCache (kept_of n old.known) cells → Has [] n new counts × IsCache (kept_of n new.known) cells
 splits n counts cells old new (Ok other) s e h c = (left_has n counts old new s.known h, left_cached n cells old new s.known c)
 splits n counts cells old new (Err f) s e h c = (subst (λ (t : Standing). Has [] n t counts) (sym e) h, subst (λ (t : Standing). IsCache (kept_of n t.known) cells) (sym e) c)
 
@@ -67,7 +76,8 @@ slots-push x (suc n) =
     ap (λ (l : List ℕ). x ∷ l) (subst (λ (m : ℕ). slots_from (suc x) n ++ m ∷ [] ≡ slots_from (suc x) (suc n)) e (slots-push (suc x) n))
 
 -- one member more
-pub more_others : (n : ℕ) (s : Sizes) (g : ℕ) (f : TableId) (others : List Applier) (a : Applier) → AreOthers n s g f others → IsNew n (holding_in a.names) → number_of a ≡ g + 1 → forest_of a ≡ f → sizes_in a ≡ s → AreOthers n s (g + 1) f (others ++ a ∷ [])
+pub more_others : (n : ℕ) (s : Sizes) (g : ℕ) (f : TableId) (others : List Applier) (a : Applier) → AreOthers n s g f others →
+    IsNew n (holding_in a.names) → number_of a ≡ g + 1 → forest_of a ≡ f → sizes_in a ≡ s → AreOthers n s (g + 1) f (others ++ a ∷ [])
 more_others n s g f others a o new number forest sizes = record {
   numbers = map-append number_of others (a ∷ []) ∙ numbers;
   new = All-push (λ (b : Applier). IsNew n (holding_in b.names)) others a o.new new;
@@ -86,7 +96,8 @@ pub other_forest : (n : ℕ) (s : Sizes) (g : ℕ) (f h : TableId) (others : Lis
 other_forest n s g f h others e o = subst (λ (t : TableId). AreOthers n s g t others) (sym e) o
 
 -- the first one comes before them
-pub is_team : (n nodes cells w g : ℕ) (lead : Applier) (others : List Applier) → w ≡ g + 1 → IsLead n (sizes_of n nodes cells w) w lead → AreOthers n (sizes_of n nodes cells w) g (forest_of lead) others → IsTeam n nodes cells w (lead ∷ others)
+pub is_team : (n nodes cells w g : ℕ) (lead : Applier) (others : List Applier) → w ≡ g + 1 → IsLead n (sizes_of n nodes cells w) w lead →
+    AreOthers n (sizes_of n nodes cells w) g (forest_of lead) others → IsTeam n nodes cells w (lead ∷ others)
 is_team n nodes cells w g lead others is l o = record {
   numbers = let z : w ≡ suc g = omega arith in rw z (λ i. l.number i ∷ o.numbers i);
   new = All-cons (λ (b : Applier). IsNew n (holding_in b.names)) lead others l.new o.new;

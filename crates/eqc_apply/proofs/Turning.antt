@@ -49,13 +49,16 @@ high_there m op us ts F G p q v p1 q1 x e k =
     (h.cofactors_f.high_within, h.cofactors_g.high_within)
 
 -- both results of the task on top are there: the high one came by another worker
-pub both_done : (m n : Meaning) (op : Op) (us ts : List Task) (F G p q v p1 q1 x y : ℕ) → us ≡ ts ++ Low p q v p1 q1 ∷ [] → LeadsTo m op us F G x → Stays m n → IsResult n op p1 q1 y → TopDone n op ts F G p q v x y
+pub both_done : (m n : Meaning) (op : Op) (us ts : List Task) (F G p q v p1 q1 x y : ℕ) → us ≡ ts ++ Low p q v p1 q1 ∷ [] →
+    LeadsTo m op us F G x → Stays m n → IsResult n op p1 q1 y → TopDone n op ts F G p q v x y
 both_done m n op us ts F G p q v p1 q1 x y e k s r =
     let l = leads_high m op ts F G p q v p1 q1 x (subst (λ ts. LeadsTo m op ts F G x) e k) in
     top_done n op (ts ++ High p q v x ∷ []) ts F G p q v x y refl (record { f = p1; g = q1; leads = leads_stay m n op (ts ++ High p q v x ∷ []) F G p1 q1 s l; right = r })
 
 -- a step that an offer follows
-pub step_stays : (m n k : Meaning) (ts us : List Task) (f g v f0 f1 g0 g1 : ℕ) → us ≡ ts ++ Low f g v f1 g1 ∷ [] → Stays m n → Stays n k → m.there f → m.there g → v ≡ min (m.root f) (m.root g) → v < m.variables → AreHalves n v f f0 f1 → AreHalves n v g g0 g1 → StepsTo m k ts us f g f0 g0
+pub step_stays : (m n k : Meaning) (ts us : List Task) (f g v f0 f1 g0 g1 : ℕ) → us ≡ ts ++ Low f g v f1 g1 ∷ [] → Stays m n → Stays n k →
+    m.there f → m.there g → v ≡ min (m.root f) (m.root g) → v < m.variables → AreHalves n v f f0 f1 → AreHalves n v g g0 g1 →
+    StepsTo m k ts us f g f0 g0
 step_stays m n k ts us f g v f0 f1 g0 g1 is s t hf hg top below cf cg =
     expanded_step m k ts us f g v f0 f1 g0 g1 is (stays_trans s t) hf hg top below (halves_stay t (s.there f hf) cf) (halves_stay t (s.there g hg) cg)
 

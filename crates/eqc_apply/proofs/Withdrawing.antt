@@ -14,7 +14,8 @@ use Rattle.eqc_apply.proofs.Meanings.{names_stay}
 use Rattle.eqc_apply.proofs.Handing.{met_stays}
 use Rattle.eqc_plain.proofs.Spending.{spent_stays}
 
-pub results_stay : (old new : Held) (op : Op) (f g : ℕ) (o : Result ℕ Stop) → Extends old new → IfOk o (λ x. IsResult old.variables op old.worker.known f g x) → IfOk o (λ x. IsResult new.variables op new.worker.known f g x)
+pub results_stay : (old new : Held) (op : Op) (f g : ℕ) (o : Result ℕ Stop) → Extends old new →
+    IfOk o (λ x. IsResult old.variables op old.worker.known f g x) → IfOk o (λ x. IsResult new.variables op new.worker.known f g x)
 results_stay old new op f g o e = IfOk-weaker o _ _ (λ x r. result_stays (names_stay old new e) r)
 
 -- what came out of a box is a reason to stop

@@ -27,7 +27,8 @@ pub stripe_is : (n variable low high : ℕ) → n ≡ variable → low < 2 ^ 20 
 unfolding stripe_of
 stripe_is n variable low high is l h =
     let f = fields variable low high l h in
-    let sum : n + low + high ≡ variable_of (node_word variable low high) + (low_of (node_word variable low high) + high_of (node_word variable low high)) = omega (arith, is, f.variable_is, f.low_is, f.high_is) in
+    let sum : n + low + high ≡ variable_of (node_word variable low high) + (low_of (node_word variable low high) + high_of (node_word variable low high)) =
+    omega (arith, is, f.variable_is, f.low_is, f.high_is) in
     ap (λ (m : ℕ). m % 16) sum
 
 module _ (t : Entries) (s variable low high : ℕ) (s0 s1 : Standing) (may : MayAsk s0.known variable low high) (lock : Steps s0 (locked s0.known.core s t) s1) where
@@ -95,7 +96,8 @@ module _ (variable low high : ℕ) (old mid : Standing) (t : Exchanges [] [] old
   later_node new (Err e) m = tt
   later_node new (Ok r) m = one_comes r.number t m
 
-  later_tree : MayAsk old.known variable low high → (new : Standing) (o : Result Ref Stop) → IfOk o (λ r. IsNodeOf variable (tree_of mid.known low) (tree_of mid.known high) (tree_of new.known r.number))
+  later_tree : MayAsk old.known variable low high → (new : Standing) (o : Result Ref Stop) →
+      IfOk o (λ r. IsNodeOf variable (tree_of mid.known low) (tree_of mid.known high) (tree_of new.known r.number))
       → IfOk o (λ r. IsNodeOf variable (tree_of old.known low) (tree_of old.known high) (tree_of new.known r.number))
   later_tree may new (Err e) m = tt
   later_tree may new (Ok r) m = subst (λ (p : Tree × Tree). IsNodeOf variable p.0 p.1 (tree_of new.known r.number)) (λ i. (same_tree t low may.low_held i, same_tree t high may.high_held i)) m
@@ -128,23 +130,28 @@ pub apart : (k : Known) (low high : ℕ) → IsKnown k → IsHeld k.core low →
 apart k low high known l h differ same = differ (known.one low high (held_is_named k low l) (held_is_named k high h) same)
 
 module _ (variable low high : ℕ) (old mid : Standing) (may : MayAsk old.known variable low high) (known : IsKnown old.known) (differ : low ≢ high) (t : Exchanges [] [] old mid) where
-  node_made : (new : Standing) (o : Result Ref Stop) → new.known.core.hand ≡ None → IfOk o (λ r. IsMade variable low high r.number mid new) → IfOk o (λ r. Exchanges [] (slots_of (r.number ∷ [])) old new)
+  node_made : (new : Standing) (o : Result Ref Stop) → new.known.core.hand ≡ None → IfOk o (λ r. IsMade variable low high r.number mid new) →
+      IfOk o (λ r. Exchanges [] (slots_of (r.number ∷ [])) old new)
   node_made new (Err e) hand m = tt
   node_made new (Ok r) hand m =
       let a = and t (r.number ∷ []) m.changes (λ x. omega (arith, times-nil x)) (omega arith) in
       let b : Changes [] (r.number ∷ []) old.known.core.hand None old new = subst (λ (g : Option Hand). Changes [] (r.number ∷ []) g None old new) (hand ∙ sym may.rest.no_hand) a in
-      let c : Changes [] (r.number ∷ []) old.known.core.hand old.known.core.draft old new = subst (λ (d : Option ℕ). Changes [] (r.number ∷ []) old.known.core.hand d old new) (sym may.rest.no_draft) b in
+      let c : Changes [] (r.number ∷ []) old.known.core.hand old.known.core.draft old new =
+      subst (λ (d : Option ℕ). Changes [] (r.number ∷ []) old.known.core.hand d old new) (sym may.rest.no_draft) b in
       elim (two_cases r.number) [ inl s ↦ absurd (let two = m.first in let small = s.1 in omega arith) | inr s ↦ rw s.0 c ]
 
-  node_tree : (new : Standing) (o : Result Ref Stop) → IfOk o (λ r. IsMade variable low high r.number mid new) → IfOk o (λ r. IsNodeOf variable (tree_of old.known low) (tree_of old.known high) (tree_of new.known r.number))
+  node_tree : (new : Standing) (o : Result Ref Stop) → IfOk o (λ r. IsMade variable low high r.number mid new) →
+      IfOk o (λ r. IsNodeOf variable (tree_of old.known low) (tree_of old.known high) (tree_of new.known r.number))
   node_tree new (Err e) m = tt
   node_tree new (Ok r) m =
-      let is : tree_of new.known r.number ≡ Node variable (tree_of old.known low) (tree_of old.known high) = m.tree ∙ (λ i. Node variable (same_tree t low may.low_held i) (same_tree t high may.high_held i)) in
+      let is : tree_of new.known r.number ≡ Node variable (tree_of old.known low) (tree_of old.known high) = m.tree
+      ∙ (λ i. Node variable (same_tree t low may.low_held i) (same_tree t high may.high_held i)) in
       ((λ same. absurd (apart old.known low high known may.low_held may.high_held differ same)), λ other. is)
 
   -- an attempt, at once or after a collection
   pub attempt_given : (new : Standing) (o : Result Ref Stop) → new.known.core.hand ≡ None → IfOk o (λ r. IsMade variable low high r.number mid new) → OnErr o (Exchanges [] [] mid new)
-      → IfErr o (λ s. s ≡ References → 2 ^ 32 - 2 ≤ length mid.known.core.held) → IfErr o (λ s. s ≡ NodeLimit → HasSeenAll new.known.core) → IfErr o (λ s. s ≢ Threads) → IsGiven variable low high o old new
+      → IfErr o (λ s. s ≡ References → 2 ^ 32 - 2 ≤ length mid.known.core.held) → IfErr o (λ s. s ≡ NodeLimit → HasSeenAll new.known.core) →
+      IfErr o (λ s. s ≢ Threads) → IsGiven variable low high o old new
   attempt_given new o hand made kept full all only = record {
     node = node_made new o hand made;
     tree = node_tree new o made;
@@ -155,7 +162,8 @@ module _ (variable low high : ℕ) (old mid : Standing) (may : MayAsk old.known 
   }
 
 -- where both children are one, its copy is the node
-pub copy_given : (variable low high : ℕ) (old new : Standing) (o : Result Ref Stop) → IsKnown old.known → low ≡ high → IsHeld old.known.core low → IfOk o (λ r. r.number ≡ low) → OnOk o (Exchanges [] (slots_of (low ∷ [])) old new)
+pub copy_given : (variable low high : ℕ) (old new : Standing) (o : Result Ref Stop) → IsKnown old.known → low ≡ high → IsHeld old.known.core low →
+    IfOk o (λ r. r.number ≡ low) → OnOk o (Exchanges [] (slots_of (low ∷ [])) old new)
     → OnErr o (new ≡ old) → OnErr o (2 ^ 32 - 1 ≤ length old.known.core.held) → IfErr o (λ s. s ≡ References) → IsGiven variable low high o old new
 copy_given variable low high old new (Err e) known same held name t kept full only = record {
   node = tt;

@@ -32,7 +32,8 @@ same_phases v = ap (λ (ps : List Phase). record v { phases = ps }) (sym (set-ge
 still_phases : (v : View) (held retired : List ℕ) (read : Option Read) (turn stops : List ℕ) (hand : Option Hand) (draft : Option ℕ)
     → record v { held = held; retired = retired; read = read; turn = turn; stops = stops; hand = hand; draft = draft }
     ≡ record v { held = held; phases = set v.phases 0 (phase_at v 0); retired = retired; read = read; turn = turn; stops = stops; hand = hand; draft = draft }
-still_phases v held retired read turn stops hand draft = ap (λ (w : View). record w { held = held; retired = retired; read = read; turn = turn; stops = stops; hand = hand; draft = draft }) (same_phases v)
+still_phases v held retired read turn stops hand draft =
+    ap (λ (w : View). record w { held = held; retired = retired; read = read; turn = turn; stops = stops; hand = hand; draft = draft }) (same_phases v)
 
 -- a view that was changed twice has what the second change left
 pub changed_twice : (v w u : View) {held more retired less : List ℕ} {read late : Option Read} {turn next stops ends : List ℕ} {hand other : Option Hand} {draft second : Option ℕ} (p q : Phase)
@@ -135,7 +136,10 @@ downs x old new held s = changed (x ∷ []) [] (downed old.known.core x) old new
 
     names : (y : ℕ) → times y (without x old.known.core.held) + times y (x ∷ []) ≡ times y old.known.core.held + times y []
     names y = elim (ℕ_discrete x y) [
-      | yes e ↦ let w : 1 + times y (without x old.known.core.held) ≡ times y old.known.core.held = subst (λ (z : ℕ). 1 + times z (without x old.known.core.held) ≡ times z old.known.core.held) e (times-without x old.known.core.held held) in omega (arith, times-same y x [] e, times-nil y)
+      | yes e ↦
+          let w : 1 + times y (without x old.known.core.held) ≡ times y old.known.core.held =
+          subst (λ (z : ℕ). 1 + times z (without x old.known.core.held) ≡ times z old.known.core.held) e (times-without x old.known.core.held held) in
+          omega (arith, times-same y x [] e, times-nil y)
       | no n ↦ omega (arith, times-other y x [] n, times-nil y, times-without_other y x old.known.core.held n)
     ]
 
@@ -184,7 +188,8 @@ pub writes : (d low high word : ℕ) (h : Hand) (old new : Standing) → AreHeld
 writes d low high word h old new held is s =
     changed (slots_of (low ∷ high ∷ [])) (d ∷ []) (wrote old.known.core d h word) old new s refl enough
     (λ x. let w = whole x in omega (arith, times-append x (without_each (slots_of (low ∷ high ∷ [])) old.known.core.held) (d ∷ []), same x))
-    (let w = length-without_all (slots_of (low ∷ high ∷ [])) old.known.core.held enough in omega (arith, length-append (without_each (slots_of (low ∷ high ∷ [])) old.known.core.held) (d ∷ []), longer))
+    (let w = length-without_all (slots_of (low ∷ high ∷ [])) old.known.core.held enough in
+    omega (arith, length-append (without_each (slots_of (low ∷ high ∷ [])) old.known.core.held) (d ∷ []), longer))
   where
     enough : (x : ℕ) → times x (slots_of (low ∷ high ∷ [])) ≤ times x old.known.core.held
     enough = slots_held (low ∷ high ∷ []) old.known.core.held held
@@ -315,7 +320,8 @@ module _ {gone came : List ℕ} {hand : Option Hand} {draft : Option ℕ} {old m
   still u = and came u (λ x. omega (arith, times-nil x)) (omega arith)
 
 -- a change follows one in which nothing went or came
-pub after_still : {went more : List ℕ} {hand : Option Hand} {draft : Option ℕ} {old mid new : Standing} → Changes [] [] hand draft old mid → Exchanges went more mid new → Changes went more hand draft old new
+pub after_still : {went more : List ℕ} {hand : Option Hand} {draft : Option ℕ} {old mid new : Standing} → Changes [] [] hand draft old mid →
+    Exchanges went more mid new → Changes went more hand draft old new
 after_still {went} {more} {hand} {draft} {old} {mid} {new} t w = let u = here t w in record {
   forest = u.forest ∙ t.forest;
   held = u.held;
@@ -356,17 +362,20 @@ came_held {gone} {hand} {draft} {old} {mid} x came t = elim (two_cases x) [
 ]
 
 -- a name comes
-pub one_comes : {hand : Option Hand} {draft : Option ℕ} {old mid new : Standing} (x : ℕ) → Changes [] [] hand draft old mid → Exchanges [] (slots_of (x ∷ [])) mid new → Changes [] (slots_of (x ∷ [])) hand draft old new
+pub one_comes : {hand : Option Hand} {draft : Option ℕ} {old mid new : Standing} (x : ℕ) → Changes [] [] hand draft old mid →
+    Exchanges [] (slots_of (x ∷ [])) mid new → Changes [] (slots_of (x ∷ [])) hand draft old new
 one_comes x t u = and t (slots_of (x ∷ [])) (here t u) (λ z. omega (arith, times-nil z)) (omega arith)
 
 -- two names come, one after the other
-pub two_come : {hand : Option Hand} {draft : Option ℕ} {old s1 s2 s3 : Standing} (x y : ℕ) → Changes [] [] hand draft old s1 → Exchanges [] (slots_of (x ∷ [])) s1 s2 → Exchanges [] (slots_of (y ∷ [])) s2 s3 → Changes [] (slots_of (x ∷ y ∷ [])) hand draft old s3
+pub two_come : {hand : Option Hand} {draft : Option ℕ} {old s1 s2 s3 : Standing} (x y : ℕ) → Changes [] [] hand draft old s1 →
+    Exchanges [] (slots_of (x ∷ [])) s1 s2 → Exchanges [] (slots_of (y ∷ [])) s2 s3 → Changes [] (slots_of (x ∷ y ∷ [])) hand draft old s3
 two_come x y t u v =
     let a = one_comes x t u in
     and a (slots_of (x ∷ y ∷ [])) (here a v) (λ z. slots_times z x (y ∷ [])) (slots_length x (y ∷ []))
 
 -- a name that came goes
-pub goes : {gone : List ℕ} {hand : Option Hand} {draft : Option ℕ} {old mid new : Standing} (x : ℕ) (came : List ℕ) → Changes gone (slots_of (x ∷ came)) hand draft old mid → Exchanges (slots_of (x ∷ [])) [] mid new → Changes gone (slots_of came) hand draft old new
+pub goes : {gone : List ℕ} {hand : Option Hand} {draft : Option ℕ} {old mid new : Standing} (x : ℕ) (came : List ℕ) →
+    Changes gone (slots_of (x ∷ came)) hand draft old mid → Exchanges (slots_of (x ∷ [])) [] mid new → Changes gone (slots_of came) hand draft old new
 goes x came t u =
     on t (slots_of came) (here t u) (λ z. omega (arith, slots_times z x came)) (λ z. omega (arith, slots_times z x came, times-nil z)) (omega (arith, slots_length x came))
 

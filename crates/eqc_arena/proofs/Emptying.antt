@@ -42,7 +42,8 @@ use Rattle.eqc_arena.specs.Changing.{MayBegin}
 use Rattle.eqc_arena.specs.Emptying.{count_in, node_in, IsCounted, HasNoCounts, MayEmpty, AreBlank, AllFrom, IsPast, AreDone, AreTried, IsBetween, IsFrom, IsTrying}
 
 -- a box in a copy of the words
-get_box : (z : Sizes) (w : Words) (b : ℕ) → length w.announced ≡ announced_words z → length w.counts ≡ z.names → length w.nodes ≡ z.names → length w.cells ≡ z.cells → b < length w.boxes → get_or (flat w) (cells_from z + (z.cells + b)) 0 ≡ get_or w.boxes b 0
+get_box : (z : Sizes) (w : Words) (b : ℕ) → length w.announced ≡ announced_words z → length w.counts ≡ z.names → length w.nodes ≡ z.names →
+    length w.cells ≡ z.cells → b < length w.boxes → get_or (flat w) (cells_from z + (z.cells + b)) 0 ≡ get_or w.boxes b 0
 get_box z w b announced counts nodes cells lt =
     ap (λ (i : ℕ). get_or (flat w) i 0) (let e : announced_words z + (z.names + z.names) + (z.cells + b) ≡ announced_words z + (z.names + (z.names + (z.cells + b))) = omega arith in e)
     ∙ (get_behind w.announced (w.counts ++ (w.nodes ++ (w.cells ++ (w.boxes ++ apart w.locks)))) (announced_words z) (z.names + (z.names + (z.cells + b))) 0 announced
@@ -249,7 +250,9 @@ record Rests (held : List ℕ) (k after : Known) : Type 0 where
   draft : after.core.draft ≡ k.core.draft
   known : IsKnown after
 
-module _ (held : List ℕ) (n stripe taken : ℕ) (k : Known) (b : IsBetween held n stripe taken k) (more : ℕ) (none : more ≡ 0 → taken ≡ 0) (others : List ℕ) (after : Known) (left : List ℕ) (copy : after.copy ≡ Some left) (w : Wanes k.core.sizes more b.words left) (r : Rests others k after) where
+module _ (held : List ℕ) (n stripe taken : ℕ) (k : Known) (b : IsBetween held n stripe taken k) (more : ℕ) (none : more ≡ 0 → taken ≡ 0)
+    (others : List ℕ) (after : Known) (left : List ℕ) (copy : after.copy ≡ Some left) (w : Wanes k.core.sizes more b.words left)
+    (r : Rests others k after) where
   carries : IsBetween others n stripe more after
   carries = record {
     words = left;
@@ -271,7 +274,8 @@ module _ (held : List ℕ) (n stripe taken : ℕ) (k : Known) (b : IsBetween hel
     tried = subst (λ (z : Sizes). AreTried n more i t z left) (sym r.sizes) (still_tried k.core.sizes more b.words left w n taken i t none tried);
   }
 
-rests : (held : List ℕ) (k after : Known) (v : View) → after.core ≡ v → v.sizes ≡ k.core.sizes → v.held ≡ held → v.retired ≡ k.core.retired → v.position ≡ k.core.position → v.draft ≡ k.core.draft → IsKnown after → Rests held k after
+rests : (held : List ℕ) (k after : Known) (v : View) → after.core ≡ v → v.sizes ≡ k.core.sizes → v.held ≡ held → v.retired ≡ k.core.retired →
+    v.position ≡ k.core.position → v.draft ≡ k.core.draft → IsKnown after → Rests held k after
 rests held k after v is sizes holds retired position draft known = record {
   sizes = ap (λ (u : View). u.sizes) is ∙ sizes;
   holds = ap (λ (u : View). u.held) is ∙ holds;
@@ -282,7 +286,8 @@ rests held k after v is sizes holds retired position draft known = record {
 }
 
 -- a stripe is taken: none of its entries was tried
-pub stripe_begins : (n s h taken i : ℕ) (t : Entries) (old new : Standing) → IsBetween [] n s taken old.known → Steps old (locked old.known.core h t) new → new.known.copy ≡ copied old.known.copy (locks_from old.known.core.sizes + 8 * h) 1 → length t ≤ i
+pub stripe_begins : (n s h taken i : ℕ) (t : Entries) (old new : Standing) → IsBetween [] n s taken old.known →
+    Steps old (locked old.known.core h t) new → new.known.copy ≡ copied old.known.copy (locks_from old.known.core.sizes + 8 * h) 1 → length t ≤ i
     → IsTrying [] n s taken i t new.known
 stripe_begins n s h taken i t old new b step copy past =
     carries_tried [] n s taken old.known b taken (λ e. e) [] new.known (set b.words (locks_from old.known.core.sizes + 8 * h) 1)
@@ -293,7 +298,8 @@ stripe_begins n s h taken i t old new b step copy past =
     (λ j e le at counted. absurd (let lt = at_below t j e at in omega arith))
 
 -- a stripe goes home, whether or not it is done
-pub stripe_leaves : (n s h taken : ℕ) (old new : Standing) → IsBetween [] n s taken old.known → Steps old (unlocked old.known.core) new → new.known.copy ≡ copied old.known.copy (locks_from old.known.core.sizes + 8 * h) 0 → IsBetween [] n s taken new.known
+pub stripe_leaves : (n s h taken : ℕ) (old new : Standing) → IsBetween [] n s taken old.known → Steps old (unlocked old.known.core) new →
+    new.known.copy ≡ copied old.known.copy (locks_from old.known.core.sizes + 8 * h) 0 → IsBetween [] n s taken new.known
 stripe_leaves n s h taken old new b step copy =
     carries [] n s taken old.known b taken (λ e. e) [] new.known (set b.words (locks_from old.known.core.sizes + 8 * h) 0)
     (copy ∙ ap (λ (o : Option (List ℕ)). copied o (locks_from old.known.core.sizes + 8 * h) 0) b.copy)
@@ -305,7 +311,8 @@ pub none_tried : (held : List ℕ) (n s taken i : ℕ) (k : Known) → IsBetween
 none_tried held n s taken i k b = record { between = b; tried = λ j e le at counted. absurd (some-ne-none e (sym at)) }
 
 -- a node is read
-pub trying_read : (held : List ℕ) (n s taken i x word place : ℕ) (t : Entries) (old new : Standing) → IsTrying held n s taken i t old.known → Steps old (read_node old.known.core x word) new → Copies old.known place word word new.known → IsTrying held n s taken i t new.known
+pub trying_read : (held : List ℕ) (n s taken i x word place : ℕ) (t : Entries) (old new : Standing) → IsTrying held n s taken i t old.known →
+    Steps old (read_node old.known.core x word) new → Copies old.known place word word new.known → IsTrying held n s taken i t new.known
 trying_read held n s taken i x word place t old new tr step copies =
     let b = tr.between in
     let stays = read_stays old.known new.known place word b.words copies b.copy in
@@ -340,15 +347,22 @@ one_given n s taken i x xs t old new tr some_taken two step m copies =
     without_first x xs = rw (eq-eqb x x refl) refl
 
 -- so is a child that may be a constant, which takes no step
-pub trying_given : (n s taken i x : ℕ) (xs : List ℕ) (t : Entries) (old new : Standing) → IsTrying (slots_of (x ∷ xs)) n s taken i t old.known → 0 < taken → (x < 2 → new ≡ old) → (2 ≤ x → Steps old (downed old.known.core x) new)
+pub trying_given : (n s taken i x : ℕ) (xs : List ℕ) (t : Entries) (old new : Standing) → IsTrying (slots_of (x ∷ xs)) n s taken i t old.known →
+    0 < taken → (x < 2 → new ≡ old) → (2 ≤ x → Steps old (downed old.known.core x) new)
     → (2 ≤ x → (m : ℕ) × Copies old.known (announced_words old.known.core.sizes + x) m ((m + (2 ^ 64 - 1)) % 2 ^ 64) new.known) → IsTrying (slots_of xs) n s taken i t new.known
 trying_given n s taken i x xs t old new tr some_taken constant step copies = elim (two_cases x) [
-  | inl q ↦ subst (λ (st : Standing). IsTrying (slots_of xs) n s taken i t st.known) (sym (constant q.1)) (subst (λ (b : Bool). IsTrying (if b then slots_of xs else x ∷ slots_of xs) n s taken i t old.known) q.0 tr)
-  | inr q ↦ one_given n s taken i x (slots_of xs) t old new (subst (λ (b : Bool). IsTrying (if b then slots_of xs else x ∷ slots_of xs) n s taken i t old.known) q.0 tr) some_taken q.1 (step q.1) (copies q.1).0 (copies q.1).1
+  | inl q ↦
+      subst (λ (st : Standing). IsTrying (slots_of xs) n s taken i t st.known) (sym (constant q.1))
+      (subst (λ (b : Bool). IsTrying (if b then slots_of xs else x ∷ slots_of xs) n s taken i t old.known) q.0 tr)
+  | inr q ↦
+      one_given n s taken i x (slots_of xs) t old new
+      (subst (λ (b : Bool). IsTrying (if b then slots_of xs else x ∷ slots_of xs) n s taken i t old.known) q.0 tr) some_taken q.1 (step q.1)
+      (copies q.1).0 (copies q.1).1
 ]
 
 -- an entry of the stripe h in hand is tried, the i-th one where it is one of those that are tried, after those behind it
-module _ (n s taken i j : ℕ) (t : Entries) (h k : ℕ) (u : Entries) (word x : ℕ) (old new : Standing) (tr : IsTrying [] n s taken j t old.known) (next : j ≤ i + 1) (home : MayHome old.known.core h u) (at : slice_get u k ≡ Some (word, x)) where
+module _ (n s taken i j : ℕ) (t : Entries) (h k : ℕ) (u : Entries) (word x : ℕ) (old new : Standing) (tr : IsTrying [] n s taken j t old.known)
+    (next : j ≤ i + 1) (home : MayHome old.known.core h u) (at : slice_get u k ≡ Some (word, x)) where
   entry_is : IsCounted old.known.core.sizes tr.between.words x × (node_in old.known.core.sizes tr.between.words x ≡ word)
   entry_is =
       let b = tr.between in
@@ -360,10 +374,13 @@ module _ (n s taken i j : ℕ) (t : Entries) (h k : ℕ) (u : Entries) (word x :
       (counted, nodes_are old.known b.words c x counted.1 ∙ (c.lawful.tables.entries e.0.stripe e.0.entries mine e.1 (word, x) e.3).0)
 
   -- another owner has it: its variable is greater
-  pub trying_lost : (count : ℕ) → ((e : ℕ × ℕ) → get_elem? t i ≡ some e → (word, x) ≡ e) → count ≢ 1 → Steps old old.known.core new → Copies old.known (announced_words old.known.core.sizes + x) count (if eqb count 1 then 0 else count) new.known → IsTrying [] n s taken i t new.known
+  pub trying_lost : (count : ℕ) → ((e : ℕ × ℕ) → get_elem? t i ≡ some e → (word, x) ≡ e) → count ≢ 1 → Steps old old.known.core new →
+      Copies old.known (announced_words old.known.core.sizes + x) count (if eqb count 1 then 0 else count) new.known →
+      IsTrying [] n s taken i t new.known
   trying_lost count is shared step copies =
       let b = tr.between in
-      let load : Copies old.known (announced_words old.known.core.sizes + x) count count new.known = subst (λ (q : Bool). Copies old.known (announced_words old.known.core.sizes + x) count (if q then 0 else count) new.known) (ne_eqb count 1 shared) copies in
+      let load : Copies old.known (announced_words old.known.core.sizes + x) count count new.known =
+      subst (λ (q : Bool). Copies old.known (announced_words old.known.core.sizes + x) count (if q then 0 else count) new.known) (ne_eqb count 1 shared) copies in
       let stays = read_stays old.known new.known (announced_words old.known.core.sizes + x) count b.words load b.copy in
       let other : count_in old.known.core.sizes b.words x ≢ 1 = λ one. shared (sym stays.1 ∙ one) in
       let later = shared_is_later n s taken old.known b x entry_is.0 other in
@@ -373,7 +390,8 @@ module _ (n s taken i j : ℕ) (t : Entries) (h k : ℕ) (u : Entries) (word x :
       (rests [] old.known new.known old.known.core step.known.core refl b.holds refl refl refl step.known.known)
       i t (λ m e le there counted. go is past m e le there counted (ℕ_discrete m i))
     where
-      go : ((e : ℕ × ℕ) → get_elem? t i ≡ some e → (word, x) ≡ e) → IsPast n taken word (count_in old.known.core.sizes tr.between.words x) → (m : ℕ) (e : ℕ × ℕ) → i ≤ m → get_elem? t m ≡ some e → IsCounted old.known.core.sizes tr.between.words e.1 → Dec (m ≡ i)
+      go : ((e : ℕ × ℕ) → get_elem? t i ≡ some e → (word, x) ≡ e) → IsPast n taken word (count_in old.known.core.sizes tr.between.words x) →
+          (m : ℕ) (e : ℕ × ℕ) → i ≤ m → get_elem? t m ≡ some e → IsCounted old.known.core.sizes tr.between.words e.1 → Dec (m ≡ i)
           → IsPast n taken e.0 (count_in old.known.core.sizes tr.between.words e.1)
       go is past m e le there counted (no other) = tr.tried m e (omega arith) there counted
       go is past m e le there counted (yes same) =
@@ -384,7 +402,8 @@ module _ (n s taken i j : ℕ) (t : Entries) (h k : ℕ) (u : Entries) (word x :
       → Copies old.known (announced_words old.known.core.sizes + x) count (if eqb count 1 then 0 else count) new.known → IsTrying (slots_of (low ∷ high ∷ [])) n s more i (swap_remove t i d) new.known
   trying_won more low high count d some_taken one a z step copies =
       let b = tr.between in
-      let swap : Copies old.known (announced_words old.known.core.sizes + x) count 0 new.known = subst (λ (q : Bool). Copies old.known (announced_words old.known.core.sizes + x) count (if q then 0 else count) new.known) (eq-eqb count 1 one) copies in
+      let swap : Copies old.known (announced_words old.known.core.sizes + x) count 0 new.known =
+      subst (λ (q : Bool). Copies old.known (announced_words old.known.core.sizes + x) count (if q then 0 else count) new.known) (eq-eqb count 1 one) copies in
       let held : old.known.core.held ++ slots_of (children word) ≡ slots_of (low ∷ high ∷ []) = (λ k. b.holds k ++ slots_of (sym a k ∷ sym z k ∷ [])) in
       carries_tried [] n s taken old.known b more (λ e. absurd (omega arith)) (slots_of (low ∷ high ∷ [])) new.known (set b.words (announced_words old.known.core.sizes + x) 0)
       (swap.copy ∙ ap (λ (o : Option (List ℕ)). copied o (announced_words old.known.core.sizes + x) 0) b.copy)
@@ -461,7 +480,8 @@ stripe_ends n s taken t old new tr home step copy =
     (lock_wanes old.known.core.sizes taken tr.between.words (8 * s) 0)
     (rests [] old.known new.known (unlocked old.known.core) step.known.core refl tr.between.holds refl refl refl step.known.known)
   where
-    done : (x : ℕ) → IsCounted old.known.core.sizes tr.between.words x → stripe_of (node_in old.known.core.sizes tr.between.words x) < s + 1 → Dec (stripe_of (node_in old.known.core.sizes tr.between.words x) ≡ s)
+    done : (x : ℕ) → IsCounted old.known.core.sizes tr.between.words x → stripe_of (node_in old.known.core.sizes tr.between.words x) < s + 1 →
+        Dec (stripe_of (node_in old.known.core.sizes tr.between.words x) ≡ s)
         → IsPast n taken (node_in old.known.core.sizes tr.between.words x) (count_in old.known.core.sizes tr.between.words x)
     done x counted lt (no other) = tr.between.done x counted (omega arith)
     done x counted lt (yes is) =
@@ -493,14 +513,16 @@ silent_set (o ∷ ps) q others zero p lt e = absurd (omega arith)
 silent_set (o ∷ ps) q others (suc k) p lt e = others (suc k) p lt e
 
 -- the cells are cleared, and nothing is retired after a scan: the first turn may begin
-pub first_turn : (old cleared swept : Standing) → MayEmpty old.known → MayBegin old.known.core → IsAsBefore old cleared → AreEmpty old.known.core.sizes.cells old.known cleared.known → IsScanned cleared swept → IsFrom 0 swept.known
+pub first_turn : (old cleared swept : Standing) → MayEmpty old.known → MayBegin old.known.core → IsAsBefore old cleared →
+    AreEmpty old.known.core.sizes.cells old.known cleared.known → IsScanned cleared swept → IsFrom 0 swept.known
 first_turn old cleared swept may rest before empty scan =
     let t = empty may.words may.copy in
     let u = scan.copy t.0 t.1 in
     let sizes : swept.known.core.sizes ≡ old.known.core.sizes = ap (λ (v : View). v.sizes) scan.core ∙ ap (λ (v : View). v.sizes) before.core in
     let first : length cleared.known.core.held ≡ 0 = ap (λ (v : View). length v.held) before.core ∙ (before.lengths ∙ ap length may.holds) in
     let quiet : IsSilent cleared.known.core = subst (λ (v : View). IsSilent v) (sym before.core) (silent_set old.known.core.phases before.phase may.silent) in
-    let blank : AreBlank old.known.core.sizes u.0 = λ c lt. subst (λ (z : Sizes). get_or u.0 (cells_from z + c) 0 ≡ get_or t.0 (cells_from z + c) 0) (ap (λ (v : View). v.sizes) before.core) (u.2 c) ∙ go t.0 t.2 t.3 c lt (dec_le old.known.core.sizes.cells c) in
+    let blank : AreBlank old.known.core.sizes u.0 = λ c lt. subst (λ (z : Sizes). get_or u.0 (cells_from z + c) 0 ≡ get_or t.0 (cells_from z + c) 0) (ap (λ (v : View). v.sizes) before.core) (u.2 c)
+    ∙ go t.0 t.2 t.3 c lt (dec_le old.known.core.sizes.cells c) in
     record {
       words = u.0;
       copy = u.1;

@@ -84,10 +84,12 @@ module _ (t : Entries) (variable low high : ℕ) (old : Standing) (known : IsKno
           record {
             changes = subst (λ (g : Option Hand). Changes [] (x ∷ []) g None old new) (sym (hand_now up)) (subst (λ (d : Option ℕ). Changes [] (x ∷ []) old.known.core.hand d old new) may.no_draft up);
             first = slot_there.0;
-            tree = tells word entry (subst (λ (n : ℕ). IsHeld old.known.core n) (sym l) may.low_held) (subst (λ (n : ℕ). IsHeld old.known.core n) (sym h) may.high_held) ∙ (λ i. Node (v i) (tree_of old.known (l i)) (tree_of old.known (h i)));
+            tree = tells word entry (subst (λ (n : ℕ). IsHeld old.known.core n) (sym l) may.low_held) (subst (λ (n : ℕ). IsHeld old.known.core n) (sym h) may.high_held)
+                ∙ (λ i. Node (v i) (tree_of old.known (l i)) (tree_of old.known (h i)));
           }
 
-    pub found_made : (new : Standing) (o : Result Ref Stop) → IfOk o (λ r. r.number ≡ x) → OnOk o (Steps old (upped old.known.core x) new) → OnOk o (Ups old.known x new.known) → IfOk o (λ r. IsMade variable low high r.number old new)
+    pub found_made : (new : Standing) (o : Result Ref Stop) → IfOk o (λ r. r.number ≡ x) → OnOk o (Steps old (upped old.known.core x) new) →
+        OnOk o (Ups old.known x new.known) → IfOk o (λ r. IsMade variable low high r.number old new)
     found_made new (Ok r) name step tells = subst (λ (n : ℕ). IsMade variable low high n old new) (sym name) (found_node new step tells)
     found_made new (Err e) name step tells = tt
 

@@ -97,7 +97,8 @@ pub entry_in_hand : (s i word x : ℕ) (t : Entries) (v : View) → MayHome v s 
 entry_in_hand s i word x t v home at = let there = in_both t home.0.entries i (word, x) home.2.2 (elem_get t i (word, x) at) in (home.0, there.0, home.2.1, there.1)
 
 -- the map and the table in hand are one still after an entry went
-pub home_after : (s i word x : ℕ) (t : Entries) (d : ℕ × ℕ) (old new : Standing) → IsKnown old.known → MayHome old.known.core s t → slice_get t i ≡ Some (word, x) → Steps old (taken_back old.known.core x word) new → MayHome new.known.core s (swap_remove t i d)
+pub home_after : (s i word x : ℕ) (t : Entries) (d : ℕ × ℕ) (old new : Standing) → IsKnown old.known → MayHome old.known.core s t →
+    slice_get t i ≡ Some (word, x) → Steps old (taken_back old.known.core x word) new → MayHome new.known.core s (swap_remove t i d)
 home_after s i word x t d old new known home at step =
     let hand : hand_of old.known.core.hand ≡ home.0 = ap hand_of home.2.1 in
     let same = same_left t home.0.entries i word x d home.2.2 (elem_get t i (word, x) at) (known.once home.0 x home.2.1) in (
@@ -151,5 +152,6 @@ unfolding entries_below
 few_entries s t k known home =
     let h = home.0 in
     let few = below_few k.core.sizes.names h.entries (λ x. known.once h x home.2.1) in
-    let all = sum_same (λ (e : ℕ × ℕ). cond {A = ℕ} (ltb e.1 k.core.sizes.names) 1 0) (λ (e : ℕ × ℕ). 1) h.entries (λ i e at. rw (lt-ltb e.1 k.core.sizes.names (known.entries h i e home.2.1 at).1) refl) in
+    let all =
+    sum_same (λ (e : ℕ × ℕ). cond {A = ℕ} (ltb e.1 k.core.sizes.names) 1 0) (λ (e : ℕ × ℕ). 1) h.entries (λ i e at. rw (lt-ltb e.1 k.core.sizes.names (known.entries h i e home.2.1 at).1) refl) in
     omega (arith, all_one t, all_one h.entries, home.2.2 (λ e. 1))

@@ -32,7 +32,8 @@ pub same_more : (e : ℕ × ℕ) (t u : Entries) → SameEntries t u → SameEnt
 same_more e t u same f = sum_by_push f t e ∙ (ap (λ n. n + f e) (same f) ∙ sym (sum_by_push f u e))
 
 -- the node may be written once both children are counted for it
-module _ (t : Entries) (slot variable low high : ℕ) (old mid : Standing) (may : MayPut old.known t slot variable low high) (c : Exchanges [] (slots_of (low ∷ high ∷ [])) old mid) (room : length mid.known.core.held ≤ 2 ^ 39) where
+module _ (t : Entries) (slot variable low high : ℕ) (old mid : Standing) (may : MayPut old.known t slot variable low high)
+    (c : Exchanges [] (slots_of (low ∷ high ∷ [])) old mid) (room : length mid.known.core.held ≤ 2 ^ 39) where
   hand : Hand
   hand = may.home.0
 
@@ -87,7 +88,9 @@ module _ (t : Entries) (slot variable low high : ℕ) (old mid : Standing) (may 
 
     pub made : IsMade variable low high r old new
     made = record {
-      changes = subst (λ (h : Option Hand). Changes [] (r ∷ []) h None old new) (sym (hand_now made_hand)) (subst (λ (n : ℕ). Changes [] (n ∷ []) (Some (record may.home.0 { entries = may.home.0.entries ++ (node_word variable first second, slot) ∷ [] })) None old new) slot_is made_hand);
+      changes =
+          subst (λ (h : Option Hand). Changes [] (r ∷ []) h None old new) (sym (hand_now made_hand))
+          (subst (λ (n : ℕ). Changes [] (n ∷ []) (Some (record may.home.0 { entries = may.home.0.entries ++ (node_word variable first second, slot) ∷ [] })) None old new) slot_is made_hand);
       first = subst (λ (n : ℕ). 2 ≤ n) slot_is (known.draft slot may.draft).0;
       tree = tree ∙ (λ i. Node variable ((ap (tree_of mid.known) a ∙ same_tree c low may.low_held) i) ((ap (tree_of mid.known) b ∙ same_tree c high may.high_held) i));
     }
@@ -97,7 +100,12 @@ module _ (t : Entries) (slot variable low high : ℕ) (old mid : Standing) (may 
         let h : home.0 ≡ may.home.0 = (let e : Some home.0 ≡ Some may.home.0 = sym home.2.1 ∙ may.home.2.1 in cc) in (
           record may.home.0 { entries = may.home.0.entries ++ (node_word variable first second, slot) ∷ [] },
           ap (λ (g : Hand). g.stripe) (sym h) ∙ home.1,
-          (ready_now made_hand may.home.2.0, hand_now made_hand, subst (λ (l : Entries). SameEntries l (may.home.0.entries ++ (node_word variable first second, slot) ∷ [])) (sym is) (same_more (node_word variable first second, slot) t may.home.0.entries may.home.2.2)),
+          (
+            ready_now made_hand may.home.2.0,
+            hand_now made_hand,
+            subst (λ (l : Entries). SameEntries l (may.home.0.entries ++ (node_word variable first second, slot) ∷ [])) (sym is)
+                (same_more (node_word variable first second, slot) t may.home.0.entries may.home.2.2),
+          ),
         )
 
 -- a word that is not in the map comes last
@@ -106,7 +114,9 @@ unfolding table_word
 inserted word slot [] none = refl
 inserted word slot (e ∷ es) none = go (ℕ_discrete e.0 word) (λ rest. inserted word slot es rest)
   where
-    go : Dec (e.0 ≡ word) → (sum_by (λ (f : ℕ × ℕ). cond {A = ℕ} (eqb f.0 word) 1 0) es ≡ 0 → insert_entry nat_eq es word slot ≡ es ++ (word, slot) ∷ []) → insert_entry nat_eq (e ∷ es) word slot ≡ (e ∷ es) ++ (word, slot) ∷ []
+    go : Dec (e.0 ≡ word) →
+        (sum_by (λ (f : ℕ × ℕ). cond {A = ℕ} (eqb f.0 word) 1 0) es ≡ 0 → insert_entry nat_eq es word slot ≡ es ++ (word, slot) ∷ []) →
+        insert_entry nat_eq (e ∷ es) word slot ≡ (e ∷ es) ++ (word, slot) ∷ []
     go (yes same) later = absurd (let one = ap {B = ℕ} (λ (b : Bool). cond b 1 0) (eq-eqb e.0 word same) in omega (arith, sum_by-cons (λ (f : ℕ × ℕ). cond {A = ℕ} (eqb f.0 word) 1 0) e es))
     go (no other) later =
         let apart : nat_eq word e.0 ≡ false = ne_eqb word e.0 (λ q. other (sym q)) in

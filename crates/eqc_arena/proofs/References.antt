@@ -21,7 +21,8 @@ use Rattle.eqc_arena.specs.Nodes.{MayCount, KeepsTrees}
 use Rattle.eqc_arena.proofs.Changing.{stays, ups, downs}
 
 -- a reference is given back
-pub gives : (x : ℕ) (old new : Standing) → IsKnown old.known → IsHeld old.known.core x → (x < 2 → new ≡ old) → (2 ≤ x → Steps old (downed old.known.core x) new) → Exchanges (slots_of (x ∷ [])) [] old new
+pub gives : (x : ℕ) (old new : Standing) → IsKnown old.known → IsHeld old.known.core x → (x < 2 → new ≡ old) →
+    (2 ≤ x → Steps old (downed old.known.core x) new) → Exchanges (slots_of (x ∷ [])) [] old new
 gives x old new known held same step = elim (two_cases x) [
   | inl t ↦ rw t.0 (subst (λ (s : Standing). Changes [] [] old.known.core.hand old.known.core.draft old s) (sym (same t.1)) (stays old known))
   | inr t ↦ rw t.0 (downs x old new (there held t.1) (step t.1))
@@ -40,7 +41,9 @@ counts_one x old new two s = elim (two_cases x) [ inl t ↦ absurd (let small = 
 
 -- the node last read is still held after one more count
 pub read_stays : (x : ℕ) (old new : Standing) → IsKnown old.known → Steps old (upped old.known.core x) new → new.known.core.read ≡ old.known.core.read
-read_stays x old new known s = ap (λ (v : View). v.read) s.known.core ∙ forget_none (old.known.core.held ++ x ∷ []) old.known.core.read (λ r e. let h = known.read r e in omega (arith, times-append r.name old.known.core.held (x ∷ [])))
+read_stays x old new known s =
+    ap (λ (v : View). v.read) s.known.core
+    ∙ forget_none (old.known.core.held ++ x ∷ []) old.known.core.read (λ r e. let h = known.read r e in omega (arith, times-append r.name old.known.core.held (x ∷ [])))
 
 pub trees_stay : (x : ℕ) (old new : Standing) → IsKnown old.known → Steps old (upped old.known.core x) new → KeepsTrees old.known new.known
 trees_stay x old new known s y (inl lt) = constant_trees new.known.trees old.known.trees y lt (ℕ_discrete y 0) (ℕ_discrete y 1)

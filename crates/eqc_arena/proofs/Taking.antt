@@ -31,33 +31,43 @@ with_hand {gone} {came} {hand} {draft} {old} {new} t = subst (λ (h : Option Han
 -- a node was taken back, and its children are given back
 module _ (word x low high : ℕ) (w0 w1 : Standing) (step : Steps w0 (taken_back w0.known.core x word) w1) (a : low ≡ low_of word) (z : high ≡ high_of word) where
   taken : Changes [] (slots_of (low ∷ high ∷ [])) w1.known.core.hand w0.known.core.draft w0 w1
-  taken = with_hand (subst (λ (l : List ℕ). Changes [] (slots_of l) (Some (record (hand_of w0.known.core.hand) { entries = without_slot x (hand_of w0.known.core.hand).entries })) w0.known.core.draft w0 w1) (λ k. sym a k ∷ sym z k ∷ []) (reclaims x word (hand_of w0.known.core.hand) w0 w1 step))
+  taken =
+      with_hand
+      (subst
+      (λ (l : List ℕ). Changes [] (slots_of l) (Some (record (hand_of w0.known.core.hand) { entries = without_slot x (hand_of w0.known.core.hand).entries })) w0.known.core.draft w0 w1)
+      (λ k. sym a k ∷ sym z k ∷ []) (reclaims x word (hand_of w0.known.core.hand) w0 w1 step))
 
   pub low_now : IsHeld w1.known.core low
   low_now = came_held low (high ∷ []) taken
 
-module _ (word x low high : ℕ) (w0 w1 w2 : Standing) (step : Steps w0 (taken_back w0.known.core x word) w1) (a : low ≡ low_of word) (z : high ≡ high_of word) (first : Exchanges (slots_of (low ∷ [])) [] w1 w2) where
+module _ (word x low high : ℕ) (w0 w1 w2 : Standing) (step : Steps w0 (taken_back w0.known.core x word) w1) (a : low ≡ low_of word)
+    (z : high ≡ high_of word) (first : Exchanges (slots_of (low ∷ [])) [] w1 w2) where
   one_given : Changes [] (slots_of (high ∷ [])) w1.known.core.hand w0.known.core.draft w0 w2
   one_given = goes low (high ∷ []) (taken word x low high w0 w1 step a z) first
 
   pub high_held : IsHeld w2.known.core high
   high_held = came_held high [] one_given
 
-module _ (word x low high : ℕ) (w0 w1 w2 w3 : Standing) (step : Steps w0 (taken_back w0.known.core x word) w1) (a : low ≡ low_of word) (z : high ≡ high_of word) (first : Exchanges (slots_of (low ∷ [])) [] w1 w2) (second : Exchanges (slots_of (high ∷ [])) [] w2 w3) where
+module _ (word x low high : ℕ) (w0 w1 w2 w3 : Standing) (step : Steps w0 (taken_back w0.known.core x word) w1) (a : low ≡ low_of word)
+    (z : high ≡ high_of word) (first : Exchanges (slots_of (low ∷ [])) [] w1 w2) (second : Exchanges (slots_of (high ∷ [])) [] w2 w3) where
   pub both_given : Changes [] [] w1.known.core.hand w0.known.core.draft w0 w3
   both_given = goes high [] (one_given word x low high w0 w1 w2 step a z first) second
 
   pub ready_between : IsReady w0.known.core → IsReady w1.known.core × IsReady w2.known.core
   ready_between ready = (ready_now (taken word x low high w0 w1 step a z) ready, ready_now (one_given word x low high w0 w1 w2 step a z first) ready)
 
-  pub home_again : (t left : Entries) (i : ℕ) → IsKnown w0.known → slice_get t i ≡ Some (word, x) → left ≡ swap_remove t i (word, x) → (s : ℕ) → MayHome w0.known.core s t → MayHome w3.known.core s left
+  pub home_again : (t left : Entries) (i : ℕ) → IsKnown w0.known → slice_get t i ≡ Some (word, x) → left ≡ swap_remove t i (word, x) → (s : ℕ) →
+      MayHome w0.known.core s t → MayHome w3.known.core s left
   home_again t left i known at is s home =
       let m = home_after s i word x t (word, x) w0 w1 known home at step in
       subst (λ (l : Entries). MayHome w3.known.core s l) (sym is)
-      (home_stays s (swap_remove t i (word, x)) w1.known.core w3.known.core (hand_now both_given) (ap (λ (v : View). v.position) both_given.core ∙ sym (ap (λ (v : View). v.position) step.known.core)) m)
+      (home_stays s (swap_remove t i (word, x)) w1.known.core w3.known.core (hand_now both_given)
+      (ap (λ (v : View). v.position) both_given.core ∙ sym (ap (λ (v : View). v.position) step.known.core)) m)
 
   -- an entry of the stripe h in hand was taken back, in a turn that tries these
-  module _ (count found n s i j h k : ℕ) (t u : Entries) (one : count ≡ 1) (copies : Copies w0.known (announced_words w0.known.core.sizes + x) count (if eqb count 1 then 0 else count) w1.known) (gives : GivesChild low w1 w2) (gives_2 : GivesChild high w2 w3)
+  module _ (count found n s i j h k : ℕ) (t u : Entries) (one : count ≡ 1)
+      (copies : Copies w0.known (announced_words w0.known.core.sizes + x) count (if eqb count 1 then 0 else count) w1.known)
+      (gives : GivesChild low w1 w2) (gives_2 : GivesChild high w2 w3)
       (home : MayHome w0.known.core h u) (at : slice_get u k ≡ Some (word, x)) (next : j ≤ i + 1) where
     pub tries_won : IsTrying [] n s found j t w0.known → IsTrying [] n s (found + 1) i (swap_remove t i (word, x)) w3.known
     tries_won tr =
@@ -66,11 +76,14 @@ module _ (word x low high : ℕ) (w0 w1 w2 w3 : Standing) (step : Steps w0 (take
         gives_2 n s (found + 1) i [] (swap_remove t i (word, x)) (omega arith) after
 
 -- one change after another, in which nothing goes or comes
-pub goes_on : {hand hand' : Option Hand} {draft : Option ℕ} {old mid new : Standing} → Changes [] [] hand draft old mid → Changes [] [] hand' mid.known.core.draft mid new → Changes [] [] hand' draft old new
+pub goes_on : {hand hand' : Option Hand} {draft : Option ℕ} {old mid new : Standing} → Changes [] [] hand draft old mid →
+    Changes [] [] hand' mid.known.core.draft mid new → Changes [] [] hand' draft old new
 goes_on {hand} {hand'} {draft} {old} {mid} {new} t u = still t (subst (λ (d : Option ℕ). Changes [] [] hand' d mid new) (draft_now t) u)
 
 -- what is tried of the entry behind the place i counts more
-pub next_try : (n s before more won i : ℕ) (t left : Entries) (old new : Standing) → 0 < i → before + won ≡ more → TriesEntry (i - 1) t left won old new → MayHome old.known.core s t → IsTrying [] n s before i t old.known → IsTrying [] n s more (i - 1) left new.known
+pub next_try : (n s before more won i : ℕ) (t left : Entries) (old new : Standing) → 0 < i → before + won ≡ more →
+    TriesEntry (i - 1) t left won old new → MayHome old.known.core s t → IsTrying [] n s before i t old.known →
+    IsTrying [] n s more (i - 1) left new.known
 next_try n s before more won i t left old new lt sum tries home trying =
     subst (λ (m : ℕ). IsTrying [] n s m (i - 1) left new.known) sum (tries n s before home (subst (λ (j : ℕ). IsTrying [] n s before j t old.known) (let e : i ≡ i - 1 + 1 = omega arith in e) trying))
 
@@ -97,7 +110,8 @@ pub constant_gives : (x : ℕ) (old new : Standing) → x < 2 → new ≡ old �
 constant_gives x old new small same n s taken i xs t some_taken tr = trying_given n s taken i x xs t old new tr some_taken (λ lt. same) (λ two. absurd (omega arith)) (λ two. absurd (omega arith))
 
 -- and one that is a slot, whose node is read before
-module _ (x word place m : ℕ) (old mid new : Standing) (two : 2 ≤ x) (held : IsHeld old.known.core x) (read : Steps old (read_node old.known.core x word) mid) (down : Steps mid (downed mid.known.core x) new) where
+module _ (x word place m : ℕ) (old mid new : Standing) (two : 2 ≤ x) (held : IsHeld old.known.core x)
+    (read : Steps old (read_node old.known.core x word) mid) (down : Steps mid (downed mid.known.core x) new) where
   pub slot_held : IsHeld mid.known.core x
   slot_held = held_still (reads x word old mid read) x held
 
@@ -108,4 +122,5 @@ module _ (x word place m : ℕ) (old mid new : Standing) (two : 2 ≤ x) (held :
 
   pub slot_gives : Copies old.known place word word mid.known → Copies mid.known (announced_words mid.known.core.sizes + x) m ((m + (2 ^ 64 - 1)) % 2 ^ 64) new.known → GivesChild x old new
   slot_gives first second n s taken i xs t some_taken tr =
-      trying_given n s taken i x xs t mid new (trying_read (slots_of (x ∷ xs)) n s taken i x word place t old mid tr read first) some_taken (λ small. absurd (omega arith)) (λ le. down) (λ le. (m, second))
+      trying_given n s taken i x xs t mid new (trying_read (slots_of (x ∷ xs)) n s taken i x word place t old mid tr read first) some_taken
+      (λ small. absurd (omega arith)) (λ le. down) (λ le. (m, second))

@@ -65,8 +65,21 @@ pub swaps : (out given : Parcel) (old new : Standing) → IsWhole out → IsWhol
     → Exchanges (parcel_names given) (parcel_names out) old new
 swaps out given old new whole fits enough s =
     changed (parcel_names given) (parcel_names out) (boxed old.known.core (parcel_word out) (parcel_word given)) old new s refl enough
-    (λ x. omega (arith, times-append x (without_each (slots_of (cell_names (parcel_word given))) held) (slots_of (cell_names (parcel_word out))), times-without_each x (slots_of (cell_names (parcel_word given))) held (has x), ap (times x) goes, ap (times x) comes))
-    (omega (arith, length-append (without_each (slots_of (cell_names (parcel_word given))) held) (slots_of (cell_names (parcel_word out))), length-without_all (slots_of (cell_names (parcel_word given))) held has, ap {B = ℕ} (λ (l : List ℕ). length l) goes, ap {B = ℕ} (λ (l : List ℕ). length l) comes))
+    (λ x.
+    omega (
+      arith,
+      times-append x (without_each (slots_of (cell_names (parcel_word given))) held) (slots_of (cell_names (parcel_word out))),
+      times-without_each x (slots_of (cell_names (parcel_word given))) held (has x),
+      ap (times x) goes,
+      ap (times x) comes,
+    ))
+    (omega (
+      arith,
+      length-append (without_each (slots_of (cell_names (parcel_word given))) held) (slots_of (cell_names (parcel_word out))),
+      length-without_all (slots_of (cell_names (parcel_word given))) held has,
+      ap {B = ℕ} (λ (l : List ℕ). length l) goes,
+      ap {B = ℕ} (λ (l : List ℕ). length l) comes,
+    ))
   where
     held : List ℕ
     held = old.known.core.held
@@ -81,7 +94,8 @@ swaps out given old new whole fits enough s =
     has x = let e = enough x in omega (arith, ap (times x) goes)
 
 -- and the stop that came out is noted behind the others
-pub notes_stop : (out given : Parcel) (old new : Standing) → IsWhole out → Steps old (boxed old.known.core (parcel_word out) (parcel_word given)) new → new.known.core.stops ≡ old.known.core.stops ++ parcel_stops out
+pub notes_stop : (out given : Parcel) (old new : Standing) → IsWhole out →
+    Steps old (boxed old.known.core (parcel_word out) (parcel_word given)) new → new.known.core.stops ≡ old.known.core.stops ++ parcel_stops out
 notes_stop out given old new whole s = ap (λ (v : View). v.stops) s.known.core ∙ ap (λ (l : List ℕ). old.known.core.stops ++ l) (stops_of_word out whole)
 
 -- what came out may be given back

@@ -18,13 +18,16 @@ use Rattle.std.proofs.lemmas.List.{length-append, get_or_append_left, get_or_pas
 use Rattle.std.proofs.Math.Seq.{get_or-append_seam}
 
 -- one more reference of a table
-pub found_more : {X : Type 0} (table : List (Option X)) (signals : List ℕ) (i : ℕ) (old new : List (Bor X)) (r : Bor X) → i < length signals → map (λ r. Some r.now) old ≡ map (reference_of table) (take i signals) → reference_of table (get_or signals i 0) ≡ Some r.now → new ≡ old ++ r ∷ [] → map (λ r. Some r.now) new ≡ map (reference_of table) (take (i + 1) signals)
+pub found_more : {X : Type 0} (table : List (Option X)) (signals : List ℕ) (i : ℕ) (old new : List (Bor X)) (r : Bor X) → i < length signals →
+    map (λ r. Some r.now) old ≡ map (reference_of table) (take i signals) → reference_of table (get_or signals i 0) ≡ Some r.now →
+    new ≡ old ++ r ∷ [] → map (λ r. Some r.now) new ≡ map (reference_of table) (take (i + 1) signals)
 found_more {X = X} table signals i old new r h o is n =
     ap (map (λ (r : Bor X). Some r.now)) n ∙ (map-append (λ (r : Bor X). Some r.now) old (r ∷ [])
     ∙ (rw (o, ← is) refl ∙ sym (ap (map (reference_of table)) (take_more signals i 0 h) ∙ map-append (reference_of table) (take i signals) (get_or signals i 0 ∷ []))))
 
 -- references of a table are held, and say the values of their steps
-pub found_held : {X : Type 0} (entry : X → Entry) (d : Holding) (table : List (Option X)) (signals : List ℕ) (found : List (Bor X)) → OwnsTable entry d table → map (λ r. Some r.now) found ≡ map (reference_of table) signals → AreHeld entry d found
+pub found_held : {X : Type 0} (entry : X → Entry) (d : Holding) (table : List (Option X)) (signals : List ℕ) (found : List (Bor X)) →
+    OwnsTable entry d table → map (λ r. Some r.now) found ≡ map (reference_of table) signals → AreHeld entry d found
 found_held entry d table signals [] h is = record { each = tt }
 found_held entry d table [] (r ∷ found) h is = absurd (let q = is in cc)
 found_held entry d table (s ∷ signals) (r ∷ found) h is =
@@ -32,7 +35,8 @@ found_held entry d table (s ∷ signals) (r ∷ found) h is =
     let rest : map (λ r. Some r.now) found ≡ map (reference_of table) signals = cc in
     record { each = (owned_held entry d table s r.now h here, (found_held entry d table signals found h rest).each) }
 
-pub found_said : {X : Type 0} (entry : X → Entry) (p : PairOf) (table : List (Option X)) (steps : List ℕ) (found : List (Bor X)) (a : ℕ → Bool) → IsBuilt entry p table → map (λ r. Some r.now) found ≡ map (reference_of table) steps → said entry found a ≡ map (value_at p a) steps
+pub found_said : {X : Type 0} (entry : X → Entry) (p : PairOf) (table : List (Option X)) (steps : List ℕ) (found : List (Bor X)) (a : ℕ → Bool) →
+    IsBuilt entry p table → map (λ r. Some r.now) found ≡ map (reference_of table) steps → said entry found a ≡ map (value_at p a) steps
 found_said entry p table [] [] a h is = refl
 found_said entry p table (s ∷ steps) [] a h is = absurd (let q = is in cc)
 found_said entry p table [] (r ∷ found) a h is = absurd (let q = is in cc)
@@ -47,7 +51,8 @@ some_is : {X : Type 0} (o : Option X) (x : X) → o ≡ Some x → IsSome o
 some_is o x e = rw e refl
 
 -- a step's diagram comes into the table
-pub adds : {X : Type 0} (entry : X → Entry) (p : PairOf) (d0 d1 d2 : Holding) (old new : List (Option X)) (s : ℕ) (r : X) → s < steps_in p → IsBuilt entry p old → Gains d0 d1 (entry r) (λ a. value_at p a s) → Fills entry d1 old d2 new s r → Adds entry p d0 old d2 new s
+pub adds : {X : Type 0} (entry : X → Entry) (p : PairOf) (d0 d1 d2 : Holding) (old new : List (Option X)) (s : ℕ) (r : X) → s < steps_in p →
+    IsBuilt entry p old → Gains d0 d1 (entry r) (λ a. value_at p a s) → Fills entry d1 old d2 new s r → Adds entry p d0 old d2 new s
 adds {X = X} entry p d0 d1 d2 old new s r inside h g fills = record {
   moves = record { variables = fills.variables ∙ g.variables; held = λ e. omega (arith, g.held e, fills.held e) };
   built = record {
@@ -84,11 +89,13 @@ pub none_built : {X : Type 0} (entry : X → Entry) (p : PairOf) (table : List (
 none_built entry p table size none = record { size = size; values = λ s r is a. absurd (let q : None ≡ Some r = sym (none s) ∙ is in cc) }
 
 -- a table with fewer references is built too
-pub fewer_built : {X : Type 0} (entry : X → Entry) (p : PairOf) (old new : List (Option X)) → length new ≡ length old → ((s : ℕ) (r : X) → reference_of new s ≡ Some r → reference_of old s ≡ Some r) → IsBuilt entry p old → IsBuilt entry p new
+pub fewer_built : {X : Type 0} (entry : X → Entry) (p : PairOf) (old new : List (Option X)) → length new ≡ length old →
+    ((s : ℕ) (r : X) → reference_of new s ≡ Some r → reference_of old s ≡ Some r) → IsBuilt entry p old → IsBuilt entry p new
 fewer_built entry p old new size fewer b = record { size = size ∙ b.size; values = λ s r is a. b.values s r (fewer s r is) a }
 
 -- a step that was built, and what it used for the last time given back
-pub advances : {X : Type 0} (entry : X → Entry) (plan : Plan) (until : List ℕ) (d0 d1 d2 : Holding) (t0 t1 t2 : List (Option X)) (used : List ℕ) (s at : ℕ) → Adds entry plan.steps.pair d0 t0 d1 t1 s → Releases entry d1 t1 d2 t2 plan used until at → Advances entry plan until d0 t0 d2 t2 used s at
+pub advances : {X : Type 0} (entry : X → Entry) (plan : Plan) (until : List ℕ) (d0 d1 d2 : Holding) (t0 t1 t2 : List (Option X)) (used : List ℕ) (s at : ℕ) →
+    Adds entry plan.steps.pair d0 t0 d1 t1 s → Releases entry d1 t1 d2 t2 plan used until at → Advances entry plan until d0 t0 d2 t2 used s at
 advances entry plan until d0 d1 d2 t0 t1 t2 used s at a r = record {
   moves = moves_twice entry d0 d1 d2 t0 t1 t2 a.moves r.moves;
   built = fewer_built entry plan.steps.pair t1 t2 r.size r.none_new a.built;
@@ -98,7 +105,8 @@ advances entry plan until d0 d1 d2 t0 t1 t2 used s at a r = record {
 }
 
 -- the steps that are left of those that an output wants, and those that were made
-pub record IsCompleting {X : Type 0} (entry : X → Entry) (plan : Plan) (output : ℕ) (goals : List ℕ) (until : List ℕ) (d0 : Holding) (t0 : List (Option X)) (u0 : List ℕ) (d : Holding) (t : List (Option X)) (u left made : List ℕ) : Type 0 where
+pub record IsCompleting {X : Type 0} (entry : X → Entry) (plan : Plan) (output : ℕ) (goals : List ℕ) (until : List ℕ) (d0 : Holding)
+    (t0 : List (Option X)) (u0 : List ℕ) (d : Holding) (t : List (Option X)) (u left made : List ℕ) : Type 0 where
   pub moves : Moves entry d0 t0 d t
   pub built : IsBuilt entry plan.steps.pair t
   pub wanted : AreWanted plan.steps plan.last t output left
@@ -108,7 +116,9 @@ pub record IsCompleting {X : Type 0} (entry : X → Entry) (plan : Plan) (output
   pub counted : AreCounted plan.steps made u0 u
   pub below : (i j : ℕ) → i < length made → j < length left → get_or made i 0 < get_or left j 0
 
-pub completing_start : {X : Type 0} (entry : X → Entry) (plan : Plan) (output : ℕ) (goals : List ℕ) (until : List ℕ) (d : Holding) (t : List (Option X)) (u left : List ℕ) → IsBuilt entry plan.steps.pair t → AreWanted plan.steps plan.last t output left → AreReached t left goals → AreUsedInTurn plan.steps until output left goals → IsCompleting entry plan output goals until d t u d t u left []
+pub completing_start : {X : Type 0} (entry : X → Entry) (plan : Plan) (output : ℕ) (goals : List ℕ) (until : List ℕ) (d : Holding) (t : List (Option X)) (u left : List ℕ) →
+    IsBuilt entry plan.steps.pair t → AreWanted plan.steps plan.last t output left → AreReached t left goals →
+    AreUsedInTurn plan.steps until output left goals → IsCompleting entry plan output goals until d t u d t u left []
 completing_start entry plan output goals until d t u left b w r n = record {
   moves = record { variables = refl; held = λ e. refl };
   built = b;
@@ -121,7 +131,8 @@ completing_start entry plan output goals until d t u left b w r n = record {
 }
 
 -- what the last of the steps uses has a reference
-pub completing_ready : {X : Type 0} (g : StepsOf) (last : List ℕ) (output : ℕ) (t : List (Option X)) (all left : List ℕ) (p : ℕ) → all ≡ left ++ p ∷ [] → AreWanted g last t output all → AreReady t (uses_of g p)
+pub completing_ready : {X : Type 0} (g : StepsOf) (last : List ℕ) (output : ℕ) (t : List (Option X)) (all left : List ℕ) (p : ℕ) →
+    all ≡ left ++ p ∷ [] → AreWanted g last t output all → AreReady t (uses_of g p)
 completing_ready {X = X} g last output t all left p is wanted = record { each = each }
   where
     size : length all ≡ length left + 1
@@ -139,14 +150,19 @@ completing_ready {X = X} g last output t all left p is wanted = record { each = 
         ]
 
 -- the last of the steps is one of the pair
-pub completing_within : {X : Type 0} (g : StepsOf) (last : List ℕ) (output : ℕ) (t : List (Option X)) (all left : List ℕ) (p : ℕ) → all ≡ left ++ p ∷ [] → AreWanted g last t output all → p < steps_in g.pair
+pub completing_within : {X : Type 0} (g : StepsOf) (last : List ℕ) (output : ℕ) (t : List (Option X)) (all left : List ℕ) (p : ℕ) →
+    all ≡ left ++ p ∷ [] → AreWanted g last t output all → p < steps_in g.pair
 completing_within g last output t all left p is wanted =
     let size : length all ≡ length left + 1 = ap length is ∙ length-append left (p ∷ []) in
     let at_end : get_or all (length left) 0 ≡ p = ap (λ xs. get_or xs (length left) 0) is ∙ get_or-append_seam left p [] 0 in
     omega (arith, at_end, wanted.within (length left) (omega (arith, size)))
 
 -- the last of the steps was made
-pub completing_more : {X : Type 0} (entry : X → Entry) (plan : Plan) (output : ℕ) (goals : List ℕ) (until : List ℕ) (d0 d1 d2 : Holding) (t0 t1 t2 : List (Option X)) (u0 u1 u2 all left made : List ℕ) (p : ℕ) → 1 ≤ output → AreLastMoments plan.steps plan.last → AreUsedUntil plan.last goals (end_of plan.steps output) → all ≡ left ++ p ∷ [] → IsCompleting entry plan output goals until d0 t0 u0 d1 t1 u1 all made → Advances entry plan until d1 t1 d2 t2 u2 p (moment output (p + 1)) → AreCounted plan.steps (p ∷ []) u1 u2 → IsCompleting entry plan output goals until d0 t0 u0 d2 t2 u2 left (made ++ p ∷ [])
+pub completing_more : {X : Type 0} (entry : X → Entry) (plan : Plan) (output : ℕ) (goals : List ℕ) (until : List ℕ) (d0 d1 d2 : Holding)
+    (t0 t1 t2 : List (Option X)) (u0 u1 u2 all left made : List ℕ) (p : ℕ) →
+    1 ≤ output → AreLastMoments plan.steps plan.last → AreUsedUntil plan.last goals (end_of plan.steps output) → all ≡ left ++ p ∷ [] →
+    IsCompleting entry plan output goals until d0 t0 u0 d1 t1 u1 all made → Advances entry plan until d1 t1 d2 t2 u2 p (moment output (p + 1)) →
+    AreCounted plan.steps (p ∷ []) u1 u2 → IsCompleting entry plan output goals until d0 t0 u0 d2 t2 u2 left (made ++ p ∷ [])
 completing_more {X = X} entry plan output goals until d0 d1 d2 t0 t1 t2 u0 u1 u2 all left made p some moments late is c a n = record {
   moves = moves_twice entry d0 d1 d2 t0 t1 t2 c.moves a.moves;
   built = a.built;
@@ -154,19 +170,29 @@ completing_more {X = X} entry plan output goals until d0 d1 d2 t0 t1 t2 u0 u1 u2
     within = λ i h. omega (arith, c.wanted.within i (omega (arith, size)), old i h);
     falling = λ i j lt h. omega (arith, c.wanted.falling i j lt (omega (arith, size)), old i (omega arith), old j h);
     needed = λ i h. rw (← old i h) (c.wanted.needed i (omega (arith, size)));
-    closed = λ i k h lt. (let P : ℕ → Type 0 = λ q. k < length (uses_of g q) → IsSome (reference_of t2 (get_or (uses_of g q) k 0)) ⊎ IsBehind left (i + 1) (get_or (uses_of g q) k 0) in subst P (old i h) (closed_before i k h) lt);
+    closed = λ i k h lt.
+        (let P : ℕ → Type 0 = λ q. k < length (uses_of g q) → IsSome (reference_of t2 (get_or (uses_of g q) k 0)) ⊎ IsBehind left (i + 1) (get_or (uses_of g q) k 0) in
+        subst P (old i h) (closed_before i k h) lt);
   };
   rooted = record {
     each = λ r h. elim (c.rooted.each r h) [
       | inl there ↦ inl (a.kept (get_or goals r 0) (goal_later r h) there)
-      | inr b ↦ elim (moved 0 (get_or goals r 0) b) [ inl same ↦ inl (subst (λ s. IsSome (reference_of t2 s)) same (a.here (subst (λ s. IsLastUse plan until s (moment output (p + 1)) → ⊥) (sym same) (goal_later r h)))) | inr left ↦ inr left ]
+      | inr b ↦
+          elim (moved 0 (get_or goals r 0) b) [
+            | inl same ↦ inl (subst (λ s. IsSome (reference_of t2 s)) same (a.here (subst (λ s. IsLastUse plan until s (moment output (p + 1)) → ⊥) (sym same) (goal_later r h))))
+            | inr left ↦ inr left
+          ]
     ];
   };
   in_turn = record {
-    uses = λ i k h lt. (let P : ℕ → Type 0 = λ q. k < length (uses_of g q) → get_or (uses_of g q) k 0 < length until → moment output (q + 1) ≤ get_or until (get_or (uses_of g q) k 0) 0 in subst P (old i h) (c.in_turn.uses i k (omega (arith, size, h))) lt);
+    uses = λ i k h lt.
+        (let P : ℕ → Type 0 = λ q. k < length (uses_of g q) → get_or (uses_of g q) k 0 < length until → moment output (q + 1) ≤ get_or until (get_or (uses_of g q) k 0) 0 in
+        subst P (old i h) (c.in_turn.uses i k (omega (arith, size, h))) lt);
     goals_end = c.in_turn.goals_end;
   };
-  kept = λ s later there. a.later s (of_use_before plan u2 u2 s (moment output (p + 1)) (end_of g output) (omega (arith, inside)) (λ s. omega arith) later) (c.kept s (of_use_before plan u1 u2 s (end_of g output) (end_of g output) (omega arith) n.grown later) there);
+  kept = λ s later there.
+      a.later s (of_use_before plan u2 u2 s (moment output (p + 1)) (end_of g output) (omega (arith, inside)) (λ s. omega arith) later)
+      (c.kept s (of_use_before plan u1 u2 s (end_of g output) (end_of g output) (omega arith) n.grown later) there);
   counted = made_more g made p u0 u1 u2 (λ i h. omega (arith, at_end, c.below i (length left) h (omega (arith, size)))) c.counted n;
   below = λ i j h lt. elim (cases_eq i (length made)) [
     | inl end ↦ omega (arith, made_here i end, at_end, old j lt, c.wanted.falling j (length left) lt (omega (arith, size)))
@@ -217,9 +243,11 @@ completing_more {X = X} entry plan output goals until d0 d1 d2 t0 t1 t2 u0 u1 u2
     later i k h lt (inl e) =
         let used = moments.closed (get_or all i 0) k output (c.wanted.within i (omega (arith, size))) lt some (c.wanted.needed i (omega (arith, size))) in
         omega (arith, used, e, at_end, c.wanted.falling i (length left) h (omega (arith, size)))
-    later i k h lt (inr e) = omega (arith, c.in_turn.uses i k (omega (arith, size)) lt (placed (get_or (uses_of g (get_or all i 0)) k 0) e), e, at_end, c.wanted.falling i (length left) h (omega (arith, size)))
+    later i k h lt (inr e) =
+        omega (arith, c.in_turn.uses i k (omega (arith, size)) lt (placed (get_or (uses_of g (get_or all i 0)) k 0) e), e, at_end, c.wanted.falling i (length left) h (omega (arith, size)))
 
-    closed_before : (i k : ℕ) → i < length left → k < length (uses_of g (get_or all i 0)) → IsSome (reference_of t2 (get_or (uses_of g (get_or all i 0)) k 0)) ⊎ IsBehind left (i + 1) (get_or (uses_of g (get_or all i 0)) k 0)
+    closed_before : (i k : ℕ) → i < length left → k < length (uses_of g (get_or all i 0)) →
+        IsSome (reference_of t2 (get_or (uses_of g (get_or all i 0)) k 0)) ⊎ IsBehind left (i + 1) (get_or (uses_of g (get_or all i 0)) k 0)
     closed_before i k h lt = elim (c.wanted.closed i k (omega (arith, size)) lt) [
       | inl there ↦ inl (a.kept (get_or (uses_of g (get_or all i 0)) k 0) (later i k h lt) there)
       | inr b ↦ elim (moved (i + 1) (get_or (uses_of g (get_or all i 0)) k 0) b) [

@@ -27,7 +27,8 @@ noted_none steps at last items = record {
   only = λ x h. inl h;
 }
 
-pub noted_now : {S : Type 0} (old new : IndexMap ℕ ℕ S) (s t at : ℕ) → s ≡ t → ((q : ℕ) → get nat_eq new q ≡ cond (nat_eq s q) (Some at) (get nat_eq old q)) → (q : ℕ) → moment_in new q ≡ cond (nat_eq t q) at (moment_in old q)
+pub noted_now : {S : Type 0} (old new : IndexMap ℕ ℕ S) (s t at : ℕ) → s ≡ t →
+    ((q : ℕ) → get nat_eq new q ≡ cond (nat_eq s q) (Some at) (get nat_eq old q)) → (q : ℕ) → moment_in new q ≡ cond (nat_eq t q) at (moment_in old q)
 noted_now old new s t at same is q = ap (λ o. unwrap_or o 0) (is q) ∙ (by (nat_eq s q) ∙ ap (λ u. cond (nat_eq u q) at (moment_in old q)) same)
   where
     by : (b : Bool) → unwrap_or (cond b (Some at) (get nat_eq old q)) 0 ≡ cond b at (unwrap_or (get nat_eq old q) 0)
@@ -44,7 +45,9 @@ noted_same step at last items some = record {
   only = λ x h. inl h;
 }
 
-pub noted_one : (step at : ℕ) (old : ℕ → ℕ) (old_items : List ℕ) (new : ℕ → ℕ) (new_items : List ℕ) → 1 ≤ at → old step ≡ 0 → ((q : ℕ) → new q ≡ cond (nat_eq step q) at (old q)) → IsPermutation (step ∷ old_items) new_items → AreNoted (step ∷ []) at old old_items new new_items 1
+pub noted_one : (step at : ℕ) (old : ℕ → ℕ) (old_items : List ℕ) (new : ℕ → ℕ) (new_items : List ℕ) → 1 ≤ at → old step ≡ 0 →
+    ((q : ℕ) → new q ≡ cond (nat_eq step q) at (old q)) → IsPermutation (step ∷ old_items) new_items →
+    AreNoted (step ∷ []) at old old_items new new_items 1
 noted_one step at old old_items new new_items some none now perm = record {
   stays = λ s had. other s (λ e. absurd (omega (arith, had, none, ap old e)));
   there = λ k h. (let zero : k ≡ 0 = omega arith in rw zero (omega (arith, here step refl, some)));
@@ -63,7 +66,9 @@ noted_one step at old old_items new new_items some none now perm = record {
     other s apart = now s ∙ ap (λ b. cond b at (old s)) (ne_eqb step s (λ e. apart (sym e)))
 
 -- one step more
-pub noted_more : (steps : List ℕ) (at : ℕ) (old : ℕ → ℕ) (old_items : List ℕ) (mid : ℕ → ℕ) (mid_items : List ℕ) (new : ℕ → ℕ) (new_items : List ℕ) (n : ℕ) → AreNoted steps at old old_items mid mid_items n → AreNoted (get_or steps n 0 ∷ []) at mid mid_items new new_items 1 → AreNoted steps at old old_items new new_items (n + 1)
+pub noted_more : (steps : List ℕ) (at : ℕ) (old : ℕ → ℕ) (old_items : List ℕ) (mid : ℕ → ℕ) (mid_items : List ℕ) (new : ℕ → ℕ) (new_items : List ℕ) (n : ℕ) →
+    AreNoted steps at old old_items mid mid_items n → AreNoted (get_or steps n 0 ∷ []) at mid mid_items new new_items 1 →
+    AreNoted steps at old old_items new new_items (n + 1)
 noted_more steps at old old_items mid mid_items new new_items n a one = record {
   stays = λ s had. one.stays s (omega (arith, had, a.stays s had)) ∙ a.stays s had;
   there = λ k h. elim (cases_eq k n) [
@@ -92,7 +97,9 @@ pub record IsNotedFrom (g : StepsOf) (roots : List ℕ) (last : ℕ → ℕ) (it
   pub at_roots : (r : ℕ) → r < length roots → end_of g 1 ≤ last (get_or roots r 0)
   pub closed : (k c : ℕ) → k < steps_in g.pair → c < length (uses_of g k) → 0 < last k → IsOpen items k ⊎ (moment 1 (k + 1) ≤ last (get_or (uses_of g k) c 0))
 
-pub noted_start : (g : StepsOf) (roots old_items : List ℕ) (old last : ℕ → ℕ) (items : List ℕ) → old_items ≡ [] → ((s : ℕ) → old s ≡ 0) → ((r : ℕ) → r < length roots → get_or roots r 0 < steps_in g.pair) → AreNoted roots (end_of g 1) old old_items last items (length roots) → IsNotedFrom g roots last items (steps_in g.pair)
+pub noted_start : (g : StepsOf) (roots old_items : List ℕ) (old last : ℕ → ℕ) (items : List ℕ) → old_items ≡ [] → ((s : ℕ) → old s ≡ 0) →
+    ((r : ℕ) → r < length roots → get_or roots r 0 < steps_in g.pair) → AreNoted roots (end_of g 1) old old_items last items (length roots) →
+    IsNotedFrom g roots last items (steps_in g.pair)
 noted_start g roots old_items old last items empty none inside a = record {
   small = omega arith;
   open_below = λ x h. elim (a.only x h) [
@@ -105,7 +112,9 @@ noted_start g roots old_items old last items empty none inside a = record {
   closed = λ k c lt within some. inl (a.fresh k (none k) some).1;
 }
 
-pub noted_step : (g : StepsOf) (roots : List ℕ) (last new : ℕ → ℕ) (h0 h1 h2 h3 : List ℕ) (below p : ℕ) → AreSteps g → IsPermutation h0 (p ∷ h1) → ((x : ℕ) → IsOpen h1 x → x ≤ p) → ((x : ℕ) → IsOpen h2 x → x < p) → ((x : ℕ) → x < p → IsOpen h1 x → IsOpen h2 x) → AreNoted (uses_of g p) (moment 1 (p + 1)) last h2 new h3 (length (uses_of g p)) → IsNotedFrom g roots last h0 below → IsNotedFrom g roots new h3 p
+pub noted_step : (g : StepsOf) (roots : List ℕ) (last new : ℕ → ℕ) (h0 h1 h2 h3 : List ℕ) (below p : ℕ) → AreSteps g → IsPermutation h0 (p ∷ h1) →
+    ((x : ℕ) → IsOpen h1 x → x ≤ p) → ((x : ℕ) → IsOpen h2 x → x < p) → ((x : ℕ) → x < p → IsOpen h1 x → IsOpen h2 x) →
+    AreNoted (uses_of g p) (moment 1 (p + 1)) last h2 new h3 (length (uses_of g p)) → IsNotedFrom g roots last h0 below → IsNotedFrom g roots new h3 p
 noted_step g roots last new h0 h1 h2 h3 below p lawful perm popped_below dropped_below dropped_others a w = record {
   small = omega (arith, top, w.small);
   open_below = λ x h. elim (a.only x h) [ inl o ↦ dropped_below x o | inr k ↦ omega (arith, uses_before g p k.0 lawful inside k.1, k.2) ];
@@ -160,7 +169,8 @@ module _ (g : StepsOf) (roots : List ℕ) (last : ℕ → ℕ) (items : List ℕ
     size = listed_size (steps_in g.pair) last;
     closed = λ k c output lt within some late.
         let noted = listed_at (steps_in g.pair) last k 0 lt in
-        let one : output ≡ 1 = omega (arith, some, late, noted, w.few k, lawful.lawful.first_flat.few_signals, lawful.lawful.second_flat.few_signals, (assumed_flat g.pair lawful.lawful).few_signals) in
+        let one : output ≡ 1 =
+        omega (arith, some, late, noted, w.few k, lawful.lawful.first_flat.few_signals, lawful.lawful.second_flat.few_signals, (assumed_flat g.pair lawful.lawful).few_signals) in
         elim (w.closed k c lt within (omega (arith, some, late, noted))) [
           | inl o ↦ absurd (open_none k (subst (λ xs. IsOpen xs k) empty o))
           | inr le ↦ omega (arith, one, le, listed_at (steps_in g.pair) last (get_or (uses_of g k) c 0) 0 (uses_within g k c lawful lt within))

@@ -33,7 +33,9 @@ added_none counts steps = record {
 }
 
 -- a step without a place, or whose count stays
-pub added_same : (old mid steps : List ℕ) (k : ℕ) → k < length steps → (get_or steps k 0 < length mid → get_or mid (get_or steps k 0) 0 < 4294967295 → ⊥) → AreAdded old mid (take k steps) → AreAdded old mid (take (k + 1) steps)
+pub added_same : (old mid steps : List ℕ) (k : ℕ) → k < length steps →
+    (get_or steps k 0 < length mid → get_or mid (get_or steps k 0) 0 < 4294967295 → ⊥) → AreAdded old mid (take k steps) →
+    AreAdded old mid (take (k + 1) steps)
 added_same old mid steps k lt full a = record {
   size = a.size;
   grown = a.grown;
@@ -46,7 +48,9 @@ added_same old mid steps k lt full a = record {
   ];
 }
 
-pub added_more : (old mid steps : List ℕ) (k : ℕ) → k < length steps → get_or steps k 0 < length mid → get_or mid (get_or steps k 0) 0 < 4294967295 → AreAdded old mid (take k steps) → AreAdded old (set mid (get_or steps k 0) (get_or mid (get_or steps k 0) 0 + 1)) (take (k + 1) steps)
+pub added_more : (old mid steps : List ℕ) (k : ℕ) → k < length steps → get_or steps k 0 < length mid →
+    get_or mid (get_or steps k 0) 0 < 4294967295 → AreAdded old mid (take k steps) →
+    AreAdded old (set mid (get_or steps k 0) (get_or mid (get_or steps k 0) 0 + 1)) (take (k + 1) steps)
 added_more old mid steps k lt inside low a = record {
   size = length-set mid x (get_or mid x 0 + 1) ∙ a.size;
   grown = λ s. elim (cases_eq s x) [ inl same ↦ omega (arith, here s same, a.grown s) | inr apart ↦ omega (arith, there s apart, a.grown s) ];
@@ -99,7 +103,10 @@ needed_skip g last uses n k none a = record {
 pub needed_step : (g : StepsOf) (last uses new : List ℕ) (n k : ℕ) → 0 < get_or last k 0 → AreAdded uses new (uses_of g k) → AreNeeded g last uses n k → AreNeeded g last new n (k + 1)
 needed_step g last uses new n k some added a = record {
   size = added.size ∙ a.size;
-  each = λ s inside. subst (IsCounted 0 (get_or new s 0)) (sym (more s)) (counted_twice 0 (get_or uses s 0) (get_or new s 0) (needed_uses g last s k) (occurrences s (uses_of g k)) (added.grown s) (a.each s inside) (added.counted s (omega (arith, inside, a.size))));
+  each = λ s inside.
+      subst (IsCounted 0 (get_or new s 0)) (sym (more s))
+      (counted_twice 0 (get_or uses s 0) (get_or new s 0) (needed_uses g last s k) (occurrences s (uses_of g k)) (added.grown s)
+      (a.each s inside) (added.counted s (omega (arith, inside, a.size))));
 }
   where
     more : (s : ℕ) → needed_uses g last s (k + 1) ≡ needed_uses g last s k + occurrences s (uses_of g k)
@@ -120,11 +127,14 @@ made_one g step old new a = record {
   size = a.size;
   grown = a.grown;
   once = λ i j lt h. absurd (omega arith);
-  counted = λ s inside. subst (IsCounted (get_or old s 0) (get_or new s 0)) (sym (sum_by-cons (λ k. occurrences s (uses_of g k)) step [])) (subst (IsCounted (get_or old s 0) (get_or new s 0)) (omega arith) (a.counted s inside));
+  counted = λ s inside.
+      subst (IsCounted (get_or old s 0) (get_or new s 0)) (sym (sum_by-cons (λ k. occurrences s (uses_of g k)) step []))
+      (subst (IsCounted (get_or old s 0) (get_or new s 0)) (omega arith) (a.counted s inside));
 }
 
 -- one step more, which is higher than the others
-pub made_more : (g : StepsOf) (made : List ℕ) (step : ℕ) (u0 u1 u2 : List ℕ) → ((i : ℕ) → i < length made → get_or made i 0 < step) → AreCounted g made u0 u1 → AreCounted g (step ∷ []) u1 u2 → AreCounted g (made ++ step ∷ []) u0 u2
+pub made_more : (g : StepsOf) (made : List ℕ) (step : ℕ) (u0 u1 u2 : List ℕ) → ((i : ℕ) → i < length made → get_or made i 0 < step) →
+    AreCounted g made u0 u1 → AreCounted g (step ∷ []) u1 u2 → AreCounted g (made ++ step ∷ []) u0 u2
 made_more g made step u0 u1 u2 below a b = record {
   size = b.size ∙ a.size;
   grown = λ s. omega (arith, a.grown s, b.grown s);
@@ -132,7 +142,9 @@ made_more g made step u0 u1 u2 below a b = record {
     | inl end ↦ omega (arith, old i (omega arith), new j end, below i (omega arith))
     | inr apart ↦ (let inside : j < length made = omega (arith, h, size, apart) in omega (arith, old i (omega arith), old j inside, a.once i j lt inside))
   ];
-  counted = λ s inside. subst (IsCounted (get_or u0 s 0) (get_or u2 s 0)) (sym (sum_by-append (λ k. occurrences s (uses_of g k)) made (step ∷ []))) (counted_twice (get_or u0 s 0) (get_or u1 s 0) (get_or u2 s 0) (uses_by g made s) (uses_by g (step ∷ []) s) (b.grown s) (a.counted s inside) (b.counted s (omega (arith, inside, a.size))));
+  counted = λ s inside.
+      subst (IsCounted (get_or u0 s 0) (get_or u2 s 0)) (sym (sum_by-append (λ k. occurrences s (uses_of g k)) made (step ∷ [])))
+      (counted_twice (get_or u0 s 0) (get_or u1 s 0) (get_or u2 s 0) (uses_by g made s) (uses_by g (step ∷ []) s) (b.grown s) (a.counted s inside) (b.counted s (omega (arith, inside, a.size))));
 }
   where
     size : length (made ++ step ∷ []) ≡ length made + 1

@@ -9,7 +9,8 @@ use Rattle.eqc_build.specs.declared.plan.Plan.{Plan}
 use Rattle.eqc_build.proofs.TableLaws.{moves_twice, owned_kept, owned_moves, tally_none}
 use Rattle.eqc_build.proofs.BuildLaws.{none_built}
 
-pub kept_twice : {X : Type 0} (entry : X → Entry) (p : PairOf) (d0 d1 d2 : Holding) (t0 t1 t2 : List (Option X)) → MovesKept entry p d0 t0 d1 t1 → MovesKept entry p d1 t1 d2 t2 → MovesKept entry p d0 t0 d2 t2
+pub kept_twice : {X : Type 0} (entry : X → Entry) (p : PairOf) (d0 d1 d2 : Holding) (t0 t1 t2 : List (Option X)) → MovesKept entry p d0 t0 d1 t1 →
+    MovesKept entry p d1 t1 d2 t2 → MovesKept entry p d0 t0 d2 t2
 kept_twice entry p d0 d1 d2 t0 t1 t2 m n = record { moves = moves_twice entry d0 d1 d2 t0 t1 t2 m.moves n.moves; built = n.built }
 
 -- what was moved is kept as before
@@ -25,10 +26,13 @@ pub still_kept : {X : Type 0} (entry : X → Entry) (p : PairOf) (d0 d1 : Holdin
 still_kept entry p d0 d1 table h k = record { variables = omega (arith, h.variables, k.variables); built = h.built; owned = owned_kept entry d0 d1 table k h.owned }
 
 -- an output may be compared once more, and each output that is not marked in its turn
-pub comparable_again : {X : Type 0} (entry : X → Entry) (plan : Plan) (d0 d1 : Holding) (t0 t1 : List (Option X)) (o n : ℕ) → IsComparable entry plan d0 t0 o n → MovesKept entry plan.steps.pair d0 t0 d1 t1 → IsComparable entry plan d1 t1 o n
+pub comparable_again : {X : Type 0} (entry : X → Entry) (plan : Plan) (d0 d1 : Holding) (t0 t1 : List (Option X)) (o n : ℕ) →
+    IsComparable entry plan d0 t0 o n → MovesKept entry plan.steps.pair d0 t0 d1 t1 → IsComparable entry plan d1 t1 o n
 comparable_again entry plan d0 d1 t0 t1 o n h m = record { within = h.within; turn = h.turn; kept = moved_kept entry plan.steps.pair d0 d1 t0 t1 h.kept m }
 
-pub comparable_next : {X : Type 0} (entry : X → Entry) (plan : Plan) (marks : List Bool) (d : Holding) (table : List (Option X)) (o : ℕ) → o < length plan.steps.pair.first.outputs → is_marked marks o ≡ false → AreTurns plan marks → AreKept entry plan.steps.pair d table → IsComparable entry plan d table o (o + 1)
+pub comparable_next : {X : Type 0} (entry : X → Entry) (plan : Plan) (marks : List Bool) (d : Holding) (table : List (Option X)) (o : ℕ) →
+    o < length plan.steps.pair.first.outputs → is_marked marks o ≡ false → AreTurns plan marks → AreKept entry plan.steps.pair d table →
+    IsComparable entry plan d table o (o + 1)
 comparable_next entry plan marks d table o inside unmarked turns kept = record { within = inside; turn = turns.each o inside unmarked; kept = kept }
 
 -- a call that keeps what is held moves nothing
@@ -46,5 +50,6 @@ none_owned entry d table none = record { held = λ e. omega (arith, tally_none e
 pub none_moved : {X : Type 0} (entry : X → Entry) (d : Holding) (table : List (Option X)) → ((s : ℕ) → reference_of table s ≡ None) → Moves entry d [] d table
 none_moved entry d table none = record { variables = refl; held = λ e. omega (arith, tally_none entry table e none) }
 
-pub none_kept : {X : Type 0} (entry : X → Entry) (p : PairOf) (d : Holding) (table : List (Option X)) → length p.first.inputs ≤ d.variables → length table ≡ steps_in p → ((s : ℕ) → reference_of table s ≡ None) → AreKept entry p d table
+pub none_kept : {X : Type 0} (entry : X → Entry) (p : PairOf) (d : Holding) (table : List (Option X)) → length p.first.inputs ≤ d.variables →
+    length table ≡ steps_in p → ((s : ℕ) → reference_of table s ≡ None) → AreKept entry p d table
 none_kept entry p d table variables size none = record { variables = variables; built = none_built entry p table size none; owned = none_owned entry d table none }

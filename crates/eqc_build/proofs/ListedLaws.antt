@@ -29,7 +29,8 @@ listed_set n f g s x inside is = ext_get_or x (listed n g) (set (listed n f) s x
         ])
 
 -- what a map of signals below a number has, with one signal more, or with one less
-pub inside_more : {X : Type 0} (n : ℕ) (f g : ℕ → Option X) (s : ℕ) (o : Option X) → s < n → ((q : ℕ) → g q ≡ cond (nat_eq s q) o (f q)) → ((q : ℕ) → IsSome (f q) → q < n) → (q : ℕ) → IsSome (g q) → q < n
+pub inside_more : {X : Type 0} (n : ℕ) (f g : ℕ → Option X) (s : ℕ) (o : Option X) → s < n → ((q : ℕ) → g q ≡ cond (nat_eq s q) o (f q)) →
+    ((q : ℕ) → IsSome (f q) → q < n) → (q : ℕ) → IsSome (g q) → q < n
 inside_more n f g s o inside is before q some = elim (cases_eq q s) [
   | inl same ↦ omega (arith, inside, same)
   | inr apart ↦ before q (rw (sym (ap (λ b. cond b o (f q)) (ne_eqb s q (λ e. apart (sym e)))) ∙ sym (is q)) some)
@@ -40,7 +41,9 @@ pub lookup_last : {X : Type 0} (s : ℕ) (x : X) (es : List (ℕ × X)) → look
 lookup_last s x [] none = rw (eq-eqb s s refl) refl
 lookup_last {X = X} s x (e ∷ es) none = by (nat_eq s e.0) none (lookup_last s x es)
   where
-    by : (b : Bool) → cond b (Some e.1) (lookup (nat_eq s) es) ≡ None → (lookup (nat_eq s) es ≡ None → lookup (nat_eq s) (es ++ (s, x) ∷ []) ≡ Some x) → cond b (Some e.1) (lookup (nat_eq s) (es ++ (s, x) ∷ [])) ≡ Some x
+    by : (b : Bool) → cond b (Some e.1) (lookup (nat_eq s) es) ≡ None →
+        (lookup (nat_eq s) es ≡ None → lookup (nat_eq s) (es ++ (s, x) ∷ []) ≡ Some x) →
+        cond b (Some e.1) (lookup (nat_eq s) (es ++ (s, x) ∷ [])) ≡ Some x
     by true clash more = absurd (let q : Some e.1 ≡ None = clash in cc)
     by false rest more = more rest
 

@@ -52,7 +52,10 @@ pair_matched p h = record {
   same = λ i inside. second_at i inside ∙ sym (variables_at (length p.first.inputs) (position_of p.first.inputs (get_or p.second.inputs i [])) p.order (input_below i inside));
   size = length-map p.first.outputs (output_signal p.second);
   signals = signal_at;
-  within = λ o inside. rw (signal_at o inside) (h.second_flat.outputs_within (position_of p.second.outputs (get_or p.first.outputs o [])) (place_below p.second.outputs (get_or p.first.outputs o []) (all_named p.second.outputs p.first.outputs ((both_ways p.first.outputs p.second.outputs h.same_outputs).1) o inside)));
+  within = λ o inside.
+      rw (signal_at o inside)
+      (h.second_flat.outputs_within (position_of p.second.outputs (get_or p.first.outputs o []))
+      (place_below p.second.outputs (get_or p.first.outputs o []) (all_named p.second.outputs p.first.outputs ((both_ways p.first.outputs p.second.outputs h.same_outputs).1) o inside)));
 }
   where
     long : length (first_variables p) ≡ length p.first.inputs
@@ -78,7 +81,9 @@ pub assumption_matched : (p : PairOf) → IsPair p → IsAssumptionMatched p
 unfolding first_variables assumed_variables
 assumption_matched p h = record {
   size = long;
-  below = λ i lt. (let inside : i < length (assumed p).inputs = omega (arith, long) in rw (at i inside) (h.ordered.variable_within (position_of p.first.inputs (get_or (assumed p).inputs i [])) (input_below i inside)));
+  below = λ i lt.
+      (let inside : i < length (assumed p).inputs = omega (arith, long) in
+      rw (at i inside) (h.ordered.variable_within (position_of p.first.inputs (get_or (assumed p).inputs i [])) (input_below i inside)));
   inputs = input_below;
   same = λ i inside. at i inside ∙ sym (variables_at (length p.first.inputs) (position_of p.first.inputs (get_or (assumed p).inputs i [])) p.order (input_below i inside));
 }

@@ -26,7 +26,8 @@ raised_same old mid signals n at late r = record {
 }
 
 -- a signal that has an earlier one
-pub raised_more : (old mid signals : List ℕ) (n at : ℕ) → get_or signals n 0 < length mid → get_or mid (get_or signals n 0) 0 < at → IsRaised old mid signals n at → IsRaised old (set mid (get_or signals n 0) at) signals (n + 1) at
+pub raised_more : (old mid signals : List ℕ) (n at : ℕ) → get_or signals n 0 < length mid → get_or mid (get_or signals n 0) 0 < at →
+    IsRaised old mid signals n at → IsRaised old (set mid (get_or signals n 0) at) signals (n + 1) at
 raised_more old mid signals n at inside early r = record {
   size = length-set mid (get_or signals n 0) at ∙ r.size;
   grown = λ s. elim (cases_eq s (get_or signals n 0)) [
@@ -61,7 +62,8 @@ pub ended_none : (g : StepsOf) (marks : List Bool) (last : List ℕ) → length 
 ended_none g marks last size = record { size = size; each = λ o lt unmarked. absurd (omega arith) }
 
 -- moments that are no earlier
-later_ended : (g : StepsOf) (marks : List Bool) (last new : List ℕ) (outputs : ℕ) → length new ≡ length last → ((s : ℕ) → get_or last s 0 ≤ get_or new s 0) → AreEnded g marks last outputs → AreEnded g marks new outputs
+later_ended : (g : StepsOf) (marks : List Bool) (last new : List ℕ) (outputs : ℕ) → length new ≡ length last →
+    ((s : ℕ) → get_or last s 0 ≤ get_or new s 0) → AreEnded g marks last outputs → AreEnded g marks new outputs
 later_ended g marks last new outputs size late e = record {
   size = size ∙ e.size;
   each = λ o lt unmarked. record { each = λ k h. omega (arith, late (get_or (goals_of g o) k 0), (e.each o lt unmarked).each k h) };
@@ -77,7 +79,8 @@ ended_marked g marks last outputs marked e = record {
   ];
 }
 
-pub ended_more : (g : StepsOf) (marks : List Bool) (last new : List ℕ) (outputs : ℕ) (goals : List ℕ) (at : ℕ) → goals ≡ goals_of g outputs → at ≡ end_of g (outputs + 1) → IsRaised last new goals (length goals) at → AreEnded g marks last outputs → AreEnded g marks new (outputs + 1)
+pub ended_more : (g : StepsOf) (marks : List Bool) (last new : List ℕ) (outputs : ℕ) (goals : List ℕ) (at : ℕ) → goals ≡ goals_of g outputs →
+    at ≡ end_of g (outputs + 1) → IsRaised last new goals (length goals) at → AreEnded g marks last outputs → AreEnded g marks new (outputs + 1)
 ended_more g marks last new outputs goals at are is r e = record {
   size = more.size;
   each = λ o lt unmarked. elim (cases_eq o outputs) [
@@ -95,7 +98,8 @@ ended_more g marks last new outputs goals at are is r e = record {
 -- the steps from k on have their moments
 pub record AreMomentsFrom (g : StepsOf) (marks : List Bool) (last : List ℕ) (outputs k : ℕ) : Type 0 where
   pub ended : AreEnded g marks last outputs
-  pub closed : (j c output : ℕ) → k ≤ j → j < steps_in g.pair → c < length (uses_of g j) → 1 ≤ output → moment output 0 ≤ get_or last j 0 → moment output (j + 1) ≤ get_or last (get_or (uses_of g j) c 0) 0
+  pub closed : (j c output : ℕ) → k ≤ j → j < steps_in g.pair → c < length (uses_of g j) → 1 ≤ output → moment output 0 ≤ get_or last j 0 →
+      moment output (j + 1) ≤ get_or last (get_or (uses_of g j) c 0) 0
 
 pub moments_start : (g : StepsOf) (marks : List Bool) (last : List ℕ) (outputs : ℕ) → AreEnded g marks last outputs → AreMomentsFrom g marks last outputs (steps_in g.pair)
 moments_start g marks last outputs e = record { ended = e; closed = λ j c output le lt within some late. absurd (omega arith) }
@@ -109,7 +113,9 @@ moments_skip g marks last outputs k none m = record {
   ];
 }
 
-pub moments_raised : (g : StepsOf) (marks : List Bool) (last new : List ℕ) (outputs k start : ℕ) → AreSteps g → k < steps_in g.pair → ((output : ℕ) → moment output 0 ≤ get_or last k 0 → moment output 0 ≤ start) → AreMomentsFrom g marks last outputs (k + 1) → IsRaised last new (uses_of g k) (length (uses_of g k)) (start + (k + 1)) → AreMomentsFrom g marks new outputs k
+pub moments_raised : (g : StepsOf) (marks : List Bool) (last new : List ℕ) (outputs k start : ℕ) → AreSteps g → k < steps_in g.pair →
+    ((output : ℕ) → moment output 0 ≤ get_or last k 0 → moment output 0 ≤ start) → AreMomentsFrom g marks last outputs (k + 1) →
+    IsRaised last new (uses_of g k) (length (uses_of g k)) (start + (k + 1)) → AreMomentsFrom g marks new outputs k
 moments_raised g marks last new outputs k start h inside starts m r = record {
   ended = later_ended g marks last new outputs r.size r.grown m.ended;
   closed = λ j c output le lt within some late. elim (cases_eq j k) [

@@ -24,7 +24,8 @@ value_first p a k lt = rw (lt-ltb k (length p.first.drivers) lt) refl
 behind : (n j : ℕ) → n + j - n ≡ j
 behind n j = omega arith
 
-pub value_second : (p : PairOf) (a : ℕ → Bool) (j : ℕ) → j < length p.second.drivers → value_at p a (length p.first.drivers + j) ≡ value_of p.second (inputs_under (second_variables p) a) (get_or p.second.steps j 0)
+pub value_second : (p : PairOf) (a : ℕ → Bool) (j : ℕ) → j < length p.second.drivers →
+    value_at p a (length p.first.drivers + j) ≡ value_of p.second (inputs_under (second_variables p) a) (get_or p.second.steps j 0)
 unfolding value_at
 value_second p a j lt = rw (le-ltb (length p.first.drivers + j) (length p.first.drivers) (omega arith), lt-ltb (length p.first.drivers + j) (assumed_start p) (omega (arith, lt)))
     (ap (λ i. value_of p.second (inputs_under (second_variables p) a) (get_or p.second.steps i 0)) (behind (length p.first.drivers) j))
@@ -49,7 +50,9 @@ uses_assumed g j = rw (le-ltb (assumed_start g.pair + j) (length g.pair.first.dr
     (ap (uses_in (assumed g.pair) g.chosen g.further (assumed_start g.pair)) (behind (assumed_start g.pair) j))
 
 -- what holds of a step of each of the three holds of each step
-pub for_each_step : (p : PairOf) (P : ℕ → Type 0) → ((k : ℕ) → k < length p.first.drivers → P k) → ((j : ℕ) → j < length p.second.drivers → P (length p.first.drivers + j)) → ((j : ℕ) → j < length (assumed p).drivers → P (assumed_start p + j)) → (k : ℕ) → k < steps_in p → P k
+pub for_each_step : (p : PairOf) (P : ℕ → Type 0) → ((k : ℕ) → k < length p.first.drivers → P k) →
+    ((j : ℕ) → j < length p.second.drivers → P (length p.first.drivers + j)) → ((j : ℕ) → j < length (assumed p).drivers → P (assumed_start p + j)) →
+    (k : ℕ) → k < steps_in p → P k
 for_each_step p P first second third k inside = elim (cases_lt k (length p.first.drivers)) [
   | inl lt ↦ first k lt
   | inr past ↦ elim (cases_lt k (assumed_start p)) [
@@ -66,7 +69,9 @@ place_of_step f places k flat p lt =
     let inside = flat.steps_within k lt in
     flat.once (get_or places (get_or f.steps k 0) 0) k (p.within (get_or f.steps k 0) inside) lt (p.at (get_or f.steps k 0) inside)
 
-side_before : (f : FlatOf) (chosen places : List ℕ) (start k c : ℕ) → IsFlat f → ArePlaces f places → ((i : ℕ) → i < start + length f.drivers → chosen_for chosen i ≤ i) → k < length f.drivers → c < length (uses_in f chosen places start k) → get_or (uses_in f chosen places start k) c 0 < start + k
+side_before : (f : FlatOf) (chosen places : List ℕ) (start k c : ℕ) → IsFlat f → ArePlaces f places →
+    ((i : ℕ) → i < start + length f.drivers → chosen_for chosen i ≤ i) → k < length f.drivers → c < length (uses_in f chosen places start k) →
+    get_or (uses_in f chosen places start k) c 0 < start + k
 unfolding step_in
 side_before f chosen places start k c flat p early inside within =
     let deps = dependencies (driver_at f (get_or f.steps k 0)) in
@@ -79,9 +84,15 @@ side_before f chosen places start k c flat p early inside within =
 -- it comes before the step
 pub uses_before : (g : StepsOf) (k c : ℕ) → AreSteps g → k < steps_in g.pair → c < length (uses_of g k) → get_or (uses_of g k) c 0 < k
 uses_before g k c h inside = for_each_step g.pair (λ i. c < length (uses_of g i) → get_or (uses_of g i) c 0 < i)
-    (λ i lt. subst (λ us. c < length us → get_or us c 0 < i) (sym (uses_first g i lt)) (λ w. omega (arith, side_before g.pair.first g.chosen g.places 0 i c h.lawful.first_flat h.places (λ x less. h.choice.early x (omega (arith, less))) lt w)))
-    (λ j lt. subst (λ us. c < length us → get_or us c 0 < length g.pair.first.drivers + j) (sym (uses_second g j lt)) (side_before g.pair.second g.chosen g.others (length g.pair.first.drivers) j c h.lawful.second_flat h.others (λ x low. h.choice.early x (omega (arith, low))) lt))
-    (λ j lt. subst (λ us. c < length us → get_or us c 0 < assumed_start g.pair + j) (sym (uses_assumed g j)) (side_before (assumed g.pair) g.chosen g.further (assumed_start g.pair) j c (assumed_flat g.pair h.lawful) h.further (λ x low. h.choice.early x low) lt))
+    (λ i lt.
+    subst (λ us. c < length us → get_or us c 0 < i) (sym (uses_first g i lt))
+    (λ w. omega (arith, side_before g.pair.first g.chosen g.places 0 i c h.lawful.first_flat h.places (λ x less. h.choice.early x (omega (arith, less))) lt w)))
+    (λ j lt.
+    subst (λ us. c < length us → get_or us c 0 < length g.pair.first.drivers + j) (sym (uses_second g j lt))
+    (side_before g.pair.second g.chosen g.others (length g.pair.first.drivers) j c h.lawful.second_flat h.others (λ x low. h.choice.early x (omega (arith, low))) lt))
+    (λ j lt.
+    subst (λ us. c < length us → get_or us c 0 < assumed_start g.pair + j) (sym (uses_assumed g j))
+    (side_before (assumed g.pair) g.chosen g.further (assumed_start g.pair) j c (assumed_flat g.pair h.lawful) h.further (λ x low. h.choice.early x low) lt))
     k inside
 
 pub uses_within : (g : StepsOf) (k c : ℕ) → AreSteps g → k < steps_in g.pair → c < length (uses_of g k) → get_or (uses_of g k) c 0 < steps_in g.pair
@@ -89,7 +100,8 @@ uses_within g k c h inside within = omega (arith, uses_before g k c h inside wit
 
 -- ---- the step of a signal
 
-pub first_made : (g : StepsOf) (a : ℕ → Bool) (s : ℕ) → AreSteps g → s < length g.pair.first.drivers → value_at g.pair a (step_in g.chosen g.places 0 s) ≡ value_of g.pair.first (inputs_under (first_variables g.pair) a) s
+pub first_made : (g : StepsOf) (a : ℕ → Bool) (s : ℕ) → AreSteps g → s < length g.pair.first.drivers →
+    value_at g.pair a (step_in g.chosen g.places 0 s) ≡ value_of g.pair.first (inputs_under (first_variables g.pair) a) s
 unfolding step_in
 first_made g a s h inside =
     let lt : get_or g.places s 0 < length g.pair.first.drivers = omega (arith, h.places.within s inside, h.lawful.first_flat.step_count) in
@@ -99,7 +111,8 @@ first_made g a s h inside =
     ∙ (value_first g.pair a (get_or g.places s 0) lt
     ∙ ap (value_of g.pair.first (inputs_under (first_variables g.pair) a)) (h.places.at s inside)))
 
-pub second_made : (g : StepsOf) (a : ℕ → Bool) (t : ℕ) → AreSteps g → t < length g.pair.second.drivers → value_at g.pair a (step_in g.chosen g.others (length g.pair.first.drivers) t) ≡ value_of g.pair.second (inputs_under (second_variables g.pair) a) t
+pub second_made : (g : StepsOf) (a : ℕ → Bool) (t : ℕ) → AreSteps g → t < length g.pair.second.drivers →
+    value_at g.pair a (step_in g.chosen g.others (length g.pair.first.drivers) t) ≡ value_of g.pair.second (inputs_under (second_variables g.pair) a) t
 unfolding step_in
 second_made g a t h inside =
     let n = length g.pair.first.drivers in
@@ -108,7 +121,8 @@ second_made g a t h inside =
     ∙ (value_second g.pair a (get_or g.others t 0) lt
     ∙ ap (value_of g.pair.second (inputs_under (second_variables g.pair) a)) (h.others.at t inside))
 
-pub assumed_made : (g : StepsOf) (a : ℕ → Bool) (t : ℕ) → AreSteps g → t < length (assumed g.pair).drivers → value_at g.pair a (step_in g.chosen g.further (assumed_start g.pair) t) ≡ value_of (assumed g.pair) (inputs_under (assumed_variables g.pair) a) t
+pub assumed_made : (g : StepsOf) (a : ℕ → Bool) (t : ℕ) → AreSteps g → t < length (assumed g.pair).drivers →
+    value_at g.pair a (step_in g.chosen g.further (assumed_start g.pair) t) ≡ value_of (assumed g.pair) (inputs_under (assumed_variables g.pair) a) t
 unfolding step_in
 assumed_made g a t h inside =
     let lt : get_or g.further t 0 < length (assumed g.pair).drivers = omega (arith, h.further.within t inside, (assumed_flat g.pair h.lawful).step_count) in
@@ -230,7 +244,8 @@ values_mapped v w t (s ∷ signals) same =
 driven_value : (f : FlatOf) (b : ℕ → Bool) (s : ℕ) (driver : DriverOf) → FollowsDrivers f → s < length f.drivers → driver_at f s ≡ driver → driven f.rows b (value_of f b) driver ≡ value_of f b s
 driven_value f b s driver follows inside is = ap (driven f.rows b (value_of f b)) (sym is) ∙ sym (follows b s inside)
 
-pub made_in : (g : StepsOf) (f : FlatOf) (variables places : List ℕ) (start k at : ℕ) (driver : StepDriver) → IsSide g f variables places start k at → IsDriverIn f variables g.chosen places start k driver → IsMadeBy g at driver
+pub made_in : (g : StepsOf) (f : FlatOf) (variables places : List ℕ) (start k at : ℕ) (driver : StepDriver) →
+    IsSide g f variables places start k at → IsDriverIn f variables g.chosen places start k driver → IsMadeBy g at driver
 made_in g f variables places start k at (Variable v) side is =
     let s = get_or f.steps k 0 in
     let inside : s < length f.drivers = side.lawful.steps_within k (omega (arith, side.inside, side.lawful.step_count)) in
@@ -250,7 +265,8 @@ made_in g f variables places start k at (Cover columns rows) side is =
       side.uses ∙ (ap (λ d. map (step_in g.chosen places start) (dependencies d)) is.2 ∙ sym is.3),
       λ a.
           let b = inputs_under variables a in
-          let columns_are : map (value_at g.pair a) columns ≡ map (value_of f b) is.0 = ap (map (value_at g.pair a)) is.3 ∙ values_mapped (value_at g.pair a) (value_of f b) (step_in g.chosen places start) is.0 (λ i lt. side.signal a (get_or is.0 i 0) (there.0 i lt)) in
+          let columns_are : map (value_at g.pair a) columns ≡ map (value_of f b) is.0 = ap (map (value_at g.pair a)) is.3
+          ∙ values_mapped (value_at g.pair a) (value_of f b) (step_in g.chosen places start) is.0 (λ i lt. side.signal a (get_or is.0 i 0) (there.0 i lt)) in
           rw (is.4, columns_are) (driven_value f b s (cover is.0 is.1) side.follows inside is.2 ∙ sym (side.value a)),
     )
 
@@ -268,7 +284,8 @@ side_first g k h lt = record {
   signal = λ a s inside. first_made g a s h inside;
 }
 
-pub side_second : (g : StepsOf) (k j : ℕ) → AreSteps g → k ≡ length g.pair.first.drivers + j → j < length g.pair.second.drivers → IsSide g g.pair.second (second_variables g.pair) g.others (length g.pair.first.drivers) j k
+pub side_second : (g : StepsOf) (k j : ℕ) → AreSteps g → k ≡ length g.pair.first.drivers + j → j < length g.pair.second.drivers →
+    IsSide g g.pair.second (second_variables g.pair) g.others (length g.pair.first.drivers) j k
 side_second g k j h is lt = rw is (record {
   lawful = h.lawful.second_flat;
   follows = h.second_follows;
@@ -282,7 +299,8 @@ side_second g k j h is lt = rw is (record {
   signal = λ a s inside. second_made g a s h inside;
 })
 
-pub side_assumed : (g : StepsOf) (k j : ℕ) → AreSteps g → k ≡ assumed_start g.pair + j → j < length (assumed g.pair).drivers → IsSide g (assumed g.pair) (assumed_variables g.pair) g.further (assumed_start g.pair) j k
+pub side_assumed : (g : StepsOf) (k j : ℕ) → AreSteps g → k ≡ assumed_start g.pair + j → j < length (assumed g.pair).drivers →
+    IsSide g (assumed g.pair) (assumed_variables g.pair) g.further (assumed_start g.pair) j k
 side_assumed g k j h is lt = rw is (record {
   lawful = assumed_flat g.pair h.lawful;
   follows = h.assumed_follows;

@@ -34,24 +34,28 @@ pub found_none : {X : Type 0} (table : List (Option X)) (s : ℕ) (o : Option X)
 found_none table s o h is e = get_or_default table s None o h ∙ (sym is ∙ sym e)
 
 -- a table with an entry in place of another
-pub tally-set : {X : Type 0} (entry : X → Entry) (table : List (Option X)) (s : ℕ) (o : Option X) (e : Entry) → s < length table → tally entry (set table s o) e + held_by entry e (reference_of table s) ≡ tally entry table e + held_by entry e o
+pub tally-set : {X : Type 0} (entry : X → Entry) (table : List (Option X)) (s : ℕ) (o : Option X) (e : Entry) → s < length table →
+    tally entry (set table s o) e + held_by entry e (reference_of table s) ≡ tally entry table e + held_by entry e o
 tally-set entry table s o e h = sum_by-set (held_by entry e) table s o None h
 
-pub filled : {X : Type 0} (entry : X → Entry) (old new : Holding) (table : List (Option X)) (s : ℕ) (r before : X) → s < length table → reference_of table s ≡ Some before → Loses old new (entry before) → Fills entry old table new (set table s (Some r)) s r
+pub filled : {X : Type 0} (entry : X → Entry) (old new : Holding) (table : List (Option X)) (s : ℕ) (r before : X) → s < length table →
+    reference_of table s ≡ Some before → Loses old new (entry before) → Fills entry old table new (set table s (Some r)) s r
 filled entry old new table s r before h is l = record {
   table = refl;
   variables = l.variables;
   held = λ e. omega (arith, l.held e, ap (held_by entry e) is, tally-set entry table s (Some r) e h);
 }
 
-pub filled_none : {X : Type 0} (entry : X → Entry) (old : Holding) (table : List (Option X)) (s : ℕ) (r : X) → s < length table → reference_of table s ≡ None → Fills entry old table old (set table s (Some r)) s r
+pub filled_none : {X : Type 0} (entry : X → Entry) (old : Holding) (table : List (Option X)) (s : ℕ) (r : X) → s < length table →
+    reference_of table s ≡ None → Fills entry old table old (set table s (Some r)) s r
 filled_none entry old table s r h is = record {
   table = refl;
   variables = refl;
   held = λ e. omega (arith, ap (held_by entry e) is, tally-set entry table s (Some r) e h);
 }
 
-pub emptied : {X : Type 0} (entry : X → Entry) (old new : Holding) (table : List (Option X)) (s : ℕ) (r : X) → s < length table → reference_of table s ≡ Some r → Loses old new (entry r) → Empties entry old table new (set table s None) s
+pub emptied : {X : Type 0} (entry : X → Entry) (old new : Holding) (table : List (Option X)) (s : ℕ) (r : X) → s < length table →
+    reference_of table s ≡ Some r → Loses old new (entry r) → Empties entry old table new (set table s None) s
 emptied entry old new table s r h is l = record {
   table = refl;
   moves = record {
@@ -60,7 +64,8 @@ emptied entry old new table s r h is l = record {
   };
 }
 
-pub emptied_none : {X : Type 0} (entry : X → Entry) (old : Holding) (table : List (Option X)) (s : ℕ) → s < length table → reference_of table s ≡ None → Empties entry old table old (set table s None) s
+pub emptied_none : {X : Type 0} (entry : X → Entry) (old : Holding) (table : List (Option X)) (s : ℕ) → s < length table →
+    reference_of table s ≡ None → Empties entry old table old (set table s None) s
 emptied_none entry old table s h is = record {
   table = refl;
   moves = record {
@@ -70,7 +75,8 @@ emptied_none entry old table s h is = record {
 }
 
 -- moves keep a table owned
-pub owned_moves : {X : Type 0} (entry : X → Entry) (old new : Holding) (old_table new_table : List (Option X)) → OwnsTable entry old old_table → Moves entry old old_table new new_table → OwnsTable entry new new_table
+pub owned_moves : {X : Type 0} (entry : X → Entry) (old new : Holding) (old_table new_table : List (Option X)) → OwnsTable entry old old_table →
+    Moves entry old old_table new new_table → OwnsTable entry new new_table
 owned_moves entry old new old_table new_table o m = record { held = λ e. omega (arith, o.held e, m.held e) }
 
 pub moves_twice : {X : Type 0} (entry : X → Entry) (d0 d1 d2 : Holding) (t0 t1 t2 : List (Option X)) → Moves entry d0 t0 d1 t1 → Moves entry d1 t1 d2 t2 → Moves entry d0 t0 d2 t2
@@ -86,7 +92,9 @@ no_release entry d table plan used until at = record {
 }
 
 -- one more reference that is given back
-pub released_more : {X : Type 0} (entry : X → Entry) (d0 d1 d2 : Holding) (t0 t1 t2 : List (Option X)) (plan : Plan) (used : List ℕ) (until : List ℕ) (at s : ℕ) → s < length t1 → Releases entry d0 t0 d1 t1 plan used until at → IsLastUse plan until s at → (IsOfUse plan used s at → ⊥) → Empties entry d1 t1 d2 t2 s → Releases entry d0 t0 d2 t2 plan used until at
+pub released_more : {X : Type 0} (entry : X → Entry) (d0 d1 d2 : Holding) (t0 t1 t2 : List (Option X)) (plan : Plan) (used : List ℕ) (until : List ℕ) (at s : ℕ) →
+    s < length t1 → Releases entry d0 t0 d1 t1 plan used until at → IsLastUse plan until s at → (IsOfUse plan used s at → ⊥) →
+    Empties entry d1 t1 d2 t2 s → Releases entry d0 t0 d2 t2 plan used until at
 released_more {X = X} entry d0 d1 d2 t0 t1 t2 plan used until at s h r is spent m = record {
   size = ap length m.table ∙ (length-set t1 s None ∙ r.size);
   moves = moves_twice entry d0 d1 d2 t0 t1 t2 r.moves m.moves;
@@ -113,7 +121,8 @@ released_more {X = X} entry d0 d1 d2 t0 t1 t2 plan used until at s h r is spent 
         let q' : None ≡ Some q = sym none ∙ some in cc
 
 -- one more that is of no use is given back
-pub keeps_more : {X : Type 0} (entry : X → Entry) (d1 d2 : Holding) (t0 t1 t2 : List (Option X)) (plan : Plan) (used : List ℕ) (at s : ℕ) → s < length t1 → KeepsLater plan used t0 t1 at → (IsOfUse plan used s at → ⊥) → Empties entry d1 t1 d2 t2 s → KeepsLater plan used t0 t2 at
+pub keeps_more : {X : Type 0} (entry : X → Entry) (d1 d2 : Holding) (t0 t1 t2 : List (Option X)) (plan : Plan) (used : List ℕ) (at s : ℕ) →
+    s < length t1 → KeepsLater plan used t0 t1 at → (IsOfUse plan used s at → ⊥) → Empties entry d1 t1 d2 t2 s → KeepsLater plan used t0 t2 at
 keeps_more {X = X} entry d1 d2 t0 t1 t2 plan used at s h k spent m = record {
   size = ap length m.table ∙ (length-set t1 s None ∙ k.size);
   none_new = λ i q some. elim (cases_eq i s) [
@@ -144,10 +153,12 @@ tally_end entry old new o e is = ap (λ t. tally entry t e) is ∙ (sum_by-appen
 pub popped_held : {X : Type 0} (entry : X → Entry) (d : Holding) (old new : List (Option X)) (r : X) → old ≡ new ++ Some r ∷ [] → OwnsTable entry d old → IsHeld d (entry r)
 popped_held entry d old new r is h = omega (arith, counts_itself d (entry r), h.held (entry r), tally_end entry old new (Some r) (entry r) is)
 
-pub popped : {X : Type 0} (entry : X → Entry) (d0 d1 d2 : Holding) (t0 old new : List (Option X)) (r : X) → old ≡ new ++ Some r ∷ [] → Moves entry d0 t0 d1 old → Loses d1 d2 (entry r) → Moves entry d0 t0 d2 new
+pub popped : {X : Type 0} (entry : X → Entry) (d0 d1 d2 : Holding) (t0 old new : List (Option X)) (r : X) → old ≡ new ++ Some r ∷ [] →
+    Moves entry d0 t0 d1 old → Loses d1 d2 (entry r) → Moves entry d0 t0 d2 new
 popped entry d0 d1 d2 t0 old new r is m l = record { variables = l.variables ∙ m.variables; held = λ e. omega (arith, m.held e, l.held e, tally_end entry old new (Some r) e is) }
 
-pub popped_owned : {X : Type 0} (entry : X → Entry) (d1 d2 : Holding) (old new : List (Option X)) (r : X) → old ≡ new ++ Some r ∷ [] → OwnsTable entry d1 old → Loses d1 d2 (entry r) → OwnsTable entry d2 new
+pub popped_owned : {X : Type 0} (entry : X → Entry) (d1 d2 : Holding) (old new : List (Option X)) (r : X) → old ≡ new ++ Some r ∷ [] →
+    OwnsTable entry d1 old → Loses d1 d2 (entry r) → OwnsTable entry d2 new
 popped_owned entry d1 d2 old new r is h l = record { held = λ e. omega (arith, h.held e, l.held e, tally_end entry old new (Some r) e is) }
 
 pub popped_none : {X : Type 0} (entry : X → Entry) (d0 d1 : Holding) (t0 old new : List (Option X)) → old ≡ new ++ None ∷ [] → Moves entry d0 t0 d1 old → Moves entry d0 t0 d1 new
@@ -162,9 +173,13 @@ pub few_held : {X : Type 0} (entry : X → Entry) (d : Holding) (n : ℕ) (f : �
 few_held entry d n f s r was inside own = owned_held entry d (listed n f) s r own (listed_at n f s None inside ∙ was)
 
 -- one of them is taken out and given back
-pub few_moves : {X : Type 0} (entry : X → Entry) (d0 d1 : Holding) (n : ℕ) (f g : ℕ → Option X) (s : ℕ) (r : X) → f s ≡ Some r → s < n → ((q : ℕ) → g q ≡ cond (nat_eq s q) None (f q)) → Loses d0 d1 (entry r) → Moves entry d0 (listed n f) d1 (listed n g)
-few_moves entry d0 d1 n f g s r was inside now l = subst (Moves entry d0 (listed n f) d1) (sym (listed_set n f g s None inside now)) (emptied entry d0 d1 (listed n f) s r (omega (arith, inside, listed_size n f)) (listed_at n f s None inside ∙ was) l).moves
+pub few_moves : {X : Type 0} (entry : X → Entry) (d0 d1 : Holding) (n : ℕ) (f g : ℕ → Option X) (s : ℕ) (r : X) → f s ≡ Some r → s < n →
+    ((q : ℕ) → g q ≡ cond (nat_eq s q) None (f q)) → Loses d0 d1 (entry r) → Moves entry d0 (listed n f) d1 (listed n g)
+few_moves entry d0 d1 n f g s r was inside now l =
+    subst (Moves entry d0 (listed n f) d1) (sym (listed_set n f g s None inside now))
+    (emptied entry d0 d1 (listed n f) s r (omega (arith, inside, listed_size n f)) (listed_at n f s None inside ∙ was) l).moves
 
 -- none is left
-pub few_given : {X : Type 0} (entry : X → Entry) (d0 d1 : Holding) (t0 : List (Option X)) (n : ℕ) (f : ℕ → Option X) → ((s : ℕ) → f s ≡ None) → Moves entry d0 t0 d1 (listed n f) → Moves entry d0 t0 d1 []
+pub few_given : {X : Type 0} (entry : X → Entry) (d0 d1 : Holding) (t0 : List (Option X)) (n : ℕ) (f : ℕ → Option X) → ((s : ℕ) → f s ≡ None) →
+    Moves entry d0 t0 d1 (listed n f) → Moves entry d0 t0 d1 []
 few_given entry d0 d1 t0 n f none m = record { variables = m.variables; held = λ e. omega (arith, m.held e, tally_none entry (listed n f) e (listed_none n f none)) }

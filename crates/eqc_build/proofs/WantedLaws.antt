@@ -76,7 +76,9 @@ pub top_popped : (xs : List ℕ) (seen x : ℕ) → 0 < length xs → seen ≡ g
 top_popped xs seen x some is was = was ∙ (get_or_default xs 0 x seen some ∙ sym is)
 
 -- a number from `step` on that comes out of a heap
-pub drop_more : (xs ys : List ℕ) (seen step : ℕ) (r : Option ℕ) → IsSome r → 0 < length xs → IsHeap nat_cmp xs → seen ≡ get_or xs 0 seen → step ≤ seen → IfSome r (λ x. x ≡ get_or xs 0 x) → IfSome r (λ x. IsPermutation xs (x ∷ ys)) → IfSome r (λ x. PopsGreatest nat_cmp xs x ys) → IsHeap nat_cmp ys × ((x : ℕ) → IsOpen ys x → IsOpen xs x) × ((x : ℕ) → x < step → IsOpen xs x → IsOpen ys x)
+pub drop_more : (xs ys : List ℕ) (seen step : ℕ) (r : Option ℕ) → IsSome r → 0 < length xs → IsHeap nat_cmp xs → seen ≡ get_or xs 0 seen →
+    step ≤ seen → IfSome r (λ x. x ≡ get_or xs 0 x) → IfSome r (λ x. IsPermutation xs (x ∷ ys)) → IfSome r (λ x. PopsGreatest nat_cmp xs x ys) →
+    IsHeap nat_cmp ys × ((x : ℕ) → IsOpen ys x → IsOpen xs x) × ((x : ℕ) → x < step → IsOpen xs x → IsOpen ys x)
 drop_more xs ys seen step None there some heap is high was perm pops = absurd (false≢true there)
 drop_more xs ys seen step (Some y) there some heap is high was perm pops = (
   (pops heap).0,
@@ -120,7 +122,8 @@ opened_one table step old new perm = record {
 }
 
 -- one step more
-pub opened_more : {X : Type 0} (table : List (Option X)) (steps old mid new : List ℕ) (n : ℕ) → AreOpened table steps old mid n → AreOpened table (get_or steps n 0 ∷ []) mid new 1 → AreOpened table steps old new (n + 1)
+pub opened_more : {X : Type 0} (table : List (Option X)) (steps old mid new : List ℕ) (n : ℕ) → AreOpened table steps old mid n →
+    AreOpened table (get_or steps n 0 ∷ []) mid new 1 → AreOpened table steps old new (n + 1)
 opened_more table steps old mid new n o one = record {
   kept = λ x h. one.kept x (o.kept x h);
   there = λ k h. elim (cases_eq k n) [
@@ -181,12 +184,17 @@ pub record AreWantedFrom {X : Type 0} (g : StepsOf) (last : List ℕ) (table : L
   pub needed : (i : ℕ) → i < length wanted → moment output 0 ≤ get_or last (get_or wanted i 0) 0
   pub open_below : (x : ℕ) → IsOpen items x → x < below
   pub open_needed : (x : ℕ) → IsOpen items x → moment output 0 ≤ get_or last x 0
-  pub closed : (i c : ℕ) → i < length wanted → c < length (uses_of g (get_or wanted i 0)) → IsSome (reference_of table (get_or (uses_of g (get_or wanted i 0)) c 0)) ⊎ (IsBehind wanted (i + 1) (get_or (uses_of g (get_or wanted i 0)) c 0) ⊎ IsOpen items (get_or (uses_of g (get_or wanted i 0)) c 0))
+  pub closed : (i c : ℕ) → i < length wanted → c < length (uses_of g (get_or wanted i 0)) →
+      IsSome (reference_of table (get_or (uses_of g (get_or wanted i 0)) c 0)) ⊎
+      (IsBehind wanted (i + 1) (get_or (uses_of g (get_or wanted i 0)) c 0) ⊎ IsOpen items (get_or (uses_of g (get_or wanted i 0)) c 0))
   pub rooted : (r : ℕ) → r < length roots → IsSome (reference_of table (get_or roots r 0)) ⊎ (IsBehind wanted 0 (get_or roots r 0) ⊎ IsOpen items (get_or roots r 0))
   pub in_turn : AreUsedInTurn g until output wanted roots
 
 -- what was opened for the roots alone
-pub wanted_first : {X : Type 0} (g : StepsOf) (last : List ℕ) (table : List (Option X)) (output : ℕ) (roots old items : List ℕ) (before until : List ℕ) → old ≡ [] → ((r : ℕ) → r < length roots → get_or roots r 0 < steps_in g.pair) → AreUsedUntil last roots (end_of g output) → AreOpened table roots old items (length roots) → AreLasting before until roots (length roots) (end_of g output) → AreWantedFrom g last table output roots [] items (steps_in g.pair) until
+pub wanted_first : {X : Type 0} (g : StepsOf) (last : List ℕ) (table : List (Option X)) (output : ℕ) (roots old items : List ℕ) (before until : List ℕ) →
+    old ≡ [] → ((r : ℕ) → r < length roots → get_or roots r 0 < steps_in g.pair) → AreUsedUntil last roots (end_of g output) →
+    AreOpened table roots old items (length roots) → AreLasting before until roots (length roots) (end_of g output) →
+    AreWantedFrom g last table output roots [] items (steps_in g.pair) until
 wanted_first g last table output roots old items before until empty inside used o n = record {
   small = omega arith;
   within = λ i h. absurd (omega arith);
@@ -203,7 +211,12 @@ wanted_first g last table output roots old items before until empty inside used 
     root : (x : ℕ) → IsOpen items x → (r : ℕ) × (r < length roots) × (get_or roots r 0 ≡ x)
     root x h = elim (o.only x h) [ inl before ↦ absurd (open_none x (subst (λ xs. IsOpen xs x) empty before)) | inr w ↦ w ]
 
-pub wanted_more : {X : Type 0} (g : StepsOf) (last : List ℕ) (table : List (Option X)) (output : ℕ) (roots wanted h0 h1 h2 h3 : List ℕ) (below p : ℕ) (before until : List ℕ) → AreSteps g → AreLastMoments g last → 1 ≤ output → IsPermutation h0 (p ∷ h1) → ((x : ℕ) → IsOpen h2 x → x < p) → ((x : ℕ) → IsOpen h2 x → IsOpen h1 x) → ((x : ℕ) → x < p → IsOpen h1 x → IsOpen h2 x) → ((x : ℕ) → IsOpen h1 x → x ≤ p) → AreOpened table (uses_of g p) h2 h3 (length (uses_of g p)) → AreLasting before until (uses_of g p) (length (uses_of g p)) (moment output (p + 1)) → AreWantedFrom g last table output roots wanted h0 below before → AreWantedFrom g last table output roots (wanted ++ p ∷ []) h3 p until
+pub wanted_more : {X : Type 0} (g : StepsOf) (last : List ℕ) (table : List (Option X)) (output : ℕ) (roots wanted h0 h1 h2 h3 : List ℕ) (below p : ℕ) (before until : List ℕ) →
+    AreSteps g → AreLastMoments g last → 1 ≤ output → IsPermutation h0 (p ∷ h1) → ((x : ℕ) → IsOpen h2 x → x < p) →
+    ((x : ℕ) → IsOpen h2 x → IsOpen h1 x) → ((x : ℕ) → x < p → IsOpen h1 x → IsOpen h2 x) → ((x : ℕ) → IsOpen h1 x → x ≤ p) →
+    AreOpened table (uses_of g p) h2 h3 (length (uses_of g p)) →
+    AreLasting before until (uses_of g p) (length (uses_of g p)) (moment output (p + 1)) →
+    AreWantedFrom g last table output roots wanted h0 below before → AreWantedFrom g last table output roots (wanted ++ p ∷ []) h3 p until
 wanted_more {X = X} g last table output roots wanted h0 h1 h2 h3 below p before until lawful moments some perm dropped_below dropped_kept dropped_others popped_below opened n w = record {
   small = omega (arith, w.open_below p top, w.small);
   within = λ i h. elim (place i h) [ inl lt ↦ omega (arith, old i lt, w.within i lt) | inr end ↦ omega (arith, new i end, w.open_below p top, w.small) ];
@@ -225,13 +238,20 @@ wanted_more {X = X} g last table output roots wanted h0 h1 h2 h3 below p before 
     | inr k ↦ omega (arith, moments.closed p k.0 output inside k.1 some (w.open_needed p top), ap (λ s. get_or last s 0) k.2)
   ];
   closed = λ i c h within. elim (place i h) [
-    | inl lt ↦ (let P : ℕ → Type 0 = λ q. c < length (uses_of g q) → IsSome (reference_of table (get_or (uses_of g q) c 0)) ⊎ (IsBehind (wanted ++ p ∷ []) (i + 1) (get_or (uses_of g q) c 0) ⊎ IsOpen h3 (get_or (uses_of g q) c 0)) in subst P (sym (old i lt)) (closed_before i c lt) within)
-    | inr end ↦ (let P : ℕ → Type 0 = λ q. c < length (uses_of g q) → IsSome (reference_of table (get_or (uses_of g q) c 0)) ⊎ (IsBehind (wanted ++ p ∷ []) (i + 1) (get_or (uses_of g q) c 0) ⊎ IsOpen h3 (get_or (uses_of g q) c 0)) in subst P (sym (new i end)) (closed_here i c) within)
+    | inl lt ↦
+        (let P : ℕ → Type 0 = λ q. c < length (uses_of g q) →
+        IsSome (reference_of table (get_or (uses_of g q) c 0)) ⊎ (IsBehind (wanted ++ p ∷ []) (i + 1) (get_or (uses_of g q) c 0) ⊎ IsOpen h3 (get_or (uses_of g q) c 0)) in
+        subst P (sym (old i lt)) (closed_before i c lt) within)
+    | inr end ↦
+        (let P : ℕ → Type 0 = λ q. c < length (uses_of g q) →
+        IsSome (reference_of table (get_or (uses_of g q) c 0)) ⊎ (IsBehind (wanted ++ p ∷ []) (i + 1) (get_or (uses_of g q) c 0) ⊎ IsOpen h3 (get_or (uses_of g q) c 0)) in
+        subst P (sym (new i end)) (closed_here i c) within)
   ];
   rooted = λ r h. elim (w.rooted r h) [ inl some ↦ inl some | inr there ↦ inr (moved 0 (get_or roots r 0) (omega arith) there) ];
   in_turn = record {
     uses = λ i c h within. elim (place i h) [
-      | inl lt ↦ subst (IsUsed c) (sym (old i lt)) (λ within place. omega (arith, w.in_turn.uses i c lt within (omega (arith, place, n.size)), n.grown (get_or (uses_of g (get_or wanted i 0)) c 0))) within
+      | inl lt ↦
+          subst (IsUsed c) (sym (old i lt)) (λ within place. omega (arith, w.in_turn.uses i c lt within (omega (arith, place, n.size)), n.grown (get_or (uses_of g (get_or wanted i 0)) c 0))) within
       | inr end ↦ subst (IsUsed c) (sym (new i end)) (n.noted c) within
     ];
     goals_end = λ r h place. omega (arith, w.in_turn.goals_end r h (omega (arith, place, n.size)), n.grown (get_or roots r 0));
@@ -270,21 +290,36 @@ wanted_more {X = X} g last table output roots wanted h0 h1 h2 h3 below p before 
       ]
     ]
 
-    closed_before : (i c : ℕ) → i < length wanted → c < length (uses_of g (get_or wanted i 0)) → IsSome (reference_of table (get_or (uses_of g (get_or wanted i 0)) c 0)) ⊎ (IsBehind (wanted ++ p ∷ []) (i + 1) (get_or (uses_of g (get_or wanted i 0)) c 0) ⊎ IsOpen h3 (get_or (uses_of g (get_or wanted i 0)) c 0))
+    closed_before : (i c : ℕ) → i < length wanted → c < length (uses_of g (get_or wanted i 0)) →
+        IsSome (reference_of table (get_or (uses_of g (get_or wanted i 0)) c 0)) ⊎
+        (IsBehind (wanted ++ p ∷ []) (i + 1) (get_or (uses_of g (get_or wanted i 0)) c 0) ⊎ IsOpen h3 (get_or (uses_of g (get_or wanted i 0)) c 0))
     closed_before i c lt within = elim (w.closed i c lt within) [ inl some ↦ inl some | inr there ↦ inr (moved (i + 1) (get_or (uses_of g (get_or wanted i 0)) c 0) (omega arith) there) ]
 
-    closed_here : (i c : ℕ) → c < length (uses_of g p) → IsSome (reference_of table (get_or (uses_of g p) c 0)) ⊎ (IsBehind (wanted ++ p ∷ []) (i + 1) (get_or (uses_of g p) c 0) ⊎ IsOpen h3 (get_or (uses_of g p) c 0))
+    closed_here : (i c : ℕ) → c < length (uses_of g p) →
+        IsSome (reference_of table (get_or (uses_of g p) c 0)) ⊎ (IsBehind (wanted ++ p ∷ []) (i + 1) (get_or (uses_of g p) c 0) ⊎ IsOpen h3 (get_or (uses_of g p) c 0))
     closed_here i c lt = elim (opened.there c lt) [ inl some ↦ inl some | inr o ↦ inr (inr o) ]
 
-pub wanted_done : {X : Type 0} (g : StepsOf) (last : List ℕ) (table : List (Option X)) (output : ℕ) (roots wanted items : List ℕ) (below : ℕ) (until : List ℕ) → items ≡ [] → AreWantedFrom g last table output roots wanted items below until → AreWanted g last table output wanted
+pub wanted_done : {X : Type 0} (g : StepsOf) (last : List ℕ) (table : List (Option X)) (output : ℕ) (roots wanted items : List ℕ) (below : ℕ) (until : List ℕ) →
+    items ≡ [] → AreWantedFrom g last table output roots wanted items below until → AreWanted g last table output wanted
 wanted_done g last table output roots wanted items below until empty w = record {
   within = w.within;
   falling = w.falling;
   needed = w.needed;
-  closed = λ i c h lt. elim (w.closed i c h lt) [ inl some ↦ inl some | inr there ↦ elim there [ inl behind ↦ inr behind | inr o ↦ absurd (open_none (get_or (uses_of g (get_or wanted i 0)) c 0) (subst (λ xs. IsOpen xs (get_or (uses_of g (get_or wanted i 0)) c 0)) empty o)) ] ];
+  closed = λ i c h lt.
+      elim (w.closed i c h lt) [
+        | inl some ↦ inl some
+        | inr there ↦
+            elim there [
+              | inl behind ↦ inr behind
+              | inr o ↦ absurd (open_none (get_or (uses_of g (get_or wanted i 0)) c 0) (subst (λ xs. IsOpen xs (get_or (uses_of g (get_or wanted i 0)) c 0)) empty o))
+            ]
+      ];
 }
 
-pub wanted_roots : {X : Type 0} (g : StepsOf) (last : List ℕ) (table : List (Option X)) (output : ℕ) (roots wanted items : List ℕ) (below : ℕ) (until : List ℕ) → items ≡ [] → AreWantedFrom g last table output roots wanted items below until → AreReached table wanted roots
+pub wanted_roots : {X : Type 0} (g : StepsOf) (last : List ℕ) (table : List (Option X)) (output : ℕ) (roots wanted items : List ℕ) (below : ℕ) (until : List ℕ) →
+    items ≡ [] → AreWantedFrom g last table output roots wanted items below until → AreReached table wanted roots
 wanted_roots g last table output roots wanted items below until empty w = record {
-  each = λ r h. elim (w.rooted r h) [ inl some ↦ inl some | inr there ↦ elim there [ inl behind ↦ inr behind | inr o ↦ absurd (open_none (get_or roots r 0) (subst (λ xs. IsOpen xs (get_or roots r 0)) empty o)) ] ];
+  each = λ r h.
+      elim (w.rooted r h)
+      [ inl some ↦ inl some | inr there ↦ elim there [ inl behind ↦ inr behind | inr o ↦ absurd (open_none (get_or roots r 0) (subst (λ xs. IsOpen xs (get_or roots r 0)) empty o)) ] ];
 }

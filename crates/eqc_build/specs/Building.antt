@@ -58,7 +58,8 @@ abbrev pub IsLastUse : Plan → List ℕ → ℕ → ℕ → Type 0
 IsLastUse plan until s at = (slice_index plan.last s ≡ at) ⊎ (slice_index until s ≡ at)
 
 -- references that are used for the last time at this moment were given back, and none that is of use later
-pub record Releases {X : Type 0} (entry : X → Entry) (old : Holding) (old_table : List (Option X)) (new : Holding) (new_table : List (Option X)) (plan : Plan) (used : List ℕ) (until : List ℕ) (at : ℕ) : Type 0 where
+pub record Releases {X : Type 0} (entry : X → Entry) (old : Holding) (old_table : List (Option X)) (new : Holding) (new_table : List (Option X))
+    (plan : Plan) (used : List ℕ) (until : List ℕ) (at : ℕ) : Type 0 where
   pub size : length new_table ≡ length old_table
   pub moves : Moves entry old old_table new new_table
   pub kept : (s : ℕ) → (IsLastUse plan until s at → ⊥) → reference_of new_table s ≡ reference_of old_table s
@@ -74,7 +75,8 @@ pub record Adds {X : Type 0} (entry : X → Entry) (p : PairOf) (old : Holding) 
 
 -- a step was made at a moment: it has a reference, those that had one still have it, and those that are used for the last
 -- time at this moment, and aren't of use later, may have none
-pub record Advances {X : Type 0} (entry : X → Entry) (plan : Plan) (until : List ℕ) (old : Holding) (old_table : List (Option X)) (new : Holding) (new_table : List (Option X)) (used : List ℕ) (k at : ℕ) : Type 0 where
+pub record Advances {X : Type 0} (entry : X → Entry) (plan : Plan) (until : List ℕ) (old : Holding) (old_table : List (Option X)) (new : Holding)
+    (new_table : List (Option X)) (used : List ℕ) (k at : ℕ) : Type 0 where
   pub moves : Moves entry old old_table new new_table
   pub built : IsBuilt entry plan.steps.pair new_table
   pub here : (IsLastUse plan until k at → ⊥) → IsSome (reference_of new_table k)

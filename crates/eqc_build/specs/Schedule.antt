@@ -16,7 +16,8 @@ end_of g output = moment output (steps_in g.pair + 1)
 -- that output
 pub record AreLastMoments (g : StepsOf) (last : List ℕ) : Type 0 where
   pub size : length last ≡ steps_in g.pair
-  pub closed : (k c output : ℕ) → k < steps_in g.pair → c < length (uses_of g k) → 1 ≤ output → moment output 0 ≤ slice_index last k → moment output (k + 1) ≤ slice_index last (slice_index (uses_of g k) c)
+  pub closed : (k c output : ℕ) → k < steps_in g.pair → c < length (uses_of g k) → 1 ≤ output → moment output 0 ≤ slice_index last k →
+      moment output (k + 1) ≤ slice_index last (slice_index (uses_of g k) c)
 
 -- a number is noted for those of the first n steps whose number is lower
 pub record IsRaised (old new steps : List ℕ) (n at : ℕ) : Type 0 where
@@ -33,7 +34,9 @@ pub record AreLasting (old new steps : List ℕ) (n at : ℕ) : Type 0 where
 
 -- what one of these steps uses is noted to be used in its turn until that is made, or later, and a goal until the end
 pub record AreUsedInTurn (g : StepsOf) (until : List ℕ) (output : ℕ) (wanted goals : List ℕ) : Type 0 where
-  pub uses : (i c : ℕ) → i < length wanted → c < length (uses_of g (slice_index wanted i)) → slice_index (uses_of g (slice_index wanted i)) c < length until → moment output (slice_index wanted i + 1) ≤ slice_index until (slice_index (uses_of g (slice_index wanted i)) c)
+  pub uses : (i c : ℕ) → i < length wanted → c < length (uses_of g (slice_index wanted i)) →
+      slice_index (uses_of g (slice_index wanted i)) c < length until →
+      moment output (slice_index wanted i + 1) ≤ slice_index until (slice_index (uses_of g (slice_index wanted i)) c)
   pub goals_end : (k : ℕ) → k < length goals → slice_index goals k < length until → end_of g output ≤ slice_index until (slice_index goals k)
 
 -- whether a step stands in the list behind the first n
@@ -46,7 +49,8 @@ pub record AreWanted {X : Type 0} (g : StepsOf) (last : List ℕ) (table : List 
   pub within : (i : ℕ) → i < length wanted → slice_index wanted i < steps_in g.pair
   pub falling : (i j : ℕ) → i < j → j < length wanted → slice_index wanted j < slice_index wanted i
   pub needed : (i : ℕ) → i < length wanted → moment output 0 ≤ slice_index last (slice_index wanted i)
-  pub closed : (i c : ℕ) → i < length wanted → c < length (uses_of g (slice_index wanted i)) → IsSome (reference_of table (slice_index (uses_of g (slice_index wanted i)) c)) ⊎ IsBehind wanted (i + 1) (slice_index (uses_of g (slice_index wanted i)) c)
+  pub closed : (i c : ℕ) → i < length wanted → c < length (uses_of g (slice_index wanted i)) →
+      IsSome (reference_of table (slice_index (uses_of g (slice_index wanted i)) c)) ⊎ IsBehind wanted (i + 1) (slice_index (uses_of g (slice_index wanted i)) c)
 
 -- each of these steps has a reference, or is wanted
 pub record AreReached {X : Type 0} (table : List (Option X)) (wanted steps : List ℕ) : Type 0 where

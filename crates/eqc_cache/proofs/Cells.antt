@@ -36,7 +36,8 @@ one_empty n a b c same first then ws e =
 
 -- a reference is given back
 pub down_keeps : (x : ℕ) (s next : Standing) → IsKnown s.known → IsHeld s.known.core x → (x < 2 → next ≡ s) → (2 ≤ x → Steps s (downed s.known.core x) next)
-    → (2 ≤ x → (n : ℕ) × Copies s.known (announced_words s.known.core.sizes + x) n ((n + (2 ^ 64 - 1)) % 2 ^ 64) next.known) → KeepsCells s.known next.known × (next.known.core.sizes ≡ s.known.core.sizes)
+    → (2 ≤ x → (n : ℕ) × Copies s.known (announced_words s.known.core.sizes + x) n ((n + (2 ^ 64 - 1)) % 2 ^ 64) next.known) →
+    KeepsCells s.known next.known × (next.known.core.sizes ≡ s.known.core.sizes)
 down_keeps x s next known held same step copies = go (dec_le 2 x)
   where
     go : Dec (2 ≤ x) → KeepsCells s.known next.known × (next.known.core.sizes ≡ s.known.core.sizes)
@@ -50,7 +51,8 @@ down_keeps x s next known held same step copies = go (dec_le 2 x)
     )
 
 -- an entry that was put into the cell of its operands is stored
-pub stores : (op : Op) (f g r a b d cells place word : ℕ) (p : ℕ × ℕ) (k after : Known) → a ≡ f → b ≡ g → d ≡ r → cells ≡ k.core.sizes.cells → p ≡ in_order op a b → place ≡ place_of cells op (p.0, p.1) → word ≡ entry_of op (p.0, p.1) d
+pub stores : (op : Op) (f g r a b d cells place word : ℕ) (p : ℕ × ℕ) (k after : Known) → a ≡ f → b ≡ g → d ≡ r → cells ≡ k.core.sizes.cells →
+    p ≡ in_order op a b → place ≡ place_of cells op (p.0, p.1) → word ≡ entry_of op (p.0, p.1) d
     → SetsCell place word k after → SetsCell (place_of k.core.sizes.cells op (in_order op f g)) (entry_of op (in_order op f g) r) k after
 stores op f g r a b d cells place word p k after x y z n order at is sets =
     let q : p ≡ in_order op f g = order ∙ (λ i. in_order op (x i) (y i)) in
@@ -59,7 +61,8 @@ stores op f g r a b d cells place word p k after x y z n order at is sets =
     subst (λ (w : ℕ × ℕ). SetsCell w.0 w.1 k after) (λ i. (here i, text i)) sets
 
 -- the word that a look at the cell of the operands found is the one that the copy has
-pub seen_word : (op : Op) (f g a b cells place word : ℕ) (p : ℕ × ℕ) (k after : Known) → a ≡ f → b ≡ g → cells ≡ k.core.sizes.cells → p ≡ in_order op a b → place ≡ place_of cells op (p.0, p.1) → Copies k (cells_from k.core.sizes + place) word word after
+pub seen_word : (op : Op) (f g a b cells place word : ℕ) (p : ℕ × ℕ) (k after : Known) → a ≡ f → b ≡ g → cells ≡ k.core.sizes.cells →
+    p ≡ in_order op a b → place ≡ place_of cells op (p.0, p.1) → Copies k (cells_from k.core.sizes + place) word word after
     → (ws : List ℕ) → k.copy ≡ Some ws → (kept_word op f g k ws ≡ word) × (p ≡ in_order op f g)
 seen_word op f g a b cells place word p k after x y n order at copies ws has =
     let q : p ≡ in_order op f g = order ∙ (λ i. in_order op (x i) (y i)) in

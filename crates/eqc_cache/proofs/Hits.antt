@@ -77,7 +77,8 @@ module _ (old s1 : Standing) (x : ℕ) (may : MayAnnounce old.known.core 0 x) (t
   pub let_go : (s2 s3 : Standing) → s2 ≡ s1 → Steps s2 (announced s2.known.core 0) s3 → IsAt Idle old s3
   let_go s2 s3 same gone =
       goes_on old s1 s3 (Confirmed x) Idle confirmed_at
-      (subst (λ (p : Phase). Steps s1 (with_phase s1.known.core 0 (announced_phase p)) s3) (phase_now old s1 (Confirmed x) confirmed_at) (subst (λ (s : Standing). Steps s (announced s.known.core 0) s3) same gone))
+      (subst (λ (p : Phase). Steps s1 (with_phase s1.known.core 0 (announced_phase p)) s3) (phase_now old s1 (Confirmed x) confirmed_at)
+      (subst (λ (s : Standing). Steps s (announced s.known.core 0) s3) same gone))
 
   module _ (s2 : Standing) (up : Steps s1 (upped s1.known.core x) s2) where
     pub may_release_after : MayAnnounce s2.known.core 0 0
@@ -117,7 +118,8 @@ module _ (old s1 : Standing) (x : ℕ) (may : MayAnnounce old.known.core 0 x) (t
         right = λ c word is.
             let a = yes_it_is c word is in
             let l = subst (λ (p : Phase). LetsAnnounce p x) is may.2 in
-            let mine : tree_of s3.known x ≡ tree_of s1.known x = later x two (confirmed_named s1.known.core 0 x (phase_there old s1 (Confirmed x) confirmed_at)) (omega (arith, times-append x s1.known.core.held (x ∷ []), times-same x x [] refl)) in
+            let mine : tree_of s3.known x ≡ tree_of s1.known x =
+            later x two (confirmed_named s1.known.core 0 x (phase_there old s1 (Confirmed x) confirmed_at)) (omega (arith, times-append x s1.known.core.held (x ∷ []), times-same x x [] refl)) in
             subst (λ (t : Tree). IsResult old.known word t) (ap (tree_of s1.known) (sym l.1) ∙ sym mine) a.right;
         copy = keeps_on old.known s1.known s3.known confirmed_at.copy (keeps_on s1.known s2.known s3.known up.known.copy gone.known.copy);
         known = gone.known.known;
@@ -140,7 +142,8 @@ either_way Xor false false n = refl
 either_way AndNot a b n = absurd (n refl)
 
 -- what a look leaves, and a count after it
-module _ (op : Op) (f g x cell word : ℕ) (old s1 : Standing) (looks : IsAt (Seen cell word) old s1) (tag : operation_of word ≡ tag_of op) (first : first_of word ≡ f) (second : second_of word ≡ g) (f_held : IsHeld old.known.core f) (g_held : IsHeld old.known.core g) where
+module _ (op : Op) (f g x cell word : ℕ) (old s1 : Standing) (looks : IsAt (Seen cell word) old s1) (tag : operation_of word ≡ tag_of op)
+    (first : first_of word ≡ f) (second : second_of word ≡ g) (f_held : IsHeld old.known.core f) (g_held : IsHeld old.known.core g) where
   -- the word's result, told of the operands
   as_given : (t : Tree) → IsResult old.known word t → (a : ℕ → Bool) → operate op (value (tree_of old.known f) a) (value (tree_of old.known g) a) ≡ value t a
   as_given t is a =
@@ -153,7 +156,9 @@ module _ (op : Op) (f g x cell word : ℕ) (old s1 : Standing) (looks : IsAt (Se
     forest = looks.forest;
     phase = Seen cell word;
     quiet = tt;
-    core = looks.core ∙ ap (λ (l : List ℕ). record old.known.core { held = l; phases = set old.known.core.phases 0 (Seen cell word) }) (sym (append-nil old.known.core.held) ∙ ap (λ (l : List ℕ). old.known.core.held ++ l) (sym none));
+    core = looks.core
+        ∙ ap (λ (l : List ℕ). record old.known.core { held = l; phases = set old.known.core.phases 0 (Seen cell word) })
+        (sym (append-nil old.known.core.held) ∙ ap (λ (l : List ℕ). old.known.core.held ++ l) (sym none));
     result = λ a. as_given (tree_of old.known (result_of word)) (shown.constant small) a ∙ ap (λ (t : Tree). value t a) (same ∙ ap (tree_of s1.known) (sym is));
     trees = looks.trees;
     copy = looks.copy;
@@ -245,7 +250,8 @@ constant_number (suc zero) lt = refl
 constant_number (suc (suc n)) lt = absurd (omega arith)
 
 -- what was seen may be announced
-pub may_announce : (old s1 : Standing) (cell word x : ℕ) → IsAt (Seen cell word) old s1 → IsReady old.known.core → 0 < old.known.core.sizes.announcements → 2 ≤ x → x ≡ result_of word → MayAnnounce s1.known.core 0 x
+pub may_announce : (old s1 : Standing) (cell word x : ℕ) → IsAt (Seen cell word) old s1 → IsReady old.known.core →
+    0 < old.known.core.sizes.announcements → 2 ≤ x → x ≡ result_of word → MayAnnounce s1.known.core 0 x
 may_announce old s1 cell word x at ready some_words two is = (
   ap (λ (v : View). v.position) at.core ∙ ready,
   subst (λ (v : View). 0 < v.sizes.announcements) (sym at.core) some_words,

@@ -75,7 +75,8 @@ module _ (old mid : Standing) (loads : Steps old old.known.core mid) where
     cells_after new keeps = cells_on old.known mid.known new.known sizes load_leaves keeps
 
     -- the cell is that of the operands in order
-    module _ (op : Op) (f g m n cells cell : ℕ) (p : ℕ × ℕ) (left : m ≡ f) (right : n ≡ g) (order : p ≡ in_order op m n) (all : cells ≡ old.known.core.sizes.cells) (at : cell ≡ place_of cells op (p.0, p.1)) where
+    module _ (op : Op) (f g m n cells cell : ℕ) (p : ℕ × ℕ) (left : m ≡ f) (right : n ≡ g) (order : p ≡ in_order op m n)
+        (all : cells ≡ old.known.core.sizes.cells) (at : cell ≡ place_of cells op (p.0, p.1)) where
       abbrev here : ℕ × (ℕ × ℕ)
       here = (place_of old.known.core.sizes.cells op (in_order op f g), in_order op f g)
 

@@ -114,7 +114,8 @@ counted x old new known quiet s = record {
 }
 
 -- a cell was swapped
-pub swaps : (found word : ℕ) (old new : Standing) → AreHeld (cell_names word) old.known.core.held → Steps old (swapped old.known.core found word) new → Trades (slots_of (cell_names word)) (slots_of (operands found)) old new
+pub swaps : (found word : ℕ) (old new : Standing) → AreHeld (cell_names word) old.known.core.held →
+    Steps old (swapped old.known.core found word) new → Trades (slots_of (cell_names word)) (slots_of (operands found)) old new
 swaps found word old new may s = record {
   forest = s.forest;
   held = without_each (slots_of (cell_names word)) old.known.core.held ++ slots_of (operands found);
@@ -124,7 +125,12 @@ swaps found word old new may s = record {
   core = s.known.core;
   enough = enough;
   names = names;
-  lengths = omega (arith, length-without_all (slots_of (cell_names word)) old.known.core.held enough, length-append (without_each (slots_of (cell_names word)) old.known.core.held) (slots_of (operands found)));
+  lengths =
+      omega (
+        arith,
+        length-without_all (slots_of (cell_names word)) old.known.core.held enough,
+        length-append (without_each (slots_of (cell_names word)) old.known.core.held) (slots_of (operands found)),
+      );
   trees = λ x two h.
       let was : 0 < times x old.known.core.held = omega arith in
       s.known.agrees x two (held_named old.known.core x was) (held_named (swapped old.known.core found word) x (omega (arith, names x)));
@@ -140,8 +146,15 @@ swaps found word old new may s = record {
         go (no n) (yes h) = absurd (n (slots_of_slots x (cell_names word) h))
         go (no n) (no m) = omega arith
 
-    names : (x : ℕ) → times x (without_each (slots_of (cell_names word)) old.known.core.held ++ slots_of (operands found)) + times x (slots_of (cell_names word)) ≡ times x old.known.core.held + times x (slots_of (operands found))
-    names x = omega (arith, times-without_each x (slots_of (cell_names word)) old.known.core.held (enough x), times-append x (without_each (slots_of (cell_names word)) old.known.core.held) (slots_of (operands found)))
+    names : (x : ℕ) →
+        times x (without_each (slots_of (cell_names word)) old.known.core.held ++ slots_of (operands found)) + times x
+        (slots_of (cell_names word)) ≡ times x old.known.core.held + times x (slots_of (operands found))
+    names x =
+        omega (
+          arith,
+          times-without_each x (slots_of (cell_names word)) old.known.core.held (enough x),
+          times-append x (without_each (slots_of (cell_names word)) old.known.core.held) (slots_of (operands found)),
+        )
 
 -- what is known after names came
 module _ (gone came : List ℕ) (old mid : Standing) (t : Trades gone came old mid) where
@@ -230,7 +243,13 @@ module _ (gone came : List ℕ) (x : ℕ) (old mid next : Standing) (t : Trades 
     quiet = t.quiet;
     core = s.known.core
         ∙ (ap (λ (v : View). downed v x) t.core
-        ∙ (λ i. record old.known.core { held = without x t.held; read = forget_twice t.held (without x t.held) old.known.core.read (λ y. times_without_le y x t.held) i; retired = t.retired; phases = set old.known.core.phases 0 t.phase }));
+        ∙ (λ i.
+        record old.known.core {
+          held = without x t.held;
+          read = forget_twice t.held (without x t.held) old.known.core.read (λ y. times_without_le y x t.held) i;
+          retired = t.retired;
+          phases = set old.known.core.phases 0 t.phase;
+        }));
     enough = t.enough;
     names = λ y. left y (ℕ_discrete x y);
     lengths = omega (arith, t.lengths, length-without_one x t.held there);
@@ -245,7 +264,8 @@ module _ (gone came : List ℕ) (x : ℕ) (old mid next : Standing) (t : Trades 
   }
 
 -- so is a name that may be a constant, which takes no step
-pub gives_back : (gone came : List ℕ) (x : ℕ) (old mid next : Standing) → Trades gone (slots_of (x ∷ came)) old mid → (x < 2 → next ≡ mid) → (2 ≤ x → Steps mid (downed mid.known.core x) next) → Trades gone (slots_of came) old next
+pub gives_back : (gone came : List ℕ) (x : ℕ) (old mid next : Standing) → Trades gone (slots_of (x ∷ came)) old mid → (x < 2 → next ≡ mid) →
+    (2 ≤ x → Steps mid (downed mid.known.core x) next) → Trades gone (slots_of came) old next
 gives_back gone came x old mid next t same step = elim (two_cases x) [
   | inl c ↦ subst (λ (s : Standing). Trades gone (slots_of came) old s) (sym (same c.1)) (subst (λ (b : Bool). Trades gone (if b then slots_of came else x ∷ slots_of came) old mid) c.0 t)
   | inr c ↦ returned gone (slots_of came) x old mid next (subst (λ (b : Bool). Trades gone (if b then slots_of came else x ∷ slots_of came) old mid) c.0 t) (step c.1)
@@ -313,7 +333,8 @@ and_one x xs old mid new known t u =
     (λ y. omega (arith, times-nil y))
 
 -- the operands and the result came
-pub entry_came : (f g r : ℕ) (old mid new : Standing) → IsKnown old.known → Trades [] (slots_of (g ∷ f ∷ [])) old mid → Trades [] (slots_of (r ∷ [])) mid new → Trades [] (slots_of (r ∷ f ∷ g ∷ [])) old new
+pub entry_came : (f g r : ℕ) (old mid new : Standing) → IsKnown old.known → Trades [] (slots_of (g ∷ f ∷ [])) old mid →
+    Trades [] (slots_of (r ∷ [])) mid new → Trades [] (slots_of (r ∷ f ∷ g ∷ [])) old new
 entry_came f g r old mid new known t u =
     together (slots_of (g ∷ f ∷ [])) [] (slots_of (r ∷ [])) [] (slots_of (r ∷ f ∷ g ∷ [])) old mid new t u known
     (λ y. omega (arith, slots_times y r (f ∷ g ∷ []), slots_times y f (g ∷ []), slots_times y g (f ∷ [])))
@@ -322,7 +343,8 @@ entry_came f g r old mid new known t u =
     (λ y. omega (arith, times-nil y))
 
 -- and are an entry to give
-pub has_entry : (op : Op) (f g r : ℕ) (old new : Standing) → Trades [] (slots_of (r ∷ f ∷ g ∷ [])) old new → IsHeld old.known.core f → IsHeld old.known.core g → IsHeld old.known.core r → IsRight old.known op f g r
+pub has_entry : (op : Op) (f g r : ℕ) (old new : Standing) → Trades [] (slots_of (r ∷ f ∷ g ∷ [])) old new → IsHeld old.known.core f →
+    IsHeld old.known.core g → IsHeld old.known.core r → IsRight old.known op f g r
     → AreHeld (r ∷ f ∷ g ∷ []) new.known.core.held × IsRight new.known op f g r
 has_entry op f g r old new t a b c right = (
   λ x two. omega (arith, names_now [] (slots_of (r ∷ f ∷ g ∷ [])) old new t x, times-slots_of x (r ∷ f ∷ g ∷ []) two, times-nil x),
@@ -342,16 +364,21 @@ pub entry_stays : (filled : Option Filled) (old mid : Standing) → Trades [] []
 entry_stays None old mid t entry = tt
 entry_stays (Some e) old mid t entry =
     let names : List ℕ = e.r.number ∷ e.f.number ∷ e.g.number ∷ [] in
-    let f : IsHeld old.known.core e.f.number = one_held e.f.number (e.r.number ∷ e.f.number ∷ e.g.number ∷ []) old entry.0 (times_more e.f.number e.r.number (e.f.number ∷ e.g.number ∷ []) (omega (arith, times-same e.f.number e.f.number (e.g.number ∷ []) refl))) in
+    let f : IsHeld old.known.core e.f.number =
+    one_held e.f.number (e.r.number ∷ e.f.number ∷ e.g.number ∷ []) old entry.0
+    (times_more e.f.number e.r.number (e.f.number ∷ e.g.number ∷ []) (omega (arith, times-same e.f.number e.f.number (e.g.number ∷ []) refl))) in
     let g : IsHeld old.known.core e.g.number =
-    one_held e.g.number (e.r.number ∷ e.f.number ∷ e.g.number ∷ []) old entry.0 (times_more e.g.number e.r.number (e.f.number ∷ e.g.number ∷ []) (times_more e.g.number e.f.number (e.g.number ∷ []) (omega (arith, times-same e.g.number e.g.number [] refl)))) in
-    let r : IsHeld old.known.core e.r.number = one_held e.r.number (e.r.number ∷ e.f.number ∷ e.g.number ∷ []) old entry.0 (omega (arith, times-same e.r.number e.r.number (e.f.number ∷ e.g.number ∷ []) refl)) in (
+    one_held e.g.number (e.r.number ∷ e.f.number ∷ e.g.number ∷ []) old entry.0
+    (times_more e.g.number e.r.number (e.f.number ∷ e.g.number ∷ []) (times_more e.g.number e.f.number (e.g.number ∷ []) (omega (arith, times-same e.g.number e.g.number [] refl)))) in
+    let r : IsHeld old.known.core e.r.number =
+    one_held e.r.number (e.r.number ∷ e.f.number ∷ e.g.number ∷ []) old entry.0 (omega (arith, times-same e.r.number e.r.number (e.f.number ∷ e.g.number ∷ []) refl)) in (
       λ x two. let h = entry.0 x two in omega (arith, names_now [] [] old mid t x),
       right_still [] old mid t e.op e.f.number e.g.number e.r.number f g r entry.1,
     )
 
 -- with room for one more retired name the cell may be swapped
-pub may_swap : (c : ℕ) (filled : Option Filled) (old mid : Standing) → MayReplace old.known c filled → Trades [] [] old mid → length mid.known.core.retired < 2 * announced_words mid.known.core.sizes → MaySwap mid.known c filled
+pub may_swap : (c : ℕ) (filled : Option Filled) (old mid : Standing) → MayReplace old.known c filled → Trades [] [] old mid →
+    length mid.known.core.retired < 2 * announced_words mid.known.core.sizes → MaySwap mid.known c filled
 may_swap c filled old mid may t few = record {
   ready = ready_now [] [] old mid t may.ready;
   there = subst (λ (v : View). c < v.sizes.cells) (sym t.core) may.there;
@@ -362,18 +389,21 @@ may_swap c filled old mid may t few = record {
 }
 
 -- the swap takes the entry's names and gives the operands that the cell had
-pub swap_trades : (c found : ℕ) (filled : Option Filled) (old new : Standing) → IsKnown old.known → MaySwap old.known c filled → Steps old (swapped old.known.core found (word_of filled)) new → Trades (entry_names filled) (slots_of (operands found)) old new
+pub swap_trades : (c found : ℕ) (filled : Option Filled) (old new : Standing) → IsKnown old.known → MaySwap old.known c filled →
+    Steps old (swapped old.known.core found (word_of filled)) new → Trades (entry_names filled) (slots_of (operands found)) old new
 swap_trades c found filled old new known may s =
     let small = are_small old.known c filled known known.limit may in
     subst (λ (l : List ℕ). Trades l (slots_of (operands found)) old new) (word_names filled small) (swaps found (word_of filled) old new (may_fill old.known c filled small may).held s)
 
 -- so where it had these operands, and where it was empty
-pub swap_gives : (c found f g : ℕ) (filled : Option Filled) (old new : Standing) → IsKnown old.known → MaySwap old.known c filled → Steps old (swapped old.known.core found (word_of filled)) new → f ≡ first_of found → g ≡ second_of found
+pub swap_gives : (c found f g : ℕ) (filled : Option Filled) (old new : Standing) → IsKnown old.known → MaySwap old.known c filled →
+    Steps old (swapped old.known.core found (word_of filled)) new → f ≡ first_of found → g ≡ second_of found
     → Trades (entry_names filled) (slots_of (f ∷ g ∷ [])) old new
 swap_gives c found f g filled old new known may s a b =
     subst (λ (l : List ℕ). Trades (entry_names filled) (slots_of l) old new) (λ i. sym a i ∷ sym b i ∷ []) (swap_trades c found filled old new known may s)
 
-pub swap_gives_none : (c found : ℕ) (filled : Option Filled) (old new : Standing) → IsKnown old.known → MaySwap old.known c filled → Steps old (swapped old.known.core found (word_of filled)) new → found ≡ 0 → Trades (entry_names filled) [] old new
+pub swap_gives_none : (c found : ℕ) (filled : Option Filled) (old new : Standing) → IsKnown old.known → MaySwap old.known c filled →
+    Steps old (swapped old.known.core found (word_of filled)) new → found ≡ 0 → Trades (entry_names filled) [] old new
 swap_gives_none c found filled old new known may s zero =
     subst (λ (l : List ℕ). Trades (entry_names filled) l old new) (ap (λ (n : ℕ). slots_of (operands n)) zero ∙ no_operands) (swap_trades c found filled old new known may s)
 
@@ -396,7 +426,9 @@ came_and_went names old mid new known t u =
     (λ x. omega (arith, times-nil x))
 
 -- once the entry's names came, the cell may be changed
-pub may_replace : (c : ℕ) (filled : Option Filled) (came : List ℕ) (old mid : Standing) → IsReady old.known.core → c < old.known.core.sizes.cells → Trades [] came old mid → HasEntry mid.known filled → length mid.known.core.held ≤ 2 ^ 39 → MayReplace mid.known c filled
+pub may_replace : (c : ℕ) (filled : Option Filled) (came : List ℕ) (old mid : Standing) → IsReady old.known.core →
+    c < old.known.core.sizes.cells → Trades [] came old mid → HasEntry mid.known filled → length mid.known.core.held ≤ 2 ^ 39 →
+    MayReplace mid.known c filled
 may_replace c filled came old mid ready there t entry room = record {
   known = t.known;
   ready = ready_now [] came old mid t ready;

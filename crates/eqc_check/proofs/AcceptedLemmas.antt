@@ -140,7 +140,8 @@ texts_pass given is =
     let inputs = if_passes _ side.Pair 41 (same_passes _ _ is.inputs) in
     let outputs = if_passes _ side.Pair 42 (same_passes _ _ is.outputs) in
     let chosen = if_passes _ side.Pair 43 (not_from_true _ (list_all-from_AllPass (λ name. is_named (outputs_of (first_main texts)) name) given.outputs is.chosen)) in
-    pass_each (text_checks texts given.outputs) (fault_passes side.First (first_found texts) is.readable.0, (fault_passes side.Second (second_found texts) is.readable.1, (first, (second, (inputs, (outputs, (chosen, tt)))))))
+    pass_each (text_checks texts given.outputs)
+    (fault_passes side.First (first_found texts) is.readable.0, (fault_passes side.Second (second_found texts) is.readable.1, (first, (second, (inputs, (outputs, (chosen, tt)))))))
 
 -- ---- assumptions
 

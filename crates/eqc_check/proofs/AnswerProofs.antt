@@ -180,7 +180,8 @@ told_says true given fit some = by (all_of given (compared_outputs given)) (all_
     by [] shows = record { some = some; each = none_shown given (compared_outputs given) shows }
     by (d ∷ ds) shows = (λ e. let clash : ◌≡◌ {A = List DifferenceOf} (d ∷ ds) [] = e in cc, shows)
 told_says false given fit some =
-    subst (λ (l : List (List ℕ × List Bool)). SaysFor false given (differences_report (map (shown (first_of given) (second_of given)) l))) (sym (first_alone (first_of given) (second_of given) (assumed_of given) (compared_outputs given)))
+    subst (λ (l : List (List ℕ × List Bool)). SaysFor false given (differences_report (map (shown (first_of given) (second_of given)) l)))
+    (sym (first_alone (first_of given) (second_of given) (assumed_of given) (compared_outputs given)))
     (by (first_difference (first_of given) (second_of given) (assumed_of given) (compared_outputs given)) refl)
   where
     by : (d : Option (List ℕ × List Bool)) → first_difference (first_of given) (second_of given) (assumed_of given) (compared_outputs given) ≡ d
@@ -188,7 +189,13 @@ told_says false given fit some =
     by None e =
         let F = first_of given in
         let never = none_ever_differs F (second_of given) (assumed_of given) (compared_outputs given) e in
-        record { some = some; each = All-from_get_or (IsAlwaysEqual given) (compared_outputs given) [] (λ i inside. never_always given (get_or (compared_outputs given) i []) fit (All-get_or (NeverDiffers F (second_of given) (assumed_of given)) (compared_outputs given) i [] inside never)) }
+        record {
+          some = some;
+          each =
+              All-from_get_or (IsAlwaysEqual given) (compared_outputs given) []
+              (λ i inside.
+              never_always given (get_or (compared_outputs given) i []) fit (All-get_or (NeverDiffers F (second_of given) (assumed_of given)) (compared_outputs given) i [] inside never));
+        }
     by (Some d) e =
         let first = found_is_first (first_of given) (second_of given) (assumed_of given) (compared_outputs given) d.0 d.1 e in
         record {
@@ -271,7 +278,8 @@ answer_is_equivalent given = (
       let fit = fits given h.0 in
       passed_decided given (accepted_passes given h.0)
       ∙ (decided_some given (allows_something given fit h.1.some)
-      ∙ ap (λ l. differences_report (map (shown (first_of given) (second_of given)) l)) (ap (told given.options.every) (none_different given (compared_outputs given) fit h.1.each) ∙ told_none given.options.every)),
+      ∙ ap (λ l. differences_report (map (shown (first_of given) (second_of given)) l))
+      (ap (told given.options.every) (none_different given (compared_outputs given) fit h.1.each) ∙ told_none given.options.every)),
 )
 
 pub answer_differs : AnswerDiffers
@@ -286,7 +294,8 @@ answer_differs given ds = (
 -- ---- runs
 
 -- a report on what is known
-report_answers : {R : Type 0} (remaining : R → Option (List ℕ)) (given : Given R) (known : GivenOf) (report : ReportOf) → known_given remaining given ≡ Some known → IsReport remaining given report → Answers (texts_answer known) report
+report_answers : {R : Type 0} (remaining : R → Option (List ℕ)) (given : Given R) (known : GivenOf) (report : ReportOf) →
+    known_given remaining given ≡ Some known → IsReport remaining given report → Answers (texts_answer known) report
 report_answers remaining given known report e is = subst (λ (k : Option GivenOf). IfSome k (λ t. Answers (texts_answer t) report)) e is
 
 -- what is known has the options that were given

@@ -88,7 +88,8 @@ refused_first (None ∷ all) rest r c e =
     more p h (suc k) below = h k (omega arith)
 refused_first (Some s ∷ all) rest r c e = record { position = zero; refuses = ap Some (same_refusal s r e); before = λ k h. absurd (omega arith) }
 
-refused_at : (all : List (Option Refused)) (rest : ReportOf) (r : Refused) (p : ℕ) → get_or all p None ≡ Some r → ((k : ℕ) → k < p → get_or all k None ≡ None) → verdict all rest ≡ refused r.side r.line r.code
+refused_at : (all : List (Option Refused)) (rest : ReportOf) (r : Refused) (p : ℕ) → get_or all p None ≡ Some r →
+    ((k : ℕ) → k < p → get_or all k None ≡ None) → verdict all rest ≡ refused r.side r.line r.code
 refused_at [] rest r p e before = absurd (none-some r (sym (get_or_past [] p None (omega arith)) ∙ e))
 refused_at (x ∷ all) rest r zero e before = ap (λ c. verdict (c ∷ all) rest) e
 refused_at (x ∷ all) rest r (suc p) e before = ap (λ c. verdict (c ∷ all) rest) (before zero (omega arith)) ∙ refused_at all rest r p e (λ k h. before (suc k) (suc-le-suc h))
@@ -205,14 +206,17 @@ models_checks m n given = refused_by_code side.First (flat_code m.0 m.1) ∷ ref
 models_checked : (m n : MainOf) (given : GivenOf) → models_answer m n given ≡ verdict (models_checks m n given) (on_models m n given)
 models_checked m n given = by (flat_code m.0 m.1) (flat_code n.0 n.1)
   where
-    by : (x y : Option ℕ) → or_code side.First x (or_code side.Second y (pair_answer m n given)) ≡ verdict (refused_by_code side.First x ∷ refused_by_code side.Second y ∷ pair_checks m n given) (on_models m n given)
+    by : (x y : Option ℕ) →
+        or_code side.First x (or_code side.Second y (pair_answer m n given)) ≡ verdict (refused_by_code side.First x ∷ refused_by_code side.Second y ∷ pair_checks m n given) (on_models m n given)
     by (Some x) y = refl
     by None (Some y) = refl
     by None None = pair_checked m n given
 
 found_checked : (first second : Result MainOf (ℕ × ℕ)) (given : GivenOf) →
     found_answer first second given
-    ≡ verdict (refused_by_fault side.First first ∷ refused_by_fault side.Second second ∷ models_checks (main_or_none first) (main_or_none second) given) (on_models (main_or_none first) (main_or_none second) given)
+    ≡ verdict
+    (refused_by_fault side.First first ∷ refused_by_fault side.Second second ∷ models_checks (main_or_none first) (main_or_none second) given)
+    (on_models (main_or_none first) (main_or_none second) given)
 found_checked (Err fault) second given = refl
 found_checked (Ok m) (Err fault) given = refl
 found_checked (Ok m) (Ok n) given = models_checked m n given

@@ -15,7 +15,8 @@ use Rattle.eqc_check.specs.AnswerLaws.{main_or_none, IsChoice, ModelIsChosen}
 use Rattle.eqc_pair.proofs.PlaceLemmas.{same_bytes, place_itself}
 
 -- a model is chosen where its number is below the number of models
-chosen_there : (models : List ModelOf) (name : Option (List ℕ)) (place : ℕ) (m : MainOf) → chosen models name place ≡ Ok m → (m.0 ≡ models) × (m.1 < length models) × (m.1 ≡ chosen_number models name place)
+chosen_there : (models : List ModelOf) (name : Option (List ℕ)) (place : ℕ) (m : MainOf) → chosen models name place ≡ Ok m →
+    (m.0 ≡ models) × (m.1 < length models) × (m.1 ≡ chosen_number models name place)
 chosen_there models name place m e = elim (cases_lt (chosen_number models name place) (length models)) [
   | inl inside ↦
       let is : chosen models name place ≡ Ok (models, chosen_number models name place) = rw (lt-ltb (chosen_number models name place) (length models) inside) refl in
@@ -44,7 +45,8 @@ number_mapped (m ∷ models) name = elim (cases_Bool (bytes_eq name m.name)) [
   | inr other ↦ rw (other, number_mapped models name) refl
 ]
 
-named_number : (models : List ModelOf) (name : List ℕ) (i : ℕ) → has_twice (map (λ (m : ModelOf). m.name) models) ≡ false → i < length models → (model models i).name ≡ name → i ≡ model_number models name
+named_number : (models : List ModelOf) (name : List ℕ) (i : ℕ) → has_twice (map (λ (m : ModelOf). m.name) models) ≡ false → i < length models →
+    (model models i).name ≡ name → i ≡ model_number models name
 named_number models name i once inside named =
     let names = map (λ (m : ModelOf). m.name) models in
     let at : get_or names i [] ≡ name = get_or-map (λ (m : ModelOf). m.name) models i no_model [] inside ∙ named in
@@ -60,7 +62,8 @@ choice models (Some name) place m e =
     let inside : model_number models name < length models = subst (λ (n : ℕ). n < length models) there.2 there.1 in
     (there.0, there.1, ap (λ (n : ℕ). (model models n).name) there.2 ∙ number_named models name inside)
 
-chosen_from : (models : List ModelOf) (name : Option (List ℕ)) (place : ℕ) (m : MainOf) → has_twice (map (λ (m : ModelOf). m.name) models) ≡ false → IsChoice models name place m → chosen models name place ≡ Ok m
+chosen_from : (models : List ModelOf) (name : Option (List ℕ)) (place : ℕ) (m : MainOf) →
+    has_twice (map (λ (m : ModelOf). m.name) models) ≡ false → IsChoice models name place m → chosen models name place ≡ Ok m
 chosen_from models None place m once is = there_chosen models None place m is.0 is.1 is.2
 chosen_from models (Some name) place m once is = there_chosen models (Some name) place m is.0 is.1 (named_number models name m.1 once is.1 is.2)
 

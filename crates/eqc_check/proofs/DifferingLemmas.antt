@@ -71,7 +71,8 @@ always_never given output fit always a long =
     elim (cases_Bool (is_allowed (first_of given) (assumed_of given) a)) [
       | inr forbidden ↦ rw forbidden refl
       | inl is ↦
-          let allowed : IsAllowed given (by_position (inputs_of m) a) = allowed_from m given.assume (by_position (inputs_of m) a) fit.known (ap (is_allowed (first_of given) (assumed_of given)) back ∙ is) in
+          let allowed : IsAllowed given (by_position (inputs_of m) a) =
+          allowed_from m given.assume (by_position (inputs_of m) a) fit.known (ap (is_allowed (first_of given) (assumed_of given)) back ∙ is) in
           and_right_false (is_allowed (first_of given) (assumed_of given) a) _ (same_value _ _ (always (by_position (inputs_of m) a) allowed))
     ]
   where
@@ -95,7 +96,9 @@ equal_below given output a assigned fit least below allowed =
     ]
 
 -- an output with its least assignment, by names
-pub found_shown : (given : GivenOf) (output : List ℕ) (a : List Bool) → Fit given → IsLeastDifference (first_of given) (second_of given) (assumed_of given) output a → IsShown given output (shown (first_of given) (second_of given) (output, a))
+pub found_shown : (given : GivenOf) (output : List ℕ) (a : List Bool) → Fit given →
+    IsLeastDifference (first_of given) (second_of given) (assumed_of given) output a →
+    IsShown given output (shown (first_of given) (second_of given) (output, a))
 found_shown given output a fit least =
     let m = first_main given.texts in
     let back : map (by_position (inputs_of m) a) (inputs_of m) ≡ a = positions_back (inputs_of m) a (inputs_once given.texts) least.long in
@@ -123,12 +126,14 @@ differing_above given output d fit s b long e =
       | inr (inl above) ↦ inr above
       | inr (inr below) ↦
           let back : map (by_position (inputs_of m) b) (inputs_of m) ≡ b = positions_back (inputs_of m) b (inputs_once given.texts) long in
-          let allowed : IsAllowed given (by_position (inputs_of m) b) = allowed_from m given.assume (by_position (inputs_of m) b) fit.known (ap (is_allowed (first_of given) (assumed_of given)) back ∙ parts.0) in
+          let allowed : IsAllowed given (by_position (inputs_of m) b) =
+          allowed_from m given.assume (by_position (inputs_of m) b) fit.known (ap (is_allowed (first_of given) (assumed_of given)) back ∙ parts.0) in
           absurd (unequal _ _ parts.1 (s.least (by_position (inputs_of m) b) (subst (λ (l : List Bool). IsBelow l a) (sym back) below) allowed))
     ]
 
 -- and the other way round
-pub shown_least : (given : GivenOf) (output : List ℕ) (d : DifferenceOf) → Fit given → (s : IsShown given output d) → IsLeastDifference (first_of given) (second_of given) (assumed_of given) output (map s.assigned (first_inputs given))
+pub shown_least : (given : GivenOf) (output : List ℕ) (d : DifferenceOf) → Fit given → (s : IsShown given output d) →
+    IsLeastDifference (first_of given) (second_of given) (assumed_of given) output (map s.assigned (first_inputs given))
 shown_least given output d fit s =
     let m = first_main given.texts in
     let n = second_main given.texts in
@@ -149,7 +154,8 @@ same_difference d e a b c f = by d.output d.inputs d.first d.second a b c f
     by o i x y a b c f = rw (a, b, c, f) refl
 
 -- it is shown
-pub shown_is : (given : GivenOf) (output : List ℕ) (d : DifferenceOf) → Fit given → (s : IsShown given output d) → shown (first_of given) (second_of given) (output, map s.assigned (first_inputs given)) ≡ d
+pub shown_is : (given : GivenOf) (output : List ℕ) (d : DifferenceOf) → Fit given → (s : IsShown given output d) →
+    shown (first_of given) (second_of given) (output, map s.assigned (first_inputs given)) ≡ d
 shown_is given output d fit s =
     let m = first_main given.texts in
     same_difference (shown (first_of given) (second_of given) (output, map s.assigned (first_inputs given))) d (sym s.named)

@@ -41,7 +41,8 @@ inputs_once (one_text names text) = once_read text (outcome text) names.first 0 
 inputs_once (two_texts names first second) = once_read first (outcome first) names.first 0 refl
 
 -- the values that an assignment gives declared names, as those of inputs with names among them
-named_value : (declared names : List (List ℕ)) (assigned : List ℕ → Bool) (k : ℕ) → is_named declared (get_or names k []) ≡ true → values_for declared (map assigned declared) names k ≡ assigned (get_or names k [])
+named_value : (declared names : List (List ℕ)) (assigned : List ℕ → Bool) (k : ℕ) → is_named declared (get_or names k []) ≡ true →
+    values_for declared (map assigned declared) names k ≡ assigned (get_or names k [])
 named_value declared names assigned k e =
     get_or-map assigned declared (position_of declared (get_or names k [])) [] false (place_below declared (get_or names k []) e)
     ∙ ap assigned (name_at declared (get_or names k []) e)
@@ -62,7 +63,8 @@ named_under m n assigned output known =
     value_same n (values_for (inputs_of m) (map assigned (inputs_of m)) (inputs_of n)) (λ i. assigned (get_or (inputs_of n) i [])) output
     (λ k inside. named_value (inputs_of m) (inputs_of n) assigned k (All-get_or (λ name. is_named (inputs_of m) name ≡ true) (inputs_of n) k [] inside known))
 
-pub second_under : (m n : MainOf) (assigned : List ℕ → Bool) (output : List ℕ) → HaveSameNames (inputs_of m) (inputs_of n) → second_value (netlist_of_model m) (netlist_of_model n) output (map assigned (inputs_of m)) ≡ value_under n assigned output
+pub second_under : (m n : MainOf) (assigned : List ℕ → Bool) (output : List ℕ) → HaveSameNames (inputs_of m) (inputs_of n) →
+    second_value (netlist_of_model m) (netlist_of_model n) output (map assigned (inputs_of m)) ≡ value_under n assigned output
 second_under m n assigned output same =
     named_under m n assigned output
     (All-from_get_or (λ name. is_named (inputs_of m) name ≡ true) (inputs_of n) [] (λ k inside. same (get_or (inputs_of n) k []) ∙ named_index (inputs_of n) k inside))

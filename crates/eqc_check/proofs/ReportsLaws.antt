@@ -30,7 +30,8 @@ use Rattle.eqc_compare.proofs.VerdictLemmas.{DiffersAlike, AllowsAlike, verdict_
 use Rattle.eqc_check.proofs.CheckLemmas.{is_accepting}
 
 -- an output of a model's flat netlist has its value
-flat_value : (m : MainOf) (f : FlatOf) (output : List ℕ) (o : ℕ) (a : ℕ → Bool) → IsFlat f → IsFlatOf m.0 m.1 f → o < length f.outputs → get_or f.outputs o [] ≡ output → (netlist_of f).value output a ≡ output_value m.0 m.1 a output
+flat_value : (m : MainOf) (f : FlatOf) (output : List ℕ) (o : ℕ) (a : ℕ → Bool) → IsFlat f → IsFlatOf m.0 m.1 f → o < length f.outputs →
+    get_or f.outputs o [] ≡ output → (netlist_of f).value output a ≡ output_value m.0 m.1 a output
 flat_value m f output o a h is inside at =
     let place : position_of f.outputs output ≡ o = ap (position_of f.outputs) (sym at) ∙ place_itself f.outputs o h.outputs_differ inside in
     ap (λ k. value_of f a (get_or f.output_signals k 0)) place
@@ -38,13 +39,16 @@ flat_value m f output o a h is inside at =
 
 -- values that agree make reports that agree
 alike : (f g : FlatOf) (m n : MainOf) → IsFlat f → IsFlat g → IsFlatOf m.0 m.1 f → IsFlatOf n.0 n.1 g → same_names f.outputs g.outputs ≡ true → (o : ℕ) (a : List Bool) → o < length f.outputs
-    → (first_value (netlist_of f) (get_or f.outputs o []) a ≡ first_value (netlist_of_model m) (get_or f.outputs o []) a) × (second_value (netlist_of f) (netlist_of g) (get_or f.outputs o []) a ≡ second_value (netlist_of_model m) (netlist_of_model n) (get_or f.outputs o []) a)
+    → (first_value (netlist_of f) (get_or f.outputs o []) a ≡ first_value (netlist_of_model m) (get_or f.outputs o []) a) × (second_value
+    (netlist_of f) (netlist_of g) (get_or f.outputs o []) a ≡ second_value (netlist_of_model m) (netlist_of_model n) (get_or f.outputs o []) a)
 alike f g m n hf hg mf ng same o a inside =
     let named = all_named g.outputs f.outputs ((both_ways f.outputs g.outputs same).1) o inside in
     let below = place_below g.outputs (get_or f.outputs o []) named in (
-      flat_value m f (get_or f.outputs o []) o (values_for f.inputs a f.inputs) hf mf inside refl ∙ ap (λ (names : List (List ℕ)). output_value m.0 m.1 (values_for names a names) (get_or f.outputs o [])) mf.inputs,
+      flat_value m f (get_or f.outputs o []) o (values_for f.inputs a f.inputs) hf mf inside refl
+          ∙ ap (λ (names : List (List ℕ)). output_value m.0 m.1 (values_for names a names) (get_or f.outputs o [])) mf.inputs,
       flat_value n g (get_or f.outputs o []) (position_of g.outputs (get_or f.outputs o [])) (values_for f.inputs a g.inputs) hg ng below (name_at g.outputs (get_or f.outputs o []) named)
-          ∙ (ap (λ (names : List (List ℕ)). output_value n.0 n.1 (values_for names a g.inputs) (get_or f.outputs o [])) mf.inputs ∙ ap (λ (names : List (List ℕ)). output_value n.0 n.1 (values_for (inputs_of m) a names) (get_or f.outputs o [])) ng.inputs),
+          ∙ (ap (λ (names : List (List ℕ)). output_value n.0 n.1 (values_for names a g.inputs) (get_or f.outputs o [])) mf.inputs
+          ∙ ap (λ (names : List (List ℕ)). output_value n.0 n.1 (values_for (inputs_of m) a names) (get_or f.outputs o [])) ng.inputs),
     )
 
 -- what is allowed is told by the names of the first netlist's inputs alone
@@ -57,11 +61,13 @@ pub record AreAlike (f g m n : NetlistOf) (h : Option NetlistOf) (output : List 
   pub shows : (a : List Bool) → shown f g (output, a) ≡ shown m n (output, a)
   pub differs : DiffersAlike f g h m n h output
 
-shows_alike : (f g m n : NetlistOf) (h : Option NetlistOf) (outputs : List (List ℕ)) → All (AreAlike f g m n h) outputs → map (shown f g) (differences f g h outputs) ≡ map (shown m n) (differences f g h outputs)
+shows_alike : (f g m n : NetlistOf) (h : Option NetlistOf) (outputs : List (List ℕ)) → All (AreAlike f g m n h) outputs →
+    map (shown f g) (differences f g h outputs) ≡ map (shown m n) (differences f g h outputs)
 shows_alike f g m n h [] all = refl
 shows_alike f g m n h (o ∷ outputs) all = by (least_difference f g h o) (shows_alike f g m n h outputs (All-tail (AreAlike f g m n h) o outputs all))
   where
-    by : (l : Option (List Bool)) → map (shown f g) (differences f g h outputs) ≡ map (shown m n) (differences f g h outputs) → map (shown f g) (with_difference o l (differences f g h outputs)) ≡ map (shown m n) (with_difference o l (differences f g h outputs))
+    by : (l : Option (List Bool)) → map (shown f g) (differences f g h outputs) ≡ map (shown m n) (differences f g h outputs) →
+        map (shown f g) (with_difference o l (differences f g h outputs)) ≡ map (shown m n) (with_difference o l (differences f g h outputs))
     by None rest = rest
     by (Some a) rest = ap (λ d. d ∷ map (shown f g) (differences f g h outputs)) ((All-head (AreAlike f g m n h) o outputs all).shows a) ∙ ap (λ ds. shown m n (o, a) ∷ ds) rest
 
@@ -75,9 +81,12 @@ reports_alike : (every : Bool) (f g m n : NetlistOf) (h : Option NetlistOf) (out
     → comparison every f g h outputs ≡ comparison every m n h outputs
 reports_alike every f g m n h outputs size allows all =
     by (allows_none f h)
-    ∙ ap (verdict_report m n) (verdict_agrees f g h m n h size every outputs allows (All-from_get_or (DiffersAlike f g h m n h) outputs [] (λ i inside. (All-get_or (AreAlike f g m n h) outputs i [] inside all).differs)))
+    ∙ ap (verdict_report m n)
+    (verdict_agrees f g h m n h size every outputs allows (All-from_get_or (DiffersAlike f g h m n h) outputs [] (λ i inside. (All-get_or (AreAlike f g m n h) outputs i [] inside all).differs)))
   where
-    by : (none : Bool) → verdict_report f g (if none then verdicts.vacuous else verdicts.compared (told every (differences f g h outputs))) ≡ verdict_report m n (if none then verdicts.vacuous else verdicts.compared (told every (differences f g h outputs)))
+    by : (none : Bool) →
+        verdict_report f g (if none then verdicts.vacuous else verdicts.compared (told every (differences f g h outputs))) ≡ verdict_report m n
+        (if none then verdicts.vacuous else verdicts.compared (told every (differences f g h outputs)))
     by true = refl
     by false = ap differences_report (told_alike every (shown f g) (shown m n) (differences f g h outputs) (shows_alike f g m n h outputs all))
 
@@ -90,7 +99,11 @@ compared_alike given f g m n h hf hg mf ng same =
     (All-filter (is_chosen given.outputs) (AreAlike (netlist_of f) (netlist_of g) (netlist_of_model m) (netlist_of_model n) h) f.outputs
     (All-from_get_or (AreAlike (netlist_of f) (netlist_of g) (netlist_of_model m) (netlist_of_model n) h) f.outputs [] (λ o inside. record {
       shows = λ a. let v = alike f g m n hf hg mf ng same o a inside in rw (v.0, v.1, mf.inputs) refl;
-      differs = record { alike = λ a long. let v = alike f g m n hf hg mf ng same o a inside in rw (v.0, v.1) (ap (λ b. b && has_two_values (netlist_of_model m) (netlist_of_model n) (get_or f.outputs o []) a) (allowed_alike f m h a mf)) };
+      differs =
+          record {
+            alike = λ a long. let v = alike f g m n hf hg mf ng same o a inside in
+                rw (v.0, v.1) (ap (λ b. b && has_two_values (netlist_of_model m) (netlist_of_model n) (get_or f.outputs o []) a) (allowed_alike f m h a mf));
+          };
     })))
     ∙ ap (λ outputs. comparison given.options.every (netlist_of_model m) (netlist_of_model n) h (chosen_outputs given.outputs outputs)) mf.outputs
 
@@ -103,7 +116,8 @@ assumed_alike given f g m n (Some text) hf hg mf ng same = by (assumption_found 
     by (Err fault) = refl
     by (Ok h) =
         ap (λ r. or_code side.Assume (flat_code h.0 h.1) (or_code side.Assume (assumption_code f.inputs h) r)) (compared_alike given f g m n (Some (netlist_of_model h)) hf hg mf ng same)
-        ∙ ap (λ names. or_code side.Assume (flat_code h.0 h.1) (or_code side.Assume (assumption_code names h) (compared given (netlist_of_model m) (netlist_of_model n) (Some (netlist_of_model h))))) mf.inputs
+        ∙ ap (λ names. or_code side.Assume (flat_code h.0 h.1) (or_code side.Assume (assumption_code names h) (compared given (netlist_of_model m) (netlist_of_model n) (Some (netlist_of_model h)))))
+        mf.inputs
 
 -- the refusals of a pair before a report
 abbrev guarded : Bool → Bool → Bool → ReportOf → ReportOf
@@ -116,7 +130,9 @@ guarded_alike true true false x y e = refl
 guarded_alike true true true x y e = e refl
 
 refusals_guard : (a b c : Bool) (order : Option Refused) (rest : ReportOf) →
-    refusal_report (if not a then Some (pair_refused 41) else if not b then Some (pair_refused 42) else if not c then Some (pair_refused 43) else order) rest ≡ guarded a b c (refusal_report order rest)
+    refusal_report
+    (if not a then Some (pair_refused 41) else if not b then Some (pair_refused 42) else if not c then Some (pair_refused 43) else order)
+    rest ≡ guarded a b c (refusal_report order rest)
 refusals_guard false b c order rest = refl
 refusals_guard true false c order rest = refl
 refusals_guard true true false order rest = refl
@@ -133,7 +149,8 @@ order_coded inputs (Some text) rest = by (order_code inputs text)
 -- the answer of two models' flat netlists is that of the models
 flat_pair : (f g : FlatOf) (m n : MainOf) (given : GivenOf) → IsFlat f → IsFlat g → IsFlatOf m.0 m.1 f → IsFlatOf n.0 n.1 g → flat_answer f g given ≡ pair_answer m n given
 flat_pair f g m n given hf hg mf ng =
-    refusals_guard (same_names f.inputs g.inputs) (same_names f.outputs g.outputs) (has_all f.outputs given.outputs) (order_refusal f.inputs given.order) (assumed_answer given (netlist_of f) (netlist_of g) given.assume)
+    refusals_guard (same_names f.inputs g.inputs) (same_names f.outputs g.outputs) (has_all f.outputs given.outputs)
+    (order_refusal f.inputs given.order) (assumed_answer given (netlist_of f) (netlist_of g) given.assume)
     ∙ guarded_alike (same_names f.inputs g.inputs) (same_names f.outputs g.outputs) (has_all f.outputs given.outputs) _ _
     (λ same. order_coded f.inputs given.order (assumed_answer given (netlist_of f) (netlist_of g) given.assume)
     ∙ ap (or_code side.Order (code_of_order f.inputs given.order)) (assumed_alike given f g m n given.assume hf hg mf ng same))
@@ -141,25 +158,31 @@ flat_pair f g m n given hf hg mf ng =
   where
     named : (rest : ReportOf) →
         guarded (same_names f.inputs g.inputs) (same_names f.outputs g.outputs) (has_all f.outputs given.outputs) (or_code side.Order (code_of_order f.inputs given.order) rest)
-        ≡ guarded (same_names (inputs_of m) (inputs_of n)) (same_names (outputs_of m) (outputs_of n)) (has_all (outputs_of m) given.outputs) (or_code side.Order (code_of_order (inputs_of m) given.order) rest)
+        ≡ guarded (same_names (inputs_of m) (inputs_of n)) (same_names (outputs_of m) (outputs_of n)) (has_all (outputs_of m) given.outputs)
+        (or_code side.Order (code_of_order (inputs_of m) given.order) rest)
     named rest = rw (mf.inputs, ng.inputs, mf.outputs, ng.outputs) refl
 
 -- the answer of two main models' flat netlists
-pub flat_models : (f g : FlatOf) (m n : MainOf) (given : GivenOf) → IsFlat f → IsFlat g → flat_code m.0 m.1 ≡ None → flat_code n.0 n.1 ≡ None → IsFlatOf m.0 m.1 f → IsFlatOf n.0 n.1 g → flat_answer f g given ≡ models_answer m n given
+pub flat_models : (f g : FlatOf) (m n : MainOf) (given : GivenOf) → IsFlat f → IsFlat g → flat_code m.0 m.1 ≡ None → flat_code n.0 n.1 ≡ None →
+    IsFlatOf m.0 m.1 f → IsFlatOf n.0 n.1 g → flat_answer f g given ≡ models_answer m n given
 flat_models f g m n given hf hg em en mf ng = flat_pair f g m n given hf hg mf ng ∙ sym (accepted em en)
   where
     accepted : flat_code m.0 m.1 ≡ None → flat_code n.0 n.1 ≡ None → models_answer m n given ≡ pair_answer m n given
     accepted em en = rw (em, en) refl
 
 -- hierarchies that are refused
-pub first_fault : (m n : MainOf) (given : GivenOf) (code : ℕ) (result : Result Report Stop) → IsRefused side.First (record { line = 0; code = code }) result → (code ≡ 72) ⊎ (flat_code m.0 m.1 ≡ Some code) → IfOk result (λ report. report_of report ≡ models_answer m n given)
+pub first_fault : (m n : MainOf) (given : GivenOf) (code : ℕ) (result : Result Report Stop) →
+    IsRefused side.First (record { line = 0; code = code }) result → (code ≡ 72) ⊎ (flat_code m.0 m.1 ≡ Some code) →
+    IfOk result (λ report. report_of report ≡ models_answer m n given)
 first_fault m n given code (Err stop) h e = tt
 first_fault m n given code (Ok report) h e = elim e [
   | inl none ↦ absurd (h.0 none)
   | inr is ↦ ap report_of h.1 ∙ rw is refl
 ]
 
-pub second_fault : (m n : MainOf) (given : GivenOf) (code : ℕ) (result : Result Report Stop) → flat_code m.0 m.1 ≡ None → IsRefused side.Second (record { line = 0; code = code }) result → (code ≡ 72) ⊎ (flat_code n.0 n.1 ≡ Some code) → IfOk result (λ report. report_of report ≡ models_answer m n given)
+pub second_fault : (m n : MainOf) (given : GivenOf) (code : ℕ) (result : Result Report Stop) → flat_code m.0 m.1 ≡ None →
+    IsRefused side.Second (record { line = 0; code = code }) result → (code ≡ 72) ⊎ (flat_code n.0 n.1 ≡ Some code) →
+    IfOk result (λ report. report_of report ≡ models_answer m n given)
 second_fault m n given code (Err stop) none h e = tt
 second_fault m n given code (Ok report) none h e = elim e [
   | inl memory ↦ absurd (h.0 memory)
@@ -200,7 +223,9 @@ pub behind_pair : (f g : FlatOf) (given : GivenOf) → pair_refusal f g given.ou
 behind_pair f g given none = sym (ap (λ o. refusal_report o (assumed_answer given (netlist_of f) (netlist_of g) given.assume)) none)
 
 -- a refusal of two netlists as a pair
-pub pair_reported : (f g : FlatOf) (given : GivenOf) (r : Refused) (result : Result Report Stop) → IsRefused r.side (record { line = r.line; code = r.code }) result → (r ≡ no_memory) ⊎ (pair_refusal f g given.outputs given.order ≡ Some r) → IfOk result (λ report. report_of report ≡ flat_answer f g given)
+pub pair_reported : (f g : FlatOf) (given : GivenOf) (r : Refused) (result : Result Report Stop) →
+    IsRefused r.side (record { line = r.line; code = r.code }) result → (r ≡ no_memory) ⊎ (pair_refusal f g given.outputs given.order ≡ Some r) →
+    IfOk result (λ report. report_of report ≡ flat_answer f g given)
 pair_reported f g given r (Err stop) h e = tt
 pair_reported f g given r (Ok report) h e = elim e [
   | inl none ↦ absurd (h.0 (ap (λ (x : Refused). x.code) none))
@@ -219,7 +244,8 @@ assumption_fault given f g found refusal (Ok report) h e = elim e [
 ]
 
 -- a hierarchy of it that is
-pub assumption_hierarchy : (given : GivenOf) (f g : NetlistOf) (found : Result MainOf (ℕ × ℕ)) (h : MainOf) (code : ℕ) (result : Result Report Stop) → found ≡ Ok h → IsRefused side.Assume (record { line = 0; code = code }) result
+pub assumption_hierarchy : (given : GivenOf) (f g : NetlistOf) (found : Result MainOf (ℕ × ℕ)) (h : MainOf) (code : ℕ) (result : Result Report Stop) →
+    found ≡ Ok h → IsRefused side.Assume (record { line = 0; code = code }) result
     → (code ≡ 72) ⊎ (flat_code h.0 h.1 ≡ Some code) → IfOk result (λ report. report_of report ≡ assumption_answer given f g found)
 assumption_hierarchy given f g found h code (Err stop) there r e = tt
 assumption_hierarchy given f g found h code (Ok report) there r e = elim e [
@@ -230,7 +256,8 @@ assumption_hierarchy given f g found h code (Ok report) there r e = elim e [
 ]
 
 -- a flat netlist that is refused as an assumption
-pub assumption_reported : (given : GivenOf) (f g h : FlatOf) (r : Refused) (result : Result Report Stop) → IsRefused r.side (record { line = r.line; code = r.code }) result → (r ≡ no_memory) ⊎ (assumption_refusal f.inputs h ≡ Some r)
+pub assumption_reported : (given : GivenOf) (f g h : FlatOf) (r : Refused) (result : Result Report Stop) →
+    IsRefused r.side (record { line = r.line; code = r.code }) result → (r ≡ no_memory) ⊎ (assumption_refusal f.inputs h ≡ Some r)
     → IfOk result (λ report. report_of report ≡ flat_assumed given f g h)
 assumption_reported given f g h r (Err stop) is e = tt
 assumption_reported given f g h r (Ok report) is e = elim e [
@@ -243,20 +270,25 @@ pub assumption_taken : (given : GivenOf) (f g h : FlatOf) → assumption_refusal
 assumption_taken given f g h none = sym (ap (λ o. refusal_report o (compared given (netlist_of f) (netlist_of g) (Some (netlist_of h)))) none)
 
 -- flat netlists of one model allow the same assignments
-forbids_alike : (f : NetlistOf) (h : FlatOf) (k : MainOf) (a : List Bool) → IsFlat h → IsFlatOf k.0 k.1 h → length h.outputs ≡ 1 → is_allowed f (Some (netlist_of h)) a ≡ is_allowed f (Some (netlist_of_model k)) a
+forbids_alike : (f : NetlistOf) (h : FlatOf) (k : MainOf) (a : List Bool) → IsFlat h → IsFlatOf k.0 k.1 h → length h.outputs ≡ 1 →
+    is_allowed f (Some (netlist_of h)) a ≡ is_allowed f (Some (netlist_of_model k)) a
 forbids_alike f h k a flat is one =
     flat_value k h (get_or h.outputs 0 []) 0 (values_for f.inputs a h.inputs) flat is (omega (arith, one)) refl
-    ∙ (ap (λ names. output_value k.0 k.1 (values_for f.inputs a names) (get_or h.outputs 0 [])) is.inputs ∙ ap (λ names. output_value k.0 k.1 (values_for f.inputs a (inputs_of k)) (get_or names 0 [])) is.outputs)
+    ∙ (ap (λ names. output_value k.0 k.1 (values_for f.inputs a names) (get_or h.outputs 0 [])) is.inputs
+    ∙ ap (λ names. output_value k.0 k.1 (values_for f.inputs a (inputs_of k)) (get_or names 0 [])) is.outputs)
 
-assumption_compared : (given : GivenOf) (f g : NetlistOf) (h : FlatOf) (k : MainOf) → IsFlat h → IsFlatOf k.0 k.1 h → length h.outputs ≡ 1 → compared given f g (Some (netlist_of h)) ≡ compared given f g (Some (netlist_of_model k))
+assumption_compared : (given : GivenOf) (f g : NetlistOf) (h : FlatOf) (k : MainOf) → IsFlat h → IsFlatOf k.0 k.1 h → length h.outputs ≡ 1 →
+    compared given f g (Some (netlist_of h)) ≡ compared given f g (Some (netlist_of_model k))
 assumption_compared given f g h k flat is one =
     let outputs = chosen_outputs given.outputs f.outputs in
     let allows : (a : List Bool) → is_allowed f (Some (netlist_of h)) a ≡ is_allowed f (Some (netlist_of_model k)) a = λ a. forbids_alike f h k a flat is one in
     ap (verdict_report f g) (verdict_agrees f g (Some (netlist_of h)) f g (Some (netlist_of_model k)) refl given.options.every outputs (record { alike = λ a long. allows a })
-    (All-from_get_or (DiffersAlike f g (Some (netlist_of h)) f g (Some (netlist_of_model k))) outputs [] (λ i inside. record { alike = λ a long. ap (λ b. b && has_two_values f g (get_or outputs i []) a) (allows a) })))
+    (All-from_get_or (DiffersAlike f g (Some (netlist_of h)) f g (Some (netlist_of_model k))) outputs []
+    (λ i inside. record { alike = λ a long. ap (λ b. b && has_two_values f g (get_or outputs i []) a) (allows a) })))
 
 refusals_coded : (a b : Bool) (x y : ReportOf) → (b ≡ true → x ≡ y) →
-    refusal_report (if not a then Some (assumption_refused 61) else if not b then Some (assumption_refused 62) else None) x ≡ or_code side.Assume (if not a then Some 61 else if not b then Some 62 else None) y
+    refusal_report (if not a then Some (assumption_refused 61) else if not b then Some (assumption_refused 62) else None) x ≡ or_code side.Assume
+    (if not a then Some 61 else if not b then Some 62 else None) y
 refusals_coded false b x y e = refl
 refusals_coded true false x y e = refl
 refusals_coded true true x y e = e refl
@@ -266,8 +298,13 @@ pub flat_assumption : (given : GivenOf) (f g h : FlatOf) (k : MainOf) (found : R
     → flat_assumed given f g h ≡ assumption_answer given (netlist_of f) (netlist_of g) found
 flat_assumption given f g h k found there accepted flat is =
     refusals_coded (has_all f.inputs h.inputs) (length h.outputs == 1) _ _ (λ one. assumption_compared given (netlist_of f) (netlist_of g) h k flat is (eqb-true (length h.outputs) 1 one))
-    ∙ (ap₂ (λ ins outs. or_code side.Assume (if not (has_all f.inputs ins) then Some 61 else if not (length outs == 1) then Some 62 else None) (compared given (netlist_of f) (netlist_of g) (Some (netlist_of_model k)))) is.inputs is.outputs
-    ∙ sym (ap (assumption_answer given (netlist_of f) (netlist_of g)) there ∙ ap (λ c. or_code side.Assume c (or_code side.Assume (assumption_code f.inputs k) (compared given (netlist_of f) (netlist_of g) (Some (netlist_of_model k))))) accepted))
+    ∙ (ap₂
+    (λ ins outs.
+    or_code side.Assume (if not (has_all f.inputs ins) then Some 61 else if not (length outs == 1) then Some 62 else None)
+    (compared given (netlist_of f) (netlist_of g) (Some (netlist_of_model k))))
+    is.inputs is.outputs
+    ∙ sym (ap (assumption_answer given (netlist_of f) (netlist_of g)) there
+    ∙ ap (λ c. or_code side.Assume c (or_code side.Assume (assumption_code f.inputs k) (compared given (netlist_of f) (netlist_of g) (Some (netlist_of_model k))))) accepted))
 
 pub refused_stop : (s : Side) (refusal : Refusal) (result : Result Report Stop) (wanted : ReportOf) → IsRefused s refusal result → IfErr result (MayStop wanted)
 refused_stop s refusal (Ok report) wanted h = tt

@@ -116,19 +116,22 @@ unfolding texts_read
 one_known names None first h = tt
 one_known names (Some bytes) first h = ap (one_text names) h
 
-both_known : (names : NamesOf) (x y : Option (List ℕ)) (first second : List ℕ) → IsRead x first → IsRead y second → IfSome (two_known names x y) (λ texts. two_texts names first second ≡ texts_read texts)
+both_known : (names : NamesOf) (x y : Option (List ℕ)) (first second : List ℕ) → IsRead x first → IsRead y second →
+    IfSome (two_known names x y) (λ texts. two_texts names first second ≡ texts_read texts)
 unfolding texts_read
 both_known names None y first second h k = tt
 both_known names (Some a) None first second h k = tt
 both_known names (Some a) (Some b) first second h k = rw (h, k) refl
 
-texts_known : {R : Type 0} (names : NamesOf) (remaining : R → Option (List ℕ)) (texts : Texts R) (first : List ℕ) (second : Option (List ℕ)) → AreTextsRead remaining texts first second → IfSome (known_texts names remaining texts) (λ known. read_texts names first second ≡ texts_read known)
+texts_known : {R : Type 0} (names : NamesOf) (remaining : R → Option (List ℕ)) (texts : Texts R) (first : List ℕ) (second : Option (List ℕ)) →
+    AreTextsRead remaining texts first second → IfSome (known_texts names remaining texts) (λ known. read_texts names first second ≡ texts_read known)
 texts_known names remaining (One reader) first None h = one_known names (remaining reader) first h.0
 texts_known names remaining (One reader) first (Some second) h = absurd (none-some second (sym h.1))
 texts_known names remaining (Two reader other) first None h = absurd h.1
 texts_known names remaining (Two reader other) first (Some second) h = both_known names (remaining reader) (remaining other) first second h.0 h.1
 
-some_known : {R : Type 0} (remaining : R → Option (List ℕ)) (order : Option R) (read : Option (List ℕ)) → MayBeRead remaining order read → IfSome (known_some remaining order) (λ known. read ≡ option_map bytes_read known)
+some_known : {R : Type 0} (remaining : R → Option (List ℕ)) (order : Option R) (read : Option (List ℕ)) → MayBeRead remaining order read →
+    IfSome (known_some remaining order) (λ known. read ≡ option_map bytes_read known)
 some_known remaining None None h = refl
 some_known remaining None (Some text) h = absurd h
 some_known remaining (Some reader) None h = absurd h
@@ -139,28 +142,33 @@ some_known remaining (Some reader) (Some text) h = by (remaining reader) h
     by (Some bytes) h = ap Some h
 
 -- the texts of a case
-case_texts : {R : Type 0} (remaining : R → Option (List ℕ)) (given : Given R) (case : Case) → AreRead remaining given case → IfSome (known_texts given.names remaining given.texts) (λ known. (given_of case).texts ≡ texts_read known)
+case_texts : {R : Type 0} (remaining : R → Option (List ℕ)) (given : Given R) (case : Case) → AreRead remaining given case →
+    IfSome (known_texts given.names remaining given.texts) (λ known. (given_of case).texts ≡ texts_read known)
 case_texts remaining given case h =
     subst (λ names. IfSome (known_texts given.names remaining given.texts) (λ known. read_texts names case.first.items (items_of case.second) ≡ texts_read known)) (sym h.names)
     (texts_known given.names remaining given.texts case.first.items (items_of case.second) h.texts)
 
 -- a case is what is read of what was given
-is_read : (case : GivenOf) (given : GivenOf) → case.texts ≡ texts_read given.texts → case.order ≡ option_map bytes_read given.order → case.assume ≡ option_map bytes_read given.assume → case.outputs ≡ given.outputs → case.options ≡ given.options
+is_read : (case : GivenOf) (given : GivenOf) → case.texts ≡ texts_read given.texts → case.order ≡ option_map bytes_read given.order →
+    case.assume ≡ option_map bytes_read given.assume → case.outputs ≡ given.outputs → case.options ≡ given.options
     → case ≡ given_read given
 unfolding given_read
 is_read case given t o a c p = by case.texts case.order case.assume case.outputs case.options t o a c p
   where
-    by : (texts : TextsOf) (order assume : Option (List ℕ)) (outputs : List (List ℕ)) (options : Options) → texts ≡ texts_read given.texts → order ≡ option_map bytes_read given.order → assume ≡ option_map bytes_read given.assume
+    by : (texts : TextsOf) (order assume : Option (List ℕ)) (outputs : List (List ℕ)) (options : Options) → texts ≡ texts_read given.texts →
+        order ≡ option_map bytes_read given.order → assume ≡ option_map bytes_read given.assume
         → outputs ≡ given.outputs → options ≡ given.options → ◌≡◌ {A = GivenOf} (record { texts = texts; order = order; assume = assume; outputs = outputs; options = options }) (given_read given)
     by texts order assume outputs options t o a c p = rw (t, o, a, c, p) refl
 
 -- a report that answers what was read answers what is given
-pub read_reports : {R : Type 0} (remaining : R → Option (List ℕ)) (given : Given R) (case : Case) (report : ReportOf) → AreRead remaining given case → Answers (texts_answer (given_of case)) report → IsReport remaining given report
+pub read_reports : {R : Type 0} (remaining : R → Option (List ℕ)) (given : Given R) (case : Case) (report : ReportOf) →
+    AreRead remaining given case → Answers (texts_answer (given_of case)) report → IsReport remaining given report
 read_reports remaining given case report h answers =
     by (known_texts given.names remaining given.texts) (known_some remaining given.order) (known_some remaining given.assume)
     (case_texts remaining given case h) (some_known remaining given.order (items_of case.order) h.order) (some_known remaining given.assume (items_of case.assume) h.assume)
   where
-    by : (texts : Option TextsOf) (order assume : Option (Option (List ℕ))) → IfSome texts (λ known. (given_of case).texts ≡ texts_read known) → IfSome order (λ known. items_of case.order ≡ option_map bytes_read known)
+    by : (texts : Option TextsOf) (order assume : Option (Option (List ℕ))) → IfSome texts (λ known. (given_of case).texts ≡ texts_read known) →
+        IfSome order (λ known. items_of case.order ≡ option_map bytes_read known)
         → IfSome assume (λ known. items_of case.assume ≡ option_map bytes_read known)
         → IfSome (all_known given.outputs given.options texts order assume) (λ known. Answers (texts_answer known) report)
     by None order assume t o a = tt
@@ -171,7 +179,8 @@ read_reports remaining given case report h answers =
         subst (λ (w : ReportOf). Answers w report) (ap texts_answer (is_read (given_of case) known t o a h.outputs h.options) ∙ answer_read known) answers
 
 -- warnings on what was read are warnings on the texts
-pub read_warns : {R : Type 0} (remaining : R → Option (List ℕ)) (given : Given R) (case : Case) (report : ReportOf) (found : Warnings) → AreRead remaining given case → WarnsOf (given_of case) report found → WarnsOfKnown remaining given report found
+pub read_warns : {R : Type 0} (remaining : R → Option (List ℕ)) (given : Given R) (case : Case) (report : ReportOf) (found : Warnings) →
+    AreRead remaining given case → WarnsOf (given_of case) report found → WarnsOfKnown remaining given report found
 read_warns remaining given case report found h w =
     λ is. if_known (known_texts given.names remaining given.texts) _ _ (λ known t. w is ∙ (ap warnings_on t ∙ warnings_read known)) (case_texts remaining given case h)
 
@@ -196,11 +205,15 @@ kept_once Refused w = refl
 kept_once Stopped w = refl
 
 -- the warnings of a report that was written
-pub written_warned : {R : Type 0} (remaining : R → Option (List ℕ)) (given : Given R) (report : ReportOf) (old new : Option (List ℕ)) (status : Status) (found at : Warnings) → WarnsOfKnown remaining given report found → IsWritten report old new status → at ≡ warnings_at status found → IsWarned remaining given status at
+pub written_warned : {R : Type 0} (remaining : R → Option (List ℕ)) (given : Given R) (report : ReportOf) (old new : Option (List ℕ)) (status : Status) (found at : Warnings) →
+    WarnsOfKnown remaining given report found → IsWritten report old new status → at ≡ warnings_at status found → IsWarned remaining given status at
 written_warned remaining given report old new status found at warns w e = record {
   verdict = ap (warnings_at status) e ∙ (kept_once status found ∙ sym e);
   known = elim (verdict_of w.shown status w.kind) [
-    | inl is ↦ if_known (known_texts given.names remaining given.texts) (λ known. found ≡ warnings_on known) (λ known. at ≡ warnings_at status (warnings_on known)) (λ known same. e ∙ ap (warnings_at status) same) (warns (verdict_shown report old new status w is))
+    | inl is ↦
+        if_known (known_texts given.names remaining given.texts) (λ known. found ≡ warnings_on known)
+        (λ known. at ≡ warnings_at status (warnings_on known)) (λ known same. e ∙ ap (warnings_at status) same)
+        (warns (verdict_shown report old new status w is))
     | inr none ↦ if_some_all (known_texts given.names remaining given.texts) _ (λ known. e ∙ (none found ∙ sym (none (warnings_on known))))
   ];
 }

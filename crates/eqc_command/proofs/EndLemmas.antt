@@ -77,7 +77,8 @@ nothing_told text old new same = record { part = (0, omega arith, subst (λ n. A
     none_added (Some x) = sym (append-nil x)
 
 -- a text that was written, or a part of it, where it isn't empty
-pub told_of : {X E : Type 0} (r : Result X E) (old new : Option (List ℕ)) (text : List ℕ) → (text ≡ [] → ⊥) → OnOk r (Appends old new text) → OnErr r (AppendsPrefix old new text) → IsToldOf text old new
+pub told_of : {X E : Type 0} (r : Result X E) (old new : Option (List ℕ)) (text : List ℕ) → (text ≡ [] → ⊥) → OnOk r (Appends old new text) →
+    OnErr r (AppendsPrefix old new text) → IsToldOf text old new
 told_of r old new text some whole part = record { part = part_told r old new text whole part; nothing = λ none. absurd (some none) }
 
 -- the line of a warning, part by part
@@ -86,7 +87,13 @@ pub line_pushed : {X E : Type 0} (r : Result X E) (source : List ℕ) (contained
     → t5 ≡ t4 ++ codes "' is compared, which model '" → t6 ≡ t5 ++ n → t7 ≡ (if is_ok r then t6 ++ (codes "' contains" ++ 10 ∷ []) else t6)
     → OnOk r (t7 ≡ t ++ warning_line source contained)
 line_pushed (Ok x) source contained s m n t t1 t2 t3 t4 t5 t6 t7 es em en e1 e2 e3 e4 e5 e6 e7 =
-    e7 ∙ ap (λ l. l ++ (codes "' contains" ++ 10 ∷ [])) (e6 ∙ ap (λ l. t5 ++ l) en ∙ ap (λ l. l ++ contained.container) (e5 ∙ ap (λ l. l ++ codes "' is compared, which model '") (e4 ∙ ap (λ l. t3 ++ l) em ∙ ap (λ l. l ++ contained.model) (e3 ∙ ap (λ l. l ++ codes ": model '") (e2 ∙ ap (λ l. t1 ++ l) es ∙ ap (λ l. l ++ source) e1)))))
+    e7
+    ∙ ap (λ l. l ++ (codes "' contains" ++ 10 ∷ []))
+    (e6 ∙ ap (λ l. t5 ++ l) en
+    ∙ ap (λ l. l ++ contained.container)
+    (e5
+    ∙ ap (λ l. l ++ codes "' is compared, which model '")
+    (e4 ∙ ap (λ l. t3 ++ l) em ∙ ap (λ l. l ++ contained.model) (e3 ∙ ap (λ l. l ++ codes ": model '") (e2 ∙ ap (λ l. t1 ++ l) es ∙ ap (λ l. l ++ source) e1)))))
     ∙ (seven_parts t (codes "eqc: warning: ") source (codes ": model '") contained.model (codes "' is compared, which model '") contained.container (codes "' contains" ++ 10 ∷ [])
     ∙ ap (λ l. t ++ l) (sym (whole_line (codes "eqc: warning: ") source (codes ": model '") contained.model (codes "' is compared, which model '") contained.container (codes "' contains") (10 ∷ []))))
   where

@@ -46,7 +46,9 @@ with_version a = on_top (λ s. record s { has_version = true }) a
 -- five numbers, the paths of the order text and the assumption, whether each difference is wanted, names of outputs, the names
 -- of two models, whether to explain, whether to show how far the run is, and at most two paths
 abbrev pub eqc_app : App
-eqc_app = with_rule (with_rule (with_rule (with_rule (with_rule (with_rule (with_rule (with_rule (with_rule (with_rule (with_rule (with_rule (with_rule (with_rule (with_rule (with_version (new_app (codes "eqc")))
+eqc_app =
+    with_rule
+    (with_rule (with_rule (with_rule (with_rule (with_rule (with_rule (with_rule (with_rule (with_rule (with_rule (with_rule (with_rule (with_rule (with_rule (with_version (new_app (codes "eqc")))
     (number_rule (codes "workers") (codes "2")))
     (number_rule (codes "nodes") (codes "65536")))
     (number_rule (codes "cells") (codes "8192")))

@@ -116,7 +116,8 @@ IsHelpEnd old new (Failed fault) = (fault ≡ run_fault.Write) × Grows old new
 IsHelpEnd old new (BadWords error) = (kind_of error ≡ OutOfMemory) × (new ≡ old)
 
 -- an end of the program: the words ask for a run, or for help or the version, or they are a bad command line
-pub data IsEnd {R F : Type 0} (input_remaining : R → Option (List ℕ)) (file_remaining : F → Option (List ℕ)) (words : List Text) (input : R) (old new err_old err_new : Option (List ℕ)) (end : End) : Type 0 where
+pub data IsEnd {R F : Type 0} (input_remaining : R → Option (List ℕ)) (file_remaining : F → Option (List ℕ)) (words : List Text) (input : R)
+    (old new err_old err_new : Option (List ℕ)) (end : End) : Type 0 where
   of_run : (request : Request) → fault_of eqc_app words ≡ [] → IsAsked (rows_asked words) request
       → IsRunEnd input_remaining file_remaining request input old new err_old err_new end
       → IsEnd input_remaining file_remaining words input old new err_old err_new end
@@ -126,7 +127,8 @@ pub data IsEnd {R F : Type 0} (input_remaining : R → Option (List ℕ)) (file_
       → new ≡ old → err_new ≡ err_old → IsEnd input_remaining file_remaining words input old new err_old err_new end
 
 -- the program ended, was told of behind its warnings, and has its status
-pub record IsDone {R F : Type 0} (input_remaining : R → Option (List ℕ)) (file_remaining : F → Option (List ℕ)) (words : List Text) (input : R) (old new err_old err_new : Option (List ℕ)) (code : ℕ) : Type 0 where
+pub record IsDone {R F : Type 0} (input_remaining : R → Option (List ℕ)) (file_remaining : F → Option (List ℕ)) (words : List Text) (input : R)
+    (old new err_old err_new : Option (List ℕ)) (code : ℕ) : Type 0 where
   pub end : End
   pub warned : Option (List ℕ)
   pub ended : IsEnd input_remaining file_remaining words input old new err_old warned end

@@ -56,7 +56,8 @@ abbrev pub mark_at : PairOf → ClassesOf → ℕ → Bool
 mark_at p c o = get_or c.first (get_or p.first.output_signals o 0) 0 == get_or c.second (get_or (second_signals p) o 0) 0
 
 -- the next output is marked where its two signals are of one class
-pub marked_more : (p : PairOf) (c : ClassesOf) (marks : List Bool) (o : ℕ) → IsPair p → ArePairClasses p c → o < length (second_signals p) → length marks ≡ o → TellFirst p marks o → (length (marks ++ mark_at p c o ∷ []) ≡ o + 1) × TellFirst p (marks ++ mark_at p c o ∷ []) (o + 1)
+pub marked_more : (p : PairOf) (c : ClassesOf) (marks : List Bool) (o : ℕ) → IsPair p → ArePairClasses p c → o < length (second_signals p) →
+    length marks ≡ o → TellFirst p marks o → (length (marks ++ mark_at p c o ∷ []) ≡ o + 1) × TellFirst p (marks ++ mark_at p c o ∷ []) (o + 1)
 marked_more p c marks o h classes less size before =
     let inside : o < length p.first.outputs = omega (arith, less, (pair_matched p h).size) in
     let here = told p c o h classes inside in
@@ -79,7 +80,8 @@ never_where true x y e = never x y e
 never_where false x y e = refl
 
 -- an output that is alike never differs
-pub alike_equal : (p : PairOf) (c : ClassesOf) (marks : List Bool) → IsPair p → ArePairClasses p c → HaveOneValueEach p.first p.second (first_variables p) (second_variables p) c → TellAlike p marks → AreEqual p marks
+pub alike_equal : (p : PairOf) (c : ClassesOf) (marks : List Bool) → IsPair p → ArePairClasses p c →
+    HaveOneValueEach p.first p.second (first_variables p) (second_variables p) c → TellAlike p marks → AreEqual p marks
 unfolding differs_at values_differ_at
 alike_equal p c marks h classes values tell = record { each = each }
   where
@@ -104,7 +106,8 @@ pub record AreSettledBelow (p : PairOf) (marks : List Bool) (n : ℕ) : Type 0 w
   pub chosen : (o : ℕ) → o < n → is_marked marks o ≡ false → is_chosen_at p o ≡ true
 
 -- one mark more
-pub settled_more : (p : PairOf) (marks : List Bool) (mark : Bool) (n : ℕ) → AreSettledBelow p marks n → (mark ≡ true → told_at p n ≡ None) → (mark ≡ false → is_chosen_at p n ≡ true) → AreSettledBelow p (marks ++ mark ∷ []) (n + 1)
+pub settled_more : (p : PairOf) (marks : List Bool) (mark : Bool) (n : ℕ) → AreSettledBelow p marks n → (mark ≡ true → told_at p n ≡ None) →
+    (mark ≡ false → is_chosen_at p n ≡ true) → AreSettledBelow p (marks ++ mark ∷ []) (n + 1)
 settled_more p marks mark n s none chosen = record {
   size = omega (arith, s.size, length-append marks (mark ∷ []));
   none = λ o less marked. elim (cases_eq o n) [
@@ -175,7 +178,8 @@ of_signal p c k h lt = elim (cases_lt k (length p.first.drivers)) [
           inside = h.first_flat.steps_within k step;
           structure = structure_first p k low;
           value = λ a. value_first p a k low;
-          number = get_or_append_left (map (λ s. get_or c.first s 0) p.first.steps) (map (λ s. get_or c.second s 0) p.second.steps) 0 k (omega (arith, step, size)) ∙ get_or-map (λ s. get_or c.first s 0) p.first.steps k 0 0 step;
+          number = get_or_append_left (map (λ s. get_or c.first s 0) p.first.steps) (map (λ s. get_or c.second s 0) p.second.steps) 0 k (omega (arith, step, size))
+              ∙ get_or-map (λ s. get_or c.first s 0) p.first.steps k 0 0 step;
         },
       )
   | inr past ↦
@@ -191,19 +195,23 @@ of_signal p c k h lt = elim (cases_lt k (length p.first.drivers)) [
           inside = h.second_flat.steps_within j step;
           structure = structure_second p k past;
           value = λ a. ap (value_at p a) (sym is) ∙ value_second p a j (omega (arith, lt, past));
-          number = get_or-append_right (map (λ s. get_or c.first s 0) p.first.steps) (map (λ s. get_or c.second s 0) p.second.steps) n k 0 size past ∙ get_or-map (λ s. get_or c.second s 0) p.second.steps j 0 0 step;
+          number = get_or-append_right (map (λ s. get_or c.first s 0) p.first.steps) (map (λ s. get_or c.second s 0) p.second.steps) n k 0 size past
+              ∙ get_or-map (λ s. get_or c.second s 0) p.second.steps j 0 0 step;
         },
       )
 ]
 
 -- numbers tell structures on all sides
-tell_back : (p : PairOf) (c : ClassesOf) → TellStructures (structure_of p.first (first_variables p)) (structure_of p.second (second_variables p)) c.first c.second → TellStructures (structure_of p.second (second_variables p)) (structure_of p.first (first_variables p)) c.second c.first
+tell_back : (p : PairOf) (c : ClassesOf) →
+    TellStructures (structure_of p.first (first_variables p)) (structure_of p.second (second_variables p)) c.first c.second →
+    TellStructures (structure_of p.second (second_variables p)) (structure_of p.first (first_variables p)) c.second c.first
 tell_back p c t = record {
   no_other = λ x y hx hy e. sym (t.no_other y x hy hx (sym e));
   all = λ x y hx hy e. sym (t.all y x hy hx (sym e));
 }
 
-tell_sides : (p : PairOf) (c : ClassesOf) (x y : Bool) → ArePairClasses p c → TellStructures (structure_of (netlist p x) (variables_on p x)) (structure_of (netlist p y) (variables_on p y)) (numbers_on c x) (numbers_on c y)
+tell_sides : (p : PairOf) (c : ClassesOf) (x y : Bool) → ArePairClasses p c →
+    TellStructures (structure_of (netlist p x) (variables_on p x)) (structure_of (netlist p y) (variables_on p y)) (numbers_on c x) (numbers_on c y)
 tell_sides p c true true h = h.in_first
 tell_sides p c true false h = h.across
 tell_sides p c false true h = tell_back p c h.across
@@ -214,7 +222,8 @@ numbered p c true s h inside = omega (arith, inside, h.first_size)
 numbered p c false s h inside = omega (arith, inside, h.second_size)
 
 -- two steps have one number in the row exactly where they have one structure
-pub row_tells : (p : PairOf) (c : ClassesOf) (j k : ℕ) → IsPair p → ArePairClasses p c → j < assumed_start p → k < assumed_start p → (get_or (row_of p c) j 0 ≡ get_or (row_of p c) k 0) ↔ (step_structure p j ≡ step_structure p k)
+pub row_tells : (p : PairOf) (c : ClassesOf) (j k : ℕ) → IsPair p → ArePairClasses p c → j < assumed_start p → k < assumed_start p →
+    (get_or (row_of p c) j 0 ≡ get_or (row_of p c) k 0) ↔ (step_structure p j ≡ step_structure p k)
 row_tells p c j k h classes inside within =
     let x = of_signal p c j h inside in
     let y = of_signal p c k h within in
@@ -249,12 +258,15 @@ follows_on p true first second = first
 follows_on p false first second = second
 
 -- steps of one structure have one value
-same_value : (p : PairOf) (c : ClassesOf) (j k : ℕ) (a : ℕ → Bool) → IsPair p → FollowsDrivers p.first → FollowsDrivers p.second → j < assumed_start p → k < assumed_start p → step_structure p j ≡ step_structure p k → value_at p a j ≡ value_at p a k
+same_value : (p : PairOf) (c : ClassesOf) (j k : ℕ) (a : ℕ → Bool) → IsPair p → FollowsDrivers p.first → FollowsDrivers p.second →
+    j < assumed_start p → k < assumed_start p → step_structure p j ≡ step_structure p k → value_at p a j ≡ value_at p a k
 same_value p c j k a h first second inside within e =
     let x = of_signal p c j h inside in
     let y = of_signal p c k h within in
     x.2.value a
-    ∙ (equal_values (netlist p x.0) (netlist p y.0) (variables_on p x.0) (variables_on p y.0) x.1 y.1 a (flat_on p x.0 h) (follows_on p x.0 first second) (flat_on p y.0 h) (follows_on p y.0 first second) x.2.inside y.2.inside (sym x.2.structure ∙ (e ∙ y.2.structure))
+    ∙ (equal_values (netlist p x.0) (netlist p y.0) (variables_on p x.0) (variables_on p y.0) x.1 y.1 a (flat_on p x.0 h)
+    (follows_on p x.0 first second) (flat_on p y.0 h) (follows_on p y.0 first second) x.2.inside y.2.inside
+    (sym x.2.structure ∙ (e ∙ y.2.structure))
     ∙ sym (y.2.value a))
 
 -- a step that is chosen for those of its structure has their value
@@ -279,7 +291,8 @@ first_shared p c row chosen h classes is f = record {
   size = f.size ∙ (ap length is ∙ size);
   early = λ k lt. omega (arith, chosen_is k lt, f.early k (long k lt));
   same = λ k lt. (
-      let e : get_or (row_of p c) (chosen_for chosen k) 0 ≡ get_or (row_of p c) k 0 = ap (λ i. get_or (row_of p c) i 0) (chosen_is k lt) ∙ (sym (ap (λ r. get_or r (get_or chosen k 0) 0) is) ∙ (f.same k (long k lt) ∙ ap (λ r. get_or r k 0) is)) in
+      let e : get_or (row_of p c) (chosen_for chosen k) 0 ≡ get_or (row_of p c) k 0 = ap (λ i. get_or (row_of p c) i 0) (chosen_is k lt)
+      ∙ (sym (ap (λ r. get_or r (get_or chosen k 0) 0) is) ∙ (f.same k (long k lt) ∙ ap (λ r. get_or r k 0) is)) in
       (row_tells p c (chosen_for chosen k) k h classes (omega (arith, chosen_is k lt, f.early k (long k lt), lt)) lt).0 e);
   one = λ j k inside within same. chosen_is j inside
       ∙ (f.one j k (long j inside) (long k within) (ap (λ r. get_or r j 0) is ∙ ((row_tells p c j k h classes inside within).1 same ∙ sym (ap (λ r. get_or r k 0) is)))
@@ -315,7 +328,9 @@ met_none row firsts count size none = record {
 }
 
 -- one place more, whose class has this first place, or is met there
-pub met_more : (row firsts places : List ℕ) (count n first : ℕ) → n < 4294967295 → get_or row n 0 < count → ((get_or firsts (get_or row n 0) 0 ≡ first) × (first < n)) ⊎ ((n ≤ get_or firsts (get_or row n 0) 0) × (first ≡ n)) → AreMet row firsts places count n → AreMet row (set firsts (get_or row n 0) first) (places ++ first ∷ []) count (n + 1)
+pub met_more : (row firsts places : List ℕ) (count n first : ℕ) → n < 4294967295 → get_or row n 0 < count →
+    ((get_or firsts (get_or row n 0) 0 ≡ first) × (first < n)) ⊎ ((n ≤ get_or firsts (get_or row n 0) 0) × (first ≡ n)) →
+    AreMet row firsts places count n → AreMet row (set firsts (get_or row n 0) first) (places ++ first ∷ []) count (n + 1)
 met_more row firsts places count n first few inside by m = record {
   classes = length-set firsts (get_or row n 0) first ∙ m.classes;
   size = omega (arith, length-append places (first ∷ []), m.size);
@@ -335,8 +350,12 @@ met_more row firsts places count n first few inside by m = record {
     | inr apart ↦ ap (λ i. get_or row i 0) (old j (omega arith)) ∙ m.same j (omega arith)
   ];
   fresh = λ c lt. elim (cases_eq c (get_or row n 0)) [
-    | inl same ↦ (let e : get_or (set firsts (get_or row n 0) first) c 0 ≡ first = ap (λ i. get_or (set firsts (get_or row n 0) first) i 0) same ∙ at_class in inr (omega (arith, e, low), ap (λ i. get_or row i 0) e ∙ (first_class ∙ sym same)))
-    | inr other ↦ (let e : get_or (set firsts (get_or row n 0) first) c 0 ≡ get_or firsts c 0 = get_or-set_other firsts (get_or row n 0) c first 0 other in elim (m.fresh c lt) [ inl none ↦ inl (e ∙ none) | inr w ↦ inr (omega (arith, e, w.0), ap (λ i. get_or row i 0) e ∙ w.1) ])
+    | inl same ↦
+        (let e : get_or (set firsts (get_or row n 0) first) c 0 ≡ first = ap (λ i. get_or (set firsts (get_or row n 0) first) i 0) same ∙ at_class in
+        inr (omega (arith, e, low), ap (λ i. get_or row i 0) e ∙ (first_class ∙ sym same)))
+    | inr other ↦
+        (let e : get_or (set firsts (get_or row n 0) first) c 0 ≡ get_or firsts c 0 = get_or-set_other firsts (get_or row n 0) c first 0 other in
+        elim (m.fresh c lt) [ inl none ↦ inl (e ∙ none) | inr w ↦ inr (omega (arith, e, w.0), ap (λ i. get_or row i 0) e ∙ w.1) ])
   ];
 }
   where

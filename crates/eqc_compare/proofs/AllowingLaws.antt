@@ -42,7 +42,9 @@ module _ (p : PairOf) (netlist : FlatOf) (is : p.assumes ≡ Some netlist) where
       subst (λ (f : FlatOf). get_or f.output_signals 0 0 < length f.drivers) assumed_is (one.flat.outputs_within 0 (omega (arith, one.one_output)))
 
   -- by names
-  named_some : (a : List Bool) → is_allowed (netlist_of p.first) (assumption_of p) a ≡ value_of (assumed p) (values_for p.first.inputs a (assumed p).inputs) (get_or (assumed p).output_signals (position_of (assumed p).outputs (get_or (assumed p).outputs 0 [])) 0)
+  named_some : (a : List Bool) →
+      is_allowed (netlist_of p.first) (assumption_of p) a ≡ value_of (assumed p) (values_for p.first.inputs a (assumed p).inputs)
+      (get_or (assumed p).output_signals (position_of (assumed p).outputs (get_or (assumed p).outputs 0 [])) 0)
   named_some a =
       ap (λ o. is_allowed (netlist_of p.first) (option_map netlist_of o) a) is
       ∙ ap (λ (f : FlatOf). value_of f (values_for p.first.inputs a f.inputs) (get_or f.output_signals (position_of f.outputs (get_or f.outputs 0 [])) 0)) assumed_is
@@ -59,7 +61,8 @@ module _ (p : PairOf) (netlist : FlatOf) (is : p.assumes ≡ Some netlist) where
       let m = pair_matched p h in
       let n = assumption_matched p h in
       allowed_some (assigned (first_variables p) a)
-      ∙ (value_agrees (assumed p) (inputs_under (assumed_variables p) (assigned (first_variables p) a)) (values_for p.first.inputs a (assumed p).inputs) (get_or (assumed p).output_signals 0 0) (assumed_flat p h)
+      ∙ (value_agrees (assumed p) (inputs_under (assumed_variables p) (assigned (first_variables p) a))
+      (values_for p.first.inputs a (assumed p).inputs) (get_or (assumed p).output_signals 0 0) (assumed_flat p h)
       (λ i within. rw (n.same i within) (assigned_value (first_variables p) p.first.inputs (assumed p).inputs a i m.distinct (omega (arith, m.first.size, n.inputs i within)))) (root_within h)
       ∙ sym (named_some a ∙ ap (λ k. value_of (assumed p) (values_for p.first.inputs a (assumed p).inputs) (get_or (assumed p).output_signals k 0)) (first_place h)))
 
@@ -120,19 +123,27 @@ root_says g root a h is = by g.pair.assumes refl
 -- ---- that it allows none
 
 -- a step that is never 1, if it is that of the assumption's output, and one that is not
-pub never_is : (g : StepsOf) (root : ℕ) (never : Bool) → AreSteps g → root ∷ [] ≡ assumed_root g → IsTrue never ↔ ((a : ℕ → Bool) → value_at g.pair a root ≡ false) → never ≡ allows_none (netlist_of g.pair.first) (assumption_of g.pair)
-never_is g root true h is tells = sym (none_allowed (netlist_of g.pair.first) (assumption_of g.pair) (λ a long. sym (allowed_is g.pair a h.lawful) ∙ (sym (root_says g root (assigned (first_variables g.pair) a) h is) ∙ tells.0 refl (assigned (first_variables g.pair) a))))
-never_is g root false h is tells = sym (some_allowed (netlist_of g.pair.first) (assumption_of g.pair) (λ forbids. true≢false (sym (tells.1 (λ a. root_says g root a h is ∙ (under a ∙ forbids (map a (first_variables g.pair)) (long a)))))))
+pub never_is : (g : StepsOf) (root : ℕ) (never : Bool) → AreSteps g → root ∷ [] ≡ assumed_root g →
+    IsTrue never ↔ ((a : ℕ → Bool) → value_at g.pair a root ≡ false) → never ≡ allows_none (netlist_of g.pair.first) (assumption_of g.pair)
+never_is g root true h is tells =
+    sym (none_allowed (netlist_of g.pair.first) (assumption_of g.pair)
+    (λ a long. sym (allowed_is g.pair a h.lawful) ∙ (sym (root_says g root (assigned (first_variables g.pair) a) h is) ∙ tells.0 refl (assigned (first_variables g.pair) a))))
+never_is g root false h is tells =
+    sym (some_allowed (netlist_of g.pair.first) (assumption_of g.pair)
+    (λ forbids. true≢false (sym (tells.1 (λ a. root_says g root a h is ∙ (under a ∙ forbids (map a (first_variables g.pair)) (long a)))))))
   where
     long : (a : ℕ → Bool) → length (map a (first_variables g.pair)) ≡ length g.pair.first.inputs
     long a = length-map (first_variables g.pair) a ∙ (pair_matched g.pair h.lawful).first.size
 
     under : (a : ℕ → Bool) → allowed_at g.pair a ≡ is_allowed (netlist_of g.pair.first) (assumption_of g.pair) (map a (first_variables g.pair))
     under a =
-        allowed_depends g.pair h.lawful a (assigned (first_variables g.pair) (map a (first_variables g.pair))) (λ i inside. sym (assigned_values (first_variables g.pair) a i (pair_matched g.pair h.lawful).distinct inside))
+        allowed_depends g.pair h.lawful a (assigned (first_variables g.pair) (map a (first_variables g.pair)))
+        (λ i inside. sym (assigned_values (first_variables g.pair) a i (pair_matched g.pair h.lawful).distinct inside))
         ∙ allowed_is g.pair (map a (first_variables g.pair)) h.lawful
 
-pub never_told : {E : Type 0} (g : StepsOf) (root : ℕ) (result : Result Bool E) → AreSteps g → root ∷ [] ≡ assumed_root g → IfOk result (λ never. IsTrue never ↔ ((a : ℕ → Bool) → value_at g.pair a root ≡ false)) → IfOk result (λ none. none ≡ allows_none (netlist_of g.pair.first) (assumption_of g.pair))
+pub never_told : {E : Type 0} (g : StepsOf) (root : ℕ) (result : Result Bool E) → AreSteps g → root ∷ [] ≡ assumed_root g →
+    IfOk result (λ never. IsTrue never ↔ ((a : ℕ → Bool) → value_at g.pair a root ≡ false)) →
+    IfOk result (λ none. none ≡ allows_none (netlist_of g.pair.first) (assumption_of g.pair))
 never_told g root (Ok never) h is tells = never_is g root never h is tells
 never_told g root (Err stop) h is tells = tt
 

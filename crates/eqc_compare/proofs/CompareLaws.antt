@@ -20,7 +20,8 @@ map_agrees v w n (x ∷ columns) same within =
     let others = map_agrees v w n columns same (λ k h. within (suc k) (omega arith)) in
     cc
 
-driven_agrees : (f : FlatOf) (a b v w : ℕ → Bool) (driver : DriverOf) → ((p : ℕ) → p < length f.inputs → a p ≡ b p) → ((x : ℕ) → x < length f.drivers → v x ≡ w x) → IsWithin f driver → driven f.rows a v driver ≡ driven f.rows b w driver
+driven_agrees : (f : FlatOf) (a b v w : ℕ → Bool) (driver : DriverOf) → ((p : ℕ) → p < length f.inputs → a p ≡ b p) →
+    ((x : ℕ) → x < length f.drivers → v x ≡ w x) → IsWithin f driver → driven f.rows a v driver ≡ driven f.rows b w driver
 driven_agrees f a b v w (input position) ab vw within = ab position within
 driven_agrees f a b v w (tie other) ab vw within = vw other within
 driven_agrees f a b v w (cover columns rows) ab vw within = ap (cover_value (get_or f.rows rows [])) (map_agrees v w (length f.drivers) columns vw within.0)
@@ -28,7 +29,8 @@ driven_agrees f a b v w (cover columns rows) ab vw within = ap (cover_value (get
 settled_agrees : (f : FlatOf) (a b : ℕ → Bool) (rounds s : ℕ) → IsFlat f → ((p : ℕ) → p < length f.inputs → a p ≡ b p) → s < length f.drivers → settled f a rounds s ≡ settled f b rounds s
 unfolding settled
 settled_agrees f a b zero s h ab inside = refl
-settled_agrees f a b (suc rounds) s h ab inside = driven_agrees f a b (settled f a rounds) (settled f b rounds) (driver_at f s) ab (λ x within. settled_agrees f a b rounds x h ab within) (h.drivers_within s inside)
+settled_agrees f a b (suc rounds) s h ab inside =
+    driven_agrees f a b (settled f a rounds) (settled f b rounds) (driver_at f s) ab (λ x within. settled_agrees f a b rounds x h ab within) (h.drivers_within s inside)
 
 -- values depend on the inputs alone
 pub value_agrees : (f : FlatOf) (a b : ℕ → Bool) (s : ℕ) → IsFlat f → ((p : ℕ) → p < length f.inputs → a p ≡ b p) → s < length f.drivers → value_of f a s ≡ value_of f b s

@@ -20,20 +20,26 @@ use Rattle.eqc_build.proofs.PairLaws.{AreMatched, pair_matched}
 use Rattle.eqc_pair.proofs.PlaceLemmas.{place_itself}
 
 -- two diagrams that say where an output's values differ
-pub xor_says : {X : Type 0} (entry : X → Entry) (g : StepsOf) (o : ℕ) (table : List (Option X)) (x y : X) (a : ℕ → Bool) → AreSteps g → o < length g.pair.first.outputs → IsBuilt entry g.pair table → reference_of table (first_root g o) ≡ Some x → reference_of table (second_root g o) ≡ Some y → operate Xor (says (entry x) a) (says (entry y) a) ≡ values_differ_at g.pair o a
+pub xor_says : {X : Type 0} (entry : X → Entry) (g : StepsOf) (o : ℕ) (table : List (Option X)) (x y : X) (a : ℕ → Bool) → AreSteps g →
+    o < length g.pair.first.outputs → IsBuilt entry g.pair table → reference_of table (first_root g o) ≡ Some x →
+    reference_of table (second_root g o) ≡ Some y → operate Xor (says (entry x) a) (says (entry y) a) ≡ values_differ_at g.pair o a
 unfolding values_differ_at
 xor_says entry g o table x y a h inside b ix iy =
     let s = get_or g.pair.first.output_signals o 0 in
     let t = get_or (second_signals g.pair) o 0 in
-    let first : says (entry x) a ≡ value_of g.pair.first (inputs_under (first_variables g.pair) a) s = b.values (first_root g o) x ix a ∙ first_made g a s h (h.lawful.first_flat.outputs_within o inside) in
-    let second : says (entry y) a ≡ value_of g.pair.second (inputs_under (second_variables g.pair) a) t = b.values (second_root g o) y iy a ∙ second_made g a t h ((pair_matched g.pair h.lawful).within o inside) in
+    let first : says (entry x) a ≡ value_of g.pair.first (inputs_under (first_variables g.pair) a) s = b.values (first_root g o) x ix a
+    ∙ first_made g a s h (h.lawful.first_flat.outputs_within o inside) in
+    let second : says (entry y) a ≡ value_of g.pair.second (inputs_under (second_variables g.pair) a) t = b.values (second_root g o) y iy a
+    ∙ second_made g a t h ((pair_matched g.pair h.lawful).within o inside) in
     rw (first, second) (sym (xor_differs (value_of g.pair.first (inputs_under (first_variables g.pair) a) s) (value_of g.pair.second (inputs_under (second_variables g.pair) a) t)))
 
 -- an output of the first netlist under an assignment
-first_value_is : (p : PairOf) (o : ℕ) (a : List Bool) → IsPair p → o < length p.first.outputs → value_of p.first (inputs_under (first_variables p) (assigned (first_variables p) a)) (get_or p.first.output_signals o 0) ≡ first_value (netlist_of p.first) (get_or p.first.outputs o []) a
+first_value_is : (p : PairOf) (o : ℕ) (a : List Bool) → IsPair p → o < length p.first.outputs →
+    value_of p.first (inputs_under (first_variables p) (assigned (first_variables p) a)) (get_or p.first.output_signals o 0) ≡ first_value (netlist_of p.first) (get_or p.first.outputs o []) a
 first_value_is p o a h inside =
     sym (ap (λ k. value_of p.first (values_for p.first.inputs a p.first.inputs) (get_or p.first.output_signals k 0)) (place_itself p.first.outputs o h.first_flat.outputs_differ inside)
-    ∙ value_agrees p.first (values_for p.first.inputs a p.first.inputs) (inputs_under (first_variables p) (assigned (first_variables p) a)) (get_or p.first.output_signals o 0) h.first_flat (λ i within. sym (own i within)) (h.first_flat.outputs_within o inside))
+    ∙ value_agrees p.first (values_for p.first.inputs a p.first.inputs) (inputs_under (first_variables p) (assigned (first_variables p) a))
+    (get_or p.first.output_signals o 0) h.first_flat (λ i within. sym (own i within)) (h.first_flat.outputs_within o inside))
   where
     m : AreMatched p
     m = pair_matched p h
@@ -45,7 +51,9 @@ first_value_is p o a h inside =
         subst P place (assigned_value (first_variables p) p.first.inputs p.first.inputs a i m.distinct) (omega (arith, m.first.size))
 
 -- and the second's of its name
-second_value_is : (p : PairOf) (o : ℕ) (a : List Bool) → IsPair p → o < length p.first.outputs → value_of p.second (inputs_under (second_variables p) (assigned (first_variables p) a)) (get_or (second_signals p) o 0) ≡ second_value (netlist_of p.first) (netlist_of p.second) (get_or p.first.outputs o []) a
+second_value_is : (p : PairOf) (o : ℕ) (a : List Bool) → IsPair p → o < length p.first.outputs →
+    value_of p.second (inputs_under (second_variables p) (assigned (first_variables p) a)) (get_or (second_signals p) o 0) ≡ second_value
+    (netlist_of p.first) (netlist_of p.second) (get_or p.first.outputs o []) a
 second_value_is p o a h inside =
     let m = pair_matched p h in
     sym (ap (value_of p.second (values_for p.first.inputs a p.second.inputs)) (sym (m.signals o inside))
@@ -53,7 +61,8 @@ second_value_is p o a h inside =
     (λ i within. rw (m.same i within) (sym (assigned_value (first_variables p) p.first.inputs p.second.inputs a i m.distinct (omega (arith, m.first.size, m.inputs i within))))) (m.within o inside))
 
 -- where the signals of an output differ and the assumption allows it is where the output does
-pub differs_is : (p : PairOf) (o : ℕ) (f : (ℕ → Bool) → Bool) → IsPair p → o < length p.first.outputs → SaysDifference p o f → IsDifference (netlist_of p.first) (netlist_of p.second) (assumption_of p) (get_or p.first.outputs o []) (first_variables p) f
+pub differs_is : (p : PairOf) (o : ℕ) (f : (ℕ → Bool) → Bool) → IsPair p → o < length p.first.outputs → SaysDifference p o f →
+    IsDifference (netlist_of p.first) (netlist_of p.second) (assumption_of p) (get_or p.first.outputs o []) (first_variables p) f
 unfolding differs_at values_differ_at
 differs_is p o f h inside s = record {
   size = (pair_matched p h).first.size;
@@ -65,15 +74,21 @@ pub differs_depends : (p : PairOf) (o : ℕ) (f : (ℕ → Bool) → Bool) → I
 unfolding differs_at values_differ_at
 differs_depends p o f h inside s x y same =
     let m = pair_matched p h in
-    let first = value_agrees p.first (inputs_under (first_variables p) x) (inputs_under (first_variables p) y) (get_or p.first.output_signals o 0) h.first_flat (λ i within. same i (omega (arith, m.first.size))) (h.first_flat.outputs_within o inside) in
+    let first =
+    value_agrees p.first (inputs_under (first_variables p) x) (inputs_under (first_variables p) y) (get_or p.first.output_signals o 0)
+    h.first_flat (λ i within. same i (omega (arith, m.first.size))) (h.first_flat.outputs_within o inside) in
     let second = value_agrees p.second (inputs_under (second_variables p) x) (inputs_under (second_variables p) y) (get_or (second_signals p) o 0) h.second_flat
     (λ i within. rw (m.same i within) (same (position_of p.first.inputs (get_or p.second.inputs i [])) (omega (arith, m.first.size, m.inputs i within)))) (m.within o inside) in
     s.each x ∙ (rw (allowed_depends p h x y same, first, second) (sym (s.each y)))
 
-pub least_is : (p : PairOf) (o : ℕ) (f : (ℕ → Bool) → Bool) → IsPair p → o < length p.first.outputs → SaysDifference p o f → find (λ a. f (assigned (first_variables p) a)) (assignments (length (first_variables p))) ≡ least_difference (netlist_of p.first) (netlist_of p.second) (assumption_of p) (get_or p.first.outputs o [])
+pub least_is : (p : PairOf) (o : ℕ) (f : (ℕ → Bool) → Bool) → IsPair p → o < length p.first.outputs → SaysDifference p o f →
+    find (λ a. f (assigned (first_variables p) a)) (assignments (length (first_variables p))) ≡ least_difference (netlist_of p.first)
+    (netlist_of p.second) (assumption_of p) (get_or p.first.outputs o [])
 least_is p o f h inside s = least_of_difference (netlist_of p.first) (netlist_of p.second) (assumption_of p) (get_or p.first.outputs o []) (first_variables p) f (differs_is p o f h inside s)
 
-pub none_is : (p : PairOf) (o : ℕ) (f : (ℕ → Bool) → Bool) → IsPair p → o < length p.first.outputs → SaysDifference p o f → ((a : ℕ → Bool) → f a ≡ false) → least_difference (netlist_of p.first) (netlist_of p.second) (assumption_of p) (get_or p.first.outputs o []) ≡ None
+pub none_is : (p : PairOf) (o : ℕ) (f : (ℕ → Bool) → Bool) → IsPair p → o < length p.first.outputs → SaysDifference p o f →
+    ((a : ℕ → Bool) → f a ≡ false) →
+    least_difference (netlist_of p.first) (netlist_of p.second) (assumption_of p) (get_or p.first.outputs o []) ≡ None
 none_is p o f h inside s never = none_of_difference (netlist_of p.first) (netlist_of p.second) (assumption_of p) (get_or p.first.outputs o []) (first_variables p) f (differs_is p o f h inside s) never
 
 -- a reference that was made is held, and given back it leaves what was held before
@@ -91,7 +106,9 @@ pub kept_lost : (d0 d1 d2 : Holding) (r : Entry) → Keeps d0 d1 → Loses d1 d2
 kept_lost d0 d1 d2 r k l = record { variables = l.variables ∙ k.variables; held = λ e. omega (arith, k.held e, l.held e) }
 
 -- an operation of a reference that was made, which is given back behind it
-pub gained_behind : {X E : Type 0} (entry : X → Entry) (d0 d1 d2 d3 : Holding) (r : Entry) (result : Result X E) (f g h : (ℕ → Bool) → Bool) → ((a : ℕ → Bool) → g a ≡ h a) → Gains d0 d1 r f → IfOk result (λ s. Gains d1 d2 (entry s) g) → Loses d2 d3 r → IfOk result (λ s. Gains d0 d3 (entry s) h)
+pub gained_behind : {X E : Type 0} (entry : X → Entry) (d0 d1 d2 d3 : Holding) (r : Entry) (result : Result X E) (f g h : (ℕ → Bool) → Bool) →
+    ((a : ℕ → Bool) → g a ≡ h a) → Gains d0 d1 r f → IfOk result (λ s. Gains d1 d2 (entry s) g) → Loses d2 d3 r →
+    IfOk result (λ s. Gains d0 d3 (entry s) h)
 gained_behind entry d0 d1 d2 d3 r (Err e) f g h same first second l = tt
 gained_behind entry d0 d1 d2 d3 r (Ok s) f g h same first second l = record {
   variables = l.variables ∙ (second.variables ∙ first.variables);
@@ -116,7 +133,8 @@ unfolding differs_at
 differs_without g o a none = sym (ap (λ b. b && values_differ_at g.pair o a) (allowed_without g a none))
 
 -- and with one where its output is 1, too
-pub differs_with : (g : StepsOf) (o root : ℕ) (a : ℕ → Bool) (allowed differ : Bool) → AreSteps g → root ∷ [] ≡ assumed_root g → allowed ≡ value_at g.pair a root → differ ≡ values_differ_at g.pair o a → operate And allowed differ ≡ differs_at g.pair o a
+pub differs_with : (g : StepsOf) (o root : ℕ) (a : ℕ → Bool) (allowed differ : Bool) → AreSteps g → root ∷ [] ≡ assumed_root g →
+    allowed ≡ value_at g.pair a root → differ ≡ values_differ_at g.pair o a → operate And allowed differ ≡ differs_at g.pair o a
 unfolding differs_at
 differs_with g o root a allowed differ h is says_allowed says_differ = rw (says_allowed ∙ root_says g root a h is, says_differ) (and_is (allowed_at g.pair a) (values_differ_at g.pair o a))
   where

@@ -41,11 +41,16 @@ values_agree p values v h inside =
     ∙ assigned_at (first_variables p) values (get_or p.order v 0) (variables_distinct p h) (omega (arith, variables_long p, h.ordered.position_within v inside))
 
 -- what is found over the variables is the least assignment of the inputs
-pub least_found : {E : Type 0} (p : PairOf) (f : (ℕ → Bool) → Bool) (variables : List ℕ) (result : Result (Vec Bool Global) E) → IsPair p → variables ≡ first_variables p → DependsBelow (length p.first.inputs) f → IfOk result (λ least. Some least.items ≡ find (λ values. f (assigned variables values)) (assignments (length variables))) → IfOk result (λ least. IsLeast (length p.first.inputs) (λ values. f (input_values p values)) least.items)
+pub least_found : {E : Type 0} (p : PairOf) (f : (ℕ → Bool) → Bool) (variables : List ℕ) (result : Result (Vec Bool Global) E) → IsPair p →
+    variables ≡ first_variables p → DependsBelow (length p.first.inputs) f →
+    IfOk result (λ least. Some least.items ≡ find (λ values. f (assigned variables values)) (assignments (length variables))) →
+    IfOk result (λ least. IsLeast (length p.first.inputs) (λ values. f (input_values p values)) least.items)
 least_found p f variables (Err e) h are depends found = tt
 least_found p f variables (Ok least) h are depends found =
     let P : List ℕ → Type 0 = λ variables. Some least.items ≡ find (λ values. f (assigned variables values)) (assignments (length variables)) in
     found_least (length p.first.inputs) (λ values. f (input_values p values)) least.items (sym (
     subst P are found
-    ∙ (find_same (λ values. f (assigned (first_variables p) values)) (λ values. f (input_values p values)) (λ values. depends (assigned (first_variables p) values) (input_values p values) (λ v inside. values_agree p values v h inside)) (assignments (length (first_variables p)))
+    ∙ (find_same (λ values. f (assigned (first_variables p) values)) (λ values. f (input_values p values))
+    (λ values. depends (assigned (first_variables p) values) (input_values p values) (λ v inside. values_agree p values v h inside))
+    (assignments (length (first_variables p)))
     ∙ ap (λ n. find (λ values. f (input_values p values)) (assignments n)) (variables_long p))))

@@ -16,7 +16,8 @@ below_false n p t least (false ∷ u) h k =
     elim (least.below u long k) [ inl e ↦ inl (ap (λ v. false ∷ v) e) | inr l ↦ inr l ]
 
 -- the least assignment that begins with true is below all others where none begins with false
-below_true : (n : ℕ) (p : List Bool → Bool) (t : List Bool) → ((u : List Bool) → length u ≡ n → p (false ∷ u) ≡ false) → IsLeast n (λ u. p (true ∷ u)) t → (b : List Bool) → length b ≡ suc n → p b ≡ true → (b ≡ true ∷ t) ⊎ IsBelow (true ∷ t) b
+below_true : (n : ℕ) (p : List Bool → Bool) (t : List Bool) → ((u : List Bool) → length u ≡ n → p (false ∷ u) ≡ false) →
+    IsLeast n (λ u. p (true ∷ u)) t → (b : List Bool) → length b ≡ suc n → p b ≡ true → (b ≡ true ∷ t) ⊎ IsBelow (true ∷ t) b
 below_true n p t none least [] h k = absurd (omega arith)
 below_true n p t none least (false ∷ u) h k =
     let long : length u ≡ n = omega arith in absurd (true≢false (sym k ∙ none u long))
@@ -25,7 +26,10 @@ below_true n p t none least (true ∷ u) h k =
     elim (least.below u long k) [ inl e ↦ inl (ap (λ v. true ∷ v) e) | inr l ↦ inr l ]
 
 -- the least of the two halves of all assignments
-least_of_halves : (n : ℕ) (p : List Bool → Bool) (a : List Bool) (o u : Option (List Bool)) → find (λ t. p (false ∷ t)) (assignments n) ≡ o → find (λ t. p (true ∷ t)) (assignments n) ≡ u → ((t : List Bool) → o ≡ Some t → IsLeast n (λ v. p (false ∷ v)) t) → ((t : List Bool) → u ≡ Some t → IsLeast n (λ v. p (true ∷ v)) t) → option_or (option_map (λ t. false ∷ t) o) (option_map (λ t. true ∷ t) u) ≡ Some a → IsLeast (suc n) p a
+least_of_halves : (n : ℕ) (p : List Bool → Bool) (a : List Bool) (o u : Option (List Bool)) → find (λ t. p (false ∷ t)) (assignments n) ≡ o →
+    find (λ t. p (true ∷ t)) (assignments n) ≡ u → ((t : List Bool) → o ≡ Some t → IsLeast n (λ v. p (false ∷ v)) t) →
+    ((t : List Bool) → u ≡ Some t → IsLeast n (λ v. p (true ∷ v)) t) →
+    option_or (option_map (λ t. false ∷ t) o) (option_map (λ t. true ∷ t) u) ≡ Some a → IsLeast (suc n) p a
 least_of_halves n p a (Some t) u e k low high found =
     let same : a ≡ false ∷ t = sym (same_Some (false ∷ t) a found) in
     let least : IsLeast n (λ v. p (false ∷ v)) t = low t refl in

@@ -17,7 +17,8 @@ vacuous_outcome p every none is all = record {
   within = All-nil (λ (d : Difference). d.output < length p.first.outputs);
 }
 
-pub compared_outcome : (p : PairOf) (every none : Bool) (found : Vec Difference Global) → none ≡ allows_none (netlist_of p.first) (assumption_of p) → none ≡ false → AreTold p every found.items → IsOutcome p every (Compared found)
+pub compared_outcome : (p : PairOf) (every none : Bool) (found : Vec Difference Global) →
+    none ≡ allows_none (netlist_of p.first) (assumption_of p) → none ≡ false → AreTold p every found.items → IsOutcome p every (Compared found)
 compared_outcome p every none found is some t = record {
   found = ap compared t.told_are ∙ sym (ap (λ b. if b then vacuous else compared (told every (differences_in p))) (sym is ∙ some));
   within = t.within;

@@ -22,7 +22,9 @@ before_more p n inside =
     ∙ (differences-append (netlist_of p.first) (netlist_of p.second) (assumption_of p) (chosen_outputs p.chosen (take n p.first.outputs)) (chosen_outputs p.chosen (get_or p.first.outputs n [] ∷ []))
     ∙ ap (λ l. told_before p n ++ l) (by (is_chosen_at p n) refl)))
   where
-    by : (b : Bool) → is_chosen_at p n ≡ b → differences (netlist_of p.first) (netlist_of p.second) (assumption_of p) (chosen_outputs p.chosen (get_or p.first.outputs n [] ∷ [])) ≡ with_difference (get_or p.first.outputs n []) (told_at p n) []
+    by : (b : Bool) → is_chosen_at p n ≡ b →
+        differences (netlist_of p.first) (netlist_of p.second) (assumption_of p)
+        (chosen_outputs p.chosen (get_or p.first.outputs n [] ∷ [])) ≡ with_difference (get_or p.first.outputs n []) (told_at p n) []
     by true e = rw e refl
     by false e = rw e refl
 
@@ -83,7 +85,8 @@ module _ (p : PairOf) (every : Bool) (found : List Difference) (n : ℕ) (t : Ar
   told_first inside d at here one =
       let rest = before_first p (n + 1) in
       let none = t.alone one in
-      let whole : differences_in p ≡ (get_or p.first.outputs d.output [], d.values.items) ∷ rest.0 = rest.1 ∙ ap (λ l. l ++ rest.0) (sym (with_one inside d at here) ∙ ap (λ l. found_in p.first (l ++ d ∷ [])) none) in
+      let whole : differences_in p ≡ (get_or p.first.outputs d.output [], d.values.items) ∷ rest.0 = rest.1
+      ∙ ap (λ l. l ++ rest.0) (sym (with_one inside d at here) ∙ ap (λ l. found_in p.first (l ++ d ∷ [])) none) in
       record {
         told_are = ap (λ l. found_in p.first (l ++ d ∷ [])) none ∙ sym (ap (λ b. told b (differences_in p)) one ∙ ap (take 1) whole);
         within = all_within inside d at;

@@ -19,12 +19,15 @@ pub never_differs : (f g : NetlistOf) (h : Option NetlistOf) (output : List ℕ)
 never_differs f g h output none = none_found (length f.inputs) (differs_under f g h output) none
 
 -- the outputs before the first and one before them
-before_more : (f g : NetlistOf) (h : Option NetlistOf) (o : List ℕ) (outputs : List (List ℕ)) (position : ℕ) → NeverDiffers f g h o → ((k : ℕ) → k < position → NeverDiffers f g h (get_or outputs k [])) → (k : ℕ) → k < suc position → NeverDiffers f g h (get_or (o ∷ outputs) k [])
+before_more : (f g : NetlistOf) (h : Option NetlistOf) (o : List ℕ) (outputs : List (List ℕ)) (position : ℕ) → NeverDiffers f g h o →
+    ((k : ℕ) → k < position → NeverDiffers f g h (get_or outputs k [])) → (k : ℕ) → k < suc position → NeverDiffers f g h (get_or (o ∷ outputs) k [])
 before_more f g h o outputs position never before zero lt = never
 before_more f g h o outputs position never before (suc k) lt = let less : k < position = omega arith in before k less
 
 -- an output before others that has a difference, or has none
-first_by : (f g : NetlistOf) (h : Option NetlistOf) (o : List ℕ) (outputs : List (List ℕ)) (output : List ℕ) (a : List Bool) (l : Option (List Bool)) → least_difference f g h o ≡ l → (first_difference f g h outputs ≡ Some (output, a) → IsFirstDifference f g h outputs output a) → option_or (option_map (λ b. (o, b)) l) (first_difference f g h outputs) ≡ Some (output, a) → IsFirstDifference f g h (o ∷ outputs) output a
+first_by : (f g : NetlistOf) (h : Option NetlistOf) (o : List ℕ) (outputs : List (List ℕ)) (output : List ℕ) (a : List Bool) (l : Option (List Bool)) →
+    least_difference f g h o ≡ l → (first_difference f g h outputs ≡ Some (output, a) → IsFirstDifference f g h outputs output a) →
+    option_or (option_map (λ b. (o, b)) l) (first_difference f g h outputs) ≡ Some (output, a) → IsFirstDifference f g h (o ∷ outputs) output a
 first_by f g h o outputs output a (Some b) e later found =
     let parts : (o ≡ output) × (b ≡ a) = some_pair_parts o output b a found in
     let least : IsLeastDifference f g h o b = found_least (length f.inputs) (differs_under f g h o) b e in
@@ -46,12 +49,15 @@ first_by f g h o outputs output a None e later found =
     }
 
 -- the output that is found is the first that differs
-pub found_is_first : (f g : NetlistOf) (h : Option NetlistOf) (outputs : List (List ℕ)) (output : List ℕ) (a : List Bool) → first_difference f g h outputs ≡ Some (output, a) → IsFirstDifference f g h outputs output a
+pub found_is_first : (f g : NetlistOf) (h : Option NetlistOf) (outputs : List (List ℕ)) (output : List ℕ) (a : List Bool) →
+    first_difference f g h outputs ≡ Some (output, a) → IsFirstDifference f g h outputs output a
 found_is_first f g h [] output a e = cc
 found_is_first f g h (o ∷ outputs) output a e = first_by f g h o outputs output a (least_difference f g h o) refl (found_is_first f g h outputs output a) e
 
 -- the output at a position before which none differs
-at_position : (f g : NetlistOf) (h : Option NetlistOf) (outputs : List (List ℕ)) (position : ℕ) (output : List ℕ) (a : List Bool) → position < length outputs → get_or outputs position [] ≡ output → ((k : ℕ) → k < position → NeverDiffers f g h (get_or outputs k [])) → IsLeastDifference f g h output a → first_difference f g h outputs ≡ Some (output, a)
+at_position : (f g : NetlistOf) (h : Option NetlistOf) (outputs : List (List ℕ)) (position : ℕ) (output : List ℕ) (a : List Bool) →
+    position < length outputs → get_or outputs position [] ≡ output → ((k : ℕ) → k < position → NeverDiffers f g h (get_or outputs k [])) →
+    IsLeastDifference f g h output a → first_difference f g h outputs ≡ Some (output, a)
 at_position f g h [] position output a within there before least = absurd (omega arith)
 at_position f g h (o ∷ outputs) zero output a within there before least =
     let found : least_difference f g h output ≡ Some a = least_found (length f.inputs) (differs_under f g h output) a least in
@@ -64,7 +70,8 @@ at_position f g h (o ∷ outputs) (suc position) output a within there before le
     ∙ at_position f g h outputs position output a less there (λ k lt. before (suc k) (suc-le-suc lt)) least
 
 -- the first output that differs is found
-pub first_is_found : (f g : NetlistOf) (h : Option NetlistOf) (outputs : List (List ℕ)) (output : List ℕ) (a : List Bool) → IsFirstDifference f g h outputs output a → first_difference f g h outputs ≡ Some (output, a)
+pub first_is_found : (f g : NetlistOf) (h : Option NetlistOf) (outputs : List (List ℕ)) (output : List ℕ) (a : List Bool) →
+    IsFirstDifference f g h outputs output a → first_difference f g h outputs ≡ Some (output, a)
 first_is_found f g h outputs output a first = at_position f g h outputs first.position output a first.within first.there first.before first.least
 
 -- where no output is found none ever differs
@@ -145,7 +152,8 @@ pub differences-append : (f g : NetlistOf) (h : Option NetlistOf) (xs ys : List 
 differences-append f g h [] ys = refl
 differences-append f g h (x ∷ xs) ys = by (least_difference f g h x) (differences-append f g h xs ys)
   where
-    by : (o : Option (List Bool)) → differences f g h (xs ++ ys) ≡ differences f g h xs ++ differences f g h ys → with_difference x o (differences f g h (xs ++ ys)) ≡ with_difference x o (differences f g h xs) ++ differences f g h ys
+    by : (o : Option (List Bool)) → differences f g h (xs ++ ys) ≡ differences f g h xs ++ differences f g h ys →
+        with_difference x o (differences f g h (xs ++ ys)) ≡ with_difference x o (differences f g h xs) ++ differences f g h ys
     by None e = e
     by (Some a) e = ap (λ l. (x, a) ∷ l) e
 
@@ -154,24 +162,30 @@ pub first_alone : (f g : NetlistOf) (h : Option NetlistOf) (outputs : List (List
 first_alone f g h [] = refl
 first_alone f g h (o ∷ outputs) = by (least_difference f g h o) (first_alone f g h outputs)
   where
-    by : (l : Option (List Bool)) → take 1 (differences f g h outputs) ≡ option_to_list (first_difference f g h outputs) → take 1 (with_difference o l (differences f g h outputs)) ≡ option_to_list (option_or (option_map (λ a. (o, a)) l) (first_difference f g h outputs))
+    by : (l : Option (List Bool)) → take 1 (differences f g h outputs) ≡ option_to_list (first_difference f g h outputs) →
+        take 1 (with_difference o l (differences f g h outputs)) ≡ option_to_list (option_or (option_map (λ a. (o, a)) l) (first_difference f g h outputs))
     by None e = e
     by (Some a) e = refl
 
 -- they are those of the outputs that differ
-pub each_difference : (f g : NetlistOf) (h : Option NetlistOf) (outputs : List (List ℕ)) → (map (λ q. q.0) (differences f g h outputs) ≡ filter (differs_ever f g h) outputs) × All (λ q. IsLeastDifference f g h q.0 q.1) (differences f g h outputs)
+pub each_difference : (f g : NetlistOf) (h : Option NetlistOf) (outputs : List (List ℕ)) →
+    (map (λ q. q.0) (differences f g h outputs) ≡ filter (differs_ever f g h) outputs) × All (λ q. IsLeastDifference f g h q.0 q.1) (differences f g h outputs)
 each_difference f g h [] = (refl, All-nil (λ q. IsLeastDifference f g h q.0 q.1))
 each_difference f g h (o ∷ outputs) = by (least_difference f g h o) refl (each_difference f g h outputs)
   where
-    by : (l : Option (List Bool)) → least_difference f g h o ≡ l → (map (λ q. q.0) (differences f g h outputs) ≡ filter (differs_ever f g h) outputs) × All (λ q. IsLeastDifference f g h q.0 q.1) (differences f g h outputs)
-        → (map (λ q. q.0) (with_difference o (least_difference f g h o) (differences f g h outputs)) ≡ filter (differs_ever f g h) (o ∷ outputs)) × All (λ q. IsLeastDifference f g h q.0 q.1) (with_difference o (least_difference f g h o) (differences f g h outputs))
+    by : (l : Option (List Bool)) → least_difference f g h o ≡ l →
+        (map (λ q. q.0) (differences f g h outputs) ≡ filter (differs_ever f g h) outputs) × All (λ q. IsLeastDifference f g h q.0 q.1) (differences f g h outputs)
+        → (map (λ q. q.0) (with_difference o (least_difference f g h o) (differences f g h outputs)) ≡ filter (differs_ever f g h) (o ∷ outputs)) × All
+        (λ q. IsLeastDifference f g h q.0 q.1) (with_difference o (least_difference f g h o) (differences f g h outputs))
     by None e rest = rw e rest
-    by (Some a) e rest = rw e (ap (λ l. o ∷ l) rest.0, All-cons (λ q. IsLeastDifference f g h q.0 q.1) (o, a) (differences f g h outputs) (found_least (length f.inputs) (differs_under f g h o) a e) rest.1)
+    by (Some a) e rest =
+        rw e (ap (λ l. o ∷ l) rest.0, All-cons (λ q. IsLeastDifference f g h q.0 q.1) (o, a) (differences f g h outputs) (found_least (length f.inputs) (differs_under f g h o) a e) rest.1)
 
 -- ---- when an output differs
 
 -- where it is allowed and has two values
-pub differs_where : (f g : NetlistOf) (h : Option NetlistOf) (output : List ℕ) (a : List Bool) → (differs_under f g h output a ≡ true) ↔ ((is_allowed f h a ≡ true) × (first_value f output a ≢ second_value f g output a))
+pub differs_where : (f g : NetlistOf) (h : Option NetlistOf) (output : List ℕ) (a : List Bool) →
+    (differs_under f g h output a ≡ true) ↔ ((is_allowed f h a ≡ true) × (first_value f output a ≢ second_value f g output a))
 differs_where f g h output a = by (is_allowed f h a) (first_value f output a) (second_value f g output a)
   where
     by : (allowed x y : Bool) → ((allowed && is_different x y) ≡ true) ↔ ((allowed ≡ true) × (x ≢ y))

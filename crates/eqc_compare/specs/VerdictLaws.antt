@@ -41,12 +41,14 @@ pub record IsFirstDifference (f g : NetlistOf) (h : Option NetlistOf) (outputs :
 -- an output differs under an assignment exactly where that is allowed and the output has different values in the two netlists
 abbrev pub DifferenceLaw : Type 0
 DifferenceLaw =
-    (f g : NetlistOf) (h : Option NetlistOf) (output : List ℕ) (a : List Bool) → (differs_under f g h output a ≡ true) ↔ ((is_allowed f h a ≡ true) × (first_value f output a ≢ second_value f g output a))
+    (f g : NetlistOf) (h : Option NetlistOf) (output : List ℕ) (a : List Bool) →
+    (differs_under f g h output a ≡ true) ↔ ((is_allowed f h a ≡ true) × (first_value f output a ≢ second_value f g output a))
 
 -- an input has the value that an assignment gives the declared input of its name
 abbrev pub MatchingLaw : Type 0
 MatchingLaw =
-    (declared names : List (List ℕ)) (a : List Bool) (i p : ℕ) → has_twice declared ≡ false → i < length declared → slice_index_or declared i [] ≡ slice_index_or names p [] → values_for declared a names p ≡ slice_index_or a i false
+    (declared names : List (List ℕ)) (a : List Bool) (i p : ℕ) → has_twice declared ≡ false → i < length declared →
+    slice_index_or declared i [] ≡ slice_index_or names p [] → values_for declared a names p ≡ slice_index_or a i false
 
 -- an assumption allows no assignment exactly where its output is 0 under each
 abbrev pub VacuousLaw : Type 0
@@ -69,7 +71,8 @@ UniqueLaw =
 -- the output that is found is the first that differs
 abbrev pub FirstLaw : Type 0
 FirstLaw =
-    (f g : NetlistOf) (h : Option NetlistOf) (outputs : List (List ℕ)) (output : List ℕ) (a : List Bool) → (first_difference f g h outputs ≡ Some (output, a)) ↔ IsFirstDifference f g h outputs output a
+    (f g : NetlistOf) (h : Option NetlistOf) (outputs : List (List ℕ)) (output : List ℕ) (a : List Bool) →
+    (first_difference f g h outputs ≡ Some (output, a)) ↔ IsFirstDifference f g h outputs output a
 
 -- no output is found exactly where none of them ever differs
 abbrev pub EquivalentLaw : Type 0

@@ -53,7 +53,9 @@ module _ (z : Sizes) (w : Words) (hs : Homes) (vs : List View) (id : ℕ) (v : V
   f = law.views id v at on
 
   -- the frame of the steps that change a draft and its count, and no table
-  draft_keeps : (x n : ℕ) (draft : Option ℕ) (turn : List ℕ) → n + 2 * is_draft x v.draft ≡ get_or w.counts x 0 + 2 * is_draft x draft → ((y : ℕ) → y ≢ x → is_draft y draft ≡ is_draft y v.draft) → tabled hs vs x + drafts (set vs id (record v { draft = draft; turn = turn })) x ≤ 1 → 2 ≤ x → x < z.names
+  draft_keeps : (x n : ℕ) (draft : Option ℕ) (turn : List ℕ) → n + 2 * is_draft x v.draft ≡ get_or w.counts x 0 + 2 * is_draft x draft →
+      ((y : ℕ) → y ≢ x → is_draft y draft ≡ is_draft y v.draft) →
+      tabled hs vs x + drafts (set vs id (record v { draft = draft; turn = turn })) x ≤ 1 → 2 ≤ x → x < z.names
       → Lawful z (with_count w x n) hs (set vs id (record v { draft = draft; turn = turn }))
   draft_keeps x n draft turn count others once_here two small =
       step_keeps z w hs vs id v law at on v.held draft v.hand v.read turn v.stops (set w.counts x n) w.nodes w.locks hs (length-set w.counts x n) refl refl refl (λ y tab. refl)

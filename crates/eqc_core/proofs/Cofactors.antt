@@ -76,7 +76,8 @@ cofactor_of_is nodes b v x (Node w l h) lt is = go b (ℕ_discrete w v)
     same : variable_at nodes x ≡ w
     same = rw (le-ltb x 2 is.0) is.1
 
-    go : (b : Bool) → Dec (w ≡ v) → IsTree nodes (if eqb w v then (if b then h else l) else Node w l h) (if eqb (variable_at nodes x) v then (if b then high_of (get_or nodes x 0) else low_of (get_or nodes x 0)) else x)
+    go : (b : Bool) → Dec (w ≡ v) →
+        IsTree nodes (if eqb w v then (if b then h else l) else Node w l h) (if eqb (variable_at nodes x) v then (if b then high_of (get_or nodes x 0) else low_of (get_or nodes x 0)) else x)
     go true (yes e) = rw (eq-eqb w v e, eq-eqb (variable_at nodes x) v (same ∙ e)) is.3
     go false (yes e) = rw (eq-eqb w v e, eq-eqb (variable_at nodes x) v (same ∙ e)) is.2
     go b (no n) = rw (ne_eqb w v n, ne_eqb (variable_at nodes x) v (λ e. n (sym same ∙ e))) is
@@ -108,14 +109,16 @@ module _ (z : Sizes) (w : Words) (hs : Homes) (vs : List View) (law : Lawful z w
   pub cofactor_named : (v : ℕ) (b : Bool) (x : ℕ) → v < 2 ^ 16 → IsName hs vs x → IsName hs vs (cofactor w.nodes v b x)
   cofactor_named v b x lt name = go b name (ℕ_discrete (variable_at w.nodes x) v)
     where
-      go : (b : Bool) → IsName hs vs x → Dec (variable_at w.nodes x ≡ v) → IsName hs vs (if eqb (variable_at w.nodes x) v then (if b then high_of (get_or w.nodes x 0) else low_of (get_or w.nodes x 0)) else x)
+      go : (b : Bool) → IsName hs vs x → Dec (variable_at w.nodes x ≡ v) →
+          IsName hs vs (if eqb (variable_at w.nodes x) v then (if b then high_of (get_or w.nodes x 0) else low_of (get_or w.nodes x 0)) else x)
       go b name (no n) = rw (ne_eqb (variable_at w.nodes x) v n) name
       go b (inl small) (yes e) = absurd (let c : variable_at w.nodes x ≡ 2 ^ 16 = rw (lt-ltb x 2 small) refl in omega arith)
       go true (inr tab) (yes e) = rw (eq-eqb (variable_at w.nodes x) v e) (high_named z w hs vs x law tab)
       go false (inr tab) (yes e) = rw (eq-eqb (variable_at w.nodes x) v e) (low_named z w hs vs x law tab)
 
   -- variables rise: a cofactor at the least variable starts later
-  pub cofactor_later : (v : ℕ) (b : Bool) (x : ℕ) → v < 2 ^ 16 → IsName hs vs x → (variable_at w.nodes x ≤ variable_at w.nodes (cofactor w.nodes v b x)) × (variable_at w.nodes x ≡ v → v < variable_at w.nodes (cofactor w.nodes v b x))
+  pub cofactor_later : (v : ℕ) (b : Bool) (x : ℕ) → v < 2 ^ 16 → IsName hs vs x →
+      (variable_at w.nodes x ≤ variable_at w.nodes (cofactor w.nodes v b x)) × (variable_at w.nodes x ≡ v → v < variable_at w.nodes (cofactor w.nodes v b x))
   cofactor_later v b x lt name = go b name (ℕ_discrete (variable_at w.nodes x) v)
     where
       at : ℕ → ℕ
@@ -127,9 +130,15 @@ module _ (z : Sizes) (w : Words) (hs : Homes) (vs : List View) (law : Lawful z w
       go b name (no n) = rw (ne_eqb (variable_at w.nodes x) v n) (omega arith, λ e. absurd (n e))
       go b (inl small) (yes e) = absurd (let c : variable_at w.nodes x ≡ 2 ^ 16 = rw (lt-ltb x 2 small) refl in omega arith)
       go true (inr tab) (yes e) = rw (eq-eqb (variable_at w.nodes x) v e)
-          (let s = law.tables.shaped x tab in let up = s.above_high in let same : variable_at w.nodes x ≡ variable_of (get_or w.nodes x 0) = rw (le-ltb x 2 (law.tables.named x tab).0) refl in (omega arith, λ e. omega arith))
+          (let s = law.tables.shaped x tab in
+          let up = s.above_high in
+          let same : variable_at w.nodes x ≡ variable_of (get_or w.nodes x 0) = rw (le-ltb x 2 (law.tables.named x tab).0) refl in
+          (omega arith, λ e. omega arith))
       go false (inr tab) (yes e) = rw (eq-eqb (variable_at w.nodes x) v e)
-          (let s = law.tables.shaped x tab in let up = s.above_low in let same : variable_at w.nodes x ≡ variable_of (get_or w.nodes x 0) = rw (le-ltb x 2 (law.tables.named x tab).0) refl in (omega arith, λ e. omega arith))
+          (let s = law.tables.shaped x tab in
+          let up = s.above_low in
+          let same : variable_at w.nodes x ≡ variable_of (get_or w.nodes x 0) = rw (le-ltb x 2 (law.tables.named x tab).0) refl in
+          (omega arith, λ e. omega arith))
 
   variable_le : (x : ℕ) → IsName hs vs x → variable_at w.nodes x ≤ 2 ^ 16
   variable_le x name = go (dec_le 2 x)
@@ -139,7 +148,8 @@ module _ (z : Sizes) (w : Words) (hs : Homes) (vs : List View) (law : Lawful z w
       go (no n) = rw (lt-ltb x 2 (omega arith)) (omega arith)
 
   -- what is left of the variables falls
-  pub cofactors_fall : (v : ℕ) (b : Bool) (f g r f' g' r' : ℕ) → v < 2 ^ 16 → v ≡ min (min (variable_at w.nodes f) (variable_at w.nodes g)) (variable_at w.nodes r) → IsName hs vs f → IsName hs vs g → IsName hs vs r
+  pub cofactors_fall : (v : ℕ) (b : Bool) (f g r f' g' r' : ℕ) → v < 2 ^ 16 →
+      v ≡ min (min (variable_at w.nodes f) (variable_at w.nodes g)) (variable_at w.nodes r) → IsName hs vs f → IsName hs vs g → IsName hs vs r
       → f' ≡ cofactor w.nodes v b f → g' ≡ cofactor w.nodes v b g → r' ≡ cofactor w.nodes v b r
       → 3 * 2 ^ 16 - (variable_at w.nodes f' + (variable_at w.nodes g' + variable_at w.nodes r')) < 3 * 2 ^ 16 - (variable_at w.nodes f + (variable_at w.nodes g + variable_at w.nodes r))
   cofactors_fall v b f g r f' g' r' lt is nf ng nr ef eg er =
@@ -149,8 +159,10 @@ module _ (z : Sizes) (w : Words) (hs : Homes) (vs : List View) (law : Lawful z w
       let vf = ap (variable_at w.nodes) ef in
       let vg = ap (variable_at w.nodes) eg in
       let vr = ap (variable_at w.nodes) er in
-      fall v (variable_at w.nodes f) (variable_at w.nodes g) (variable_at w.nodes r) (variable_at w.nodes f') (variable_at w.nodes g') (variable_at w.nodes r') lt is (variable_le f nf) (variable_le g ng) (variable_le r nr)
-      (let h = lf.0 in omega arith) (let h = lg.0 in omega arith) (let h = lr.0 in omega arith) (λ e. let h = lf.1 e in omega arith) (λ e. let h = lg.1 e in omega arith) (λ e. let h = lr.1 e in omega arith)
+      fall v (variable_at w.nodes f) (variable_at w.nodes g) (variable_at w.nodes r) (variable_at w.nodes f') (variable_at w.nodes g')
+      (variable_at w.nodes r') lt is (variable_le f nf) (variable_le g ng) (variable_le r nr)
+      (let h = lf.0 in omega arith) (let h = lg.0 in omega arith) (let h = lr.0 in omega arith) (λ e. let h = lf.1 e in omega arith)
+      (λ e. let h = lg.1 e in omega arith) (λ e. let h = lr.1 e in omega arith)
     where
       fall : (v a b c a' b' c' : ℕ) → v < 2 ^ 16 → v ≡ min (min a b) c → a ≤ 2 ^ 16 → b ≤ 2 ^ 16 → c ≤ 2 ^ 16 → a ≤ a' → b ≤ b' → c ≤ c' → (a ≡ v → v < a') → (b ≡ v → v < b') → (c ≡ v → v < c')
           → 3 * 2 ^ 16 - (a' + (b' + c')) < 3 * 2 ^ 16 - (a + (b + c))
@@ -163,12 +175,14 @@ module _ (z : Sizes) (w : Words) (hs : Homes) (vs : List View) (law : Lawful z w
           pick (no n) (no m) (no k) = absurd (omega arith)
 
   -- what a cofactor's tree says
-  cofactor_value : (v : ℕ) (b : Bool) (x : ℕ) (t t' : Tree) (a : ℕ → Bool) → v < 2 ^ 16 → v ≤ variable_at w.nodes x → IsName hs vs x → IsTree w.nodes t x → IsTree w.nodes t' (cofactor w.nodes v b x) → value t' a ≡ value t (set_at a v b)
+  cofactor_value : (v : ℕ) (b : Bool) (x : ℕ) (t t' : Tree) (a : ℕ → Bool) → v < 2 ^ 16 → v ≤ variable_at w.nodes x → IsName hs vs x →
+      IsTree w.nodes t x → IsTree w.nodes t' (cofactor w.nodes v b x) → value t' a ≡ value t (set_at a v b)
   cofactor_value v b x t t' a lt le name is is' =
       let same : t' ≡ cofactor_of b v t = is_tree_one w.nodes t' (cofactor_of b v t) (cofactor w.nodes v b x) is' (cofactor_of_is w.nodes b v x t lt is) in
       ap (λ (k : Tree). value k a) same ∙ value-cofactor_of b v t a (starts_at w.nodes v x t is le) (canonical z w hs vs t x law name is).ordered
 
-  pub agrees_cofactors : (op : Op) (v : ℕ) (b : Bool) (f g r : ℕ) → v < 2 ^ 16 → v ≤ variable_at w.nodes f → v ≤ variable_at w.nodes g → v ≤ variable_at w.nodes r → IsName hs vs f → IsName hs vs g → IsName hs vs r
+  pub agrees_cofactors : (op : Op) (v : ℕ) (b : Bool) (f g r : ℕ) → v < 2 ^ 16 → v ≤ variable_at w.nodes f → v ≤ variable_at w.nodes g →
+      v ≤ variable_at w.nodes r → IsName hs vs f → IsName hs vs g → IsName hs vs r
       → Agrees w.nodes op f g r → Agrees w.nodes op (cofactor w.nodes v b f) (cofactor w.nodes v b g) (cofactor w.nodes v b r)
   agrees_cofactors op v b f g r lt lf lg lr nf ng nr agrees s' t' u' is it iu a =
       let s = tree_there z w hs vs f law nf in
@@ -191,13 +205,17 @@ module _ (z : Sizes) (w : Words) (hs : Homes) (vs : List View) (law : Lawful z w
           let p : value s a ≡ value (cofactor_of false v s) a = value_by_cofactor v s a ∙ ap (λ (b : Bool). value (cofactor_of b v s) a) e in
           let q : value t a ≡ value (cofactor_of false v t) a = value_by_cofactor v t a ∙ ap (λ (b : Bool). value (cofactor_of b v t) a) e in
           let o : value u a ≡ value (cofactor_of false v u) a = value_by_cofactor v u a ∙ ap (λ (b : Bool). value (cofactor_of b v u) a) e in
-          let h = low (cofactor_of false v s) (cofactor_of false v t) (cofactor_of false v u) (cofactor_of_is w.nodes false v f s lt is) (cofactor_of_is w.nodes false v g t lt it) (cofactor_of_is w.nodes false v r u lt iu) a in
+          let h =
+          low (cofactor_of false v s) (cofactor_of false v t) (cofactor_of false v u) (cofactor_of_is w.nodes false v f s lt is)
+          (cofactor_of_is w.nodes false v g t lt it) (cofactor_of_is w.nodes false v r u lt iu) a in
           cc
       go true e =
           let p : value s a ≡ value (cofactor_of true v s) a = value_by_cofactor v s a ∙ ap (λ (b : Bool). value (cofactor_of b v s) a) e in
           let q : value t a ≡ value (cofactor_of true v t) a = value_by_cofactor v t a ∙ ap (λ (b : Bool). value (cofactor_of b v t) a) e in
           let o : value u a ≡ value (cofactor_of true v u) a = value_by_cofactor v u a ∙ ap (λ (b : Bool). value (cofactor_of b v u) a) e in
-          let h = high (cofactor_of true v s) (cofactor_of true v t) (cofactor_of true v u) (cofactor_of_is w.nodes true v f s lt is) (cofactor_of_is w.nodes true v g t lt it) (cofactor_of_is w.nodes true v r u lt iu) a in
+          let h =
+          high (cofactor_of true v s) (cofactor_of true v t) (cofactor_of true v u) (cofactor_of_is w.nodes true v f s lt is)
+          (cofactor_of_is w.nodes true v g t lt it) (cofactor_of_is w.nodes true v r u lt iu) a in
           cc
 
   -- on constants

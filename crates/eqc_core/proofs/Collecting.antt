@@ -46,7 +46,8 @@ unfolding in_words
 in_no_words x words two empty = sum_same (λ n. times x (cell_names n)) (λ n. 0) words (λ i n e. no_names x n two (empty i n e)) ∙ sum_zero (λ (n : ℕ). 0) (λ n. refl) words
 
 -- a view that is worker 0's, or not active, owns only what its hand has
-own_hand : (z : Sizes) (w : Words) (hs : Homes) (vs : List View) (x i : ℕ) (v : View) → Lawful z w hs vs → IsBare [] w vs → get_elem? vs i ≡ some v → (b : Bool) → v.active ≡ b → (owned x v ≡ in_hand (table_names x) v.hand) × (is_draft x v.draft ≡ 0)
+own_hand : (z : Sizes) (w : Words) (hs : Homes) (vs : List View) (x i : ℕ) (v : View) → Lawful z w hs vs → IsBare [] w vs →
+    get_elem? vs i ≡ some v → (b : Bool) → v.active ≡ b → (owned x v ≡ in_hand (table_names x) v.hand) × (is_draft x v.draft ≡ 0)
 own_hand z w hs vs x i v law bare at true on =
     let e : view_at vs 0 ≡ v = ap (λ (k : ℕ). view_at vs k) (sym (bare.alone i v at on)) ∙ at_get vs i v unused at in
     let h : times x v.held ≡ 0 = ap (λ (t : View). times x t.held) (sym e) ∙ (ap (times x) bare.holds ∙ times-nil x) in
@@ -60,7 +61,8 @@ own_hand z w hs vs x i v law bare at false off = ⊎_elim
 no_drafts : (z : Sizes) (w : Words) (hs : Homes) (vs : List View) (x : ℕ) → Lawful z w hs vs → IsBare [] w vs → drafts vs x ≡ 0
 no_drafts z w hs vs x law bare = sum_same (λ v. is_draft x v.draft) (λ v. 0) vs (λ i v e. (own_hand z w hs vs x i v law bare e v.active refl).1) ∙ sum_zero (λ (v : View). 0) (λ v. refl) vs
 
-module _ (z : Sizes) (w : Words) (hs : Homes) (vs : List View) (law : Lawful z w hs vs) (x k : ℕ) (two : 2 ≤ x) (all : (y : ℕ) → 0 < tabled hs vs y → k ≤ variable_of (get_or w.nodes y 0)) (least : variable_of (get_or w.nodes x 0) ≡ k) where
+module _ (z : Sizes) (w : Words) (hs : Homes) (vs : List View) (law : Lawful z w hs vs) (x k : ℕ) (two : 2 ≤ x)
+    (all : (y : ℕ) → 0 < tabled hs vs y → k ≤ variable_of (get_or w.nodes y 0)) (least : variable_of (get_or w.nodes x 0) ≡ k) where
   -- the slot is no child of a tabled one: that would have a lesser variable
   no_child : (y : ℕ) → 0 < tabled hs vs y → times x (children (get_or w.nodes y 0)) ≡ 0
   no_child y tab = go (dec_le 1 (times x (children (get_or w.nodes y 0))))
@@ -72,10 +74,14 @@ module _ (z : Sizes) (w : Words) (hs : Homes) (vs : List View) (law : Lawful z w
       word = get_or w.nodes y 0
 
       is_low : low_of (get_or w.nodes y 0) ≡ x → ⊥
-      is_low e = let s = (law.tables.shaped y tab).above_low in let q : variable_at w.nodes (low_of (get_or w.nodes y 0)) ≡ k = ap (λ (n : ℕ). variable_at w.nodes n) e ∙ at_x in omega (arith, all y tab)
+      is_low e = let s = (law.tables.shaped y tab).above_low in
+          let q : variable_at w.nodes (low_of (get_or w.nodes y 0)) ≡ k = ap (λ (n : ℕ). variable_at w.nodes n) e ∙ at_x in
+          omega (arith, all y tab)
 
       is_high : high_of (get_or w.nodes y 0) ≡ x → ⊥
-      is_high e = let s = (law.tables.shaped y tab).above_high in let q : variable_at w.nodes (high_of (get_or w.nodes y 0)) ≡ k = ap (λ (n : ℕ). variable_at w.nodes n) e ∙ at_x in omega (arith, all y tab)
+      is_high e = let s = (law.tables.shaped y tab).above_high in
+          let q : variable_at w.nodes (high_of (get_or w.nodes y 0)) ≡ k = ap (λ (n : ℕ). variable_at w.nodes n) e ∙ at_x in
+          omega (arith, all y tab)
 
       go : Dec (1 ≤ times x (children (get_or w.nodes y 0))) → times x (children (get_or w.nodes y 0)) ≡ 0
       go (no n) = omega arith
@@ -111,13 +117,15 @@ module _ (z : Sizes) (w : Words) (hs : Homes) (vs : List View) (law : Lawful z w
     in_no_words x w.boxes two bare.boxes,
   )
 
-pub least_is_dead : (s : State) (k x : ℕ) → IsLawful s → IsBare [] s.words s.views → AllFrom k s → 0 < tabled s.homes s.views x → variable_of (get_or s.words.nodes x 0) ≡ k → get_or s.words.counts x 0 ≡ 1
+pub least_is_dead : (s : State) (k x : ℕ) → IsLawful s → IsBare [] s.words s.views → AllFrom k s → 0 < tabled s.homes s.views x →
+    variable_of (get_or s.words.nodes x 0) ≡ k → get_or s.words.counts x 0 ≡ 1
 least_is_dead s k x law bare all tab least =
     let range = law.tables.named x tab in
     omega (arith, law.counted.counts x range.0 range.1, owners_are s.sizes s.words s.homes s.views law x k range.0 all least bare, law.tables.once x)
 
 -- a tabled slot whose count is not 1 has a greater variable
-shared_is_later : (s : State) (k x : ℕ) → IsLawful s → IsBare [] s.words s.views → AllFrom k s → 0 < tabled s.homes s.views x → (get_or s.words.counts x 0 ≡ 1 → ⊥) → suc k ≤ variable_of (get_or s.words.nodes x 0)
+shared_is_later : (s : State) (k x : ℕ) → IsLawful s → IsBare [] s.words s.views → AllFrom k s → 0 < tabled s.homes s.views x →
+    (get_or s.words.counts x 0 ≡ 1 → ⊥) → suc k ≤ variable_of (get_or s.words.nodes x 0)
 shared_is_later s k x law bare all tab shared = go (ℕ_discrete (variable_of (get_or s.words.nodes x 0)) k)
   where
     go : Dec (variable_of (get_or s.words.nodes x 0) ≡ k) → suc k ≤ variable_of (get_or s.words.nodes x 0)

@@ -31,7 +31,8 @@ tabled_owned hs vs x tab = let p = tabled_where hs vs x tab in from p.0 p.1 p.2 
         let k : in_hand (table_names x) p.1.hand ≡ table_names x t = ap (λ h. in_hand (table_names x) h) p.4 ∙ ap (table_names x) p.6 in
         omega (arith, at_le_sum (λ (v : View). in_hand (table_names x) v.hand) vs p.0 p.1 p.3)
 
-owners_apart : (w : Words) (hs : Homes) (vs : List View) (x : ℕ) → owners w hs vs x ≡ sum_by (λ v. times x v.held + times x v.retired) vs + (in_words x w.cells + in_words x w.boxes) + table_owners hs vs x
+owners_apart : (w : Words) (hs : Homes) (vs : List View) (x : ℕ) →
+    owners w hs vs x ≡ sum_by (λ v. times x v.held + times x v.retired) vs + (in_words x w.cells + in_words x w.boxes) + table_owners hs vs x
 owners_apart w hs vs x =
     let s = sum_apart (owned x) (λ (v : View). times x v.held + times x v.retired) (λ v. in_hand (table_names x) v.hand) (λ v. omega (arith, owned_is x v)) vs in
     omega arith
@@ -43,7 +44,8 @@ supported_owned w vs i x (inl c) = let l = at_le_sum (λ n. times x (cell_names 
 supported_owned w vs i x (inr s) = let l = at_le_sum (λ (v : View). times x v.held + times x v.retired) vs s.0 s.1 s.2 in let k = s.3.0 in omega arith
 
 -- the count of a confirmed name is at least 2
-pub confirmed_counted : (z : Sizes) (w : Words) (hs : Homes) (vs : List View) → Lawful z w hs vs → (id k x : ℕ) (v : View) → get_elem? vs id ≡ some v → v.active ≡ true → get_elem? v.phases k ≡ some (Confirmed x) → 2 ≤ get_or w.counts x 0
+pub confirmed_counted : (z : Sizes) (w : Words) (hs : Homes) (vs : List View) → Lawful z w hs vs → (id k x : ℕ) (v : View) →
+    get_elem? vs id ≡ some v → v.active ≡ true → get_elem? v.phases k ≡ some (Confirmed x) → 2 ≤ get_or w.counts x 0
 confirmed_counted z w hs vs law id k x v at on is =
     let f = law.views id v at on in
     let n = f.named k (Confirmed x) is in

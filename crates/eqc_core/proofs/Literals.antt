@@ -93,16 +93,21 @@ pub entry_at : (s i n j : ℕ) (e : ℕ × ℕ) → get_elem? (stripe_entries s 
 entry_at s i zero j e at = absurd (some-ne-none e (sym at))
 entry_at s i (suc n) j e at = go (ℕ_discrete (stripe_of (literal i)) s) (λ k at. entry_at s (suc i) n k e at)
   where
-    later : (k : ℕ) → ((k : ℕ) → get_elem? (stripe_entries s (suc i) n) k ≡ some e → (m : ℕ) × (suc i ≤ m) × (m < suc i + n) × (e ≡ (literal m, 2 + m)) × (stripe_of (literal m) ≡ s)) → get_elem? (stripe_entries s (suc i) n) k ≡ some e
+    later : (k : ℕ) →
+        ((k : ℕ) → get_elem? (stripe_entries s (suc i) n) k ≡ some e → (m : ℕ) × (suc i ≤ m) × (m < suc i + n) × (e ≡ (literal m, 2 + m)) × (stripe_of (literal m) ≡ s)) →
+        get_elem? (stripe_entries s (suc i) n) k ≡ some e
         → (m : ℕ) × (i ≤ m) × (m < i + suc n) × (e ≡ (literal m, 2 + m)) × (stripe_of (literal m) ≡ s)
     later k rest there = let r = rest k there in let a = r.1 in let b = r.2 in (r.0, omega arith, omega arith, r.3, r.4)
 
-    first : (k : ℕ) → ((k : ℕ) → get_elem? (stripe_entries s (suc i) n) k ≡ some e → (m : ℕ) × (suc i ≤ m) × (m < suc i + n) × (e ≡ (literal m, 2 + m)) × (stripe_of (literal m) ≡ s)) → stripe_of (literal i) ≡ s → get_elem? ((literal i, 2 + i) ∷ stripe_entries s (suc i) n) k ≡ some e
+    first : (k : ℕ) →
+        ((k : ℕ) → get_elem? (stripe_entries s (suc i) n) k ≡ some e → (m : ℕ) × (suc i ≤ m) × (m < suc i + n) × (e ≡ (literal m, 2 + m)) × (stripe_of (literal m) ≡ s)) →
+        stripe_of (literal i) ≡ s → get_elem? ((literal i, 2 + i) ∷ stripe_entries s (suc i) n) k ≡ some e
         → (m : ℕ) × (i ≤ m) × (m < i + suc n) × (e ≡ (literal m, 2 + m)) × (stripe_of (literal m) ≡ s)
     first zero rest is there = (i, omega arith, omega arith, sym (some-injective (literal i, 2 + i) e there), is)
     first (suc k) rest is there = later k rest there
 
-    go : Dec (stripe_of (literal i) ≡ s) → ((k : ℕ) → get_elem? (stripe_entries s (suc i) n) k ≡ some e → (m : ℕ) × (suc i ≤ m) × (m < suc i + n) × (e ≡ (literal m, 2 + m)) × (stripe_of (literal m) ≡ s))
+    go : Dec (stripe_of (literal i) ≡ s) →
+        ((k : ℕ) → get_elem? (stripe_entries s (suc i) n) k ≡ some e → (m : ℕ) × (suc i ≤ m) × (m < suc i + n) × (e ≡ (literal m, 2 + m)) × (stripe_of (literal m) ≡ s))
         → (m : ℕ) × (i ≤ m) × (m < i + suc n) × (e ≡ (literal m, 2 + m)) × (stripe_of (literal m) ≡ s)
     go (yes is) rest = first j rest is (rw (eq-eqb (stripe_of (literal i)) s is) at at)
     go (no ne) rest = later j rest (rw (ne_eqb (stripe_of (literal i)) s ne) at at)
@@ -146,7 +151,8 @@ has_literal x s i (suc n) = go (ℕ_discrete (stripe_of (literal i)) s) (ℕ_dis
     go (no a) (no b) d r = rw (ne_eqb (stripe_of (literal i)) s a, ne_eqb (stripe_of (literal (x - 2))) s b) (let r' : rest ≡ 0 = rw (ne_eqb (stripe_of (literal (x - 2))) s b) at r in r')
 
 -- the sum over k stripes from s on has a slot's literal where its stripe is among them
-sum_homes : (x s k n : ℕ) → sum_by (at_home (table_has x)) (homes_from s k n) ≡ cond (ltb (stripe_of (literal (x - 2))) (s + k)) (cond (ltb (stripe_of (literal (x - 2))) s) 0 (times x (slots_from 2 n))) 0
+sum_homes : (x s k n : ℕ) →
+    sum_by (at_home (table_has x)) (homes_from s k n) ≡ cond (ltb (stripe_of (literal (x - 2))) (s + k)) (cond (ltb (stripe_of (literal (x - 2))) s) 0 (times x (slots_from 2 n))) 0
 sum_homes x s zero n = go (dec_le s (stripe_of (literal (x - 2))))
   where
     go : Dec (s ≤ stripe_of (literal (x - 2))) → 0 ≡ cond (ltb (stripe_of (literal (x - 2))) (s + 0)) (cond (ltb (stripe_of (literal (x - 2))) s) 0 (times x (slots_from 2 n))) 0
@@ -167,10 +173,12 @@ sum_homes x s (suc k) n = go (cases (stripe_of (literal (x - 2))) s k) (sum_home
         pick (yes a) (yes b) (yes d) = inr (inr (inr d))
 
     front : sum_by (at_home (table_has x)) (homes_from s (suc k) n) ≡ cond (eqb (stripe_of (literal (x - 2))) s) (times x (slots_from 2 n)) 0 + sum_by (at_home (table_has x)) (homes_from (suc s) k n)
-    front = sum_by-cons (at_home (table_has x)) (some (stripe_entries s 0 n)) (homes_from (suc s) k n) ∙ ap (λ (m : ℕ). m + sum_by (at_home (table_has x)) (homes_from (suc s) k n)) (has_literal x s 0 n)
+    front = sum_by-cons (at_home (table_has x)) (some (stripe_entries s 0 n)) (homes_from (suc s) k n)
+        ∙ ap (λ (m : ℕ). m + sum_by (at_home (table_has x)) (homes_from (suc s) k n)) (has_literal x s 0 n)
 
     go : (c < s) ⊎ ((c ≡ s) ⊎ (((suc s ≤ c) × (c < suc s + k)) ⊎ (suc s + k ≤ c)))
-        → sum_by (at_home (table_has x)) (homes_from (suc s) k n) ≡ cond (ltb (stripe_of (literal (x - 2))) (suc s + k)) (cond (ltb (stripe_of (literal (x - 2))) (suc s)) 0 (times x (slots_from 2 n))) 0
+        → sum_by (at_home (table_has x)) (homes_from (suc s) k n) ≡ cond (ltb (stripe_of (literal (x - 2))) (suc s + k))
+        (cond (ltb (stripe_of (literal (x - 2))) (suc s)) 0 (times x (slots_from 2 n))) 0
         → sum_by (at_home (table_has x)) (homes_from s (suc k) n) ≡ cond (ltb (stripe_of (literal (x - 2))) (s + suc k)) (cond (ltb (stripe_of (literal (x - 2))) s) 0 (times x (slots_from 2 n))) 0
     go (inl lt) r = rw (lt-ltb (stripe_of (literal (x - 2))) (s + suc k) (omega arith), lt-ltb (stripe_of (literal (x - 2))) s lt)
         (let r' = rw (lt-ltb (stripe_of (literal (x - 2))) (suc s + k) (omega arith), lt-ltb (stripe_of (literal (x - 2))) (suc s) (omega arith)) at r in
@@ -218,4 +226,10 @@ names_has x s i n two =
 pub homes_names : (x s k n : ℕ) → 2 ≤ x → sum_by (at_home (table_names x)) (homes_from s k n) ≡ sum_by (at_home (table_has x)) (homes_from s k n)
 homes_names x s zero n two = refl
 homes_names x s (suc k) n two =
-    omega (arith, sum_by-cons (at_home (table_names x)) (some (stripe_entries s 0 n)) (homes_from (suc s) k n), sum_by-cons (at_home (table_has x)) (some (stripe_entries s 0 n)) (homes_from (suc s) k n), names_has x s 0 n two, homes_names x (suc s) k n two)
+    omega (
+      arith,
+      sum_by-cons (at_home (table_names x)) (some (stripe_entries s 0 n)) (homes_from (suc s) k n),
+      sum_by-cons (at_home (table_has x)) (some (stripe_entries s 0 n)) (homes_from (suc s) k n),
+      names_has x s 0 n two,
+      homes_names x (suc s) k n two,
+    )

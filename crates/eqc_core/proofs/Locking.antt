@@ -80,7 +80,8 @@ module _ (z : Sizes) (w : Words) (hs : Homes) (vs : List View) (id : ℕ) (v : V
         stripes = λ s' lt. stripe s' lt (ℕ_discrete s' s);
         locks = λ s' lt. lock s' lt (ℕ_discrete s' s);
       })
-      (record { cells = law.right.cells; boxes = law.right.boxes }) f.room (λ x has. f.slots x (omega arith)) f.read (λ k e. let q = same_hand (record { stripe = s; entries = t }) k e in subst (λ (y : Hand). y.stripe < 16) q may.1)
+      (record { cells = law.right.cells; boxes = law.right.boxes }) f.room (λ x has. f.slots x (omega arith)) f.read
+      (λ k e. let q = same_hand (record { stripe = s; entries = t }) k e in subst (λ (y : Hand). y.stripe < 16) q may.1)
     where
       f : Fits z w vs id v
       f = law.views id v at on
@@ -229,7 +230,16 @@ module _ (z : Sizes) (w : Words) (hs : Homes) (vs : List View) (id : ℕ) (v : V
       draft x = omega (arith, drafts_step z w hs vs id v law at on v.held v.draft None v.read v.turn v.stops x)
 
       own : (x : ℕ) → owners (unlocked_words w h) hs' (set vs id u) x ≡ owners w hs vs x
-      own x = omega (arith, sum_set (owned x) vs id v u at, owned_is x v, owned_is x u, sum_set (at_home (table_names x)) hs s none (some t) home, in_hand_is (table_names x), names_same t h.entries may.2 x)
+      own x =
+          omega (
+            arith,
+            sum_set (owned x) vs id v u at,
+            owned_is x v,
+            owned_is x u,
+            sum_set (at_home (table_names x)) hs s none (some t) home,
+            in_hand_is (table_names x),
+            names_same t h.entries may.2 x,
+          )
 
       home_back : (s' : ℕ) (t' : Entries) → IsTable hs' vs s' t' → (i : ℕ) (e : ℕ × ℕ) → get_elem? t' i ≡ some e → (t0 : Entries) × IsTable hs vs s' t0 × (j : ℕ) × (get_elem? t0 j ≡ some e)
       home_back s' t' (inr p) i e is = (t', inr p, i, is)

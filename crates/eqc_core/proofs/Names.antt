@@ -82,7 +82,10 @@ length-without_each [] ys = omega arith
 length-without_each (x ∷ xs) ys = omega (arith, length-without_each xs (without x ys), length-without x ys)
 
 less : (x y : ℕ) (xs ys : List ℕ) → times x (y ∷ xs) ≤ times x ys → Dec (y ≡ x) → (times x xs ≤ times x (without y ys)) × (times x (without y ys) + times x (y ∷ xs) ≡ times x ys + times x xs)
-less x y xs ys h (yes e) = let t : 1 + times x (without y ys) ≡ times x ys = subst (λ (k : ℕ). 1 + times x (without k ys) ≡ times x ys) (sym e) (times-without x ys (omega (arith, times-same x y xs e))) in let s = times-same x y xs e in (omega arith, omega arith)
+less x y xs ys h (yes e) =
+    let t : 1 + times x (without y ys) ≡ times x ys = subst (λ (k : ℕ). 1 + times x (without k ys) ≡ times x ys) (sym e) (times-without x ys (omega (arith, times-same x y xs e))) in
+    let s = times-same x y xs e in
+    (omega arith, omega arith)
 less x y xs ys h (no n) = let t = times-without_other x y ys n in let s = times-other x y xs n in (omega arith, omega arith)
 
 -- nothing is added
@@ -136,7 +139,8 @@ names_first word = times_more (first_of word) (result_of word) (operands word) (
 
 pub names_second : (word : ℕ) → 0 < times (second_of word) (cell_names word)
 names_second word =
-    times_more (second_of word) (result_of word) (operands word) (times_more (second_of word) (first_of word) (second_of word ∷ []) (omega (arith, times-same (second_of word) (second_of word) [] refl)))
+    times_more (second_of word) (result_of word) (operands word)
+    (times_more (second_of word) (first_of word) (second_of word ∷ []) (omega (arith, times-same (second_of word) (second_of word) [] refl)))
 
 pub names_low : (word : ℕ) → 0 < times (low_of word) (children word)
 names_low word = omega (arith, times-same (low_of word) (low_of word) (high_of word ∷ []) refl)

@@ -43,12 +43,14 @@ left : (x : ℕ) (t : Entries) (i : ℕ) (e : ℕ × ℕ) → get_elem? (without
 left x [] i e is = absurd (some-ne-none e (sym is))
 left x (k ∷ ks) i e is = go (ℕ_discrete k.1 x) i is (λ j q. left x ks j e q)
   where
-    go : Dec (k.1 ≡ x) → (i : ℕ) → get_elem? (without_slot x (k ∷ ks)) i ≡ some e → ((j : ℕ) → get_elem? (without_slot x ks) j ≡ some e → (j : ℕ) × (get_elem? ks j ≡ some e)) → (j : ℕ) × (get_elem? (k ∷ ks) j ≡ some e)
+    go : Dec (k.1 ≡ x) → (i : ℕ) → get_elem? (without_slot x (k ∷ ks)) i ≡ some e →
+        ((j : ℕ) → get_elem? (without_slot x ks) j ≡ some e → (j : ℕ) × (get_elem? ks j ≡ some e)) → (j : ℕ) × (get_elem? (k ∷ ks) j ≡ some e)
     go (yes h) i is rest = (suc i, rw (eq-eqb k.1 x h) at is)
     go (no n) zero is rest = (0, rw (ne_eqb k.1 x n) at is)
     go (no n) (suc i) is rest = let r = rest i (rw (ne_eqb k.1 x n) at is) in (suc r.0, r.1)
 
-module _ (z : Sizes) (w : Words) (hs : Homes) (vs : List View) (id : ℕ) (v : View) (law : Lawful z w hs vs) (at : get_elem? vs id ≡ some v) (on : v.active ≡ true) (x : ℕ) (h : Hand) (may : MayReclaim w v h x) where
+module _ (z : Sizes) (w : Words) (hs : Homes) (vs : List View) (id : ℕ) (v : View) (law : Lawful z w hs vs) (at : get_elem? vs id ≡ some v)
+    (on : v.active ≡ true) (x : ℕ) (h : Hand) (may : MayReclaim w v h x) where
   f : Fits z w vs id v
   f = law.views id v at on
 
@@ -109,7 +111,16 @@ module _ (z : Sizes) (w : Words) (hs : Homes) (vs : List View) (id : ℕ) (v : V
   own : (y : ℕ) → 2 ≤ y → owners (reclaimed_words w x) hs (set vs id u) y + cond (eqb x y) 1 0 ≡ owners w hs vs y
   own y two =
       let e : in_hand (table_names y) v.hand ≡ table_names y h.entries = ap (λ k. in_hand (table_names y) k) may.1 in
-      omega (arith, sum_set (owned y) vs id v u at, owned_is y v, owned_is y u, names_out y, times-append y v.held (slots_of (children word)), times-slots_of y (children word) two, times-cons y x (children word))
+      omega (
+        arith,
+        sum_set (owned y) vs id v u at,
+        owned_is y v,
+        owned_is y u,
+        names_out y,
+        times-append y v.held (slots_of (children word)),
+        times-slots_of y (children word) two,
+        times-cons y x (children word),
+      )
 
   hand_entry : (i : ℕ) (e : ℕ × ℕ) → get_elem? (without_slot x h.entries) i ≡ some e → (j : ℕ) × (get_elem? h.entries j ≡ some e)
   hand_entry i e is = left x h.entries i e is

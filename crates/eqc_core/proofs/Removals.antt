@@ -13,7 +13,8 @@ found_at : (x i : ℕ) (xs : List ℕ) (j : ℕ) → position_from (λ y. y == x
 found_at x i [] j e = absurd (cc)
 found_at x i (y ∷ ys) j e = go (ℕ_discrete y x) (found_at x (i + 1) ys j) e
   where
-    go : Dec (y ≡ x) → (position_from (λ y. y == x) (i + 1) ys ≡ Some j → (k : ℕ) × (j ≡ i + 1 + k) × (remove ys k ≡ without x ys)) → cond (eqb y x) (Some i) (position_from (λ y. y == x) (i + 1) ys) ≡ Some j
+    go : Dec (y ≡ x) → (position_from (λ y. y == x) (i + 1) ys ≡ Some j → (k : ℕ) × (j ≡ i + 1 + k) × (remove ys k ≡ without x ys)) →
+        cond (eqb y x) (Some i) (position_from (λ y. y == x) (i + 1) ys) ≡ Some j
         → (k : ℕ) × (j ≡ i + k) × (remove (y ∷ ys) k ≡ without x (y ∷ ys))
     go (yes is) rest e = let s : Some i ≡ Some j = rw (eq-eqb y x is) at e in (0, (let q : i ≡ j = cc in omega arith), rw (eq-eqb y x is) refl)
     go (no n) rest e = let r = rest (rw (ne_eqb y x n) at e) in (suc r.0, (let q = r.1 in omega arith), rw (ne_eqb y x n) (ap (λ (l : List ℕ). y ∷ l) r.2))
@@ -76,7 +77,8 @@ no_slot_from : (x i : ℕ) (t : Entries) → position_from (λ (e : ℕ × ℕ).
 no_slot_from x i [] e = (refl, has_nil x)
 no_slot_from x i (y ∷ ys) e = go (ℕ_discrete y.1 x) (no_slot_from x (i + 1) ys) e
   where
-    go : Dec (y.1 ≡ x) → (position_from (λ (e : ℕ × ℕ). e.1 == x) (i + 1) ys ≡ None → (without_slot x ys ≡ ys) × (table_has x ys ≡ 0)) → cond (eqb y.1 x) (Some i) (position_from (λ (e : ℕ × ℕ). e.1 == x) (i + 1) ys) ≡ None
+    go : Dec (y.1 ≡ x) → (position_from (λ (e : ℕ × ℕ). e.1 == x) (i + 1) ys ≡ None → (without_slot x ys ≡ ys) × (table_has x ys ≡ 0)) →
+        cond (eqb y.1 x) (Some i) (position_from (λ (e : ℕ × ℕ). e.1 == x) (i + 1) ys) ≡ None
         → (without_slot x (y ∷ ys) ≡ y ∷ ys) × (table_has x (y ∷ ys) ≡ 0)
     go (yes is) rest e = absurd (let s : Some i ≡ None = rw (eq-eqb y.1 x is) at e in cc)
     go (no n) rest e =
@@ -92,7 +94,8 @@ found_word_at : (word i : ℕ) (t : Entries) (j : ℕ) → position_from (λ (e 
 found_word_at word i [] j e = absurd (cc)
 found_word_at word i (y ∷ ys) j e = go (ℕ_discrete y.0 word) (found_word_at word (i + 1) ys j) e
   where
-    go : Dec (y.0 ≡ word) → (position_from (λ (e : ℕ × ℕ). e.0 == word) (i + 1) ys ≡ Some j → 0 < table_word word ys) → cond (eqb y.0 word) (Some i) (position_from (λ (e : ℕ × ℕ). e.0 == word) (i + 1) ys) ≡ Some j
+    go : Dec (y.0 ≡ word) → (position_from (λ (e : ℕ × ℕ). e.0 == word) (i + 1) ys ≡ Some j → 0 < table_word word ys) →
+        cond (eqb y.0 word) (Some i) (position_from (λ (e : ℕ × ℕ). e.0 == word) (i + 1) ys) ≡ Some j
         → 0 < table_word word (y ∷ ys)
     go (yes is) rest e = omega (arith, word_cons word y ys, one_if y.0 word is)
     go (no n) rest e = let r = rest (rw (ne_eqb y.0 word n) at e) in omega (arith, word_cons word y ys)
@@ -104,7 +107,8 @@ no_word_from : (word i : ℕ) (t : Entries) → position_from (λ (e : ℕ × �
 no_word_from word i [] e = word_nil word
 no_word_from word i (y ∷ ys) e = go (ℕ_discrete y.0 word) (no_word_from word (i + 1) ys) e
   where
-    go : Dec (y.0 ≡ word) → (position_from (λ (e : ℕ × ℕ). e.0 == word) (i + 1) ys ≡ None → table_word word ys ≡ 0) → cond (eqb y.0 word) (Some i) (position_from (λ (e : ℕ × ℕ). e.0 == word) (i + 1) ys) ≡ None
+    go : Dec (y.0 ≡ word) → (position_from (λ (e : ℕ × ℕ). e.0 == word) (i + 1) ys ≡ None → table_word word ys ≡ 0) →
+        cond (eqb y.0 word) (Some i) (position_from (λ (e : ℕ × ℕ). e.0 == word) (i + 1) ys) ≡ None
         → table_word word (y ∷ ys) ≡ 0
     go (yes is) rest e = absurd (let s : Some i ≡ None = rw (eq-eqb y.0 word is) at e in cc)
     go (no n) rest e = let r = rest (rw (ne_eqb y.0 word n) at e) in omega (arith, word_cons word y ys, none_if y.0 word n)

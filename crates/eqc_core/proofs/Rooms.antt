@@ -18,7 +18,8 @@ use Rattle.eqc_core.proofs.Bounds.{scans_keep_names}
 use Rattle.eqc_core.proofs.Writing.{write_keeps_trees}
 
 -- a write leaves the words of tabled slots, and no other step writes a node
-pub tree_stays : (s : State) (id x : ℕ) (v : View) (p : Step) (t : Tree) → IsLawful s → get_elem? s.views id ≡ some v → May s v p → 0 < tabled s.homes s.views x → IsTree s.words.nodes t x → IsTree (words_after s id v p).nodes t x
+pub tree_stays : (s : State) (id x : ℕ) (v : View) (p : Step) (t : Tree) → IsLawful s → get_elem? s.views id ≡ some v → May s v p →
+    0 < tabled s.homes s.views x → IsTree s.words.nodes t x → IsTree (words_after s id v p).nodes t x
 tree_stays s id x v (Split to) t law at may tab is = is
 tree_stays s id x v (Join from) t law at may tab is = is
 tree_stays s id x v (Announce y) t law at may tab is = is
@@ -44,7 +45,8 @@ tree_stays s id x v (LookBox b) t law at may tab is = is
 half : (n : ℕ) → n ≤ 2 ^ 39 → n ≤ 2 ^ 40
 half n le = omega arith
 
-pub room_after : (s : State) (id : ℕ) (v : View) (p : Step) → IsLawful s → get_elem? s.views id ≡ some v → v.active ≡ true → May s v p → held_before s v p ≤ 2 ^ 39 → length (view_after s v p).held ≤ 2 ^ 40
+pub room_after : (s : State) (id : ℕ) (v : View) (p : Step) → IsLawful s → get_elem? s.views id ≡ some v → v.active ≡ true → May s v p →
+    held_before s v p ≤ 2 ^ 39 → length (view_after s v p).held ≤ 2 ^ 40
 room_after s id v (Split to) law at on may le = half (length v.held) le
 room_after s id v (Join from) law at on may le = omega (arith, length-append v.held (view_at s.views from).held)
 room_after s id v (Announce x) law at on may le = half (length v.held) le
@@ -75,5 +77,10 @@ room_after s id v (Reclaim x) law at on may le =
     omega (arith, length-append v.held (slots_of names), length-slots_of names)
 room_after s id v (SwapBox b word) law at on may le =
     let old : ℕ = get_or s.words.boxes b 0 in
-    omega (arith, length-append (without_each (slots_of (cell_names word)) v.held) (slots_of (cell_names old)), length-without_each (slots_of (cell_names word)) v.held, length-slots_of (cell_names old))
+    omega (
+      arith,
+      length-append (without_each (slots_of (cell_names word)) v.held) (slots_of (cell_names old)),
+      length-without_each (slots_of (cell_names word)) v.held,
+      length-slots_of (cell_names old),
+    )
 room_after s id v (LookBox b) law at on may le = half (length v.held) le

@@ -102,7 +102,8 @@ given_once s id v (Reclaim x) law at on may = (reclaimed_is_free s.sizes s.words
 given_once s id v (SwapBox b word) law at on may = tt
 given_once s id v (LookBox b) law at on may = tt
 
-pub no_slot_given_again : (z : Sizes) (n : ℕ) (es : List Event) (t : State) (e : Event) → IsWithinLimits z → n + 2 ≤ z.names → n ≤ z.variables → Runs (opening z n) es t → IsAllowed t e → IsGivenOnce t e.step
+pub no_slot_given_again : (z : Sizes) (n : ℕ) (es : List Event) (t : State) (e : Event) → IsWithinLimits z → n + 2 ≤ z.names → n ≤ z.variables →
+    Runs (opening z n) es t → IsAllowed t e → IsGivenOnce t e.step
 no_slot_given_again z n es t e limits fits few is may =
     let law = runs_lawful (opening z n) es t (opening_lawful z n limits fits few) is in
     given_once t e.worker (view_at t.views e.worker) e.step law (active_there t.views e.worker may.active) may.active may.may

@@ -59,7 +59,8 @@ module _ (z : Sizes) (w : Words) (hs : Homes) (vs : List View) (id : ℕ) (v : V
       (tables_set hs vs id v u at own z w (boxed_words w b word) (record { nodes = refl; locks = refl }) law.tables)
       (record {
         cells = law.right.cells;
-        boxes = λ k n e. ⊎_elim (λ (t : (k ≡ b) × (word ≡ n)). subst (λ m. IsBoxWord w.nodes m) t.1 may.2) (λ (t : (k ≢ b) × (get_elem? w.boxes k ≡ some n)). law.right.boxes k n t.1) (at_set w.boxes b k word n e);
+        boxes = λ k n e.
+            ⊎_elim (λ (t : (k ≡ b) × (word ≡ n)). subst (λ m. IsBoxWord w.nodes m) t.1 may.2) (λ (t : (k ≢ b) × (get_elem? w.boxes k ≡ some n)). law.right.boxes k n t.1) (at_set w.boxes b k word n e);
       })
       (record {
         sizes = f.sizes;

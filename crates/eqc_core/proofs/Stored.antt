@@ -74,11 +74,13 @@ may_place z w h word ready draft hand held =
     )
 
 -- a step that takes a table out, or puts one home
-pub stepped_home : (s : State) (w w' : Words) (hs hs' : Homes) (vs vs' : List View) → w ≡ w' → hs ≡ hs' → vs ≡ vs' → record s { words = w; homes = hs; views = vs } ≡ record s { words = w'; homes = hs'; views = vs' }
+pub stepped_home : (s : State) (w w' : Words) (hs hs' : Homes) (vs vs' : List View) → w ≡ w' → hs ≡ hs' → vs ≡ vs' →
+    record s { words = w; homes = hs; views = vs } ≡ record s { words = w'; homes = hs'; views = vs' }
 stepped_home s w w' hs hs' vs vs' p h q = λ i. record s { words = p i; homes = h i; views = q i }
 
 pub at_rest : (z : Sizes) (w : Worker) → w.position ≡ 0 → IsQuiet w.phase → w.draft ≡ None → w.hand ≡ None → IsAtRest (active_view z w)
-at_rest z w ready quiet draft hand = record { ready = ready; quiet = λ k p e. (let P : Phase → Type 0 = λ q. IsQuiet q in subst P (one_phase w.phase p k e) quiet); no_draft = draft; no_hand = ap hand_view hand }
+at_rest z w ready quiet draft hand =
+    record { ready = ready; quiet = λ k p e. (let P : Phase → Type 0 = λ q. IsQuiet q in subst P (one_phase w.phase p k e) quiet); no_draft = draft; no_hand = ap hand_view hand }
 
 pub active_is : (z : Sizes) (w : Worker) → w.active ≡ true → view_of z w ≡ active_view z w
 active_is z w on = rw on refl
@@ -105,7 +107,8 @@ pub view_is : (z : Sizes) (ws : List Worker) (id : ℕ) (w : Worker) → id < le
 view_is z ws id w lt e = at_get (map (view_of z) ws) id (view_of z w) unused (at_map (view_of z) ws id w (at_read ws id w lt e))
 
 -- a worker's change is its view's
-pub turned_at : (z : Sizes) (ws : List Worker) (id : ℕ) (w w' : Worker) (f : View → View) → id < length ws → w ≡ get_or ws id w → (view_at (map (view_of z) ws) id).active ≡ true → w'.active ≡ w.active → active_view z w' ≡ f (active_view z w)
+pub turned_at : (z : Sizes) (ws : List Worker) (id : ℕ) (w w' : Worker) (f : View → View) → id < length ws → w ≡ get_or ws id w →
+    (view_at (map (view_of z) ws) id).active ≡ true → w'.active ≡ w.active → active_view z w' ≡ f (active_view z w)
     → map (view_of z) (set ws id w') ≡ set (map (view_of z) ws) id (f (view_at (map (view_of z) ws) id))
 turned_at z ws id w w' f lt e on same change =
     let is = view_is z ws id w lt e in
@@ -191,7 +194,9 @@ held_there m id x turn holds =
     let n = law.sized.nodes in
     omega arith
 
-pub taken_there : (m : Machine) (id x : ℕ) → IsTurn m id → MayReclaim (words_of m) (view_at (state_of m).views id) (hand_of (view_at (state_of m).views id).hand) x → (x < length m.nodes.items) × (x < length m.counts.items)
+pub taken_there : (m : Machine) (id x : ℕ) → IsTurn m id →
+    MayReclaim (words_of m) (view_at (state_of m).views id) (hand_of (view_at (state_of m).views id).hand) x →
+    (x < length m.nodes.items) × (x < length m.counts.items)
 taken_there m id x turn may =
     let s = state_of m in
     let law = turn.kept.lawful in

@@ -61,7 +61,8 @@ home_table : (hs : Homes) (vs : List View) (s x : ℕ) (h : May.Option Entries) 
 home_table hs vs s x none e has = absurd (omega arith)
 home_table hs vs s x (some t) e has = (t, inl e, has)
 
-hand_table : (hs : Homes) (vs : List View) (id x : ℕ) (v : View) (h : Option Hand) → get_elem? vs id ≡ some v → v.hand ≡ h → 0 < in_hand (table_has x) h → (s : ℕ) × (t : Entries) × IsTable hs vs s t × (0 < table_has x t)
+hand_table : (hs : Homes) (vs : List View) (id x : ℕ) (v : View) (h : Option Hand) → get_elem? vs id ≡ some v → v.hand ≡ h →
+    0 < in_hand (table_has x) h → (s : ℕ) × (t : Entries) × IsTable hs vs s t × (0 < table_has x t)
 hand_table hs vs id x v None e is has = absurd (omega arith)
 hand_table hs vs id x v (Some h) e is has = (h.stripe, h.entries, inr (id, v, h, e, is, refl, refl), has)
 

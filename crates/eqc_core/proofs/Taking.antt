@@ -39,29 +39,38 @@ swap_named m v word x kept stands held names = go (dec_le 2 x)
     go (no n) = inl (omega arith)
 
 -- the view of the worker that stepped stands in its place
-pub view_at-after : (s : State) (id : ℕ) (p : Step) → (view_at s.views id).active ≡ true → (view_at s.views id).number ≡ id → May s (view_at s.views id) p → view_at (views_after s id (view_at s.views id) p) id ≡ view_after s (view_at s.views id) p
+pub view_at-after : (s : State) (id : ℕ) (p : Step) → (view_at s.views id).active ≡ true → (view_at s.views id).number ≡ id →
+    May s (view_at s.views id) p → view_at (views_after s id (view_at s.views id) p) id ≡ view_after s (view_at s.views id) p
 view_at-after s id (Split to) on number may =
     let b = at_below s.views id (view_at s.views id) (active_there s.views id on) in
-    get_or-set_same (set (grown s.views (suc to)) to (fresh (view_at s.views id).sizes to)) id (splitter (view_at s.views id) to) unused (omega (arith, length-set (grown s.views (suc to)) to (fresh (view_at s.views id).sizes to), length-grown s.views (suc to)))
+    get_or-set_same (set (grown s.views (suc to)) to (fresh (view_at s.views id).sizes to)) id (splitter (view_at s.views id) to) unused
+    (omega (arith, length-set (grown s.views (suc to)) to (fresh (view_at s.views id).sizes to), length-grown s.views (suc to)))
 view_at-after s id (Join from) on number may =
     let b = at_below s.views id (view_at s.views id) (active_there s.views id on) in
     get_or-set_other (set s.views id (joined (view_at s.views id) from (view_at s.views from))) from id spent unused (λ e. may.1 (sym e ∙ sym number))
     ∙ get_or-set_same s.views id (joined (view_at s.views id) from (view_at s.views from)) unused b
-view_at-after s id (Announce x) on number may = get_or-set_same s.views id (view_after s (view_at s.views id) (Announce x)) unused (at_below s.views id (view_at s.views id) (active_there s.views id on))
+view_at-after s id (Announce x) on number may =
+    get_or-set_same s.views id (view_after s (view_at s.views id) (Announce x)) unused (at_below s.views id (view_at s.views id) (active_there s.views id on))
 view_at-after s id (Look c) on number may = get_or-set_same s.views id (view_after s (view_at s.views id) (Look c)) unused (at_below s.views id (view_at s.views id) (active_there s.views id on))
 view_at-after s id Recheck on number may = get_or-set_same s.views id (view_after s (view_at s.views id) Recheck) unused (at_below s.views id (view_at s.views id) (active_there s.views id on))
 view_at-after s id (Up x) on number may = get_or-set_same s.views id (view_after s (view_at s.views id) (Up x)) unused (at_below s.views id (view_at s.views id) (active_there s.views id on))
 view_at-after s id (Down x) on number may = get_or-set_same s.views id (view_after s (view_at s.views id) (Down x)) unused (at_below s.views id (view_at s.views id) (active_there s.views id on))
-view_at-after s id (SwapCell c word) on number may = get_or-set_same s.views id (view_after s (view_at s.views id) (SwapCell c word)) unused (at_below s.views id (view_at s.views id) (active_there s.views id on))
+view_at-after s id (SwapCell c word) on number may =
+    get_or-set_same s.views id (view_after s (view_at s.views id) (SwapCell c word)) unused (at_below s.views id (view_at s.views id) (active_there s.views id on))
 view_at-after s id ScanOne on number may = get_or-set_same s.views id (view_after s (view_at s.views id) ScanOne) unused (at_below s.views id (view_at s.views id) (active_there s.views id on))
-view_at-after s id (Lock i won) on number may = get_or-set_same s.views id (view_after s (view_at s.views id) (Lock i won)) unused (at_below s.views id (view_at s.views id) (active_there s.views id on))
+view_at-after s id (Lock i won) on number may =
+    get_or-set_same s.views id (view_after s (view_at s.views id) (Lock i won)) unused (at_below s.views id (view_at s.views id) (active_there s.views id on))
 view_at-after s id (Unlock i) on number may = get_or-set_same s.views id (view_after s (view_at s.views id) (Unlock i)) unused (at_below s.views id (view_at s.views id) (active_there s.views id on))
-view_at-after s id (Claim x won) on number may = get_or-set_same s.views id (view_after s (view_at s.views id) (Claim x won)) unused (at_below s.views id (view_at s.views id) (active_there s.views id on))
+view_at-after s id (Claim x won) on number may =
+    get_or-set_same s.views id (view_after s (view_at s.views id) (Claim x won)) unused (at_below s.views id (view_at s.views id) (active_there s.views id on))
 view_at-after s id Unclaim on number may = get_or-set_same s.views id (view_after s (view_at s.views id) Unclaim) unused (at_below s.views id (view_at s.views id) (active_there s.views id on))
-view_at-after s id (WriteNode variable low high) on number may = get_or-set_same s.views id (view_after s (view_at s.views id) (WriteNode variable low high)) unused (at_below s.views id (view_at s.views id) (active_there s.views id on))
-view_at-after s id (ReadNode x) on number may = get_or-set_same s.views id (view_after s (view_at s.views id) (ReadNode x)) unused (at_below s.views id (view_at s.views id) (active_there s.views id on))
+view_at-after s id (WriteNode variable low high) on number may =
+    get_or-set_same s.views id (view_after s (view_at s.views id) (WriteNode variable low high)) unused (at_below s.views id (view_at s.views id) (active_there s.views id on))
+view_at-after s id (ReadNode x) on number may =
+    get_or-set_same s.views id (view_after s (view_at s.views id) (ReadNode x)) unused (at_below s.views id (view_at s.views id) (active_there s.views id on))
 view_at-after s id (Reclaim x) on number may = get_or-set_same s.views id (view_after s (view_at s.views id) (Reclaim x)) unused (at_below s.views id (view_at s.views id) (active_there s.views id on))
-view_at-after s id (SwapBox b word) on number may = get_or-set_same s.views id (view_after s (view_at s.views id) (SwapBox b word)) unused (at_below s.views id (view_at s.views id) (active_there s.views id on))
+view_at-after s id (SwapBox b word) on number may =
+    get_or-set_same s.views id (view_after s (view_at s.views id) (SwapBox b word)) unused (at_below s.views id (view_at s.views id) (active_there s.views id on))
 view_at-after s id (LookBox b) on number may = get_or-set_same s.views id (view_after s (view_at s.views id) (LookBox b)) unused (at_below s.views id (view_at s.views id) (active_there s.views id on))
 
 -- an event that was taken leaves a machine whose state is lawful
@@ -101,7 +110,8 @@ module _ (start s s' : State) (es : List Event) (i : ℕ) (d : Event) (lt : i < 
       let r : Runs s' (drop (suc i) es) t = subst (λ (k : ℕ). Runs s' (drop k es) t) (let e : i + 1 ≡ suc i = omega arith in e) rest in
       runs t (subst (λ (l : List Event). Runs s l t) (sym (drop_here es i d lt)) (runs_more s s' (get_or es i d) (drop (suc i) es) t allowed is r))
 
-  pub stops_on : ((k : ℕ) → IsStoppedAt s (drop i es) k → IsStoppedAt start es (i + k)) → IsAllowed s (get_or es i d) → s' ≡ after s (get_or es i d) → (k : ℕ) → IsStoppedAt s' (drop (i + 1) es) k → IsStoppedAt start es (i + 1 + k)
+  pub stops_on : ((k : ℕ) → IsStoppedAt s (drop i es) k → IsStoppedAt start es (i + k)) → IsAllowed s (get_or es i d) →
+      s' ≡ after s (get_or es i d) → (k : ℕ) → IsStoppedAt s' (drop (i + 1) es) k → IsStoppedAt start es (i + 1 + k)
   stops_on stops allowed is k rest =
       let r : IsStoppedAt s' (drop (suc i) es) k = subst (λ (n : ℕ). IsStoppedAt s' (drop n es) k) (let e : i + 1 ≡ suc i = omega arith in e) rest in
       let h = stops (suc k) (subst (λ (l : List Event). IsStoppedAt s l (suc k)) (sym (drop_here es i d lt)) (stops_more s s' (get_or es i d) (drop (suc i) es) k allowed is r)) in

@@ -89,7 +89,13 @@ tree_of z w hs vs fuel x law (inl lt) big = constant (ℕ_discrete x 0)
     constant : Dec (x ≡ 0) → (t : Tree) × IsTree w.nodes t x
     constant (yes e) = (False, e)
     constant (no n) = (True, omega arith)
-tree_of z w hs vs zero x law (inr t) big = absurd (let s = law.tables.shaped x t in let f = s.few in let e : variable_at w.nodes x ≡ variable_of (get_or w.nodes x 0) = rw (le-ltb x 2 (law.tables.named x t).0) refl in let k = law.sized.few_variables in omega arith)
+tree_of z w hs vs zero x law (inr t) big =
+    absurd
+    (let s = law.tables.shaped x t in
+    let f = s.few in
+    let e : variable_at w.nodes x ≡ variable_of (get_or w.nodes x 0) = rw (le-ltb x 2 (law.tables.named x t).0) refl in
+    let k = law.sized.few_variables in
+    omega arith)
 tree_of z w hs vs (suc fuel) x law (inr t) big =
     let s = law.tables.shaped x t in
     let n : ℕ = get_or w.nodes x 0 in

@@ -39,7 +39,9 @@ first_at z w hs vs law =
     (f.1 ∙ ap some (sym e), ap (λ (v : View). v.active) e ∙ f.2)
 
 -- the view of worker 0 changes in what it holds, reads and has in hand
-bare_after : (held held' : List ℕ) (w w' : Words) (vs : List View) (u : View) → 0 < length vs → IsBare held w vs → w'.cells ≡ w.cells → w'.boxes ≡ w.boxes → u.held ≡ held' → u.retired ≡ (view_at vs 0).retired → u.position ≡ (view_at vs 0).position → u.draft ≡ (view_at vs 0).draft → IsBare held' w' (set vs 0 u)
+bare_after : (held held' : List ℕ) (w w' : Words) (vs : List View) (u : View) → 0 < length vs → IsBare held w vs → w'.cells ≡ w.cells →
+    w'.boxes ≡ w.boxes → u.held ≡ held' → u.retired ≡ (view_at vs 0).retired → u.position ≡ (view_at vs 0).position → u.draft ≡ (view_at vs 0).draft →
+    IsBare held' w' (set vs 0 u)
 bare_after held held' w w' vs u there bare cells boxes h r p d =
     let e : view_at (set vs 0 u) 0 ≡ u = at_get (set vs 0 u) 0 u unused (set_here vs 0 u there) in
     record {
@@ -52,7 +54,8 @@ bare_after held held' w w' vs u there bare cells boxes h r p d =
       boxes = λ b word at. bare.boxes b word (ap (λ (l : List ℕ). get_elem? l b) (sym boxes) ∙ at);
     }
 
-down_one_is : (s : State) (x : ℕ) (xs : List ℕ) → IsLawful s → IsBare (x ∷ xs) s.words s.views → IsLawful (down_one x s) × IsBare xs (down_one x s).words (down_one x s).views × Shrinks s (down_one x s)
+down_one_is : (s : State) (x : ℕ) (xs : List ℕ) → IsLawful s → IsBare (x ∷ xs) s.words s.views →
+    IsLawful (down_one x s) × IsBare xs (down_one x s).words (down_one x s).views × Shrinks s (down_one x s)
 down_one_is s x xs law bare =
     let p = first_at s.sizes s.words s.homes s.views law in
     let f = law.views 0 v p.0 p.1 in
@@ -60,7 +63,8 @@ down_one_is s x xs law bare =
     let two : 2 ≤ x = f.slots x (omega arith) in
     let small : x < v.sizes.names = subst (λ (z : Sizes). x < z.names) (sym f.sizes) (law.tables.named x (held_there p.0 two has)).1 in (
       down_keeps s.sizes s.words s.homes s.views 0 v law p.0 p.1 x (bare.ready, two, small, has),
-      bare_after (x ∷ xs) xs s.words (with_count s.words x (get_or s.words.counts x 0 - 1)) s.views (downed v x) (at_below s.views 0 v p.0) bare refl refl (ap (without x) bare.holds ∙ without_first x xs) refl refl refl,
+      bare_after (x ∷ xs) xs s.words (with_count s.words x (get_or s.words.counts x 0 - 1)) s.views (downed v x) (at_below s.views 0 v p.0) bare
+          refl refl (ap (without x) bare.holds ∙ without_first x xs) refl refl refl,
       record {
         tabled_before = λ y t. omega (arith, sum_set (λ (k : View). in_hand (table_has y) k.hand) s.views 0 v (downed v x) p.0);
         same_word = λ y t. refl;
@@ -84,14 +88,18 @@ module _ (s : State) (x : ℕ) (h : Hand) (law : IsLawful s) (bare : IsBare [] s
   abbrev children_of : List ℕ
   children_of = slots_of (children (get_or s.words.nodes x 0))
 
-  back_is : get_or s.words.counts x 0 ≡ 1 → IsLawful (taken_back x h s) × IsBare (slots_of (children (get_or s.words.nodes x 0))) (taken_back x h s).words (taken_back x h s).views × Shrinks s (taken_back x h s) × (tabled (taken_back x h s).homes (taken_back x h s).views x ≡ 0)
+  back_is : get_or s.words.counts x 0 ≡ 1 →
+      IsLawful (taken_back x h s) × IsBare (slots_of (children (get_or s.words.nodes x 0))) (taken_back x h s).words
+      (taken_back x h s).views × Shrinks s (taken_back x h s) × (tabled (taken_back x h s).homes (taken_back x h s).views x ≡ 0)
   back_is one =
       let p = first_at s.sizes s.words s.homes s.views law in
       let may : MayReclaim s.words v h x = (bare.ready, hand, has, one) in
       let free = reclaimed_is_free s.sizes s.words s.homes s.views 0 v law p.0 p.1 x h may in
-      let held : (reclaimed v h x (get_or s.words.nodes x 0)).held ≡ slots_of (children (get_or s.words.nodes x 0)) = ap (λ (l : List ℕ). l ++ slots_of (children (get_or s.words.nodes x 0))) bare.holds in (
+      let held : (reclaimed v h x (get_or s.words.nodes x 0)).held ≡ slots_of (children (get_or s.words.nodes x 0)) =
+      ap (λ (l : List ℕ). l ++ slots_of (children (get_or s.words.nodes x 0))) bare.holds in (
         reclaim_keeps s.sizes s.words s.homes s.views 0 v law p.0 p.1 x h may (let l = length-slots_of (children (get_or s.words.nodes x 0)) in let e = ap length held in omega arith),
-        bare_after [] (slots_of (children (get_or s.words.nodes x 0))) s.words (reclaimed_words s.words x) s.views (reclaimed v h x (get_or s.words.nodes x 0)) (at_below s.views 0 v p.0) bare refl refl held refl refl refl,
+        bare_after [] (slots_of (children (get_or s.words.nodes x 0))) s.words (reclaimed_words s.words x) s.views
+            (reclaimed v h x (get_or s.words.nodes x 0)) (at_below s.views 0 v p.0) bare refl refl held refl refl refl,
         record { tabled_before = λ y t. before y t free.1 free.2 (ℕ_discrete y x); same_word = λ y t. refl },
         free.1,
       )

@@ -29,7 +29,15 @@ one_suc n x (no m) (no lt) = rw (lt-ltb x (suc n) (omega arith), lt-ltb x n (ome
 below_suc : (n : ℕ) (t : Entries) → below (suc n) t ≡ below n t + table_has n t
 unfolding below table_has
 below_suc n [] = refl
-below_suc n (e ∷ es) = omega (arith, sum_by-cons (λ (e : ℕ × ℕ). cond {A = ℕ} (ltb e.1 (suc n)) 1 0) e es, sum_by-cons (λ (e : ℕ × ℕ). cond {A = ℕ} (ltb e.1 n) 1 0) e es, sum_by-cons (λ (e : ℕ × ℕ). cond {A = ℕ} (eqb e.1 n) 1 0) e es, below_suc n es, one_suc n e.1 (ℕ_discrete e.1 n) (dec_le n e.1))
+below_suc n (e ∷ es) =
+    omega (
+      arith,
+      sum_by-cons (λ (e : ℕ × ℕ). cond {A = ℕ} (ltb e.1 (suc n)) 1 0) e es,
+      sum_by-cons (λ (e : ℕ × ℕ). cond {A = ℕ} (ltb e.1 n) 1 0) e es,
+      sum_by-cons (λ (e : ℕ × ℕ). cond {A = ℕ} (eqb e.1 n) 1 0) e es,
+      below_suc n es,
+      one_suc n e.1 (ℕ_discrete e.1 n) (dec_le n e.1),
+    )
 
 below_zero : (t : Entries) → below 0 t ≡ 0
 unfolding below
@@ -74,7 +82,9 @@ entry_names x e = times_le x (e.1 ∷ children e.0)
 
 table_triple : (x n : ℕ) (t : Entries) → ((i : ℕ) (e : ℕ × ℕ) → get_elem? t i ≡ some e → e.1 < n) → table_names x t ≤ 3 * below n t
 unfolding table_names below
-table_triple x n t h = sum_triple (λ e. times x (e.1 ∷ children e.0)) (λ (e : ℕ × ℕ). cond {A = ℕ} (ltb e.1 n) 1 0) t (λ i e at. let o = ap {B = ℕ} (λ (b : Bool). cond b 1 0) (lt-ltb e.1 n (h i e at)) in omega (arith, entry_names x e))
+table_triple x n t h =
+    sum_triple (λ e. times x (e.1 ∷ children e.0)) (λ (e : ℕ × ℕ). cond {A = ℕ} (ltb e.1 n) 1 0) t
+    (λ i e at. let o = ap {B = ℕ} (λ (b : Bool). cond b 1 0) (lt-ltb e.1 n (h i e at)) in omega (arith, entry_names x e))
 
 module _ (z : Sizes) (w : Words) (hs : Homes) (vs : List View) (x : ℕ) (law : Lawful z w hs vs) where
   of_table : (s : ℕ) (t : Entries) → IsTable hs vs s t → table_names x t ≤ 3 * below z.names t
@@ -97,7 +107,8 @@ module _ (z : Sizes) (w : Words) (hs : Homes) (vs : List View) (x : ℕ) (law : 
   )
 
 -- a view's own names are few
-names_fit : (z : Sizes) (w : Words) (hs : Homes) (vs : List View) (x i : ℕ) (v : View) → Lawful z w hs vs → get_elem? vs i ≡ some v → (b : Bool) → v.active ≡ b → times x v.held + times x v.retired ≤ 2 ^ 41
+names_fit : (z : Sizes) (w : Words) (hs : Homes) (vs : List View) (x i : ℕ) (v : View) → Lawful z w hs vs → get_elem? vs i ≡ some v → (b : Bool) →
+    v.active ≡ b → times x v.held + times x v.retired ≤ 2 ^ 41
 names_fit z w hs vs x i v law e true on = let f = law.views i v e on in let r = f.room in let k = f.few in let l = law.sized.few_announced in omega (arith, times_le x v.held, times_le x v.retired)
 names_fit z w hs vs x i v law e false off = let none = inactive_has_none z w hs vs law i x v e off in omega arith
 

@@ -49,7 +49,8 @@ unfolding stripe_of
 stripe_below word = omega arith
 
 -- a stripe that is in hand has no other table
-pub one_table : (z : Sizes) (w : Words) (hs : Homes) (vs : List View) (id : ℕ) (v : View) (h : Hand) (s : ℕ) (t : Entries) → Lawful z w hs vs → get_elem? vs id ≡ some v → v.hand ≡ Some h → h.stripe ≡ s → s < 16 → IsTable hs vs s t → t ≡ h.entries
+pub one_table : (z : Sizes) (w : Words) (hs : Homes) (vs : List View) (id : ℕ) (v : View) (h : Hand) (s : ℕ) (t : Entries) → Lawful z w hs vs →
+    get_elem? vs id ≡ some v → v.hand ≡ Some h → h.stripe ≡ s → s < 16 → IsTable hs vs s t → t ≡ h.entries
 one_table z w hs vs id v h s t law at is stripe lt table = go table
   where
     mine : has_stripe s v.hand ≡ 1
@@ -70,7 +71,8 @@ one_table z w hs vs id v h s t law at is stripe lt table = go table
             absurd (omega (arith, sum_set (λ (v : View). has_stripe s v.hand) vs id v unused at, mine, law.tables.stripes s lt))
 
 -- a node word in order stays so, where its children's words stay
-shaped_stays : (n : ℕ) (nodes nodes' : List ℕ) (word : ℕ) → variable_at nodes' (low_of word) ≡ variable_at nodes (low_of word) → variable_at nodes' (high_of word) ≡ variable_at nodes (high_of word) → IsShaped n nodes word → IsShaped n nodes' word
+shaped_stays : (n : ℕ) (nodes nodes' : List ℕ) (word : ℕ) → variable_at nodes' (low_of word) ≡ variable_at nodes (low_of word) →
+    variable_at nodes' (high_of word) ≡ variable_at nodes (high_of word) → IsShaped n nodes word → IsShaped n nodes' word
 shaped_stays n nodes nodes' word l h s = record {
   few = s.few;
   above_low = let k = s.above_low in omega arith;
@@ -104,9 +106,13 @@ in_box_tabled z w hs vs law b x word at two named = law.counted.owners_tabled x 
 module _ (z : Sizes) (w : Words) (hs : Homes) (vs : List View) (id : ℕ) (v : View) (law : Lawful z w hs vs) (at : get_elem? vs id ≡ some v) where
   -- a write leaves the tree of each tabled slot
   pub write_keeps_trees : (d word x : ℕ) (t : Tree) → v.draft ≡ Some d → 0 < tabled hs vs x → IsTree w.nodes t x → IsTree (set w.nodes d word) t x
-  write_keeps_trees d word x t draft tab is = is_tree_stays z w hs vs d word law (let k = law.tables.once d in let l = at_le_sum (λ (t : View). is_draft d t.draft) vs id v at in let o : is_draft d v.draft ≡ 1 = ap (is_draft d) draft ∙ draft_same d d refl in omega arith) t x (inr tab) is
+  write_keeps_trees d word x t draft tab is =
+      is_tree_stays z w hs vs d word law
+      (let k = law.tables.once d in let l = at_le_sum (λ (t : View). is_draft d t.draft) vs id v at in let o : is_draft d v.draft ≡ 1 = ap (is_draft d) draft ∙ draft_same d d refl in omega arith)
+      t x (inr tab) is
 
-module _ (z : Sizes) (w : Words) (hs : Homes) (vs : List View) (id : ℕ) (v : View) (law : Lawful z w hs vs) (at : get_elem? vs id ≡ some v) (on : v.active ≡ true) (d word : ℕ) (h : Hand) (may : MayWrite w.nodes v d h word) where
+module _ (z : Sizes) (w : Words) (hs : Homes) (vs : List View) (id : ℕ) (v : View) (law : Lawful z w hs vs) (at : get_elem? vs id ≡ some v)
+    (on : v.active ≡ true) (d word : ℕ) (h : Hand) (may : MayWrite w.nodes v d h word) where
   f : Fits z w vs id v
   f = law.views id v at on
 
@@ -157,7 +163,18 @@ module _ (z : Sizes) (w : Words) (hs : Homes) (vs : List View) (id : ℕ) (v : V
   own x two =
       let e : in_hand (table_names x) v.hand ≡ table_names x h.entries = ap (λ k. in_hand (table_names x) k) may.hand in
       let g = times-without_each x (slots_of (children word)) v.held (omega (arith, times-slots_of x (children word) two, may.held x two)) in
-      omega (arith, sum_set (owned x) vs id v u at, owned_is x v, owned_is x u, names_append x h.entries (word, d), times-append x (without_each (slots_of (children word)) v.held) (d ∷ []), times-slots_of x (children word) two, times-cons x d [], times-nil x, times-cons x d (children word))
+      omega (
+        arith,
+        sum_set (owned x) vs id v u at,
+        owned_is x v,
+        owned_is x u,
+        names_append x h.entries (word, d),
+        times-append x (without_each (slots_of (children word)) v.held) (d ∷ []),
+        times-slots_of x (children word) two,
+        times-cons x d [],
+        times-nil x,
+        times-cons x d (children word),
+      )
 
   here_one : (x : ℕ) → x ≡ d → cond {A = ℕ} (eqb d x) 1 0 ≡ 1
   here_one x e = rw (eq-eqb d x (sym e)) refl
@@ -200,7 +217,8 @@ module _ (z : Sizes) (w : Words) (hs : Homes) (vs : List View) (id : ℕ) (v : V
   shaped x has (no n) =
       let old = was_tabled x n has in
       subst (λ (m : ℕ). IsShaped z.variables nodes m) (sym (node_stays x old))
-      (shaped_stays z.variables w.nodes nodes (get_or w.nodes x 0) (variable_stays (low_of (get_or w.nodes x 0)) (low_named z w hs vs x law old)) (variable_stays (high_of (get_or w.nodes x 0)) (high_named z w hs vs x law old)) (law.tables.shaped x old))
+      (shaped_stays z.variables w.nodes nodes (get_or w.nodes x 0) (variable_stays (low_of (get_or w.nodes x 0)) (low_named z w hs vs x law old))
+      (variable_stays (high_of (get_or w.nodes x 0)) (high_named z w hs vs x law old)) (law.tables.shaped x old))
 
   unique : (x y : ℕ) → 0 < tabled hs (set vs id u) x → 0 < tabled hs (set vs id u) y → get_or nodes x 0 ≡ get_or nodes y 0 → Dec (x ≡ d) → Dec (y ≡ d) → x ≡ y
   unique x y a b e (yes p) (yes q) = p ∙ sym q

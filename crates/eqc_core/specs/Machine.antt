@@ -36,7 +36,21 @@ home_of (Some t) = some t.entries.items
 
 -- the view of an active worker
 abbrev pub active_view : Sizes → Worker → View
-active_view z w = record (fresh z w.number) { held = w.held.items; phases = w.phase ∷ []; retired = w.retired.items; position = w.position; noted = w.noted.items; draft = w.draft; hand = hand_view w.hand; read = read_view w.read; turn = w.turn.items; stops = w.stops.items; given = w.given; out = w.out.items }
+active_view z w =
+    record (fresh z w.number) {
+      held = w.held.items;
+      phases = w.phase ∷ [];
+      retired = w.retired.items;
+      position = w.position;
+      noted = w.noted.items;
+      draft = w.draft;
+      hand = hand_view w.hand;
+      read = read_view w.read;
+      turn = w.turn.items;
+      stops = w.stops.items;
+      given = w.given;
+      out = w.out.items;
+    }
 
 abbrev pub view_of : Sizes → Worker → View
 view_of z w = if w.active then active_view z w else (if w.over then spent else unused)

@@ -52,7 +52,25 @@ nowhere = record { workers = 0; announcements = 0; names = 0; cells = 0; variabl
 
 -- the view of a number that was never given: it owns nothing
 abbrev pub unused : View
-unused = record { active = false; over = false; sizes = nowhere; number = 0; held = []; phases = []; retired = []; position = 0; noted = []; draft = None; hand = None; read = None; turn = []; stops = []; given = 0; out = [] }
+unused =
+    record {
+      active = false;
+      over = false;
+      sizes = nowhere;
+      number = 0;
+      held = [];
+      phases = [];
+      retired = [];
+      position = 0;
+      noted = [];
+      draft = None;
+      hand = None;
+      read = None;
+      turn = [];
+      stops = [];
+      given = 0;
+      out = [];
+    }
 
 -- the one view of those that were joined: it owns nothing
 abbrev pub spent : View

@@ -20,7 +20,8 @@ and_assoc : (a b c : Bool) → (a && (b && c)) ≡ ((a && b) && c)
 and_assoc true b c = refl
 and_assoc false b c = refl
 
-matches_suc : (row : List ℕ) (vs : List Bool) (j : ℕ) → j < length row → j < length vs → row_matches (take (suc j) row) vs ≡ (row_matches (take j row) vs && allows (get_or row j 0) (get_or vs j false))
+matches_suc : (row : List ℕ) (vs : List Bool) (j : ℕ) → j < length row → j < length vs →
+    row_matches (take (suc j) row) vs ≡ (row_matches (take j row) vs && allows (get_or row j 0) (get_or vs j false))
 matches_suc [] vs j inside few = absurd (omega arith)
 matches_suc (byte ∷ row) [] j inside few = absurd (omega arith)
 matches_suc (byte ∷ row) (v ∷ vs) zero inside few = ap (λ b. allows byte v && b) (row_over vs) ∙ and_true (allows byte v)
@@ -28,7 +29,8 @@ matches_suc (byte ∷ row) (v ∷ vs) (suc j) inside few =
     ap (λ b. allows byte v && b) (matches_suc row vs j (omega arith) (omega arith)) ∙ and_assoc (allows byte v) (row_matches (take j row) vs) (allows (get_or row j 0) (get_or vs j false))
 
 -- one more column
-pub matches_more : (row : List ℕ) (vs : List Bool) (j : ℕ) → j < length row → j < length vs → row_matches (take (j + 1) row) vs ≡ (row_matches (take j row) vs && allows (get_or row j 0) (get_or vs j false))
+pub matches_more : (row : List ℕ) (vs : List Bool) (j : ℕ) → j < length row → j < length vs →
+    row_matches (take (j + 1) row) vs ≡ (row_matches (take j row) vs && allows (get_or row j 0) (get_or vs j false))
 matches_more row vs j inside few = ap (λ n. row_matches (take n row) vs) (add-one j) ∙ matches_suc row vs j inside few
 
 -- all columns
@@ -48,7 +50,8 @@ one_ends n k m h = elim (cases_lt n m) [ inl less ↦ inl (omega arith) | inr mo
 -- ---- a byte as a table
 
 pub zero_table : (m j byte : ℕ) → IsColumn m j → m < 2 ^ 64 → byte ≡ 48 → SaysOfColumn (18446744073709551615 - m) j (allows byte)
-zero_table m j byte column fits is = record { value = λ vs inside few. table-not m vs fits few ∙ (ap not ((table_of_column m j column).value vs inside few) ∙ ap (λ b. allows b (get_or vs j false)) (sym is)) }
+zero_table m j byte column fits is =
+    record { value = λ vs inside few. table-not m vs fits few ∙ (ap not ((table_of_column m j column).value vs inside few) ∙ ap (λ b. allows b (get_or vs j false)) (sym is)) }
 
 pub one_table : (m j byte : ℕ) → IsColumn m j → byte ≡ 49 → SaysOfColumn m j (allows byte)
 one_table m j byte column is = record { value = λ vs inside few. (table_of_column m j column).value vs inside few ∙ ap (λ b. allows b (get_or vs j false)) (sym is) }
@@ -64,7 +67,8 @@ free_table j byte low high = record { value = λ vs inside few. table-ones vs fe
 pub row_begins : (n : ℕ) (row : List ℕ) → n ≤ 6 → Tabulates 18446744073709551615 n (row_matches (take 0 row))
 row_begins n row few = record { value = λ vs size. table-ones vs (omega arith) ∙ sym (row_over vs) }
 
-pub row_goes_on : (old t new n j : ℕ) (row : List ℕ) → Tabulates old n (row_matches (take j row)) → SaysOfColumn t j (allows (get_or row j 0)) → new ≡ bit_and old t → j < n → n ≤ 6 → j < length row → Tabulates new n (row_matches (take (j + 1) row))
+pub row_goes_on : (old t new n j : ℕ) (row : List ℕ) → Tabulates old n (row_matches (take j row)) → SaysOfColumn t j (allows (get_or row j 0)) →
+    new ≡ bit_and old t → j < n → n ≤ 6 → j < length row → Tabulates new n (row_matches (take (j + 1) row))
 row_goes_on old t new n j row before byte is inside few within = record {
   value = λ vs size.
       ap (λ x. table_value x vs) is
@@ -87,7 +91,8 @@ some_matches rows vs = list_any (λ r. row_matches r vs) rows
 pub rows_begin : (n : ℕ) (rows : List (List ℕ)) → Tabulates 0 n (some_matches (take 0 rows))
 rows_begin n rows = record { value = λ vs size. table-zero vs }
 
-pub rows_go_on : (old t new n k : ℕ) (rows : List (List ℕ)) → Tabulates old n (some_matches (take k rows)) → Tabulates t n (row_matches (get_or rows k [])) → new ≡ bit_or old t → k < length rows → Tabulates new n (some_matches (take (k + 1) rows))
+pub rows_go_on : (old t new n k : ℕ) (rows : List (List ℕ)) → Tabulates old n (some_matches (take k rows)) →
+    Tabulates t n (row_matches (get_or rows k [])) → new ≡ bit_or old t → k < length rows → Tabulates new n (some_matches (take (k + 1) rows))
 rows_go_on old t new n k rows before row is inside = record {
   value = λ vs size.
       ap (λ x. table_value x vs) is
@@ -101,10 +106,13 @@ pub rows_end : (t n k : ℕ) (rows : List (List ℕ)) → length rows ≤ k → 
 rows_end t n k rows whole is = record { value = λ vs size. is.value vs size ∙ ap (λ rs. some_matches rs vs) (take_all k rows whole) }
 
 -- rows that are slices
-pub slices_go_on : (old t new n k : ℕ) (rows : List (Bor (List ℕ))) (d : Bor (List ℕ)) → Tabulates old n (some_matches (take k (map (λ r. r.now) rows))) → Tabulates t n (row_matches (get_or rows k d).now) → new ≡ bit_or old t → k < length rows
+pub slices_go_on : (old t new n k : ℕ) (rows : List (Bor (List ℕ))) (d : Bor (List ℕ)) →
+    Tabulates old n (some_matches (take k (map (λ r. r.now) rows))) → Tabulates t n (row_matches (get_or rows k d).now) → new ≡ bit_or old t →
+    k < length rows
     → Tabulates new n (some_matches (take (k + 1) (map (λ r. r.now) rows)))
 slices_go_on old t new n k rows d before row is inside =
-    rows_go_on old t new n k (map (λ r. r.now) rows) before (rw (get_or-map (λ (r : Bor (List ℕ)). r.now) rows k d [] inside) row) is (omega (arith, inside, length-map rows (λ (r : Bor (List ℕ)). r.now)))
+    rows_go_on old t new n k (map (λ r. r.now) rows) before
+    (rw (get_or-map (λ (r : Bor (List ℕ)). r.now) rows k d [] inside) row) is (omega (arith, inside, length-map rows (λ (r : Bor (List ℕ)). r.now)))
 
 pub slices_end : (t n k : ℕ) (rows : List (Bor (List ℕ))) → length rows ≤ k → Tabulates t n (some_matches (take k (map (λ r. r.now) rows))) → Tabulates t n (some_matches (map (λ r. r.now) rows))
 slices_end t n k rows whole is = rows_end t n k (map (λ r. r.now) rows) (omega (arith, whole, length-map rows (λ (r : Bor (List ℕ)). r.now))) is
@@ -130,5 +138,6 @@ on_table t n rows is on = record { value = λ vs size. is.value vs size ∙ cove
 pub empty_table : (t n : ℕ) (rows : List (List ℕ)) → Tabulates t n (some_matches rows) → (length rows == 0) ≡ true → Tabulates t n (cover_value rows)
 empty_table t n rows is none = record { value = λ vs size. is.value vs size ∙ no_row_matches rows vs none }
 
-pub off_table : (t n : ℕ) (rows : List (List ℕ)) → t < 2 ^ 64 → n ≤ 6 → Tabulates t n (some_matches rows) → (length rows == 0) ≡ false → is_on_set rows ≡ false → Tabulates (18446744073709551615 - t) n (cover_value rows)
+pub off_table : (t n : ℕ) (rows : List (List ℕ)) → t < 2 ^ 64 → n ≤ 6 → Tabulates t n (some_matches rows) → (length rows == 0) ≡ false →
+    is_on_set rows ≡ false → Tabulates (18446744073709551615 - t) n (cover_value rows)
 off_table t n rows fits few is some off = record { value = λ vs size. table-not t vs fits (omega arith) ∙ (ap not (is.value vs size) ∙ cover_off rows vs some off) }

@@ -29,7 +29,9 @@ constant_value t vs few constant = elim (or_cases (eqb t 0) (eqb t 1844674407370
 
 -- the one table is true wherever the other is
 pub implied : (t o : ℕ) → o < 2 ^ 64 → eqb (bit_and t (18446744073709551615 - o)) 0 ≡ true → (vs : List Bool) → length vs ≤ 6 → table_value t vs ≡ true → table_value o vs ≡ true
-implied t o fits none vs few = by (table_value t vs) (table_value o vs) (ap (λ b. table_value t vs && b) (sym (table-not o vs fits few)) ∙ (sym (table-and t (18446744073709551615 - o) vs) ∙ (ap (λ u. table_value u vs) (eqb-true _ 0 none) ∙ table-zero vs)))
+implied t o fits none vs few =
+    by (table_value t vs) (table_value o vs)
+    (ap (λ b. table_value t vs && b) (sym (table-not o vs fits few)) ∙ (sym (table-and t (18446744073709551615 - o) vs) ∙ (ap (λ u. table_value u vs) (eqb-true _ 0 none) ∙ table-zero vs)))
   where
     by : (a b : Bool) → (a && not b) ≡ false → a ≡ true → b ≡ true
     by true true e is = refl
@@ -50,7 +52,8 @@ pub none_stays : (high low : ℕ) → StaysOpen high low 0
 none_stays high low = record { depends = λ n few opens above below. record { alike = λ vs ws size other same. table-zero vs ∙ sym (table-zero ws) } }
 
 pub opposite_open : (t n : ℕ) (opens : List Bool) → t < 2 ^ 64 → n ≤ 6 → DependsOnOpen t n opens → DependsOnOpen (18446744073709551615 - t) n opens
-opposite_open t n opens fits few depends = record { alike = λ vs ws size other same. table-not t vs fits (omega arith) ∙ (ap not (depends.alike vs ws size other same) ∙ sym (table-not t ws fits (omega arith))) }
+opposite_open t n opens fits few depends =
+    record { alike = λ vs ws size other same. table-not t vs fits (omega arith) ∙ (ap not (depends.alike vs ws size other same) ∙ sym (table-not t ws fits (omega arith))) }
 
 pub opposite_stays : (t : ℕ) → t < 2 ^ 64 → StaysOpen t t (18446744073709551615 - t)
 opposite_stays t fits = record { depends = λ n few opens above below. opposite_open t n opens fits few above }
@@ -67,13 +70,15 @@ pub high_parts_stay : (high low rest t : ℕ) → rest ≡ high → StaysOpen re
 high_parts_stay high low rest t is stays = record { depends = λ n few opens above below. let open_rest : DependsOnOpen rest n opens = rw is above in stays.depends n few opens open_rest open_rest }
 
 pub opposite_parts_stay : (high low rest t : ℕ) → high < 2 ^ 64 → rest ≡ 18446744073709551615 - high → StaysOpen rest rest t → StaysOpen high low t
-opposite_parts_stay high low rest t fits is stays = record { depends = λ n few opens above below. let open_rest : DependsOnOpen rest n opens = rw is (opposite_open high n opens fits few above) in stays.depends n few opens open_rest open_rest }
+opposite_parts_stay high low rest t fits is stays =
+    record { depends = λ n few opens above below. let open_rest : DependsOnOpen rest n opens = rw is (opposite_open high n opens fits few above) in stays.depends n few opens open_rest open_rest }
 
 -- ---- both parts
 
 pub by_xor : (high low : ℕ) (x : Bool) (vs : List Bool) → low < 2 ^ 64 → length vs ≤ 6 → high ≡ 18446744073709551615 - low
     → operate Xor (table_value low vs) (x && table_value 18446744073709551615 vs) ≡ cond x (table_value high vs) (table_value low vs)
-by_xor high low x vs fits few is = ap (λ b. operate Xor (table_value low vs) (x && b)) (table-ones vs few) ∙ by x (table_value low vs) (table_value high vs) (ap (λ u. table_value u vs) is ∙ table-not low vs fits few)
+by_xor high low x vs fits few is =
+    ap (λ b. operate Xor (table_value low vs) (x && b)) (table-ones vs few) ∙ by x (table_value low vs) (table_value high vs) (ap (λ u. table_value u vs) is ∙ table-not low vs fits few)
   where
     by : (x l h : Bool) → h ≡ not l → operate Xor l (x && true) ≡ cond x h l
     by true true h is = sym is
@@ -115,8 +120,10 @@ by_three high low x vs = by x (table_value low vs) (table_value high vs)
 pub on_said : (t n : ℕ) (on : Bool) (rows : List (List ℕ)) (vs : List Bool) → length vs ≡ n → Tabulates t n (some_match rows) → on ≡ true → table_value t vs ≡ agrees on (some_match rows vs)
 on_said t n on rows vs size tabulates is = tabulates.value vs size ∙ ap (λ b. agrees b (some_match rows vs)) (sym is)
 
-pub off_said : (t n : ℕ) (on : Bool) (rows : List (List ℕ)) (vs : List Bool) → length vs ≡ n → n ≤ 6 → t < 2 ^ 64 → Tabulates t n (some_match rows) → on ≡ false → table_value (18446744073709551615 - t) vs ≡ agrees on (some_match rows vs)
-off_said t n on rows vs size few fits tabulates is = table-not t vs fits (omega arith) ∙ (ap not (tabulates.value vs size) ∙ (by (some_match rows vs) ∙ ap (λ b. agrees b (some_match rows vs)) (sym is)))
+pub off_said : (t n : ℕ) (on : Bool) (rows : List (List ℕ)) (vs : List Bool) → length vs ≡ n → n ≤ 6 → t < 2 ^ 64 →
+    Tabulates t n (some_match rows) → on ≡ false → table_value (18446744073709551615 - t) vs ≡ agrees on (some_match rows vs)
+off_said t n on rows vs size few fits tabulates is =
+    table-not t vs fits (omega arith) ∙ (ap not (tabulates.value vs size) ∙ (by (some_match rows vs) ∙ ap (λ b. agrees b (some_match rows vs)) (sym is)))
   where
     by : (b : Bool) → not b ≡ agrees false b
     by true = refl
@@ -127,7 +134,8 @@ off_said t n on rows vs size few fits tabulates is = table-not t vs fits (omega 
 pub few_said : {X : Type 0} (entry : X → Entry) (columns : List (Bor X)) (a : ℕ → Bool) → length columns ≤ 6 → length (said entry columns a) ≤ 6
 few_said entry columns a few = omega (arith, few, length_said entry columns a)
 
-pub said_at : {X : Type 0} (entry : X → Entry) (columns : List (Bor X)) (x : Bor X) (j : ℕ) (a : ℕ → Bool) → j < length columns → x ≡ get_or columns j x → says (entry x.now) a ≡ get_or (said entry columns a) j false
+pub said_at : {X : Type 0} (entry : X → Entry) (columns : List (Bor X)) (x : Bor X) (j : ℕ) (a : ℕ → Bool) → j < length columns →
+    x ≡ get_or columns j x → says (entry x.now) a ≡ get_or (said entry columns a) j false
 said_at entry columns x j a inside is = ap (λ r. says (entry r.now) a) is ∙ sym (get_or-map (λ r. says (entry r.now) a) columns j x false inside)
 
 module _ {X : Type 0} (entry : X → Entry) (columns : List (Bor X)) (x : Bor X) (t j high low : ℕ) (few : length columns ≤ 6) (inside : j < length columns)
@@ -140,7 +148,10 @@ module _ {X : Type 0} (entry : X → Entry) (columns : List (Bor X)) (x : Bor X)
 
   -- where nothing is left of it under one value
   pub by_true_column : low ≡ 0 → (says (entry x.now) a && table_value high (said entry columns a)) ≡ table_value t (said entry columns a)
-  by_true_column none = sym (ap (λ b. cond (says (entry x.now) a) (table_value high (said entry columns a)) b) (ap (λ u. table_value u (said entry columns a)) none ∙ table-zero (said entry columns a)) ∙ by (says (entry x.now) a) (table_value high (said entry columns a))) ∙ by_column
+  by_true_column none =
+      sym (ap (λ b. cond (says (entry x.now) a) (table_value high (said entry columns a)) b) (ap (λ u. table_value u (said entry columns a)) none ∙ table-zero (said entry columns a))
+      ∙ by (says (entry x.now) a) (table_value high (said entry columns a)))
+      ∙ by_column
     where
       by : (b h : Bool) → cond b h false ≡ (b && h)
       by true h = refl

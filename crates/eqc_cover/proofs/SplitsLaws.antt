@@ -45,7 +45,8 @@ after_before (s ∷ splits) vs made k h =
 pub grows_more : (splits : List Split) (s : Split) → Grows splits (splits ++ s ∷ [])
 grows_more splits s = record {
   more = omega (arith, length-append splits (s ∷ []));
-  same = λ k h vs. ap (λ ws. get_or ws k false) (after_more splits s vs []) ∙ get_or-append (values_after splits vs []) (split_value s (values_after splits vs []) vs ∷ []) false k (omega (arith, h, after_length splits vs []));
+  same = λ k h vs. ap (λ ws. get_or ws k false) (after_more splits s vs [])
+      ∙ get_or-append (values_after splits vs []) (split_value s (values_after splits vs []) vs ∷ []) false k (omega (arith, h, after_length splits vs []));
 }
 
 pub grows_none : (splits : List Split) → Grows splits splits
@@ -148,7 +149,8 @@ last_few : (vs : List Bool) → length (last_columns vs) ≤ 6
 last_few vs = omega (arith, length-drop (length vs - 6) vs)
 
 -- a table that has a value everywhere
-pub everywhere_said : (n t : ℕ) (b : Bool) (f : List Bool → Bool) → ((vs : List Bool) → length vs ≤ 6 → table_value t vs ≡ b) → ((vs : List Bool) → f vs ≡ b) → (vs : List Bool) → length vs ≡ n → table_value t (last_columns vs) ≡ f vs
+pub everywhere_said : (n t : ℕ) (b : Bool) (f : List Bool → Bool) → ((vs : List Bool) → length vs ≤ 6 → table_value t vs ≡ b) →
+    ((vs : List Bool) → f vs ≡ b) → (vs : List Bool) → length vs ≡ n → table_value t (last_columns vs) ≡ f vs
 everywhere_said n t b f says same vs size = says (last_columns vs) (last_few vs) ∙ sym (same vs)
 
 pub no_rows_say : (on : Bool) (rows : List (Bor (List ℕ))) (vs : List Bool) → (length rows == 0) ≡ true → agrees on (some_match (map (λ r. r.now) rows) vs) ≡ not on
@@ -173,7 +175,8 @@ pub off_table : (t : ℕ) (on : Bool) (rows : List (List ℕ)) → t < 2 ^ 64 �
 off_table t on rows fits tabulates is = record { value = λ vs size. off_said t 6 on rows vs size (omega arith) fits tabulates is }
 
 -- what was made, by another name
-pub made_ok : {E : Type 0} (n : ℕ) (splits : List Split) (result : Result ℕ E) (f g : List Bool → Bool) → ((vs : List Bool) → length vs ≡ n → f vs ≡ g vs) → IfOk result (λ k. IsMadeAt n splits k f) → IfOk result (λ k. IsMadeAt n splits k g)
+pub made_ok : {E : Type 0} (n : ℕ) (splits : List Split) (result : Result ℕ E) (f g : List Bool → Bool) →
+    ((vs : List Bool) → length vs ≡ n → f vs ≡ g vs) → IfOk result (λ k. IsMadeAt n splits k f) → IfOk result (λ k. IsMadeAt n splits k g)
 made_ok n splits (Ok k) f g same m = made_as n splits k f g same m
 made_ok n splits (Err stop) f g same m = tt
 
@@ -182,7 +185,8 @@ next : (column : ℕ) (vs : List Bool) → column < length vs → drop column vs
 next column vs inside = drop-cons vs column false inside ∙ ap (λ k. get_or vs column false ∷ drop k vs) (sym (add-one column))
 
 pub expanded : (n column : ℕ) (on : Bool) (rows high low : List (List ℕ)) → column < n → high ≡ cofactor true rows → low ≡ cofactor false rows
-    → (vs : List Bool) → length vs ≡ n → cond (get_or vs column false) (agrees on (some_match high (drop (column + 1) vs))) (agrees on (some_match low (drop (column + 1) vs))) ≡ agrees on (some_match rows (drop column vs))
+    → (vs : List Bool) → length vs ≡ n →
+    cond (get_or vs column false) (agrees on (some_match high (drop (column + 1) vs))) (agrees on (some_match low (drop (column + 1) vs))) ≡ agrees on (some_match rows (drop column vs))
 expanded n column on rows high low inside h l vs size =
     rw (h, l, next column vs (omega (arith, inside, size))) (expansion on rows (get_or vs column false) (drop (column + 1) vs))
 
@@ -234,14 +238,16 @@ pub record Leaves {X : Type 0} (entry : X → Entry) (old new : Holding) (all le
   pub variables : new.variables ≡ old.variables
   pub held : (e : Entry) → copies new e + tally entry all e ≡ copies old e + tally entry left e
 
-pub leaves_more : {X : Type 0} (entry : X → Entry) (d0 d1 d2 : Holding) (all left front : List X) (r : X) → left ≡ front ++ r ∷ [] → Leaves entry d0 d1 all left → Loses d1 d2 (entry r) → Leaves entry d0 d2 all front
+pub leaves_more : {X : Type 0} (entry : X → Entry) (d0 d1 d2 : Holding) (all left front : List X) (r : X) → left ≡ front ++ r ∷ [] →
+    Leaves entry d0 d1 all left → Loses d1 d2 (entry r) → Leaves entry d0 d2 all front
 leaves_more entry d0 d1 d2 all left front r is m l = record {
   variables = l.variables ∙ m.variables;
   held = λ e. omega (arith, m.held e, l.held e, tally_end entry left front r e is);
 }
 
 -- one reference more that a call made
-pub gathers_made : {X : Type 0} (entry : X → Entry) (d0 d1 d2 d3 : Holding) (old new : List X) (r : X) (f : (ℕ → Bool) → Bool) → new ≡ old ++ r ∷ [] → Gathers entry d0 d1 old → Makes entry d1 d2 (Ok r) f → Keeps d2 d3 → Gathers entry d0 d3 new
+pub gathers_made : {X : Type 0} (entry : X → Entry) (d0 d1 d2 d3 : Holding) (old new : List X) (r : X) (f : (ℕ → Bool) → Bool) →
+    new ≡ old ++ r ∷ [] → Gathers entry d0 d1 old → Makes entry d1 d2 (Ok r) f → Keeps d2 d3 → Gathers entry d0 d3 new
 gathers_made entry d0 d1 d2 d3 old new r f is g m k = record {
   variables = k.variables ∙ (m.variables ∙ g.variables);
   held = λ e. omega (arith, g.held e, m.held e, k.held e, tally_end entry new old r e is);
@@ -253,7 +259,9 @@ gathers_owned entry d0 d1 rs m = record { held = λ e. omega (arith, m.held e) }
 
 -- one split more says what its reference does
 pub say_more : {X : Type 0} (entry : X → Entry) (old new : List X) (r : X) (splits : List Split) (k : ℕ) (d : Split) (columns : List (Bor X)) (a : ℕ → Bool) → k < length splits → new ≡ old ++ r ∷ []
-    → SaySplits entry old (take k splits) columns a → says (entry r) a ≡ split_value (get_or splits k d) (map (λ r. says (entry r) a) old) (said entry columns a) → SaySplits entry new (take (k + 1) splits) columns a
+    → SaySplits entry old (take k splits) columns a →
+    says (entry r) a ≡ split_value (get_or splits k d) (map (λ r. says (entry r) a) old) (said entry columns a) →
+    SaySplits entry new (take (k + 1) splits) columns a
 say_more entry old new r splits k d columns a inside is say one = record {
   values =
       ap (map (λ r. says (entry r) a)) is ∙ (map-append (λ r. says (entry r) a) old (r ∷ [])
@@ -263,7 +271,8 @@ say_more entry old new r splits k d columns a inside is say one = record {
 }
 
 -- the reference of a split
-pub said_by : {X : Type 0} (entry : X → Entry) (rs : List X) (r : X) (splits : List Split) (k : ℕ) (columns : List (Bor X)) (a : ℕ → Bool) → k < length rs → r ≡ get_or rs k r → SaySplits entry rs splits columns a → says (entry r) a ≡ value_of splits k (said entry columns a)
+pub said_by : {X : Type 0} (entry : X → Entry) (rs : List X) (r : X) (splits : List Split) (k : ℕ) (columns : List (Bor X)) (a : ℕ → Bool) →
+    k < length rs → r ≡ get_or rs k r → SaySplits entry rs splits columns a → says (entry r) a ≡ value_of splits k (said entry columns a)
 said_by entry rs r splits k columns a inside is say =
     ap (λ r. says (entry r) a) is ∙ (sym (get_or-map (λ r. says (entry r) a) rs k r false inside) ∙ ap (λ ws. get_or ws k false) say.values)
 
@@ -271,7 +280,8 @@ said_by entry rs r splits k columns a inside is say =
 pub last_part_few : {X : Type 0} (columns : List X) (s : ℕ) → s ≡ length columns - 6 → length (take (length columns - s) (drop s columns)) ≤ 6
 last_part_few columns s is = omega (arith, is, length-take-le (length columns - s) (drop s columns) (omega (arith, length-drop s columns)))
 
-pub last_part_said : {X : Type 0} (entry : X → Entry) (columns : List (Bor X)) (s : ℕ) (a : ℕ → Bool) → s ≡ length columns - 6 → said entry (take (length columns - s) (drop s columns)) a ≡ last_columns (said entry columns a)
+pub last_part_said : {X : Type 0} (entry : X → Entry) (columns : List (Bor X)) (s : ℕ) (a : ℕ → Bool) → s ≡ length columns - 6 →
+    said entry (take (length columns - s) (drop s columns)) a ≡ last_columns (said entry columns a)
 last_part_said entry columns s a is =
     ap (λ xs. said entry xs a) (take_all (length columns - s) (drop s columns) (omega (arith, length-drop s columns)))
     ∙ (map_drop (λ r. says (entry r.now) a) s columns ∙ ap (λ k. drop k (said entry columns a)) (let e : s ≡ length (said entry columns a) - 6 = omega (arith, is, length_said entry columns a) in e))
@@ -295,6 +305,7 @@ chosen_ok n column h l (Ok k) s1 s2 s3 f g all grows high low chosen agree = cho
 chosen_ok n column h l (Err stop) s1 s2 s3 f g all grows high low chosen agree = tt
 
 -- a row of a list that another one has too
-pub row_at : {A : Type 0} (f : A → List ℕ) (xs : List A) (all ys : List (List ℕ)) (k : ℕ) (x : A) (row : List ℕ) → all ≡ map f xs → k < length xs → x ≡ get_or xs k x → f x ≡ row → row ≡ get_or ys k [] → get_or all k [] ≡ get_or ys k []
+pub row_at : {A : Type 0} (f : A → List ℕ) (xs : List A) (all ys : List (List ℕ)) (k : ℕ) (x : A) (row : List ℕ) → all ≡ map f xs →
+    k < length xs → x ≡ get_or xs k x → f x ≡ row → row ≡ get_or ys k [] → get_or all k [] ≡ get_or ys k []
 row_at f xs all ys k x row is inside there same other =
     ap (λ l. get_or l k []) is ∙ (get_or-map f xs k x [] inside ∙ (ap f (sym there) ∙ (same ∙ other)))

@@ -218,7 +218,8 @@ pub few_places : (j : ℕ) → j < 6 → 1 * 2 ^ j % 4294967296 < 64
 few_places j small = omega (arith, places_of j small, pow_mono {i = j} {j = 5} (omega arith))
 
 -- the tables of the columns
-pub columns_are : (j : ℕ) → j < 6 → IsColumn (get_or (12297829382473034410 ∷ 14757395258967641292 ∷ 17361641481138401520 ∷ 18374966859414961920 ∷ 18446462603027742720 ∷ 18446744069414584320 ∷ []) j 0) j
+pub columns_are : (j : ℕ) → j < 6 →
+    IsColumn (get_or (12297829382473034410 ∷ 14757395258967641292 ∷ 17361641481138401520 ∷ 18374966859414961920 ∷ 18446462603027742720 ∷ 18446744069414584320 ∷ []) j 0) j
 columns_are zero small = record { at = λ i low. eqb-true _ _ (agree_below_at (λ k. eqb (bit_at 12297829382473034410 k) (bit_at k 0)) (λ k. true) 64 i refl low) }
 columns_are (suc zero) small = record { at = λ i low. eqb-true _ _ (agree_below_at (λ k. eqb (bit_at 14757395258967641292 k) (bit_at k 1)) (λ k. true) 64 i refl low) }
 columns_are (suc (suc zero)) small = record { at = λ i low. eqb-true _ _ (agree_below_at (λ k. eqb (bit_at 17361641481138401520 k) (bit_at k 2)) (λ k. true) 64 i refl low) }
@@ -228,7 +229,8 @@ columns_are (suc (suc (suc (suc (suc zero))))) small = record { at = λ i low. e
 columns_are (suc (suc (suc (suc (suc (suc j)))))) small = absurd (omega arith)
 
 -- Shannon's expansion
-pub expansion : (t j high low : ℕ) (vs : List Bool) → IsCofactor t j true high → IsCofactor t j false low → j < length vs → length vs ≤ 6 → cond (get_or vs j false) (table_value high vs) (table_value low vs) ≡ table_value t vs
+pub expansion : (t j high low : ℕ) (vs : List Bool) → IsCofactor t j true high → IsCofactor t j false low → j < length vs → length vs ≤ 6 →
+    cond (get_or vs j false) (table_value high vs) (table_value low vs) ≡ table_value t vs
 expansion t j high low vs h l inside few = elim (cases_Bool (get_or vs j false)) [
   | inl is ↦ ap (λ b. cond b (table_value high vs) (table_value low vs)) is ∙ (h.value vs inside few ∙ ap (table_value t) (ap (set vs j) (sym is) ∙ set-get_or vs j false))
   | inr is ↦ ap (λ b. cond b (table_value high vs) (table_value low vs)) is ∙ (l.value vs inside few ∙ ap (table_value t) (ap (set vs j) (sym is) ∙ set-get_or vs j false))
@@ -237,7 +239,11 @@ expansion t j high low vs h l inside few = elim (cases_Bool (get_or vs j false))
 -- ---- open columns
 
 pub all_open : (t n : ℕ) → n ≤ 6 → DependsOnOpen t n (true ∷ true ∷ true ∷ true ∷ true ∷ true ∷ [])
-all_open t n few = record { alike = λ vs ws size other same. ap (table_value t) (same_lists vs ws (size ∙ sym other) (λ k d inside. elsewhere vs ws k d (omega arith) (omega arith) (same k (omega arith) (is_open k (omega arith))))) }
+all_open t n few =
+    record {
+      alike = λ vs ws size other same.
+          ap (table_value t) (same_lists vs ws (size ∙ sym other) (λ k d inside. elsewhere vs ws k d (omega arith) (omega arith) (same k (omega arith) (is_open k (omega arith)))));
+    }
   where
     is_open : (k : ℕ) → k < 6 → get_or (true ∷ true ∷ true ∷ true ∷ true ∷ true ∷ []) k false ≡ true
     is_open zero h = refl

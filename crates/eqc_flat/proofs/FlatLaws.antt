@@ -157,7 +157,9 @@ parts_flat library top output_signals named places drivers steps h = record {
   few_inputs = h.few_inputs;
   few_signals = omega (arith, size, h.few_signals);
   few_outputs =
-      let differ = distinct_origins (signal_at library top) output_signals (let P : List SignalOf → Type 0 = λ l. Distinct l in subst P (sym h.outputs_of) (signals_differ (path_at library top 0) (model library top).outputs h.outputs_once)) in
+      let differ =
+      distinct_origins (signal_at library top) output_signals
+      (let P : List SignalOf → Type 0 = λ l. Distinct l in subst P (sym h.outputs_of) (signals_differ (path_at library top 0) (model library top).outputs h.outputs_once)) in
       let few = below_few (length (signals library top)) output_signals differ h.outputs_within in
       omega (arith, few, outputs, size);
   each_named =

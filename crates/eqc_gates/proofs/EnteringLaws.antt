@@ -15,7 +15,8 @@ use Rattle.eqc_gates.specs.Entering.{is_marked, AreLiterals, AreEntered, AreClos
 
 -- ---- the columns of a cover
 
-pub found_more : (table : List (Option ℕ)) (steps old new : List ℕ) (i l : ℕ) → i < length steps → map (λ x. Some x) old ≡ map (reference_of table) (take i steps) → reference_of table (get_or steps i 0) ≡ Some l → new ≡ old ++ l ∷ []
+pub found_more : (table : List (Option ℕ)) (steps old new : List ℕ) (i l : ℕ) → i < length steps →
+    map (λ x. Some x) old ≡ map (reference_of table) (take i steps) → reference_of table (get_or steps i 0) ≡ Some l → new ≡ old ++ l ∷ []
     → map (λ x. Some x) new ≡ map (reference_of table) (take (i + 1) steps)
 found_more table steps old new i l inside so_far here is =
     ap (map (λ (x : ℕ). Some x)) is
@@ -23,7 +24,8 @@ found_more table steps old new i l inside so_far here is =
     ∙ (rw (so_far, ← here) refl
     ∙ sym (ap (map (reference_of table)) (take_more steps i 0 inside) ∙ map-append (reference_of table) (take i steps) (get_or steps i 0 ∷ []))))
 
-pub found_within : (p : PairOf) (nodes : List Node) (table : List (Option ℕ)) (steps found : List ℕ) → AreLiterals p nodes table → map (λ x. Some x) found ≡ map (reference_of table) steps → AreWithin nodes found
+pub found_within : (p : PairOf) (nodes : List Node) (table : List (Option ℕ)) (steps found : List ℕ) → AreLiterals p nodes table →
+    map (λ x. Some x) found ≡ map (reference_of table) steps → AreWithin nodes found
 found_within p nodes table steps [] h is = record { each = λ k inside. absurd (omega arith) }
 found_within p nodes table [] (l ∷ found) h is = absurd (let q = is in cc)
 found_within p nodes table (s ∷ steps) (l ∷ found) h is =
@@ -35,7 +37,8 @@ found_within p nodes table (s ∷ steps) (l ∷ found) h is =
     at zero inside first others = first
     at (suc k) inside first others = others.each k (omega arith)
 
-pub found_values : (p : PairOf) (nodes : List Node) (table : List (Option ℕ)) (steps found : List ℕ) (a : ℕ → Bool) → AreLiterals p nodes table → map (λ x. Some x) found ≡ map (reference_of table) steps → map (literal_value nodes a) found ≡ map (value_at p a) steps
+pub found_values : (p : PairOf) (nodes : List Node) (table : List (Option ℕ)) (steps found : List ℕ) (a : ℕ → Bool) → AreLiterals p nodes table →
+    map (λ x. Some x) found ≡ map (reference_of table) steps → map (literal_value nodes a) found ≡ map (value_at p a) steps
 found_values p nodes table [] [] a h is = refl
 found_values p nodes table (s ∷ steps) [] a h is = absurd (let q = is in cc)
 found_values p nodes table [] (l ∷ found) a h is = absurd (let q = is in cc)
@@ -103,16 +106,20 @@ entering_more p marks old now new table more k x so_far extends value marked is 
   ];
 })
 
-pub entering_literal : (p : PairOf) (marks : List Bool) (old now new : List Node) (table more : List (Option ℕ)) (k l : ℕ) → IsEntering p marks old now table k → Extends now new → HasValue new l (λ a. value_at p a k) → more ≡ table ++ Some l ∷ [] → IsEntering p marks old new more (k + 1)
+pub entering_literal : (p : PairOf) (marks : List Bool) (old now new : List Node) (table more : List (Option ℕ)) (k l : ℕ) →
+    IsEntering p marks old now table k → Extends now new → HasValue new l (λ a. value_at p a k) → more ≡ table ++ Some l ∷ [] →
+    IsEntering p marks old new more (k + 1)
 entering_literal p marks old now new table more k l so_far extends value is =
     entering_more p marks old now new table more k (Some l) so_far extends (λ m same. (let e : l ≡ m = cc in rw (← e) value)) (λ here. is_some (Some l) l refl) is
 
-pub entering_none : (p : PairOf) (marks : List Bool) (old now : List Node) (table more : List (Option ℕ)) (k : ℕ) → IsEntering p marks old now table k → is_marked marks k ≡ false → more ≡ table ++ None ∷ [] → IsEntering p marks old now more (k + 1)
+pub entering_none : (p : PairOf) (marks : List Bool) (old now : List Node) (table more : List (Option ℕ)) (k : ℕ) →
+    IsEntering p marks old now table k → is_marked marks k ≡ false → more ≡ table ++ None ∷ [] → IsEntering p marks old now more (k + 1)
 entering_none p marks old now table more k so_far none is =
     entering_more p marks old now now table more k None so_far (extends_itself now) (λ m same. absurd (let q = same in cc)) (λ here. absurd (false≢true (sym none ∙ here))) is
 
 -- what a marked step uses has its literals
-pub uses_ready : (g : StepsOf) (marks : List Bool) (old now : List Node) (table : List (Option ℕ)) (k : ℕ) → AreSteps g → k < steps_in g.pair → AreClosed g marks → is_marked marks k ≡ true → IsEntering g.pair marks old now table k → AreReady table (uses_of g k)
+pub uses_ready : (g : StepsOf) (marks : List Bool) (old now : List Node) (table : List (Option ℕ)) (k : ℕ) → AreSteps g → k < steps_in g.pair →
+    AreClosed g marks → is_marked marks k ≡ true → IsEntering g.pair marks old now table k → AreReady table (uses_of g k)
 uses_ready g marks old now table k steps inside closed here so_far = record {
   each = λ c lt. so_far.entered (get_or (uses_of g k) c 0) (uses_before g k c steps inside lt) (closed.uses k c inside here lt);
 }

@@ -28,7 +28,8 @@ pub record IsOpposite (m l : ℕ) : Type 0 where
   pub value : (nodes : List Node) (a : ℕ → Bool) → literal_value nodes a m ≡ not (literal_value nodes a l)
 
 -- an or as the complement of an and
-pub or_value : (old new : List Node) (x y nx ny l m : ℕ) → IsOpposite nx x → IsOpposite ny y → IsOpposite m l → HasValue new l (λ a. literal_value old a nx && literal_value old a ny) → HasValue new m (λ a. literal_value old a x || literal_value old a y)
+pub or_value : (old new : List Node) (x y nx ny l m : ℕ) → IsOpposite nx x → IsOpposite ny y → IsOpposite m l →
+    HasValue new l (λ a. literal_value old a nx && literal_value old a ny) → HasValue new m (λ a. literal_value old a x || literal_value old a y)
 or_value old new x y nx ny l m ox oy om is = record {
   within = omega (arith, om.node, is.within);
   value = λ a.
@@ -120,7 +121,8 @@ two_open work next inside = drop_more work next 0 (omega arith) ∙ ap (λ rest.
 
 -- two are replaced by their gate, at the end
 pub reduction_goes_on : (old now new : List Node) (literals work more : List ℕ) (next both : ℕ) → IsReduced old now literals work next → next + 1 < length work → Extends now new → IsWithin new both
-    → ((a : ℕ → Bool) → literal_value new a both ≡ (literal_value now a (get_or work next 0) && literal_value now a (get_or work (next + 1) 0))) → more ≡ work ++ both ∷ [] → IsReduced old new literals more (next + 2)
+    → ((a : ℕ → Bool) → literal_value new a both ≡ (literal_value now a (get_or work next 0) && literal_value now a (get_or work (next + 1) 0))) →
+    more ≡ work ++ both ∷ [] → IsReduced old new literals more (next + 2)
 reduction_goes_on old now new literals work more next both so_far inside extends within value is = record {
   extends = extends_along old now new so_far.extends extends;
   within = within_push new work more both (still_within now new work extends so_far.within) within is;
@@ -146,7 +148,8 @@ pub asked_for_none : (columns row : List ℕ) → AreAskedFor columns (take 0 ro
 asked_for_none columns row = record { within = λ nodes h. record { each = λ k inside. absurd (omega arith) }; value = λ nodes a. sym (row_over (map (literal_value nodes a) columns)) }
 
 -- one more, which says whether the byte allows the column's value
-pub asked_for_more : (columns row asked more : List ℕ) (j l : ℕ) → AreAskedFor columns (take j row) asked → j < length columns → j < length row → more ≡ asked ++ l ∷ [] → l / 2 ≡ get_or columns j 0 / 2
+pub asked_for_more : (columns row asked more : List ℕ) (j l : ℕ) → AreAskedFor columns (take j row) asked → j < length columns → j < length row →
+    more ≡ asked ++ l ∷ [] → l / 2 ≡ get_or columns j 0 / 2
     → ((nodes : List Node) (a : ℕ → Bool) → literal_value nodes a l ≡ allows (get_or row j 0) (literal_value nodes a (get_or columns j 0))) → AreAskedFor columns (take (j + 1) row) more
 asked_for_more columns row asked more j l so_far inside within is node value = record {
   within = λ nodes h. within_push nodes asked more l (so_far.within nodes h) (omega (arith, node, h.each j inside)) is;
@@ -154,14 +157,16 @@ asked_for_more columns row asked more j l so_far inside within is node value = r
       ap (list_all (literal_value nodes a)) is
       ∙ (list_all-append (literal_value nodes a) asked (l ∷ [])
       ∙ (ap (λ b. b && (literal_value nodes a l && true)) (so_far.value nodes a)
-      ∙ (ap (λ b. row_matches (take j row) (said nodes columns a) && b) (sym (and_true (literal_value nodes a l)) ∙ (value nodes a ∙ ap (allows (get_or row j 0)) (sym (get_or-map (literal_value nodes a) columns j 0 false inside))))
+      ∙ (ap (λ b. row_matches (take j row) (said nodes columns a) && b)
+      (sym (and_true (literal_value nodes a l)) ∙ (value nodes a ∙ ap (allows (get_or row j 0)) (sym (get_or-map (literal_value nodes a) columns j 0 false inside))))
       ∙ sym (matches_more row (said nodes columns a) j within (omega (arith, inside, length_said nodes columns a))))));
 }
 
 allows_both : (byte : ℕ) (v : Bool) → (byte ≡ 48 → ⊥) → (byte ≡ 49 → ⊥) → true ≡ allows byte v
 allows_both byte v low high = rw (ne_eqb byte 48 low, ne_eqb byte 49 high) refl
 
-pub asked_for_still : (columns row asked : List ℕ) (j : ℕ) → AreAskedFor columns (take j row) asked → j < length columns → j < length row → (get_or row j 0 ≡ 48 → ⊥) → (get_or row j 0 ≡ 49 → ⊥) → AreAskedFor columns (take (j + 1) row) asked
+pub asked_for_still : (columns row asked : List ℕ) (j : ℕ) → AreAskedFor columns (take j row) asked → j < length columns → j < length row →
+    (get_or row j 0 ≡ 48 → ⊥) → (get_or row j 0 ≡ 49 → ⊥) → AreAskedFor columns (take (j + 1) row) asked
 asked_for_still columns row asked j so_far inside within low high = record {
   within = so_far.within;
   value = λ nodes a.
@@ -175,7 +180,9 @@ pub asked_for_all : (columns row asked : List ℕ) (k : ℕ) → min (length col
 asked_for_all columns row asked k whole is = record {
   within = is.within;
   value = λ nodes a.
-      is.value nodes a ∙ matches_whole k row (said nodes columns a) (elim (one_ends (length columns) k (length row) whole) [ inl all ↦ inl (omega (arith, all, length_said nodes columns a)) | inr short ↦ inr short ]);
+      is.value nodes a
+      ∙ matches_whole k row (said nodes columns a)
+      (elim (one_ends (length columns) k (length row) whole) [ inl all ↦ inl (omega (arith, all, length_said nodes columns a)) | inr short ↦ inr short ]);
 }
 
 -- ---- the literals of rows
@@ -194,7 +201,9 @@ neither true y = refl
 neither false y = refl
 
 pub unmatched_more : (old now new : List Node) (columns : List ℕ) (rows : List (List ℕ)) (none more : List ℕ) (k l m : ℕ) → AreWithin old columns → AreUnmatched old now columns (take k rows) none
-    → Extends now new → HasValue new l (λ a. row_matches (get_or rows k []) (map (literal_value now a) columns)) → m / 2 ≡ l / 2 → ((nodes : List Node) (a : ℕ → Bool) → literal_value nodes a m ≡ not (literal_value nodes a l)) → more ≡ none ++ m ∷ [] → k < length rows → AreUnmatched old new columns (take (k + 1) rows) more
+    → Extends now new → HasValue new l (λ a. row_matches (get_or rows k []) (map (literal_value now a) columns)) → m / 2 ≡ l / 2 →
+    ((nodes : List Node) (a : ℕ → Bool) → literal_value nodes a m ≡ not (literal_value nodes a l)) → more ≡ none ++ m ∷ [] → k < length rows →
+    AreUnmatched old new columns (take (k + 1) rows) more
 unmatched_more old now new columns rows none more k l m within so_far extends made node opposite is inside = record {
   extends = extends_along old now new so_far.extends extends;
   within = within_push new none more m (still_within now new none extends so_far.within) (omega (arith, node, made.within)) is;
@@ -202,12 +211,14 @@ unmatched_more old now new columns rows none more k l m within so_far extends ma
       ap (list_all (literal_value new a)) is
       ∙ (list_all-append (literal_value new a) none (m ∷ [])
       ∙ (ap (λ b. b && (literal_value new a m && true)) (same_all now new a none extends so_far.within ∙ so_far.value a)
-      ∙ (ap (λ b. not (some_matches (take k rows) (said old columns a)) && b) (sym (and_true (literal_value new a m)) ∙ (opposite new a ∙ ap not (made.value a ∙ ap (row_matches (get_or rows k [])) (same_values old now a columns so_far.extends within))))
+      ∙ (ap (λ b. not (some_matches (take k rows) (said old columns a)) && b)
+      (sym (and_true (literal_value new a m)) ∙ (opposite new a ∙ ap not (made.value a ∙ ap (row_matches (get_or rows k [])) (same_values old now a columns so_far.extends within))))
       ∙ (neither (some_matches (take k rows) (said old columns a)) (row_matches (get_or rows k []) (said old columns a))
       ∙ ap not (sym (list_any_more (λ r. row_matches r (said old columns a)) rows k [] inside))))));
 }
 
-pub unmatched_all : (old now new : List Node) (columns : List ℕ) (rows : List (List ℕ)) (none : List ℕ) (k l : ℕ) → length rows ≤ k → AreUnmatched old now columns (take k rows) none → HasValue new l (λ a. list_all (literal_value now a) none)
+pub unmatched_all : (old now new : List Node) (columns : List ℕ) (rows : List (List ℕ)) (none : List ℕ) (k l : ℕ) → length rows ≤ k →
+    AreUnmatched old now columns (take k rows) none → HasValue new l (λ a. list_all (literal_value now a) none)
     → HasValue new l (λ a. not (some_matches rows (map (literal_value old a) columns)))
 unmatched_all old now new columns rows none k l whole so_far made = record {
   within = made.within;
@@ -221,27 +232,37 @@ column_said nodes columns a j x inside is = get_or-map (literal_value nodes a) c
 
 -- a table that is always false, or always true
 pub table_false : (nodes : List Node) (columns : List ℕ) (t l : ℕ) (b : Bool) → t ≡ 0 → b ≡ false → HasValue nodes l (λ a. b) → HasValue nodes l (λ a. table_value t (said nodes columns a))
-table_false nodes columns t l b none is made = value_as nodes l (λ a. b) (λ a. table_value t (said nodes columns a)) (λ a. is ∙ sym (ap (λ u. table_value u (said nodes columns a)) none ∙ table-zero (said nodes columns a))) made
+table_false nodes columns t l b none is made =
+    value_as nodes l (λ a. b) (λ a. table_value t (said nodes columns a)) (λ a. is ∙ sym (ap (λ u. table_value u (said nodes columns a)) none ∙ table-zero (said nodes columns a))) made
 
-pub table_true : (nodes : List Node) (columns : List ℕ) (t l : ℕ) (b : Bool) → length columns ≤ 6 → t ≡ 18446744073709551615 → b ≡ true → HasValue nodes l (λ a. b) → HasValue nodes l (λ a. table_value t (said nodes columns a))
+pub table_true : (nodes : List Node) (columns : List ℕ) (t l : ℕ) (b : Bool) → length columns ≤ 6 → t ≡ 18446744073709551615 → b ≡ true →
+    HasValue nodes l (λ a. b) → HasValue nodes l (λ a. table_value t (said nodes columns a))
 table_true nodes columns t l b few ones is made =
-    value_as nodes l (λ a. b) (λ a. table_value t (said nodes columns a)) (λ a. is ∙ sym (ap (λ u. table_value u (said nodes columns a)) ones ∙ table-ones (said nodes columns a) (omega (arith, length_said nodes columns a)))) made
+    value_as nodes l (λ a. b) (λ a. table_value t (said nodes columns a))
+    (λ a. is ∙ sym (ap (λ u. table_value u (said nodes columns a)) ones ∙ table-ones (said nodes columns a) (omega (arith, length_said nodes columns a))))
+    made
 
-pub table_constant : (nodes : List Node) (columns : List ℕ) (t l : ℕ) (b : Bool) → length columns ≤ 6 → (eqb t 0 || eqb t 18446744073709551615) ≡ true → b ≡ not (eqb t 0) → HasValue nodes l (λ a. b) → HasValue nodes l (λ a. table_value t (said nodes columns a))
+pub table_constant : (nodes : List Node) (columns : List ℕ) (t l : ℕ) (b : Bool) → length columns ≤ 6 →
+    (eqb t 0 || eqb t 18446744073709551615) ≡ true → b ≡ not (eqb t 0) → HasValue nodes l (λ a. b) →
+    HasValue nodes l (λ a. table_value t (said nodes columns a))
 table_constant nodes columns t l b few constant is made = elim (or_cases (eqb t 0) (eqb t 18446744073709551615) constant) [
   | inl none ↦ table_false nodes columns t l b (eqb-true t 0 none) (is ∙ ap not none) made
   | inr all ↦ table_true nodes columns t l b few (eqb-true t 18446744073709551615 all) (is ∙ ap (λ u. not (eqb u 0)) (eqb-true t 18446744073709551615 all)) made
 ]
 
 -- a table without open columns
-pub table_closed : (nodes : List Node) (columns : List ℕ) (t l : ℕ) (b : Bool) (opens : List Bool) → DependsOnOpen t (length columns) opens → ((j : ℕ) → j < length columns → get_or opens j false ≡ false) → b ≡ eqb (t % 2) 1 → HasValue nodes l (λ a. b)
+pub table_closed : (nodes : List Node) (columns : List ℕ) (t l : ℕ) (b : Bool) (opens : List Bool) → DependsOnOpen t (length columns) opens →
+    ((j : ℕ) → j < length columns → get_or opens j false ≡ false) → b ≡ eqb (t % 2) 1 → HasValue nodes l (λ a. b)
     → HasValue nodes l (λ a. table_value t (said nodes columns a))
 table_closed nodes columns t l b opens depends closed is made =
     value_as nodes l (λ a. b) (λ a. table_value t (said nodes columns a)) (λ a. is ∙ none_open t (length columns) opens (said nodes columns a) depends closed (length_said nodes columns a)) made
 
 -- a multiplexer of the cofactors, which were made in turn
-pub table_chosen : (n0 n1 n2 n3 : List Node) (columns : List ℕ) (t j x high low h l r : ℕ) → AreWithin n0 columns → length columns ≤ 6 → j < length columns → x ≡ get_or columns j 0 → IsCofactor t j true high → IsCofactor t j false low
-    → Extends n0 n1 → Extends n1 n2 → HasValue n1 l (λ a. table_value low (said n0 columns a)) → HasValue n2 h (λ a. table_value high (said n1 columns a)) → HasValue n3 r (chosen n2 x h l) → HasValue n3 r (λ a. table_value t (said n0 columns a))
+pub table_chosen : (n0 n1 n2 n3 : List Node) (columns : List ℕ) (t j x high low h l r : ℕ) → AreWithin n0 columns → length columns ≤ 6 →
+    j < length columns → x ≡ get_or columns j 0 → IsCofactor t j true high → IsCofactor t j false low
+    → Extends n0 n1 → Extends n1 n2 → HasValue n1 l (λ a. table_value low (said n0 columns a)) →
+    HasValue n2 h (λ a. table_value high (said n1 columns a)) → HasValue n3 r (chosen n2 x h l) →
+    HasValue n3 r (λ a. table_value t (said n0 columns a))
 table_chosen n0 n1 n2 n3 columns t j x high low h l r within few inside is top bottom more again below above made =
     value_as n3 r (chosen n2 x h l) (λ a. table_value t (said n0 columns a))
     (λ a. ap (λ b. cond b (literal_value n2 a h) (literal_value n2 a l)) (column a)
@@ -256,8 +277,11 @@ table_chosen n0 n1 n2 n3 columns t j x high low h l r within few inside is top b
     column a = (extends_along n0 n1 n2 more again).same x a there ∙ sym (column_said n0 columns a j x inside is)
 
 -- a gate where the cofactors are opposite
-pub table_opposite : (n0 n1 n2 : List Node) (columns : List ℕ) (t j x high low l r : ℕ) → AreWithin n0 columns → length columns ≤ 6 → j < length columns → x ≡ get_or columns j 0 → IsCofactor t j true high → IsCofactor t j false low → low < 2 ^ 64 → high ≡ 18446744073709551615 - low
-    → Extends n0 n1 → HasValue n1 l (λ a. table_value low (said n0 columns a)) → HasValue n2 r (λ a. differ (literal_value n1 a x) (literal_value n1 a l)) → HasValue n2 r (λ a. table_value t (said n0 columns a))
+pub table_opposite : (n0 n1 n2 : List Node) (columns : List ℕ) (t j x high low l r : ℕ) → AreWithin n0 columns → length columns ≤ 6 →
+    j < length columns → x ≡ get_or columns j 0 → IsCofactor t j true high → IsCofactor t j false low → low < 2 ^ 64 →
+    high ≡ 18446744073709551615 - low
+    → Extends n0 n1 → HasValue n1 l (λ a. table_value low (said n0 columns a)) →
+    HasValue n2 r (λ a. differ (literal_value n1 a x) (literal_value n1 a l)) → HasValue n2 r (λ a. table_value t (said n0 columns a))
 table_opposite n0 n1 n2 columns t j x high low l r within few inside is top bottom fits opposite more below made =
     value_as n2 r (λ a. differ (literal_value n1 a x) (literal_value n1 a l)) (λ a. table_value t (said n0 columns a))
     (λ a.
@@ -277,17 +301,26 @@ table_opposite n0 n1 n2 columns t j x high low l r within few inside is top bott
     by x l false h w e f g = rw (e, f) refl
 
 -- the same of what a call may have made
-pub opposite_made : {E : Type 0} (n0 n1 n2 : List Node) (columns : List ℕ) (t j x high low l : ℕ) (r : Result ℕ E) → AreWithin n0 columns → length columns ≤ 6 → j < length columns → x ≡ get_or columns j 0 → IsCofactor t j true high → IsCofactor t j false low → low < 2 ^ 64
-    → high ≡ 18446744073709551615 - low → Extends n0 n1 → HasValue n1 l (λ a. table_value low (said n0 columns a)) → IfOk r (λ m. HasValue n2 m (λ a. differ (literal_value n1 a x) (literal_value n1 a l))) → IfOk r (λ m. HasValue n2 m (λ a. table_value t (said n0 columns a)))
-opposite_made n0 n1 n2 columns t j x high low l (Ok m) within few inside is top bottom fits opposite more below made = table_opposite n0 n1 n2 columns t j x high low l m within few inside is top bottom fits opposite more below made
+pub opposite_made : {E : Type 0} (n0 n1 n2 : List Node) (columns : List ℕ) (t j x high low l : ℕ) (r : Result ℕ E) → AreWithin n0 columns →
+    length columns ≤ 6 → j < length columns → x ≡ get_or columns j 0 → IsCofactor t j true high → IsCofactor t j false low → low < 2 ^ 64
+    → high ≡ 18446744073709551615 - low → Extends n0 n1 → HasValue n1 l (λ a. table_value low (said n0 columns a)) →
+    IfOk r (λ m. HasValue n2 m (λ a. differ (literal_value n1 a x) (literal_value n1 a l))) →
+    IfOk r (λ m. HasValue n2 m (λ a. table_value t (said n0 columns a)))
+opposite_made n0 n1 n2 columns t j x high low l (Ok m) within few inside is top bottom fits opposite more below made =
+    table_opposite n0 n1 n2 columns t j x high low l m within few inside is top bottom fits opposite more below made
 opposite_made n0 n1 n2 columns t j x high low l (Err e) within few inside is top bottom fits opposite more below made = made
 
-pub chosen_made : {E : Type 0} (n0 n1 n2 n3 : List Node) (columns : List ℕ) (t j x high low h l : ℕ) (r : Result ℕ E) → AreWithin n0 columns → length columns ≤ 6 → j < length columns → x ≡ get_or columns j 0 → IsCofactor t j true high → IsCofactor t j false low → Extends n0 n1 → Extends n1 n2
-    → HasValue n1 l (λ a. table_value low (said n0 columns a)) → HasValue n2 h (λ a. table_value high (said n1 columns a)) → IfOk r (λ m. HasValue n3 m (chosen n2 x h l)) → IfOk r (λ m. HasValue n3 m (λ a. table_value t (said n0 columns a)))
-chosen_made n0 n1 n2 n3 columns t j x high low h l (Ok m) within few inside is top bottom more again below above made = table_chosen n0 n1 n2 n3 columns t j x high low h l m within few inside is top bottom more again below above made
+pub chosen_made : {E : Type 0} (n0 n1 n2 n3 : List Node) (columns : List ℕ) (t j x high low h l : ℕ) (r : Result ℕ E) → AreWithin n0 columns →
+    length columns ≤ 6 → j < length columns → x ≡ get_or columns j 0 → IsCofactor t j true high → IsCofactor t j false low → Extends n0 n1 →
+    Extends n1 n2
+    → HasValue n1 l (λ a. table_value low (said n0 columns a)) → HasValue n2 h (λ a. table_value high (said n1 columns a)) →
+    IfOk r (λ m. HasValue n3 m (chosen n2 x h l)) → IfOk r (λ m. HasValue n3 m (λ a. table_value t (said n0 columns a)))
+chosen_made n0 n1 n2 n3 columns t j x high low h l (Ok m) within few inside is top bottom more again below above made =
+    table_chosen n0 n1 n2 n3 columns t j x high low h l m within few inside is top bottom more again below above made
 chosen_made n0 n1 n2 n3 columns t j x high low h l (Err e) within few inside is top bottom more again below above made = made
 
-pub unmatched_made : {E : Type 0} (old now new : List Node) (columns : List ℕ) (rows : List (List ℕ)) (none : List ℕ) (k : ℕ) (r : Result ℕ E) → length rows ≤ k → AreUnmatched old now columns (take k rows) none → IfOk r (λ l. HasValue new l (λ a. list_all (literal_value now a) none))
+pub unmatched_made : {E : Type 0} (old now new : List Node) (columns : List ℕ) (rows : List (List ℕ)) (none : List ℕ) (k : ℕ) (r : Result ℕ E) →
+    length rows ≤ k → AreUnmatched old now columns (take k rows) none → IfOk r (λ l. HasValue new l (λ a. list_all (literal_value now a) none))
     → IfOk r (λ l. HasValue new l (λ a. not (some_matches rows (map (literal_value old a) columns))))
 unmatched_made old now new columns rows none k (Ok l) whole so_far made = unmatched_all old now new columns rows none k l whole so_far made
 unmatched_made old now new columns rows none k (Err e) whole so_far made = made

@@ -54,7 +54,8 @@ pub record HaveRootsSoFar (g : StepsOf) (wanted marks : List Bool) (n : ℕ) : T
 pub roots_none : (g : StepsOf) (wanted : List Bool) (n : ℕ) (b : Bool) → n ≡ steps_in g.pair → HaveRootsSoFar g wanted (replicate n b) 0
 roots_none g wanted n b count = record { size = length-replicate n b ∙ count; roots = record { each = λ o inside. absurd (omega arith) } }
 
-pub roots_more : (g : StepsOf) (wanted old new : List Bool) (o : ℕ) (roots : List ℕ) → HaveRootsSoFar g wanted old o → roots ≡ roots_of g o → AreMarked old new (get_or roots 0 0 ∷ get_or roots 1 0 ∷ []) 2 → HaveRootsSoFar g wanted new (o + 1)
+pub roots_more : (g : StepsOf) (wanted old new : List Bool) (o : ℕ) (roots : List ℕ) → HaveRootsSoFar g wanted old o → roots ≡ roots_of g o →
+    AreMarked old new (get_or roots 0 0 ∷ get_or roots 1 0 ∷ []) 2 → HaveRootsSoFar g wanted new (o + 1)
 roots_more g wanted old new o roots so_far are marked = record {
   size = marked.size ∙ so_far.size;
   roots = record {
@@ -91,7 +92,8 @@ pub record AreClosedFrom (g : StepsOf) (wanted marks : List Bool) (k : ℕ) : Ty
   pub assumed : HasAssumed g marks
   pub uses : (j c : ℕ) → k ≤ j → j < steps_in g.pair → is_marked marks j ≡ true → c < length (uses_of g j) → is_marked marks (get_or (uses_of g j) c 0) ≡ true
 
-pub closed_begins : (g : StepsOf) (wanted old marks : List Bool) (o n : ℕ) → HaveRootsSoFar g wanted old o → AreMarked old marks (assumed_root g) (length (assumed_root g)) → length wanted ≤ o → n ≡ steps_in g.pair
+pub closed_begins : (g : StepsOf) (wanted old marks : List Bool) (o n : ℕ) → HaveRootsSoFar g wanted old o →
+    AreMarked old marks (assumed_root g) (length (assumed_root g)) → length wanted ≤ o → n ≡ steps_in g.pair
     → AreClosedFrom g wanted marks n
 closed_begins g wanted old marks o n so_far marked whole count = record {
   size = marked.size ∙ so_far.size;
@@ -105,7 +107,8 @@ closed_begins g wanted old marks o n so_far marked whole count = record {
   uses = λ j c above inside. absurd (omega arith);
 }
 
-pub closed_more : (g : StepsOf) (wanted old new : List Bool) (k : ℕ) → AreSteps g → k < steps_in g.pair → AreClosedFrom g wanted old (k + 1) → AreMarked old new (uses_of g k) (length (uses_of g k)) → AreClosedFrom g wanted new k
+pub closed_more : (g : StepsOf) (wanted old new : List Bool) (k : ℕ) → AreSteps g → k < steps_in g.pair → AreClosedFrom g wanted old (k + 1) →
+    AreMarked old new (uses_of g k) (length (uses_of g k)) → AreClosedFrom g wanted new k
 closed_more g wanted old new k steps within so_far marked = record {
   size = marked.size ∙ so_far.size;
   inside = omega (arith, within);

@@ -37,11 +37,15 @@ module _ (old other s1 o1 : Standing) (s : IsScanned old s1) (o : IsScanned othe
       stays : forget (s.held ++ o.held) old.known.core.read ≡ old.known.core.read
       stays = forget_none (s.held ++ o.held) old.known.core.read (λ r e. let h = known.read r e in omega (arith, s.same r.name, times-append r.name s.held o.held))
 
-      core : new.known.core ≡ record old.known.core { held = s.held ++ o.held; position = 0; noted = []; retired = s.retired ++ o.retired; out = out_after old.known.core other.known.core.number other.known.core }
+      core : new.known.core ≡ record old.known.core
+          { held = s.held ++ o.held; position = 0; noted = []; retired = s.retired ++ o.retired; out = out_after old.known.core other.known.core.number other.known.core }
       core =
           j.core
           ∙ ((λ i. joined (s.core i) (o.core i).number (o.core i))
-          ∙ ap (λ (r : Option Read). record old.known.core { held = s.held ++ o.held; read = r; position = 0; noted = []; retired = s.retired ++ o.retired; out = out_after old.known.core other.known.core.number other.known.core }) stays)
+          ∙ ap (λ (r : Option Read).
+          record old.known.core
+          { held = s.held ++ o.held; read = r; position = 0; noted = []; retired = s.retired ++ o.retired; out = out_after old.known.core other.known.core.number other.known.core })
+          stays)
 
       was : (x : ℕ) → 0 < times x old.known.core.held → 0 < times x s1.known.core.held
       was x h = subst (λ (v : View). 0 < times x v.held) (sym s.core) (omega (arith, s.same x))

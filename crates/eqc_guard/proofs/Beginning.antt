@@ -68,7 +68,8 @@ module _ (z : Sizes) (n : ℕ) (limits : IsWithinLimits z) (fits : n + 2 ≤ z.n
   literal_tree m lt =
       let place : 2 + m ≡ suc (suc m) = omega arith in
       let same : 0 + m ≡ m = omega arith in
-      let word : get_or (opening_state z n).words.nodes (2 + m) 0 ≡ literal m = ap (λ (k : ℕ). get_or (opening_state z n).words.nodes k 0) place ∙ (literals_get 0 n m (repeated 0 (z.names - (n + 2))) lt ∙ ap literal same) in
+      let word : get_or (opening_state z n).words.nodes (2 + m) 0 ≡ literal m = ap (λ (k : ℕ). get_or (opening_state z n).words.nodes k 0) place
+      ∙ (literals_get 0 n m (repeated 0 (z.names - (n + 2))) lt ∙ ap literal same) in
       (omega arith, ap variable_of word ∙ literal_variable m, ap low_of word ∙ literal_low m, ap high_of word ∙ literal_high m)
 
   slot_of : (x : ℕ) → 2 ≤ x → 0 < times x (slots_from 2 n) → (m : ℕ) × (m < n) × (x ≡ 2 + m)
@@ -93,7 +94,8 @@ module _ (z : Sizes) (n : ℕ) (limits : IsWithinLimits z) (fits : n + 2 ≤ z.n
   lawful : Lawful z (opening_state z n).words (literal_homes n) ((beginner z n).core ∷ [])
   lawful = opening_lawful z n limits fits few
 
-  pub opening_held : {S : Type 0} (ws : List ℕ) (maps : List (HashMap ℕ ℕ S)) → ws ≡ flat (opening_state z n).words → homes_of (map some maps) ≡ literal_homes n → Held {S = S} z (opening ws maps (beginner z n))
+  pub opening_held : {S : Type 0} (ws : List ℕ) (maps : List (HashMap ℕ ℕ S)) → ws ≡ flat (opening_state z n).words →
+      homes_of (map some maps) ≡ literal_homes n → Held {S = S} z (opening ws maps (beginner z n))
   opening_held {S} ws maps laid homes = record {
     words = (opening_state z n).words;
     laid = laid;
@@ -108,7 +110,8 @@ module _ (z : Sizes) (n : ℕ) (limits : IsWithinLimits z) (fits : n + 2 ≤ z.n
   beginner_known = is_known z (opening_state z n).words (literal_homes n) ((beginner z n).core ∷ []) 0 (beginner z n) lawful refl refl knows (λ ws e. absurd (cc))
 
   -- and it is a worker of the table
-  pub beginner_seated : {S : Type 0} (ws : List ℕ) (table : TableId) → z.announcements ≡ 1 → z.workers ≤ 64 → ws ≡ flat (opening_state z n).words → table.words ≡ length ws → IsSeated {S = S} table table z z (beginner z n, []) 0 n Idle [] [] 0 1 [] None
+  pub beginner_seated : {S : Type 0} (ws : List ℕ) (table : TableId) → z.announcements ≡ 1 → z.workers ≤ 64 →
+      ws ≡ flat (opening_state z n).words → table.words ≡ length ws → IsSeated {S = S} table table z z (beginner z n, []) 0 n Idle [] [] 0 1 [] None
   beginner_seated ws table one few_workers laid words = record {
     one_table = refl;
     one_key = refl;

@@ -34,7 +34,8 @@ cells_on a b c same first then ws e =
 
 -- a word before the cells is set
 pub set_keeps : (k after : Known) (i left : ℕ) → i < cells_from k.core.sizes → after.copy ≡ copied k.copy i left → KeepsCells k after
-set_keeps k after i left before is ws e = (set ws i left, is ∙ ap (λ (o : Option (List ℕ)). copied o i left) e, λ n. get_or-set_other ws i (cells_from k.core.sizes + n) left 0 (λ q. absurd (omega arith)))
+set_keeps k after i left before is ws e =
+    (set ws i left, is ∙ ap (λ (o : Option (List ℕ)). copied o i left) e, λ n. get_or-set_other ws i (cells_from k.core.sizes + n) left 0 (λ q. absurd (omega arith)))
 
 -- a load
 pub load_keeps : (k after : Known) (i found : ℕ) → Copies k i found found after → KeepsCells k after
@@ -118,7 +119,8 @@ word_before z number one there =
     omega arith
 
 -- so what is announced leaves the cells
-pub announce_keeps : (k after : Known) (left : ℕ) → k.core.sizes.announcements ≡ 1 → k.core.number < k.core.sizes.workers → after.copy ≡ copied k.copy (word_at k.core.sizes k.core.number 0) left → KeepsCells k after
+pub announce_keeps : (k after : Known) (left : ℕ) → k.core.sizes.announcements ≡ 1 → k.core.number < k.core.sizes.workers →
+    after.copy ≡ copied k.copy (word_at k.core.sizes k.core.number 0) left → KeepsCells k after
 announce_keeps k after left one there is = set_keeps k after (word_at k.core.sizes k.core.number 0) left (word_before k.core.sizes k.core.number one there) is
 
 -- a worker has one announcement word, and its number is there
@@ -132,7 +134,9 @@ placed id z me w = (
 )
 
 -- an announcement and a second look leave the cells
-module _ (old s1 s2 : Standing) (x found : ℕ) (there : IsPlaced old.known.core) (says : Steps old (announced old.known.core 0) s1) (stored : s1.known.copy ≡ copied old.known.copy (word_at old.known.core.sizes old.known.core.number 0) x) (looks : Steps s1 (rechecked s1.known.core 0 found) s2) where
+module _ (old s1 s2 : Standing) (x found : ℕ) (there : IsPlaced old.known.core) (says : Steps old (announced old.known.core 0) s1)
+    (stored : s1.known.copy ≡ copied old.known.copy (word_at old.known.core.sizes old.known.core.number 0) x)
+    (looks : Steps s1 (rechecked s1.known.core 0 found) s2) where
   pub announced_keeps : KeepsCells old.known s1.known
   announced_keeps = announce_keeps old.known s1.known x there.0 there.1 stored
 
@@ -140,7 +144,8 @@ module _ (old s1 s2 : Standing) (x found : ℕ) (there : IsPlaced old.known.core
   looked_keeps i copies = cells_on old.known s1.known s2.known (ap (λ (v : View). v.sizes) says.known.core) announced_keeps (load_keeps s1.known s2.known i found copies)
 
   -- and so does a withdrawal
-  pub withdrawn_keeps : (i : ℕ) (s3 : Standing) → Copies s1.known i found found s2.known → s3.known.copy ≡ copied s2.known.copy (word_at s2.known.core.sizes s2.known.core.number 0) 0 → KeepsCells old.known s3.known
+  pub withdrawn_keeps : (i : ℕ) (s3 : Standing) → Copies s1.known i found found s2.known →
+      s3.known.copy ≡ copied s2.known.copy (word_at s2.known.core.sizes s2.known.core.number 0) 0 → KeepsCells old.known s3.known
   withdrawn_keeps i s3 copies gone =
       let same : s2.known.core.sizes ≡ old.known.core.sizes = ap (λ (v : View). v.sizes) looks.known.core ∙ ap (λ (v : View). v.sizes) says.known.core in
       let here : IsPlaced s2.known.core = subst (λ (v : View). IsPlaced v) (sym looks.known.core) (subst (λ (v : View). IsPlaced v) (sym says.known.core) there) in

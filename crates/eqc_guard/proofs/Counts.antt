@@ -34,7 +34,8 @@ announced_there k p c word known phases is =
     (ap (λ (ps : List Phase). get_or ps 0 Idle) e, (known.phases 0 (Announced c word) here).0)
 
 -- a worker's fields fit its seat after a step, where they are those of the new view
-module _ {S : Type 0} (seat_table table : TableId) (key sizes : Sizes) (me : Known × List (ℕ × S)) (number held : ℕ) (phase : Phase) (retired noted : List ℕ) (position given : ℕ) (out : List ℕ) (draft : Option ℕ)
+module _ {S : Type 0} (seat_table table : TableId) (key sizes : Sizes) (me : Known × List (ℕ × S)) (number held : ℕ) (phase : Phase)
+    (retired noted : List ℕ) (position given : ℕ) (out : List ℕ) (draft : Option ℕ)
     (is : IsSeated seat_table table key sizes me number held phase retired noted position given out draft) where
   pub seated_with : (seat_table' : TableId) (me' : Known × List (ℕ × S)) (v : View) (held' : ℕ) (phase' : Phase) (retired' noted' : List ℕ) (position' given' : ℕ) (out' : List ℕ) (draft' : Option ℕ)
       → seat_table' ≡ seat_table → me'.0.core ≡ v → IsKnown me'.0 → slots_out me'.1 ≡ stripes_in v.hand → v.sizes ≡ me.0.core.sizes → v.active ≡ true → v.number ≡ me.0.core.number
@@ -72,7 +73,8 @@ module _ {S : Type 0} (seat_table table : TableId) (key sizes : Sizes) (me : Kno
       → seat_table' ≡ seat_table → Stepped me.0 v me'.0 → me'.1 ≡ me.1 → v.sizes ≡ me.0.core.sizes → v.active ≡ true → v.number ≡ me.0.core.number → v.hand ≡ me.0.core.hand
       → held' ≡ length v.held → v.phases ≡ phase' ∷ [] → retired' ≡ v.retired → noted' ≡ v.noted → position' ≡ v.position → given' ≡ v.given → out' ≡ v.out → draft' ≡ v.draft
       → IsSeated seat_table' table key sizes me' number held' phase' retired' noted' position' given' out' draft'
-  seated_after seat_table' me' v held' phase' retired' noted' position' given' out' draft' same stepped carried size on num hand = seated_with seat_table' me' v held' phase' retired' noted' position' given' out' draft' same stepped.core stepped.known
+  seated_after seat_table' me' v held' phase' retired' noted' position' given' out' draft' same stepped carried size on num hand =
+      seated_with seat_table' me' v held' phase' retired' noted' position' given' out' draft' same stepped.core stepped.known
       (ap slots_out carried ∙ (is.carries ∙ ap stripes_in (sym hand))) size on num
 
 -- no slot is out where no stripe is in hand
@@ -116,7 +118,8 @@ slots_held names held are y = go (dec_le 2 y) (dec_le 1 (times y (slots_of names
     go (no n) (yes h) = absurd (n (slots_of_slots y names h))
     go (no n) (no m) = omega arith
 
-pub swap_length : (v : View) (n n' old word : ℕ) → AreHeld (cell_names word) v.held → n ≡ length v.held → n' + length (slots_of (cell_names word)) ≡ n + length (slots_of (operands old)) → n' ≡ length (swapped v old word).held
+pub swap_length : (v : View) (n n' old word : ℕ) → AreHeld (cell_names word) v.held → n ≡ length v.held →
+    n' + length (slots_of (cell_names word)) ≡ n + length (slots_of (operands old)) → n' ≡ length (swapped v old word).held
 swap_length v n n' old word held is same =
     let l = length-without_all (slots_of (cell_names word)) v.held (slots_held (cell_names word) v.held held) in
     omega (arith, length-append (without_each (slots_of (cell_names word)) v.held) (slots_of (operands old)))

@@ -59,7 +59,8 @@ are_small k c (Some e) known few may =
     let names : List ℕ = e.r.number ∷ e.f.number ∷ e.g.number ∷ [] in
     let held : AreHeld (e.r.number ∷ e.f.number ∷ e.g.number ∷ []) k.core.held = may.entry.0 in (
       small k names e.f.number known few held (times_more e.f.number e.r.number (e.f.number ∷ e.g.number ∷ []) (omega (arith, times-same e.f.number e.f.number (e.g.number ∷ []) refl))),
-      small k names e.g.number known few held (times_more e.g.number e.r.number (e.f.number ∷ e.g.number ∷ []) (times_more e.g.number e.f.number (e.g.number ∷ []) (omega (arith, times-same e.g.number e.g.number [] refl)))),
+      small k names e.g.number known few held
+          (times_more e.g.number e.r.number (e.f.number ∷ e.g.number ∷ []) (times_more e.g.number e.f.number (e.g.number ∷ []) (omega (arith, times-same e.g.number e.g.number [] refl)))),
       small k names e.r.number known few held (omega (arith, times-same e.r.number e.r.number (e.f.number ∷ e.g.number ∷ []) refl)),
     )
 

@@ -56,7 +56,8 @@ module _ (k o after : Known) (mine : IsKnown k) (theirs : IsKnown o) (core : aft
   settled : (x : ℕ) (t : Tree) → 0 < times x (names_of after.core) → ((j : ℕ) × (p : ℕ × Tree) × (get_elem? (k.trees ++ o.trees) j ≡ some p) × (p.0 ≡ x) × (p.1 ≡ t)) → tree_of after x ≡ t
   settled x t named r =
       let p : ℕ × Tree = r.1 in
-      let there : 0 < times r.1.0 (names_of (joined k.core o.core.number o.core)) = subst (λ (y : ℕ). 0 < times y (names_of (joined k.core o.core.number o.core))) (sym r.3) (subst (λ (v : View). 0 < times x (names_of v)) core named) in
+      let there : 0 < times r.1.0 (names_of (joined k.core o.core.number o.core)) =
+      subst (λ (y : ℕ). 0 < times y (names_of (joined k.core o.core.number o.core))) (sym r.3) (subst (λ (v : View). 0 < times x (names_of v)) core named) in
       let s = only_has (names_of (joined k.core o.core.number o.core)) (k.trees ++ o.trees) r.0 r.1 r.2 there in
       ap (λ (y : ℕ). tree_of after y) (sym r.3) ∙ (settles s.0 r.1 s.1 ∙ r.4)
 

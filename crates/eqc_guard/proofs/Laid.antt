@@ -78,7 +78,8 @@ module _ (z : Sizes) (w : Words) (hs : Homes) (vs : List View) (sized : IsSized 
   get_announced m lt = get_or_append_left w.announced (behind_announced w) 0 m (let n = sized.announced in omega arith)
 
   pub set_count : (x y : ℕ) → x < z.names → set (flat w) (announced_words z + x) y ≡ flat (with_count w x y)
-  set_count x y lt = set_behind w.announced (behind_announced w) (announced_words z) x y sized.announced ∙ ap (λ l. w.announced ++ l) (set-append_left w.counts (behind_counts w) x y (let n = sized.counts in omega arith))
+  set_count x y lt = set_behind w.announced (behind_announced w) (announced_words z) x y sized.announced
+      ∙ ap (λ l. w.announced ++ l) (set-append_left w.counts (behind_counts w) x y (let n = sized.counts in omega arith))
 
   pub get_count : (x : ℕ) → x < z.names → get_or (flat w) (announced_words z + x) 0 ≡ get_or w.counts x 0
   get_count x lt = get_behind w.announced (behind_announced w) (announced_words z) x 0 sized.announced ∙ get_or_append_left w.counts (behind_counts w) 0 x (let n = sized.counts in omega arith)
@@ -88,7 +89,8 @@ module _ (z : Sizes) (w : Words) (hs : Homes) (vs : List View) (sized : IsSized 
       ap (λ (i : ℕ). set (flat w) i y) (place (announced_words z) z.names c)
       ∙ (set_behind w.announced (behind_announced w) (announced_words z) (z.names + (z.names + c)) y sized.announced
       ∙ ap (λ l. w.announced ++ l) (set_behind w.counts (behind_counts w) z.names (z.names + c) y sized.counts
-      ∙ ap (λ l. w.counts ++ l) (set_behind w.nodes (behind_nodes w) z.names c y sized.nodes ∙ ap (λ l. w.nodes ++ l) (set-append_left w.cells (behind_cells w) c y (let n = sized.cells in omega arith)))))
+      ∙ ap (λ l. w.counts ++ l)
+      (set_behind w.nodes (behind_nodes w) z.names c y sized.nodes ∙ ap (λ l. w.nodes ++ l) (set-append_left w.cells (behind_cells w) c y (let n = sized.cells in omega arith)))))
 
   pub get_cell : (c : ℕ) → c < z.cells → get_or (flat w) (cells_from z + c) 0 ≡ get_or w.cells c 0
   get_cell c lt =
@@ -103,7 +105,8 @@ module _ (z : Sizes) (w : Words) (hs : Homes) (vs : List View) (sized : IsSized 
       ∙ (set_behind w.announced (behind_announced w) (announced_words z) (z.names + (z.names + (z.cells + b))) y sized.announced
       ∙ ap (λ l. w.announced ++ l) (set_behind w.counts (behind_counts w) z.names (z.names + (z.cells + b)) y sized.counts
       ∙ ap (λ l. w.counts ++ l) (set_behind w.nodes (behind_nodes w) z.names (z.cells + b) y sized.nodes
-      ∙ ap (λ l. w.nodes ++ l) (set_behind w.cells (behind_cells w) z.cells b y sized.cells ∙ ap (λ l. w.cells ++ l) (set-append_left w.boxes (apart w.locks) b y (let n = sized.boxes in omega arith))))))
+      ∙ ap (λ l. w.nodes ++ l)
+      (set_behind w.cells (behind_cells w) z.cells b y sized.cells ∙ ap (λ l. w.cells ++ l) (set-append_left w.boxes (apart w.locks) b y (let n = sized.boxes in omega arith))))))
 
   pub get_box : (b : ℕ) → b < 16 * z.workers → get_or (flat w) (boxes_from z + b) 0 ≡ get_or w.boxes b 0
   get_box b lt =
@@ -133,7 +136,9 @@ module _ (z : Sizes) (w : Words) (hs : Homes) (vs : List View) (sized : IsSized 
       ∙ (set_behind w.announced (behind_announced w) (announced_words z) (z.names + (z.names + (z.cells + (16 * z.workers + 8 * s)))) y sized.announced
       ∙ ap (λ l. w.announced ++ l) (set_behind w.counts (behind_counts w) z.names (z.names + (z.cells + (16 * z.workers + 8 * s))) y sized.counts
       ∙ ap (λ l. w.counts ++ l) (set_behind w.nodes (behind_nodes w) z.names (z.cells + (16 * z.workers + 8 * s)) y sized.nodes
-      ∙ ap (λ l. w.nodes ++ l) (set_behind w.cells (behind_cells w) z.cells (16 * z.workers + 8 * s) y sized.cells ∙ ap (λ l. w.cells ++ l) (set_behind w.boxes (apart w.locks) (16 * z.workers) (8 * s) y sized.boxes ∙ ap (λ l. w.boxes ++ l) (set_apart w.locks s y))))))
+      ∙ ap (λ l. w.nodes ++ l)
+      (set_behind w.cells (behind_cells w) z.cells (16 * z.workers + 8 * s) y sized.cells
+      ∙ ap (λ l. w.cells ++ l) (set_behind w.boxes (apart w.locks) (16 * z.workers) (8 * s) y sized.boxes ∙ ap (λ l. w.boxes ++ l) (set_apart w.locks s y))))))
 
   pub get_lock : (s : ℕ) → get_or (flat w) (locks_from z + 8 * s) 0 ≡ get_or w.locks s 0
   get_lock s =

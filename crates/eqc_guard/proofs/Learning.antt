@@ -28,7 +28,12 @@ use Rattle.eqc_guard.proofs.Numbers.{out_few, out_given}
 pub names_is : (x : ℕ) (v : View) → times x (names_of v) ≡ times x v.held + (times x v.retired + (times x (confirmed_names v.phases) + times x (read_names v.read)))
 unfolding names_of
 names_is x v =
-    omega (arith, times-append x v.held (v.retired ++ (confirmed_names v.phases ++ read_names v.read)), times-append x v.retired (confirmed_names v.phases ++ read_names v.read), times-append x (confirmed_names v.phases) (read_names v.read))
+    omega (
+      arith,
+      times-append x v.held (v.retired ++ (confirmed_names v.phases ++ read_names v.read)),
+      times-append x v.retired (confirmed_names v.phases ++ read_names v.read),
+      times-append x (confirmed_names v.phases) (read_names v.read),
+    )
 
 confirmed_is : (x : ℕ) (p : Phase) → 0 < times x (confirmed_name p) → p ≡ Confirmed x
 confirmed_is x Idle h = absurd (omega (arith, times-nil x))
@@ -63,8 +68,10 @@ read_is x None h = absurd (omega (arith, times-nil x))
 read_is x (Some r) h = (r, refl, h)
 
 -- what is named is tabled
-pub named_tabled : (z : Sizes) (w : Words) (hs : Homes) (vs : List View) (id x : ℕ) (v : View) → Lawful z w hs vs → get_elem? vs id ≡ some v → v.active ≡ true → 2 ≤ x → 0 < times x (names_of v) → 0 < tabled hs vs x
-named_tabled z w hs vs id x v law at on two named = go (dec_le 1 (times x v.held)) (dec_le 1 (times x v.retired)) (dec_le 1 (times x (confirmed_names v.phases))) (dec_le 1 (times x (read_names v.read)))
+pub named_tabled : (z : Sizes) (w : Words) (hs : Homes) (vs : List View) (id x : ℕ) (v : View) → Lawful z w hs vs → get_elem? vs id ≡ some v →
+    v.active ≡ true → 2 ≤ x → 0 < times x (names_of v) → 0 < tabled hs vs x
+named_tabled z w hs vs id x v law at on two named =
+    go (dec_le 1 (times x v.held)) (dec_le 1 (times x v.retired)) (dec_le 1 (times x (confirmed_names v.phases))) (dec_le 1 (times x (read_names v.read)))
   where
     all : AreTabled w hs vs
     all = are_tabled z w hs vs law
@@ -91,12 +98,16 @@ learn_list nodes (y ∷ xs) there = go (dec_le 2 y) (learn_list nodes xs (λ x t
     later x (yes e) h = omega (arith, times-same x y xs e)
     later x (no n) h = omega (arith, times-other x y xs n)
 
-    here : (x : ℕ) (t : Tree) (ps : List (ℕ × Tree)) → IsTree nodes t y → (0 < times x xs → IsTree nodes (kept_tree ps x) x) → 0 < times x (y ∷ xs) → Dec (y ≡ x) → IsTree nodes (kept_tree ((y, t) ∷ ps) x) x
+    here : (x : ℕ) (t : Tree) (ps : List (ℕ × Tree)) → IsTree nodes t y → (0 < times x xs → IsTree nodes (kept_tree ps x) x) →
+        0 < times x (y ∷ xs) → Dec (y ≡ x) → IsTree nodes (kept_tree ((y, t) ∷ ps) x) x
     here x t ps is rest h (yes e) = rw (eq-eqb y x e) (subst (λ k. IsTree nodes t k) e is)
     here x t ps is rest h (no n) = rw (ne_eqb y x n) (rest (omega (arith, times-other x y xs n)))
 
-    exact : (t : Tree) (ps : List (ℕ × Tree)) → 2 ≤ y → IsTree nodes t y → ((i : ℕ) (p : ℕ × Tree) → get_elem? ps i ≡ some p → (2 ≤ p.0) × (0 < times p.0 xs) × IsTree nodes p.1 p.0) → (i : ℕ) (p : ℕ × Tree) → get_elem? ((y, t) ∷ ps) i ≡ some p → (2 ≤ p.0) × (0 < times p.0 (y ∷ xs)) × IsTree nodes p.1 p.0
-    exact t ps two is rest zero p e = let q : (y, t) ≡ p = some-injective (y, t) p e in subst (λ (k : ℕ × Tree). (2 ≤ k.0) × (0 < times k.0 (y ∷ xs)) × IsTree nodes k.1 k.0) q (two, omega (arith, times-same y y xs refl), is)
+    exact : (t : Tree) (ps : List (ℕ × Tree)) → 2 ≤ y → IsTree nodes t y →
+        ((i : ℕ) (p : ℕ × Tree) → get_elem? ps i ≡ some p → (2 ≤ p.0) × (0 < times p.0 xs) × IsTree nodes p.1 p.0) → (i : ℕ) (p : ℕ × Tree) →
+        get_elem? ((y, t) ∷ ps) i ≡ some p → (2 ≤ p.0) × (0 < times p.0 (y ∷ xs)) × IsTree nodes p.1 p.0
+    exact t ps two is rest zero p e = let q : (y, t) ≡ p = some-injective (y, t) p e in
+        subst (λ (k : ℕ × Tree). (2 ≤ k.0) × (0 < times k.0 (y ∷ xs)) × IsTree nodes k.1 k.0) q (two, omega (arith, times-same y y xs refl), is)
     exact t ps two is rest (suc i) p e = let r = rest i p e in (r.0, later p.0 (ℕ_discrete y p.0) r.1, r.2)
 
     go : Dec (2 ≤ y) → ((ps : List (ℕ × Tree)) × Learnt nodes xs ps) → (ps : List (ℕ × Tree)) × Learnt nodes (y ∷ xs) ps
@@ -105,7 +116,8 @@ learn_list nodes (y ∷ xs) there = go (dec_le 2 y) (learn_list nodes xs (λ x t
 
 -- the trees of all that a view names
 pub learn : (z : Sizes) (w : Words) (hs : Homes) (vs : List View) (id : ℕ) (v : View) → Lawful z w hs vs → get_elem? vs id ≡ some v → v.active ≡ true
-    → (ps : List (ℕ × Tree)) × ((x : ℕ) → 2 ≤ x → 0 < times x (names_of v) → IsTree w.nodes (tree_in ps x) x) × ((i : ℕ) (p : ℕ × Tree) → get_elem? ps i ≡ some p → (2 ≤ p.0) × (0 < times p.0 (names_of v)) × IsTree w.nodes p.1 p.0)
+    → (ps : List (ℕ × Tree)) × ((x : ℕ) → 2 ≤ x → 0 < times x (names_of v) → IsTree w.nodes (tree_in ps x) x) × ((i : ℕ) (p : ℕ × Tree) →
+    get_elem? ps i ≡ some p → (2 ≤ p.0) × (0 < times p.0 (names_of v)) × IsTree w.nodes p.1 p.0)
 learn z w hs vs id v law at on =
     let l = learn_list w.nodes (names_of v) (λ x two h. let t = (have_trees z w hs vs law).tree x (inr (named_tabled z w hs vs id x v law at on two h)) in (t.0, t.1)) in
     (l.0, (λ x two h. subst (λ t. IsTree w.nodes t x) (sym (tree_else l.0 x two)) (l.1.0 x two h)), l.1.1)
@@ -146,7 +158,8 @@ filled_result nodes k word t knows f is first second op tag a =
     ∙ (ap (λ (s : Tree). operate f.operation (value f.first a) (value s a)) q ∙ (f.right a ∙ ap (λ (s : Tree). value s a) (sym r))))
 
 -- a word is right where the worker knows it of the trees
-pub known_right : (nodes : List ℕ) (k : Known) (word : ℕ) → Knows nodes k → IsHeld k.core (first_of word) → IsHeld k.core (second_of word) → IsHeld k.core (result_of word) → IsRightHere k word → IsRight nodes word
+pub known_right : (nodes : List ℕ) (k : Known) (word : ℕ) → Knows nodes k → IsHeld k.core (first_of word) → IsHeld k.core (second_of word) →
+    IsHeld k.core (result_of word) → IsRightHere k word → IsRight nodes word
 known_right nodes k word knows first second result right = inr (record {
   operation = right.operation;
   tag = right.tag;
@@ -160,7 +173,8 @@ known_right nodes k word knows first second result right = inr (record {
 })
 
 -- what a worker knows in a lawful state
-pub is_known : (z : Sizes) (w : Words) (hs : Homes) (vs : List View) (id : ℕ) (k : Known) → Lawful z w hs vs → get_elem? vs id ≡ some k.core → k.core.active ≡ true → Knows w.nodes k → ((ws : List ℕ) → k.copy ≡ Some ws → IsCopy k ws) → IsKnown k
+pub is_known : (z : Sizes) (w : Words) (hs : Homes) (vs : List View) (id : ℕ) (k : Known) → Lawful z w hs vs → get_elem? vs id ≡ some k.core →
+    k.core.active ≡ true → Knows w.nodes k → ((ws : List ℕ) → k.copy ≡ Some ws → IsCopy k ws) → IsKnown k
 is_known z w hs vs id k law at on knows copy = record {
   state = copy;
   place = let f = law.views id k.core at on in subst (λ (y : Sizes). k.core.position < announced_words y) (sym f.sizes) f.place;

@@ -102,12 +102,15 @@ module _ {S : Type 0} (z : Sizes) (slots id i : ℕ) (me : Me (HashMap ℕ ℕ S
     laid w hs vs law at lt n = let h = count_here z slots id i me on w hs vs law at x is lt in ap (λ (k : ℕ). set (flat w) k n) h.0 ∙ set_count z w hs vs law.sized x n h.1
 
     claim_at : MayClaim me.0.core x → Allows (Held {S = S} z) slots id me i (λ n. either (eqb n 0) 2 n) (λ n after. Claims me i x n after)
-    claim_at may = allows z slots id i me on (λ steps. steps) (λ n. either (eqb n 0) 2 n) (λ n after. Claims me i x n after) (λ w homes vs law at knows small. go w homes vs law at (eqb (get_or (flat w) i 0) 0) refl)
+    claim_at may =
+        allows z slots id i me on (λ steps. steps) (λ n. either (eqb n 0) 2 n) (λ n after. Claims me i x n after)
+        (λ w homes vs law at knows small. go w homes vs law at (eqb (get_or (flat w) i 0) 0) refl)
       where
         go : (w : Words) (homes : List (May.Option (HashMap ℕ ℕ S))) (vs : List View) → Lawful z w (homes_of homes) vs → get_elem? vs id ≡ some me.0.core → (b : Bool) → eqb (get_or (flat w) i 0) 0 ≡ b
             → (v : View) × (a : Act (HashMap ℕ ℕ S)) × (w' : Words) × Pays z id i me (either b 2 (get_or (flat w) i 0)) w homes vs v a w'
             × ((k : Known) → Stepped me.0 v k → Copies me.0 i (get_or (flat w) i 0) (either b 2 (get_or (flat w) i 0)) k → Knows w'.nodes k → k.counted ≡ me.0.counted
-            → MatchBool b (Told me i (get_or (flat w) i 0) 2 (claimed me.0.core x) (k, carried_after me.1 a) (Nothing (get_or (flat w) i 0))) (Told me i (get_or (flat w) i 0) (get_or (flat w) i 0) (found_taken me.0.core x) (k, carried_after me.1 a) (Nothing (get_or (flat w) i 0))))
+            → MatchBool b (Told me i (get_or (flat w) i 0) 2 (claimed me.0.core x) (k, carried_after me.1 a) (Nothing (get_or (flat w) i 0)))
+            (Told me i (get_or (flat w) i 0) (get_or (flat w) i 0) (found_taken me.0.core x) (k, carried_after me.1 a) (Nothing (get_or (flat w) i 0))))
         go w homes vs law at true e = (
           claimed me.0.core x,
           keeps,
@@ -141,7 +144,8 @@ module _ {S : Type 0} (z : Sizes) (slots id i : ℕ) (me : Me (HashMap ℕ ℕ S
         subst (λ (y : ℕ). Allows (Held {S = S} z) slots id me i (λ n. either (eqb n 0) 2 n) (λ n after. Claims me i y n after)) back (claim_at may)
 
     -- a load that notes the slot, or leaves the view
-    spot_keeps : (w : Words) (hs : Homes) (vs : List View) → Lawful z w hs vs → get_elem? vs id ≡ some me.0.core → (free : Bool) → Lawful z w hs (set vs id (record me.0.core { turn = if free then me.0.core.turn else note x me.0.core.turn }))
+    spot_keeps : (w : Words) (hs : Homes) (vs : List View) → Lawful z w hs vs → get_elem? vs id ≡ some me.0.core → (free : Bool) →
+        Lawful z w hs (set vs id (record me.0.core { turn = if free then me.0.core.turn else note x me.0.core.turn }))
     spot_keeps w hs vs law at true = subst (λ (us : List View). Lawful z w hs us) (sym (set_again vs id me.0.core at)) law
     spot_keeps w hs vs law at false = claim_lost_keeps z w hs vs id me.0.core law at on x
 
@@ -152,7 +156,8 @@ module _ {S : Type 0} (z : Sizes) (slots id i : ℕ) (me : Me (HashMap ℕ ℕ S
         (load z slots id i me on (λ n. spotted me.0.core x n) Nothing (λ n. on) (λ w hs vs law at knows. (spot_keeps w hs vs law at (eqb (get_or (flat w) i 0) 0), λ k core known. tt)))
 
     pub unclaim_allows : x < me.0.core.sizes.names → MayUnclaim me.0.core x → Allows (Held {S = S} z) slots id me i (λ _. 0) (λ _ after. Stored me i 0 (unclaimed me.0.core) after)
-    unclaim_allows there may = store z slots id i me on 0 (unclaimed me.0.core) on (λ w hs vs law at. (with_count w x 0, laid w hs vs law at there 0, refl, unclaim_keeps z w hs vs id me.0.core law at on x may))
+    unclaim_allows there may =
+        store z slots id i me on 0 (unclaimed me.0.core) on (λ w hs vs law at. (with_count w x 0, laid w hs vs law at there 0, refl, unclaim_keeps z w hs vs id me.0.core law at on x may))
 
   module _ (x : ℕ) (is : i ≡ nodes_from me.0.core.sizes + x) where
     node_at : MayRead me.0.core x → Allows (Held {S = S} z) slots id me i (λ n. n) (λ n after. Told me i n n (read_node me.0.core x n) after (Reads me.0 x n))
@@ -177,8 +182,14 @@ module _ {S : Type 0} (z : Sizes) (slots id i : ℕ) (me : Me (HashMap ℕ ℕ S
             let same = sym (size z slots id i me on w hs vs law at) in
             let few = (law.tables.shaped x tab).few in
             let most = law.sized.few_variables in
-            let low : IsNamed k.core (low_of (get_or w.nodes x 0)) = inr (subst (λ (v : View). 0 < times (low_of (get_or w.nodes x 0)) (names_of v)) (sym core) (omega (arith, names_is (low_of (get_or w.nodes x 0)) (read_node me.0.core x (get_or w.nodes x 0)), names_low (get_or w.nodes x 0)))) in
-            let high : IsNamed k.core (high_of (get_or w.nodes x 0)) = inr (subst (λ (v : View). 0 < times (high_of (get_or w.nodes x 0)) (names_of v)) (sym core) (omega (arith, names_is (high_of (get_or w.nodes x 0)) (read_node me.0.core x (get_or w.nodes x 0)), names_high (get_or w.nodes x 0)))) in
+            let low : IsNamed k.core (low_of (get_or w.nodes x 0)) =
+            inr
+            (subst (λ (v : View). 0 < times (low_of (get_or w.nodes x 0)) (names_of v)) (sym core)
+            (omega (arith, names_is (low_of (get_or w.nodes x 0)) (read_node me.0.core x (get_or w.nodes x 0)), names_low (get_or w.nodes x 0)))) in
+            let high : IsNamed k.core (high_of (get_or w.nodes x 0)) =
+            inr
+            (subst (λ (v : View). 0 < times (high_of (get_or w.nodes x 0)) (names_of v)) (sym core)
+            (omega (arith, names_is (high_of (get_or w.nodes x 0)) (read_node me.0.core x (get_or w.nodes x 0)), names_high (get_or w.nodes x 0)))) in
             record {
               few = subst (λ (y : Sizes). variable_of (get_or w.nodes x 0) < y.variables) same few;
               small = omega arith;
@@ -196,15 +207,19 @@ module _ {S : Type 0} (z : Sizes) (slots id i : ℕ) (me : Me (HashMap ℕ ℕ S
 
     pub write_allows : (variable low high : ℕ) → IsKnown me.0 → me.0.core.draft ≡ Some x → MayMake me.0 variable low high
         → Allows (Held {S = S} z) slots id me i (λ _. node_word variable low high) (λ _ after. Writes me i (node_word variable low high) after)
-    write_allows variable low high known draft may = allows z slots id i me on (λ steps. steps) (λ _. node_word variable low high) (λ _ after. Writes me i (node_word variable low high) after) (λ w homes vs law at knows small.
+    write_allows variable low high known draft may =
+        allows z slots id i me on (λ steps. steps) (λ _. node_word variable low high) (λ _ after. Writes me i (node_word variable low high) after) (λ w homes vs law at knows small.
         let hs : Homes = homes_of homes in
         let few = may.few in
         let most = law.sized.few_variables in
         let same = ap (λ (y : Sizes). y.variables) (size z slots id i me on w (homes_of homes) vs law at) in
         let write : MayWrite w.nodes me.0.core x may.hand.0 (node_word variable low high) =
-        subst (λ (d : ℕ). MayWrite w.nodes me.0.core d may.hand.0 (node_word variable low high)) (let q : may.draft.0 ≡ x = (let e : Some may.draft.0 ≡ Some x = sym may.draft.1 ∙ draft in cc) in q) (may_write w.nodes me.0 variable low high known knows (omega arith) may) in
+        subst (λ (d : ℕ). MayWrite w.nodes me.0.core d may.hand.0 (node_word variable low high))
+        (let q : may.draft.0 ≡ x = (let e : Some may.draft.0 ≡ Some x = sym may.draft.1 ∙ draft in cc) in q)
+        (may_write w.nodes me.0 variable low high known knows (omega arith) may) in
         let d = draft_is z w (homes_of homes) vs id me.0.core law at on x draft in
-        let view : wrote me.0.core x may.hand.0 (node_word variable low high) ≡ drafted me.0.core (node_word variable low high) = λ j. wrote me.0.core (draft_of (sym draft j)) (hand_of (sym may.hand.1 j)) (node_word variable low high) in
+        let view : wrote me.0.core x may.hand.0 (node_word variable low high) ≡ drafted me.0.core (node_word variable low high) = λ j.
+        wrote me.0.core (draft_of (sym draft j)) (hand_of (sym may.hand.1 j)) (node_word variable low high) in
         let h = node_here w (homes_of homes) vs law at x is d.1 in
         let stays : (t : Tree) (y : ℕ) → IsName (homes_of homes) vs y → IsTree w.nodes t y → IsTree (set w.nodes x (node_word variable low high)) t y =
         is_tree_stays z w (homes_of homes) vs x (node_word variable low high) law d.3 in (
@@ -229,7 +244,12 @@ module _ {S : Type 0} (z : Sizes) (slots id i : ℕ) (me : Me (HashMap ℕ ℕ S
         ))
       where
         room : (h : Hand) → length (wrote me.0.core x h (node_word variable low high)).held ≤ 2 ^ 40
-        room h = let le = may.room in omega (arith, length-append (without_each (slots_of (children (node_word variable low high))) me.0.core.held) (x ∷ []), length-without_each (slots_of (children (node_word variable low high))) me.0.core.held)
+        room h = let le = may.room in
+            omega (
+              arith,
+              length-append (without_each (slots_of (children (node_word variable low high))) me.0.core.held) (x ∷ []),
+              length-without_each (slots_of (children (node_word variable low high))) me.0.core.held,
+            )
 
         name : (w : Words) (hs : Homes) (vs : List View) → Lawful z w hs vs → get_elem? vs id ≡ some me.0.core → (y : ℕ) → IsHeld me.0.core y → IsName hs vs y
         name w hs vs law at y (inl lt) = inl lt
@@ -247,10 +267,12 @@ module _ {S : Type 0} (z : Sizes) (slots id i : ℕ) (me : Me (HashMap ℕ ℕ S
             let f = fields variable low high (held_small me.0 low known l) (held_small me.0 high known h) in
             let here : get_or (set w.nodes x (node_word variable low high)) x 0 ≡ node_word variable low high = get_or-set_same w.nodes x (node_word variable low high) 0 there in
             let lt : IsTree (set w.nodes x (node_word variable low high)) (tree_of me.0 low) low = stays (tree_of me.0 low) low (name w hs vs law at low l) (held_tree w.nodes me.0 low knows l) in
-            let ht : IsTree (set w.nodes x (node_word variable low high)) (tree_of me.0 high) high = stays (tree_of me.0 high) high (name w hs vs law at high h) (held_tree w.nodes me.0 high knows h) in
+            let ht : IsTree (set w.nodes x (node_word variable low high)) (tree_of me.0 high) high =
+            stays (tree_of me.0 high) high (name w hs vs law at high h) (held_tree w.nodes me.0 high knows h) in
             let held : 0 < times x (wrote me.0.core x may.hand.0 (node_word variable low high)).held =
             omega (arith, times-append x (without_each (slots_of (children (node_word variable low high))) me.0.core.held) (x ∷ []), times-same x x [] refl) in
-            let named : 0 < times x (names_of k.core) = subst (λ (v : View). 0 < times x (names_of v)) (view ∙ sym stepped.core) (held_named (wrote me.0.core x may.hand.0 (node_word variable low high)) x held) in
+            let named : 0 < times x (names_of k.core) =
+            subst (λ (v : View). 0 < times x (names_of v)) (view ∙ sym stepped.core) (held_named (wrote me.0.core x may.hand.0 (node_word variable low high)) x held) in
             is_tree_one (set w.nodes x (node_word variable low high)) (tree_of k x) (node_tree me.0 (node_word variable low high)) x (after x two named) (
               two,
               ap variable_of here,
@@ -270,7 +292,9 @@ module _ {S : Type 0} (z : Sizes) (slots id i : ℕ) (me : Me (HashMap ℕ ℕ S
     word_is w hs vs law at m e = (law.tables.entries e.0.stripe e.0.entries (inr (id, me.0.core, e.0, at, e.2, refl, refl)) e.1 (m, x) e.3).0
 
     reclaim_at : IsReady me.0.core → length me.0.core.held ≤ 2 ^ 39 → Allows (Held {S = S} z) slots id me i (λ n. either (eqb n 1) 0 n) (λ n after. Reclaims me i x n after)
-    reclaim_at ready few = allows z slots id i me on (λ steps. steps) (λ n. either (eqb n 1) 0 n) (λ n after. Reclaims me i x n after) (λ w homes vs law at knows small. go w homes vs law at (eqb (get_or (flat w) i 0) 1) refl)
+    reclaim_at ready few =
+        allows z slots id i me on (λ steps. steps) (λ n. either (eqb n 1) 0 n) (λ n after. Reclaims me i x n after)
+        (λ w homes vs law at knows small. go w homes vs law at (eqb (get_or (flat w) i 0) 1) refl)
       where
         room : (m : ℕ) → length (reclaimed me.0.core h x m).held ≤ 2 ^ 40
         room m = omega (arith, length-append me.0.core.held (slots_of (children m)), length-slots_of (children m))
@@ -278,7 +302,9 @@ module _ {S : Type 0} (z : Sizes) (slots id i : ℕ) (me : Me (HashMap ℕ ℕ S
         go : (w : Words) (homes : List (May.Option (HashMap ℕ ℕ S))) (vs : List View) → Lawful z w (homes_of homes) vs → get_elem? vs id ≡ some me.0.core → (b : Bool) → eqb (get_or (flat w) i 0) 1 ≡ b
             → (v : View) × (a : Act (HashMap ℕ ℕ S)) × (w' : Words) × Pays z id i me (either b 0 (get_or (flat w) i 0)) w homes vs v a w'
             × ((k : Known) → Stepped me.0 v k → Copies me.0 i (get_or (flat w) i 0) (either b 0 (get_or (flat w) i 0)) k → Knows w'.nodes k → k.counted ≡ me.0.counted
-            → MatchBool b ((m : ℕ) → IsEntry me.0.core m x → Told me i (get_or (flat w) i 0) 0 (taken_back me.0.core x m) (k, carried_after me.1 a) (Nothing (get_or (flat w) i 0))) (Told me i (get_or (flat w) i 0) (get_or (flat w) i 0) me.0.core (k, carried_after me.1 a) (Nothing (get_or (flat w) i 0))))
+            → MatchBool b
+            ((m : ℕ) → IsEntry me.0.core m x → Told me i (get_or (flat w) i 0) 0 (taken_back me.0.core x m) (k, carried_after me.1 a) (Nothing (get_or (flat w) i 0)))
+            (Told me i (get_or (flat w) i 0) (get_or (flat w) i 0) me.0.core (k, carried_after me.1 a) (Nothing (get_or (flat w) i 0))))
         go w homes vs law at true e =
             let one : get_or w.counts x 0 ≡ 1 = sym (found x is w (homes_of homes) vs law at there) ∙ eqb-true (get_or (flat w) i 0) 1 e in
             let may : MayReclaim w me.0.core h x = (ready, entry.2, has_le h.entries entry.1 (word, x) entry.3, one) in (
@@ -293,7 +319,8 @@ module _ {S : Type 0} (z : Sizes) (slots id i : ℕ) (me : Me (HashMap ℕ ℕ S
                 lawful = reclaim_keeps z w (homes_of homes) vs id me.0.core law at on x h may (room (get_or w.nodes x 0));
               },
               λ k stepped copies after counted m e.
-                  let same : reclaimed me.0.core h x (get_or w.nodes x 0) ≡ taken_back me.0.core x m = λ j. reclaimed me.0.core (hand_of (sym entry.2 j)) x (word_is w (homes_of homes) vs law at m e j) in
+                  let same : reclaimed me.0.core h x (get_or w.nodes x 0) ≡ taken_back me.0.core x m = λ j.
+                  reclaimed me.0.core (hand_of (sym entry.2 j)) x (word_is w (homes_of homes) vs law at m e j) in
                   (subst (λ (v : View). Stepped me.0 v k) same stepped, refl, copies, tt, counted),
             )
         go w homes vs law at false e = (
@@ -310,31 +337,45 @@ module _ {S : Type 0} (z : Sizes) (slots id i : ℕ) (me : Me (HashMap ℕ ℕ S
           λ k stepped copies after counted. (stepped, refl, copies, tt, counted),
         )
 
-    pub reclaim_allows : IsReady me.0.core → length me.0.core.held ≤ 2 ^ 39 → Allows (Held {S = S} z) slots id me i (λ n. either (eqb n 1) 0 n) (λ n after. Reclaims me i (i - announced_words me.0.core.sizes) n after)
+    pub reclaim_allows : IsReady me.0.core → length me.0.core.held ≤ 2 ^ 39 →
+        Allows (Held {S = S} z) slots id me i (λ n. either (eqb n 1) 0 n) (λ n after. Reclaims me i (i - announced_words me.0.core.sizes) n after)
     reclaim_allows ready few =
         let back : x ≡ i - announced_words me.0.core.sizes = omega arith in
         subst (λ (y : ℕ). Allows (Held {S = S} z) slots id me i (λ n. either (eqb n 1) 0 n) (λ n after. Reclaims me i y n after)) back (reclaim_at ready few)
 
 -- what a try to claim tells, by what it found
-pub claim_won : {T : Type 0} (me : Known × List T) (i x n : ℕ) (after : Known × List T) → i ≡ announced_words me.0.core.sizes + x → n ≡ 0 → Claims me i (i - announced_words me.0.core.sizes) n after → Told me i n 2 (claimed me.0.core x) after (Nothing n)
+pub claim_won : {T : Type 0} (me : Known × List T) (i x n : ℕ) (after : Known × List T) → i ≡ announced_words me.0.core.sizes + x → n ≡ 0 →
+    Claims me i (i - announced_words me.0.core.sizes) n after → Told me i n 2 (claimed me.0.core x) after (Nothing n)
 claim_won me i x n after is zero_count c =
     let back : i - announced_words me.0.core.sizes ≡ x = omega arith in
     subst (λ (y : ℕ). Told me i n 2 (claimed me.0.core y) after (Nothing n)) back
-    (subst (λ (b : Bool). MatchBool b (Told me i n 2 (claimed me.0.core (i - announced_words me.0.core.sizes)) after (Nothing n)) (Told me i n n (found_taken me.0.core (i - announced_words me.0.core.sizes)) after (Nothing n))) (eq-eqb n 0 zero_count) c)
+    (subst
+    (λ (b : Bool).
+    MatchBool b (Told me i n 2 (claimed me.0.core (i - announced_words me.0.core.sizes)) after (Nothing n))
+    (Told me i n n (found_taken me.0.core (i - announced_words me.0.core.sizes)) after (Nothing n)))
+    (eq-eqb n 0 zero_count) c)
 
-pub claim_lost : {T : Type 0} (me : Known × List T) (i x n : ℕ) (after : Known × List T) → i ≡ announced_words me.0.core.sizes + x → n ≢ 0 → Claims me i (i - announced_words me.0.core.sizes) n after → Told me i n n (found_taken me.0.core x) after (Nothing n)
+pub claim_lost : {T : Type 0} (me : Known × List T) (i x n : ℕ) (after : Known × List T) → i ≡ announced_words me.0.core.sizes + x → n ≢ 0 →
+    Claims me i (i - announced_words me.0.core.sizes) n after → Told me i n n (found_taken me.0.core x) after (Nothing n)
 claim_lost me i x n after is some_count c =
     let back : i - announced_words me.0.core.sizes ≡ x = omega arith in
     subst (λ (y : ℕ). Told me i n n (found_taken me.0.core y) after (Nothing n)) back
-    (subst (λ (b : Bool). MatchBool b (Told me i n 2 (claimed me.0.core (i - announced_words me.0.core.sizes)) after (Nothing n)) (Told me i n n (found_taken me.0.core (i - announced_words me.0.core.sizes)) after (Nothing n))) (ne_eqb n 0 some_count) c)
+    (subst
+    (λ (b : Bool).
+    MatchBool b (Told me i n 2 (claimed me.0.core (i - announced_words me.0.core.sizes)) after (Nothing n))
+    (Told me i n n (found_taken me.0.core (i - announced_words me.0.core.sizes)) after (Nothing n)))
+    (ne_eqb n 0 some_count) c)
 
 -- what a try to take a node back tells, by what it found
-pub reclaim_won : {T : Type 0} (me : Known × List T) (i x word n : ℕ) (after : Known × List T) → i ≡ announced_words me.0.core.sizes + x → n ≡ 1 → IsEntry me.0.core word x → Reclaims me i (i - announced_words me.0.core.sizes) n after
+pub reclaim_won : {T : Type 0} (me : Known × List T) (i x word n : ℕ) (after : Known × List T) → i ≡ announced_words me.0.core.sizes + x → n ≡ 1 →
+    IsEntry me.0.core word x → Reclaims me i (i - announced_words me.0.core.sizes) n after
     → Told me i n 0 (taken_back me.0.core x word) after (Nothing n)
 reclaim_won me i x word n after is one entry c =
     let back : i - announced_words me.0.core.sizes ≡ x = omega arith in
     let r : Reclaims me i x n after = subst (λ (y : ℕ). Reclaims me i y n after) back c in
-    subst (λ (b : Bool). MatchBool b ((m : ℕ) → IsEntry me.0.core m x → Told me i n 0 (taken_back me.0.core x m) after (Nothing n)) (Told me i n n me.0.core after (Nothing n))) (eq-eqb n 1 one) r word entry
+    subst
+    (λ (b : Bool). MatchBool b ((m : ℕ) → IsEntry me.0.core m x → Told me i n 0 (taken_back me.0.core x m) after (Nothing n)) (Told me i n n me.0.core after (Nothing n)))
+    (eq-eqb n 1 one) r word entry
 
 pub reclaim_lost : {T : Type 0} (me : Known × List T) (i x n : ℕ) (after : Known × List T) → n ≢ 1 → Reclaims me i x n after → Told me i n n me.0.core after (Nothing n)
 reclaim_lost me i x n after other c =
@@ -362,7 +403,8 @@ drafted_length k variable low high n n' known may is next =
     let f = fields variable low high small.0 small.1 in
     let names : low ∷ high ∷ [] ≡ children (node_word variable low high) = λ i. sym f.low_is i ∷ sym f.high_is i ∷ [] in
     let l = length-without_all (slots_of (low ∷ high ∷ [])) k.core.held (slots_held (low ∷ high ∷ []) k.core.held may.held) in
-    let m : n' ≡ length (without_each (slots_of (low ∷ high ∷ [])) k.core.held ++ draft_of k.core.draft ∷ []) = omega (arith, length-append (without_each (slots_of (low ∷ high ∷ [])) k.core.held) (draft_of k.core.draft ∷ [])) in
+    let m : n' ≡ length (without_each (slots_of (low ∷ high ∷ [])) k.core.held ++ draft_of k.core.draft ∷ []) =
+    omega (arith, length-append (without_each (slots_of (low ∷ high ∷ [])) k.core.held) (draft_of k.core.draft ∷ [])) in
     m ∙ ap (λ (xs : List ℕ). length (without_each (slots_of xs) k.core.held ++ draft_of k.core.draft ∷ [])) names
 
 -- the tree of the node that they make

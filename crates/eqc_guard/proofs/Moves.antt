@@ -100,7 +100,8 @@ module _ {S : Type 0} (z : Sizes) (slots id i : ℕ) (me : Me (HashMap ℕ ℕ S
 
   -- a store, which does not tell what it found
   pub store : (x : ℕ) (v : View) → v.active ≡ true
-      → ((w : Words) (hs : Homes) (vs : List View) → Lawful z w hs vs → get_elem? vs id ≡ some me.0.core → (w' : Words) × (set (flat w) i x ≡ flat w') × (w'.nodes ≡ w.nodes) × Lawful z w' hs (set vs id v))
+      → ((w : Words) (hs : Homes) (vs : List View) → Lawful z w hs vs → get_elem? vs id ≡ some me.0.core →
+      (w' : Words) × (set (flat w) i x ≡ flat w') × (w'.nodes ≡ w.nodes) × Lawful z w' hs (set vs id v))
       → Allows (Held {S = S} z) slots id me i (λ _. x) (λ _ after. Stored me i x v after)
   store x v live owes s h homes seat small =
       let r = plain (λ steps. steps) (λ _. x) (λ _. v) Nothing (λ _. live) (λ w hs vs law at knows small. let o = owes w hs vs law at in (o.0, o.1, o.2, o.3, λ k e known. tt)) s h homes seat small in
@@ -135,18 +136,23 @@ module _ {S : Type 0} (z : Sizes) (slots id i : ℕ) (me : Me (HashMap ℕ ℕ S
     result_below c lt = go (dec_le 2 (result_of (get_or w.cells c 0)))
       where
         go : Dec (2 ≤ result_of (get_or w.cells c 0)) → result_of (get_or w.cells c 0) < z.names
-        go (yes two) = (law.tables.named (result_of (get_or w.cells c 0)) ((are_tabled z w hs vs law).cells c (result_of (get_or w.cells c 0)) (get_or w.cells c 0) (cell_at c lt) two (names_result (get_or w.cells c 0)))).1
+        go (yes two) =
+            (law.tables.named (result_of (get_or w.cells c 0))
+            ((are_tabled z w hs vs law).cells c (result_of (get_or w.cells c 0)) (get_or w.cells c 0) (cell_at c lt) two (names_result (get_or w.cells c 0)))).1
         go (no n) = let two = law.sized.some_names in omega arith
 
     -- what a look finds is as `Shown` says
     shown : (c : ℕ) → c < z.cells → Knows w.nodes me.0 → get_or w.cells c 0 ≢ 0 → Shown me.0 (get_or w.cells c 0)
     shown c lt knows nz = record {
       below = subst (λ (y : Sizes). result_of (get_or w.cells c 0) < y.names) (sym size) (result_below c lt);
-      constant = λ small. filled_result w.nodes me.0 (get_or w.cells c 0) (tree_of me.0 (result_of (get_or w.cells c 0))) knows (cell_right c lt nz) (held_tree w.nodes me.0 (result_of (get_or w.cells c 0)) knows (inl small));
+      constant = λ small.
+          filled_result w.nodes me.0 (get_or w.cells c 0) (tree_of me.0 (result_of (get_or w.cells c 0))) knows (cell_right c lt nz)
+          (held_tree w.nodes me.0 (result_of (get_or w.cells c 0)) knows (inl small));
     }
 
     -- the slot of an entry in hand that is counted up has the tree of its word
-    entry_tree : Knows w.nodes me.0 → (x word : ℕ) → 2 ≤ x → IsEntry me.0.core word x → IsHeld me.0.core (low_of word) → IsHeld me.0.core (high_of word) → (k : Known) → k.core ≡ upped me.0.core x → Knows w.nodes k → tree_of k x ≡ node_tree me.0 word
+    entry_tree : Knows w.nodes me.0 → (x word : ℕ) → 2 ≤ x → IsEntry me.0.core word x → IsHeld me.0.core (low_of word) →
+        IsHeld me.0.core (high_of word) → (k : Known) → k.core ≡ upped me.0.core x → Knows w.nodes k → tree_of k x ≡ node_tree me.0 word
     entry_tree knows x word two entry low high k e known =
         let g = law.tables.entries entry.0.stripe entry.0.entries (inr (id, me.0.core, entry.0, at, entry.2, refl, refl)) entry.1 (word, x) entry.3 in
         let held : 0 < times x k.core.held = subst (λ (v : View). 0 < times x v.held) (sym e) (omega (arith, times-append x me.0.core.held (x ∷ []), times-same x x [] refl)) in
@@ -161,11 +167,19 @@ module _ {S : Type 0} (z : Sizes) (slots id i : ℕ) (me : Me (HashMap ℕ ℕ S
     scan_room room name = let k = (scans_keep_names me.0.core name).lengths in let few = fits.few in let most = law.sized.few_announced in omega arith
 
     swap_room : length me.0.core.held ≤ 2 ^ 39 → (old word : ℕ) → length (swapped me.0.core old word).held ≤ 2 ^ 40
-    swap_room room old word = omega (arith, length-append (without_each (slots_of (cell_names word)) me.0.core.held) (slots_of (operands old)), length-without_each (slots_of (cell_names word)) me.0.core.held, length-slots_of (operands old))
+    swap_room room old word =
+        omega (
+          arith,
+          length-append (without_each (slots_of (cell_names word)) me.0.core.held) (slots_of (operands old)),
+          length-without_each (slots_of (cell_names word)) me.0.core.held,
+          length-slots_of (operands old),
+        )
 
   pub up_allows : (x : ℕ) → i ≡ announced_words me.0.core.sizes + x → MayUp me.0.core x
-      → Allows (Held {S = S} z) slots id me i (λ n. (n + 1) % 2 ^ 64) (λ n after. Counts me i n ((n + 1) % 2 ^ 64) (upped me.0.core (i - announced_words me.0.core.sizes)) after (Ups me.0 (i - announced_words me.0.core.sizes)))
-  up_allows x is may = plain suc (λ n. (n + 1) % 2 ^ 64) (λ n. upped me.0.core (i - announced_words me.0.core.sizes)) (λ n. Ups me.0 (i - announced_words me.0.core.sizes)) (λ n. on) (λ w hs vs law at knows small.
+      → Allows (Held {S = S} z) slots id me i (λ n. (n + 1) % 2 ^ 64)
+      (λ n after. Counts me i n ((n + 1) % 2 ^ 64) (upped me.0.core (i - announced_words me.0.core.sizes)) after (Ups me.0 (i - announced_words me.0.core.sizes)))
+  up_allows x is may =
+      plain suc (λ n. (n + 1) % 2 ^ 64) (λ n. upped me.0.core (i - announced_words me.0.core.sizes)) (λ n. Ups me.0 (i - announced_words me.0.core.sizes)) (λ n. on) (λ w hs vs law at knows small.
       let h = count_here w hs vs law at x is may.2 in
       let back : x ≡ i - announced_words me.0.core.sizes = omega arith in
       let found : get_or (flat w) i 0 ≡ get_or w.counts x 0 = ap (λ (k : ℕ). get_or (flat w) k 0) h.0 ∙ get_count z w hs vs law.sized x h.1 in
@@ -179,13 +193,15 @@ module _ {S : Type 0} (z : Sizes) (slots id i : ℕ) (me : Me (HashMap ℕ ℕ S
       ))
 
   pub down_allows : (x : ℕ) → i ≡ announced_words me.0.core.sizes + x → MayDown me.0.core x
-      → Allows (Held {S = S} z) slots id me i (λ n. (n + (2 ^ 64 - 1)) % 2 ^ 64) (λ n after. Counts me i n ((n + (2 ^ 64 - 1)) % 2 ^ 64) (downed me.0.core (i - announced_words me.0.core.sizes)) after (Nothing n))
+      → Allows (Held {S = S} z) slots id me i (λ n. (n + (2 ^ 64 - 1)) % 2 ^ 64)
+      (λ n after. Counts me i n ((n + (2 ^ 64 - 1)) % 2 ^ 64) (downed me.0.core (i - announced_words me.0.core.sizes)) after (Nothing n))
   down_allows x is may = plain suc (λ n. (n + (2 ^ 64 - 1)) % 2 ^ 64) (λ n. downed me.0.core (i - announced_words me.0.core.sizes)) Nothing (λ n. on) (λ w hs vs law at knows small.
       let h = count_here w hs vs law at x is may.2 in
       let back : x ≡ i - announced_words me.0.core.sizes = omega arith in
       let found : get_or (flat w) i 0 ≡ get_or w.counts x 0 = ap (λ (k : ℕ). get_or (flat w) k 0) h.0 ∙ get_count z w hs vs law.sized x h.1 in
       let some_counts = held_counted z w hs vs law id x me.0.core at may.3 in
-      let next : (get_or (flat w) i 0 + (2 ^ 64 - 1)) % 2 ^ 64 ≡ get_or w.counts x 0 - 1 = ap (λ (n : ℕ). (n + (2 ^ 64 - 1)) % 2 ^ 64) found ∙ minus_one (get_or w.counts x 0) some_counts (let fit = count_fits z w hs vs x law may.1 h.1 in omega arith) in (
+      let next : (get_or (flat w) i 0 + (2 ^ 64 - 1)) % 2 ^ 64 ≡ get_or w.counts x 0 - 1 = ap (λ (n : ℕ). (n + (2 ^ 64 - 1)) % 2 ^ 64) found
+      ∙ minus_one (get_or w.counts x 0) some_counts (let fit = count_fits z w hs vs x law may.1 h.1 in omega arith) in (
         with_count w x (get_or w.counts x 0 - 1),
         ap (λ (n : ℕ). set (flat w) i n) next ∙ (ap (λ (k : ℕ). set (flat w) k (get_or w.counts x 0 - 1)) h.0 ∙ set_count z w hs vs law.sized x (get_or w.counts x 0 - 1) h.1),
         refl,
@@ -220,8 +236,10 @@ module _ {S : Type 0} (z : Sizes) (slots id i : ℕ) (me : Me (HashMap ℕ ℕ S
             let p : rechecked_phase (phase_at me.0.core 0) (get_or (flat w) i 0) ≡ Confirmed (result_of word) =
             ap (λ (p : Phase). rechecked_phase p (get_or (flat w) i 0)) phase ∙ rw (eq-eqb (get_or (flat w) i 0) word (hit ∙ sym same)) refl in
             let there : get_elem? k.core.phases 0 ≡ some (Confirmed (result_of word)) =
-            ap (λ (v : View). get_elem? v.phases 0) e ∙ (set_here me.0.core.phases 0 (rechecked_phase (phase_at me.0.core 0) (get_or (flat w) i 0)) (let n = (fits w hs vs law at).phases in omega arith) ∙ ap some p) in
-            subst (λ (m : ℕ). IsResult me.0 m (tree_of k (result_of m))) same (filled_result w.nodes me.0 word (tree_of k (result_of word)) knows f (known (result_of word) two (confirmed_named k.core 0 (result_of word) there))),
+            ap (λ (v : View). get_elem? v.phases 0) e
+            ∙ (set_here me.0.core.phases 0 (rechecked_phase (phase_at me.0.core 0) (get_or (flat w) i 0)) (let n = (fits w hs vs law at).phases in omega arith) ∙ ap some p) in
+            subst (λ (m : ℕ). IsResult me.0 m (tree_of k (result_of m))) same
+            (filled_result w.nodes me.0 word (tree_of k (result_of word)) knows f (known (result_of word) two (confirmed_named k.core 0 (result_of word) there))),
       ))
 
   -- the same, by the cell that the phase has
@@ -229,19 +247,26 @@ module _ {S : Type 0} (z : Sizes) (slots id i : ℕ) (me : Me (HashMap ℕ ℕ S
       → Allows (Held {S = S} z) slots id me i (λ n. n) (λ n after. Told me i n n (rechecked me.0.core 0 n) after (Rechecks me.0 n))
   again_allows c is cell lt may = let a = announced_as (phase_at me.0.core 0) may.2 in recheck_allows c a.0 is lt (a.1 ∙ ap (λ (k : ℕ). Announced k a.0) (sym cell)) may
 
-  pub announce_allows : (x : ℕ) → i ≡ word_at me.0.core.sizes me.0.core.number 0 → MayAnnounce me.0.core 0 x → Allows (Held {S = S} z) slots id me i (λ _. x) (λ _ after. Stored me i x (announced me.0.core 0) after)
+  pub announce_allows : (x : ℕ) → i ≡ word_at me.0.core.sizes me.0.core.number 0 → MayAnnounce me.0.core 0 x →
+      Allows (Held {S = S} z) slots id me i (λ _. x) (λ _ after. Stored me i x (announced me.0.core 0) after)
   announce_allows x is may = store x (announced me.0.core 0) on (λ w hs vs law at.
       let f = fits w hs vs law at in
       let here : i ≡ word_at z id 0 = is ∙ (ap (λ (y : Sizes). word_at y me.0.core.number 0) f.sizes ∙ ap (λ (n : ℕ). word_at z n 0) f.number) in
-      let lt : word_at z id 0 < announced_words z = below z id 0 (let views = law.sized.views in let b = at_below vs id me.0.core at in omega arith) law.sized.some_announcements in
-      (with_announced w (word_at z id 0) x, ap (λ (k : ℕ). set (flat w) k x) here ∙ set_announced z w hs vs law.sized (word_at z id 0) x lt, refl, announce_keeps z w hs vs id me.0.core law at on 0 x may))
+      let lt : word_at z id 0 < announced_words z = below z id 0 (let views = law.sized.views in let b = at_below vs id me.0.core at in omega arith) law.sized.some_announcements in (
+        with_announced w (word_at z id 0) x,
+        ap (λ (k : ℕ). set (flat w) k x) here
+            ∙ set_announced z w hs vs law.sized (word_at z id 0) x lt,
+        refl,
+        announce_keeps z w hs vs id me.0.core law at on 0 x may,
+      ))
 
   pub scan_allows : i ≡ me.0.core.position → MayScan me.0.core → length me.0.core.held ≤ 2 ^ 39
       → Allows (Held {S = S} z) slots id me i (λ n. n) (λ n after. Told me i n n (scanned me.0.core n) after (Nothing n))
   scan_allows is may room = load (λ n. scanned me.0.core n) Nothing (λ n. scans_on me.0.core n ∙ on) (λ w hs vs law at knows.
       let lt = (fits w hs vs law at).place in
       let found : get_or w.announced me.0.core.position 0 ≡ get_or (flat w) i 0 = sym (ap (λ (k : ℕ). get_or (flat w) k 0) is ∙ get_announced z w hs vs law.sized me.0.core.position lt) in (
-        subst (λ (n : ℕ). Lawful z w hs (set vs id (scanned me.0.core n))) found (scan_keeps z w hs vs id me.0.core law at on may (scan_room w hs vs law at room (get_or w.announced me.0.core.position 0))),
+        subst (λ (n : ℕ). Lawful z w hs (set vs id (scanned me.0.core n))) found
+            (scan_keeps z w hs vs id me.0.core law at on may (scan_room w hs vs law at room (get_or w.announced me.0.core.position 0))),
         λ k e known. tt,
       ))
 
@@ -253,7 +278,9 @@ module _ {S : Type 0} (z : Sizes) (slots id i : ℕ) (me : Me (HashMap ℕ ℕ S
         ap (λ (k : ℕ). set (flat w) k word) h.0 ∙ set_cell z w hs vs law.sized c word h.1,
         refl,
         subst (λ (n : ℕ). Lawful z (with_cell w c word) hs (set vs id (swapped me.0.core n word))) (sym h.2)
-            (swap_keeps z w hs vs id me.0.core law at on c word (may.ready, may.there, may.quiet, right w.nodes knows may.right, may.held, may.few) (swap_room w hs vs law at may.room (get_or w.cells c 0) word)),
+            (swap_keeps z w hs vs id me.0.core law at on c word
+            (may.ready, may.there, may.quiet, right w.nodes knows may.right, may.held, may.few)
+            (swap_room w hs vs law at may.room (get_or w.cells c 0) word)),
         λ k e known. tt,
       ))
     where

@@ -20,7 +20,8 @@ few_below zero (x ∷ xs) once below = absurd (let lt = below x (omega (arith, t
 few_below (suc m) xs once below = go (dec_le 1 (times m xs)) (λ ys o b. few_below m ys o b)
   where
     less : (0 < times m xs) → (n : ℕ) → 0 < times n (without m xs) → Dec (m ≡ n) → n < m
-    less there n h (yes e) = absurd (let t : 1 + times n (without m xs) ≡ times n xs = subst (λ (k : ℕ). 1 + times k (without m xs) ≡ times k xs) e (times-without m xs there) in let o = once n in omega arith)
+    less there n h (yes e) =
+        absurd (let t : 1 + times n (without m xs) ≡ times n xs = subst (λ (k : ℕ). 1 + times k (without m xs) ≡ times k xs) e (times-without m xs there) in let o = once n in omega arith)
     less there n h (no apart) = let lt = below n (omega (arith, times-without_other n m xs apart)) in let ne : n ≢ m = λ e. apart (sym e) in omega arith
 
     other : (times m xs ≡ 0) → (n : ℕ) → 0 < times n xs → Dec (m ≡ n) → n < m
@@ -28,7 +29,8 @@ few_below (suc m) xs once below = go (dec_le 1 (times m xs)) (λ ys o b. few_bel
     other none n h (no apart) = let lt = below n h in let ne : n ≢ m = λ e. apart (sym e) in omega arith
 
     go : Dec (1 ≤ times m xs) → ((ys : List ℕ) → ((n : ℕ) → times n ys ≤ 1) → ((n : ℕ) → 0 < times n ys → n < m) → length ys ≤ m) → length xs ≤ suc m
-    go (yes there) rest = let r = rest (without m xs) (λ n. let o = once n in omega (arith, times_without_le n m xs)) (λ n h. less there n h (ℕ_discrete m n)) in omega (arith, length-without_one m xs there)
+    go (yes there) rest = let r = rest (without m xs) (λ n. let o = once n in omega (arith, times_without_le n m xs)) (λ n h. less there n h (ℕ_discrete m n)) in
+        omega (arith, length-without_one m xs there)
     go (no lack) rest = let none : times m xs ≡ 0 = omega arith in let r = rest xs once (λ n h. other none n h (ℕ_discrete m n)) in omega arith
 
 -- and fewer than m where 0 is none of them

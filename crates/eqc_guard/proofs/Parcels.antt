@@ -75,7 +75,8 @@ open_fields t f g first second = fields t f g 0 first second (omega arith)
 pub names_of_word : (parcel : Parcel) → IsWhole parcel → slots_of (cell_names (parcel_word parcel)) ≡ parcel_names parcel
 names_of_word Empty whole = ap slots_of (names_are 0 0 0 0 0 (open_fields 0 0 0 (omega arith) (omega arith)))
 names_of_word (Task op f g) whole = ap slots_of (names_are (tag_of op + 4) f.number g.number 0 (parcel_word (Task op f g)) (open_fields (tag_of op + 4) f.number g.number whole.0 whole.1))
-names_of_word (Done e) whole = ap slots_of (names_are (tag_of e.op) e.f.number e.g.number e.r.number (parcel_word (Done e)) (fields (tag_of e.op) e.f.number e.g.number e.r.number whole.0 whole.1 whole.2))
+names_of_word (Done e) whole =
+    ap slots_of (names_are (tag_of e.op) e.f.number e.g.number e.r.number (parcel_word (Done e)) (fields (tag_of e.op) e.f.number e.g.number e.r.number whole.0 whole.1 whole.2))
 names_of_word (Stopped stop f g) whole = ap slots_of (names_are (number_of stop) f.number g.number 0 (parcel_word (Stopped stop f g)) (open_fields (number_of stop) f.number g.number whole.0 whole.1))
 
 -- the names of a word without a result are held where its operands are
@@ -147,5 +148,6 @@ one_stop word n e great = rw e (rw (lt-ltb 12 n great) refl)
 pub stops_of_word : (parcel : Parcel) → IsWhole parcel → stop_in (parcel_word parcel) ≡ parcel_stops parcel
 stops_of_word Empty whole = no_stop 0 0 ((open_fields 0 0 0 (omega arith) (omega arith)).tag) (omega arith)
 stops_of_word (Task op f g) whole = no_stop (parcel_word (Task op f g)) (tag_of op + 4) ((open_fields (tag_of op + 4) f.number g.number whole.0 whole.1).tag) (let r = tag_range op in omega arith)
-stops_of_word (Done e) whole = no_stop (parcel_word (Done e)) (tag_of e.op) ((fields (tag_of e.op) e.f.number e.g.number e.r.number whole.0 whole.1 whole.2).tag) (let r = tag_range e.op in omega arith)
+stops_of_word (Done e) whole =
+    no_stop (parcel_word (Done e)) (tag_of e.op) ((fields (tag_of e.op) e.f.number e.g.number e.r.number whole.0 whole.1 whole.2).tag) (let r = tag_range e.op in omega arith)
 stops_of_word (Stopped stop f g) whole = one_stop (parcel_word (Stopped stop f g)) (number_of stop) ((open_fields (number_of stop) f.number g.number whole.0 whole.1).tag) (stop_range stop whole.2).0

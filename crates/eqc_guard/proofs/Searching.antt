@@ -54,7 +54,9 @@ module _ (first last : ℕ) (old mid : Standing) (m : HasSeen first last old mid
     core = s.known.core ∙ ap (λ (v : View). found_taken v last) m.core;
     seen = seen;
     before = λ x h. note_old x last m.turn (λ e. omega arith) (dec_le 1 (times last m.turn)) (m.before x h);
-    trees = λ x k h. s.known.agrees x k (still_named x h) (subst (λ (v : View). 0 < times x (names_of (found_taken v last))) (sym m.core) (omega (arith, turn_names x (note last m.turn) old.known.core))) ∙ m.trees x k h;
+    trees = λ x k h.
+        s.known.agrees x k (still_named x h) (subst (λ (v : View). 0 < times x (names_of (found_taken v last))) (sym m.core) (omega (arith, turn_names x (note last m.turn) old.known.core)))
+        ∙ m.trees x k h;
     copy = keeps_on old.known mid.known next.known m.copy s.known.copy;
     known = s.known.known;
   }
@@ -73,7 +75,8 @@ module _ (first last : ℕ) (old mid : Standing) (m : HasSeen first last old mid
     first = two;
     there = subst (λ (v : View). slot < v.sizes.names) m.core there;
     core = s.known.core ∙ ap (λ (v : View). claimed v slot) m.core;
-    trees = λ x k h. s.known.agrees x k (still_named x h) (subst (λ (v : View). 0 < times x (names_of (claimed v slot))) (sym m.core) (omega (arith, claim_names x slot old.known.core))) ∙ m.trees x k h;
+    trees = λ x k h. s.known.agrees x k (still_named x h) (subst (λ (v : View). 0 < times x (names_of (claimed v slot))) (sym m.core) (omega (arith, claim_names x slot old.known.core)))
+        ∙ m.trees x k h;
     copy = keeps_on old.known mid.known next.known m.copy s.known.copy;
     known = s.known.known;
   }

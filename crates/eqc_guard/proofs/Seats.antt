@@ -46,21 +46,37 @@ pub split_names : (x : ℕ) (v : View) (to : ℕ) → times x (names_of (splitte
 split_names x v to = omega (arith, names_is x v, names_is x (splitter v to))
 
 -- a copy is of a worker that is alone
-no_copy : {S : Type 0} (z : Sizes) (s : State (HashMap ℕ ℕ S) Known) (h : Held z s) (id j : ℕ) (k u : Known) (ws : List ℕ) → get_elem? s.views id ≡ some k → k.core.active ≡ true → j ≢ id → get_elem? s.views j ≡ some u → u.copy ≡ Some ws → ⊥
+no_copy : {S : Type 0} (z : Sizes) (s : State (HashMap ℕ ℕ S) Known) (h : Held z s) (id j : ℕ) (k u : Known) (ws : List ℕ) →
+    get_elem? s.views id ≡ some k → k.core.active ≡ true → j ≢ id → get_elem? s.views j ≡ some u → u.copy ≡ Some ws → ⊥
 no_copy z s h id j k u ws seat on apart e has = let q : true ≡ false = sym on ∙ (h.copies j u ws e has).alone id k (λ p. apart (sym p)) seat in cc
 
-pub splits_allowed : {S : Type 0} (z : Sizes) (id : ℕ) (k : Known) → k.core.active ≡ true → IsReady k.core → k.core.number ≡ 0 → k.core.given < k.core.sizes.workers → Splits (Held {S = S} z) id k (split_left k) (split_off k)
+pub splits_allowed : {S : Type 0} (z : Sizes) (id : ℕ) (k : Known) → k.core.active ≡ true → IsReady k.core → k.core.number ≡ 0 →
+    k.core.given < k.core.sizes.workers → Splits (Held {S = S} z) id k (split_left k) (split_off k)
 splits_allowed z id k on ready zero_is few s h seat = record {
   words = h.words;
   laid = h.laid;
   lawful = subst (λ (vs : List View). Lawful z h.words (homes_of s.homes) vs) (last.1 ∙ sym views) law;
-  knows = λ j u e act. ⊎_elim (λ p. ⊎_elim (λ (q : (j ≡ id) × (split_left k ≡ u)). subst (λ (t : Known). Knows h.words.nodes t) q.1 left) (λ (q : (j ≢ id) × (get_elem? s.views j ≡ some u)). h.knows j u q.1 act) (at_set s.views id j (split_left k) u p))
+  knows = λ j u e act.
+      ⊎_elim
+      (λ p.
+      ⊎_elim (λ (q : (j ≡ id) × (split_left k ≡ u)). subst (λ (t : Known). Knows h.words.nodes t) q.1 left)
+      (λ (q : (j ≢ id) × (get_elem? s.views j ≡ some u)). h.knows j u q.1 act) (at_set s.views id j (split_left k) u p))
       (λ (q : split_off k ≡ u). subst (λ (t : Known). Knows h.words.nodes t) q (λ x two named. absurd (omega (arith, fresh_none x k.core.sizes k.core.given))))
       (at_end (set s.views id (split_left k)) (split_off k) u j e);
-  exact = λ j u e act. ⊎_elim (λ p. ⊎_elim (λ (q : (j ≡ id) × (split_left k ≡ u)). subst (λ (t : Known). IsExact h.words.nodes t) q.1 left_exact) (λ (q : (j ≢ id) × (get_elem? s.views j ≡ some u)). h.exact j u q.1 act) (at_set s.views id j (split_left k) u p))
+  exact = λ j u e act.
+      ⊎_elim
+      (λ p.
+      ⊎_elim (λ (q : (j ≡ id) × (split_left k ≡ u)). subst (λ (t : Known). IsExact h.words.nodes t) q.1 left_exact)
+      (λ (q : (j ≢ id) × (get_elem? s.views j ≡ some u)). h.exact j u q.1 act) (at_set s.views id j (split_left k) u p))
       (λ (q : split_off k ≡ u). subst (λ (t : Known). IsExact h.words.nodes t) q (λ i p e. absurd (some-ne-none p (sym e))))
       (at_end (set s.views id (split_left k)) (split_off k) u j e);
-  copies = λ j u ws e has. absurd (⊎_elim (λ p. ⊎_elim (λ (q : (j ≡ id) × (split_left k ≡ u)). let c : None ≡ Some ws = ap (λ (t : Known). t.copy) q.1 ∙ has in cc) (λ (q : (j ≢ id) × (get_elem? s.views j ≡ some u)). no_copy z s h id j k u ws seat on q.0 q.1 has) (at_set s.views id j (split_left k) u p))
+  copies = λ j u ws e has.
+      absurd
+      (⊎_elim
+      (λ p.
+      ⊎_elim (λ (q : (j ≡ id) × (split_left k ≡ u)). let c : None ≡ Some ws = ap (λ (t : Known). t.copy) q.1 ∙ has in cc)
+      (λ (q : (j ≢ id) × (get_elem? s.views j ≡ some u)). no_copy z s h id j k u ws seat on q.0 q.1 has)
+      (at_set s.views id j (split_left k) u p))
       (λ (q : split_off k ≡ u). let c : None ≡ Some ws = ap (λ (t : Known). t.copy) q ∙ has in cc)
       (at_end (set s.views id (split_left k)) (split_off k) u j e));
 }
@@ -68,14 +84,16 @@ splits_allowed z id k on ready zero_is few s h seat = record {
     at : get_elem? (cores s.views) id ≡ some k.core
     at = at_map (λ (t : Known). t.core) s.views id k seat
 
-    last : Rattle.eqc_core.specs.Seating.MaySplit (cores s.views) k.core k.core.given × (split (cores s.views) id k.core k.core.given ≡ set (cores s.views) id (splitter k.core k.core.given) ++ fresh k.core.sizes k.core.given ∷ [])
+    last : Rattle.eqc_core.specs.Seating.MaySplit (cores s.views) k.core
+        k.core.given × (split (cores s.views) id k.core k.core.given ≡ set (cores s.views) id (splitter k.core k.core.given) ++ fresh k.core.sizes k.core.given ∷ [])
     last = splits_come_last z h.words (homes_of s.homes) (cores s.views) id k.core h.lawful at on ready zero_is few
 
     law : Lawful z h.words (homes_of s.homes) (split (cores s.views) id k.core k.core.given)
     law = split_keeps z h.words (homes_of s.homes) (cores s.views) id k.core.given k.core h.lawful at on last.0
 
     views : cores (set s.views id (split_left k) ++ split_off k ∷ []) ≡ set (cores s.views) id (splitter k.core k.core.given) ++ fresh k.core.sizes k.core.given ∷ []
-    views = map-append (λ (t : Known). t.core) (set s.views id (split_left k)) (split_off k ∷ []) ∙ ap (λ (l : List View). l ++ fresh k.core.sizes k.core.given ∷ []) (map-set (λ (t : Known). t.core) s.views id (split_left k))
+    views = map-append (λ (t : Known). t.core) (set s.views id (split_left k)) (split_off k ∷ [])
+        ∙ ap (λ (l : List View). l ++ fresh k.core.sizes k.core.given ∷ []) (map-set (λ (t : Known). t.core) s.views id (split_left k))
 
     left : Knows h.words.nodes (split_left k)
     left x two named = h.knows id k seat on x two (omega (arith, split_names x k.core k.core.given))
@@ -124,14 +142,20 @@ only_at : (xs : List ℕ) (ps : List (ℕ × Tree)) (i : ℕ) (q : ℕ × Tree) 
 only_at xs [] i q e = absurd (some-ne-none q (sym e))
 only_at xs (p ∷ ps) i q e = go (some_cases (times p.0 xs)) i e (λ k h. only_at xs ps k q h)
   where
-    later : ((k : ℕ) → get_elem? (only xs ps) k ≡ some q → (0 < times q.0 xs) × ((j : ℕ) × (get_elem? ps j ≡ some q))) → (k : ℕ) → get_elem? (only xs ps) k ≡ some q → (0 < times q.0 xs) × ((j : ℕ) × (get_elem? (p ∷ ps) j ≡ some q))
+    later : ((k : ℕ) → get_elem? (only xs ps) k ≡ some q → (0 < times q.0 xs) × ((j : ℕ) × (get_elem? ps j ≡ some q))) → (k : ℕ) →
+        get_elem? (only xs ps) k ≡ some q → (0 < times q.0 xs) × ((j : ℕ) × (get_elem? (p ∷ ps) j ≡ some q))
     later rest k h = let r = rest k h in (r.0, (suc r.1.0, r.1.1))
 
-    first : (k : ℕ) → 0 < times p.0 xs → get_elem? (p ∷ only xs ps) k ≡ some q → ((k : ℕ) → get_elem? (only xs ps) k ≡ some q → (0 < times q.0 xs) × ((j : ℕ) × (get_elem? ps j ≡ some q))) → (0 < times q.0 xs) × ((j : ℕ) × (get_elem? (p ∷ ps) j ≡ some q))
+    first : (k : ℕ) → 0 < times p.0 xs → get_elem? (p ∷ only xs ps) k ≡ some q →
+        ((k : ℕ) → get_elem? (only xs ps) k ≡ some q → (0 < times q.0 xs) × ((j : ℕ) × (get_elem? ps j ≡ some q))) →
+        (0 < times q.0 xs) × ((j : ℕ) × (get_elem? (p ∷ ps) j ≡ some q))
     first zero has h rest = let s = some-injective p q h in (subst (λ (t : ℕ × Tree). 0 < times t.0 xs) s has, (0, h))
     first (suc k) has h rest = later rest k h
 
-    go : ((ltb 0 (times p.0 xs) ≡ true) × (0 < times p.0 xs)) ⊎ ((ltb 0 (times p.0 xs) ≡ false) × (times p.0 xs ≡ 0)) → (k : ℕ) → get_elem? (only xs (p ∷ ps)) k ≡ some q → ((k : ℕ) → get_elem? (only xs ps) k ≡ some q → (0 < times q.0 xs) × ((j : ℕ) × (get_elem? ps j ≡ some q))) → (0 < times q.0 xs) × ((j : ℕ) × (get_elem? (p ∷ ps) j ≡ some q))
+    go : ((ltb 0 (times p.0 xs) ≡ true) × (0 < times p.0 xs)) ⊎ ((ltb 0 (times p.0 xs) ≡ false) × (times p.0 xs ≡ 0)) → (k : ℕ) →
+        get_elem? (only xs (p ∷ ps)) k ≡ some q →
+        ((k : ℕ) → get_elem? (only xs ps) k ≡ some q → (0 < times q.0 xs) × ((j : ℕ) × (get_elem? ps j ≡ some q))) →
+        (0 < times q.0 xs) × ((j : ℕ) × (get_elem? (p ∷ ps) j ≡ some q))
     go (inl t) k h rest = first k t.1 (rw t.0 at h) rest
     go (inr t) k h rest = later rest k (rw t.0 at h)
 
@@ -144,7 +168,8 @@ both_exact : (nodes : List ℕ) (k o : Known) → IsExact nodes k → IsExact no
 both_exact nodes k o mine theirs i p e =
     let r = only_at (names_of (joined k.core o.core.number o.core)) (k.trees ++ o.trees) i p e in
     let is : (2 ≤ p.0) × IsTree nodes p.1 p.0 =
-    ⊎_elim (λ (q : (j : ℕ) × (get_elem? k.trees j ≡ some p)). let m = mine q.0 p q.1 in (m.0, m.2)) (λ (q : (j : ℕ) × (get_elem? o.trees j ≡ some p)). let m = theirs q.0 p q.1 in (m.0, m.2)) (append_at k.trees o.trees r.1.0 p r.1.1) in
+    ⊎_elim (λ (q : (j : ℕ) × (get_elem? k.trees j ≡ some p)). let m = mine q.0 p q.1 in (m.0, m.2))
+    (λ (q : (j : ℕ) × (get_elem? o.trees j ≡ some p)). let m = theirs q.0 p q.1 in (m.0, m.2)) (append_at k.trees o.trees r.1.0 p r.1.1) in
     (is.0, r.0, is.1)
 
 both_knows : (nodes : List ℕ) (k o : Known) → Knows nodes k → IsExact nodes k → Knows nodes o → Knows nodes (both k o)
@@ -161,7 +186,8 @@ both_knows nodes k o mine exact theirs x two named = subst (λ (t : Tree). IsTre
     found : tree_of (both k o) x ≡ kept_tree (k.trees ++ o.trees) x
     found = tree_else (only (names_of (joined k.core o.core.number o.core)) (k.trees ++ o.trees)) x two ∙ kept_only (names_of (joined k.core o.core.number o.core)) (k.trees ++ o.trees) x named
 
-pub joins_allowed : {S : Type 0} (z : Sizes) (id other : ℕ) (k o : Known) → k.core.active ≡ true → MayTake k.core o.core → length (joined k.core o.core.number o.core).held ≤ 2 ^ 40 → Joins (Held {S = S} z) id k other o (both k o) nobody
+pub joins_allowed : {S : Type 0} (z : Sizes) (id other : ℕ) (k o : Known) → k.core.active ≡ true → MayTake k.core o.core →
+    length (joined k.core o.core.number o.core).held ≤ 2 ^ 40 → Joins (Held {S = S} z) id k other o (both k o) nobody
 joins_allowed {S} z id other k o on take room s h seat apart there = record {
   words = h.words;
   laid = h.laid;
@@ -212,7 +238,9 @@ joins_allowed {S} z id other k o on take room s h seat apart there = record {
     may = (take.0, (λ e. apart (sym number ∙ e ∙ (h.lawful.views id k.core at on).number)), take.1, take.2, take.3, few)
 
     law : Lawful z h.words (homes_of s.homes) (join (cores s.views) id k.core o.core.number)
-    law = join_keeps z h.words (homes_of s.homes) (cores s.views) id o.core.number k.core o.core h.lawful at on (subst (λ (j : ℕ). get_elem? (cores s.views) j ≡ some o.core) (sym number) other_at) may room
+    law =
+        join_keeps z h.words (homes_of s.homes) (cores s.views) id o.core.number k.core o.core h.lawful at on
+        (subst (λ (j : ℕ). get_elem? (cores s.views) j ≡ some o.core) (sym number) other_at) may room
 
     view_is : view_at (cores s.views) o.core.number ≡ o.core
     view_is = ap (λ (j : ℕ). view_at (cores s.views) j) number ∙ at_get (cores s.views) other o.core unused other_at

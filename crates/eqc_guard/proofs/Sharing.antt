@@ -65,14 +65,24 @@ receives nodes v old word k is core known = record {
 box_word : (nodes : List ℕ) (k : Known) (word : ℕ) → Knows nodes k → AreHeld (cell_names word) k.core.held → ((word ≡ 0) ⊎ IsRightHere k word) ⊎ (IsTask word ⊎ IsStop word) → IsBoxWord nodes word
 box_word nodes k word knows held (inl (inl e)) = inl (inl e)
 box_word nodes k word knows held (inl (inr r)) =
-    inl (known_right nodes k word knows (given_held k (cell_names word) (first_of word) held (names_first word)) (given_held k (cell_names word) (second_of word) held (names_second word)) (given_held k (cell_names word) (result_of word) held (names_result word)) r)
+    inl
+    (known_right nodes k word knows (given_held k (cell_names word) (first_of word) held (names_first word))
+    (given_held k (cell_names word) (second_of word) held (names_second word))
+    (given_held k (cell_names word) (result_of word) held (names_result word)) r)
 box_word nodes k word knows held (inr rest) = inr rest
 
 box_room : (v : View) (old word : ℕ) → length v.held ≤ 2 ^ 39 → length (boxed v old word).held ≤ 2 ^ 40
-box_room v old word room = omega (arith, length-append (without_each (slots_of (cell_names word)) v.held) (slots_of (cell_names old)), length-without_each (slots_of (cell_names word)) v.held, length-slots_of (cell_names old))
+box_room v old word room =
+    omega (
+      arith,
+      length-append (without_each (slots_of (cell_names word)) v.held) (slots_of (cell_names old)),
+      length-without_each (slots_of (cell_names word)) v.held,
+      length-slots_of (cell_names old),
+    )
 
 -- so many names are held after a swap
-pub boxed_length : (v : View) (n n' old word : ℕ) → AreHeld (cell_names word) v.held → n ≡ length v.held → n' + length (slots_of (cell_names word)) ≡ n + length (slots_of (cell_names old)) → n' ≡ length (boxed v old word).held
+pub boxed_length : (v : View) (n n' old word : ℕ) → AreHeld (cell_names word) v.held → n ≡ length v.held →
+    n' + length (slots_of (cell_names word)) ≡ n + length (slots_of (cell_names old)) → n' ≡ length (boxed v old word).held
 boxed_length v n n' old word held is same =
     let l = length-without_all (slots_of (cell_names word)) v.held (slots_held (cell_names word) v.held held) in
     omega (arith, length-append (without_each (slots_of (cell_names word)) v.held) (slots_of (cell_names old)))
@@ -91,6 +101,8 @@ module _ {S : Type 0} (z : Sizes) (slots id i : ℕ) (me : Me (HashMap ℕ ℕ S
         ap (λ (k : ℕ). set (flat w) k word) here ∙ set_box z w hs vs law.sized b word there,
         refl,
         subst (λ (n : ℕ). Lawful z (boxed_words w b word) hs (set vs id (boxed me.0.core n word))) (sym found)
-            (swap_box_keeps z w hs vs id me.0.core law at on b word (may.ready, may.there, box_word w.nodes me.0 word knows may.held may.right, may.held) (box_room me.0.core (get_or w.boxes b 0) word may.room)),
+            (swap_box_keeps z w hs vs id me.0.core law at on b word
+            (may.ready, may.there, box_word w.nodes me.0 word knows may.held may.right, may.held)
+            (box_room me.0.core (get_or w.boxes b 0) word may.room)),
         λ k e known. receives w.nodes me.0.core (get_or (flat w) i 0) word k is_box e known,
       ))

@@ -79,7 +79,8 @@ split_off_known z k limits same known has =
     has_some : 0 < k.core.sizes.workers
     has_some = subst (λ (y : Sizes). 0 < y.workers) (sym same) limits.some_workers
 
-module _ {S : Type 0} (seat_table table : TableId) (key sizes : Sizes) (me : Known × List (ℕ × S)) (number held : ℕ) (phase : Phase) (retired noted : List ℕ) (position given : ℕ) (out : List ℕ) (draft : Option ℕ)
+module _ {S : Type 0} (seat_table table : TableId) (key sizes : Sizes) (me : Known × List (ℕ × S)) (number held : ℕ) (phase : Phase)
+    (retired noted : List ℕ) (position given : ℕ) (out : List ℕ) (draft : Option ℕ)
     (is : IsSeated seat_table table key sizes me number held phase retired noted position given out draft) (has : HasNumber me.0.core) where
   pub left_seated : IsSeated seat_table table key sizes (split_left me.0, me.1) number held phase retired noted position (given + 1) (out ++ given ∷ []) draft
   left_seated =

@@ -35,7 +35,8 @@ copied_some : (c : Option (List ℕ)) (i m : ℕ) (ws : List ℕ) → c ≡ Some
 copied_some c i m ws e = (set ws i m, ap (λ (o : Option (List ℕ)). copied o i m) e)
 
 -- what a step pays where it finds these words, tables and views: v is its new view, and m the number that it leaves
-pub record Pays {S : Type 0} (z : Sizes) (id i : ℕ) (me : Me (HashMap ℕ ℕ S) Known) (m : ℕ) (w : Words) (homes : List (May.Option (HashMap ℕ ℕ S))) (vs : List View) (v : View) (a : Act (HashMap ℕ ℕ S)) (w' : Words) : Type 0 where
+pub record Pays {S : Type 0} (z : Sizes) (id i : ℕ) (me : Me (HashMap ℕ ℕ S) Known) (m : ℕ) (w : Words)
+    (homes : List (May.Option (HashMap ℕ ℕ S))) (vs : List View) (v : View) (a : Act (HashMap ℕ ℕ S)) (w' : Words) : Type 0 where
   pub valid : Valid homes me.1 a
   pub live : v.active ≡ true
   pub laid : set (flat w) i m ≡ flat w'
@@ -43,7 +44,8 @@ pub record Pays {S : Type 0} (z : Sizes) (id i : ℕ) (me : Me (HashMap ℕ ℕ 
   pub lawful : Lawful z w' (homes_of (homes_after homes me.1 a)) (set vs id v)
 
 -- what the worker knows after it, with a copy of the words or none, and so many steps up and down
-pub record Goes {S : Type 0} (z : Sizes) (id i : ℕ) (me : Me (HashMap ℕ ℕ S) Known) (m : ℕ) (s : State (HashMap ℕ ℕ S) Known) (v : View) (a : Act (HashMap ℕ ℕ S)) (w' : Words) (copy : Option (List ℕ)) (count : ℕ) : Type 0 where
+pub record Goes {S : Type 0} (z : Sizes) (id i : ℕ) (me : Me (HashMap ℕ ℕ S) Known) (m : ℕ) (s : State (HashMap ℕ ℕ S) Known) (v : View)
+    (a : Act (HashMap ℕ ℕ S)) (w' : Words) (copy : Option (List ℕ)) (count : ℕ) : Type 0 where
   pub after : Known
   pub held : Held {S = S} z (record { words = set s.words i m; homes = homes_after s.homes me.1 a; views = set s.views id after })
   pub stepped : Stepped me.0 v after
@@ -54,11 +56,14 @@ pub record Goes {S : Type 0} (z : Sizes) (id i : ℕ) (me : Me (HashMap ℕ ℕ 
 module _ {S : Type 0} (z : Sizes) (slots id i : ℕ) (me : Me (HashMap ℕ ℕ S) Known) (on : me.0.core.active ≡ true) where
   -- whatever a lawful state it finds
   abbrev pub Owes : (ℕ → ℕ) → (ℕ → ℕ) → (ℕ → Me (HashMap ℕ ℕ S) Known → Type 0) → Type 0
-  Owes more f tells = (w : Words) (homes : List (May.Option (HashMap ℕ ℕ S))) (vs : List View) → Lawful z w (homes_of homes) vs → get_elem? vs id ≡ some me.0.core → Knows w.nodes me.0 → get_or (flat w) i 0 < 2 ^ 64
+  Owes more f tells = (w : Words) (homes : List (May.Option (HashMap ℕ ℕ S))) (vs : List View) → Lawful z w (homes_of homes) vs →
+      get_elem? vs id ≡ some me.0.core → Knows w.nodes me.0 → get_or (flat w) i 0 < 2 ^ 64
       → (v : View) × (a : Act (HashMap ℕ ℕ S)) × (w' : Words) × Pays z id i me (f (get_or (flat w) i 0)) w homes vs v a w'
-      × ((k : Known) → Stepped me.0 v k → Copies me.0 i (get_or (flat w) i 0) (f (get_or (flat w) i 0)) k → Knows w'.nodes k → k.counted ≡ more me.0.counted → tells (get_or (flat w) i 0) (k, carried_after me.1 a))
+      × ((k : Known) → Stepped me.0 v k → Copies me.0 i (get_or (flat w) i 0) (f (get_or (flat w) i 0)) k → Knows w'.nodes k →
+      k.counted ≡ more me.0.counted → tells (get_or (flat w) i 0) (k, carried_after me.1 a))
 
-  module _ (s : State (HashMap ℕ ℕ S) Known) (h : Held z s) (seat : get_elem? s.views id ≡ some me.0) (m : ℕ) (v : View) (a : Act (HashMap ℕ ℕ S)) (w' : Words) (pays : Pays z id i me m h.words s.homes (cores s.views) v a w') (copy : Option (List ℕ))
+  module _ (s : State (HashMap ℕ ℕ S) Known) (h : Held z s) (seat : get_elem? s.views id ≡ some me.0) (m : ℕ) (v : View) (a : Act (HashMap ℕ ℕ S))
+      (w' : Words) (pays : Pays z id i me m h.words s.homes (cores s.views) v a w') (copy : Option (List ℕ))
       (copy_is : (ws : List ℕ) → copy ≡ Some ws → (ws ≡ set s.words i m) × ((j : ℕ) (u : Known) → (j ≡ id → ⊥) → get_elem? s.views j ≡ some u → u.core.active ≡ false))
       (copy_stays : (ws : List ℕ) → me.0.copy ≡ Some ws → (left : List ℕ) × (copy ≡ Some left)) (count : ℕ) where
     at : get_elem? (cores s.views) id ≡ some me.0.core
@@ -83,7 +88,9 @@ module _ {S : Type 0} (z : Sizes) (slots id i : ℕ) (me : Me (HashMap ℕ ℕ S
     -- the trees of the others stay, since what they name is tabled
     others : (j : ℕ) (k : Known) → j ≢ id → get_elem? s.views j ≡ some k → k.core.active ≡ true → Knows w'.nodes k
     others j k apart e act x two named =
-        pays.trees (tree_of k x) x (inr (named_tabled z h.words (homes_of s.homes) (cores s.views) j x k.core h.lawful (at_map (λ (k : Known). k.core) s.views j k e) act two named)) (h.knows j k e act x two named)
+        pays.trees (tree_of k x) x
+        (inr (named_tabled z h.words (homes_of s.homes) (cores s.views) j x k.core h.lawful (at_map (λ (k : Known). k.core) s.views j k e) act two named))
+        (h.knows j k e act x two named)
 
     others_exact : (j : ℕ) (k : Known) → get_elem? s.views j ≡ some k → k.core.active ≡ true → IsExact w'.nodes k
     others_exact j k e act i p kept =
@@ -134,7 +141,8 @@ module _ {S : Type 0} (z : Sizes) (slots id i : ℕ) (me : Me (HashMap ℕ ℕ S
           laid = c.0 ∙ laid_after;
           lawful = subst (λ (y : Sizes). Lawful y w' (homes_of (homes_after s.homes me.1 a)) (set (cores s.views) id v)) (sym (pays.lawful.views id v here pays.live).sizes) pays.lawful;
           mine = here;
-          alone = λ j t apart there. let b = back_map (λ (k : Known). k.core) s.views j t (sym (set_else (cores s.views) id j v apart) ∙ there) in ap (λ (u : View). u.active) (sym b.2) ∙ c.1 j b.0 apart b.1;
+          alone = λ j t apart there. let b = back_map (λ (k : Known). k.core) s.views j t (sym (set_else (cores s.views) id j v apart) ∙ there) in
+              ap (λ (u : View). u.active) (sym b.2) ∙ c.1 j b.0 apart b.1;
         })
 
     stepped : Stepped me.0 v after
@@ -163,7 +171,9 @@ module _ {S : Type 0} (z : Sizes) (slots id i : ℕ) (me : Me (HashMap ℕ ℕ S
       let n : ℕ = get_or (flat h.words) i 0 in
       let same : get_or s.words i 0 ≡ get_or (flat h.words) i 0 = ap (λ (l : List ℕ). get_or l i 0) h.laid in
       let o = owes h.words s.homes (cores s.views) h.lawful (at_map (λ (k : Known). k.core) s.views id me.0 seat) (h.knows id me.0 seat on) (subst (λ (n : ℕ). n < 2 ^ 64) same small) in
-      let g = goes s h seat (f (get_or (flat h.words) i 0)) o.0 o.1 o.2 o.3 (copied me.0.copy i (f (get_or (flat h.words) i 0))) (own_copy s h seat (f (get_or (flat h.words) i 0))) (copied_some me.0.copy i (f (get_or (flat h.words) i 0))) (more me.0.counted) in
+      let g =
+      goes s h seat (f (get_or (flat h.words) i 0)) o.0 o.1 o.2 o.3 (copied me.0.copy i (f (get_or (flat h.words) i 0)))
+      (own_copy s h seat (f (get_or (flat h.words) i 0))) (copied_some me.0.copy i (f (get_or (flat h.words) i 0))) (more me.0.counted) in
       let told = o.4 g.after g.stepped (record { copy = g.copy_is; seen = λ ws has. ap (λ (l : List ℕ). get_or l i 0) ((h.copies id me.0 ws seat has).same ∙ h.laid) }) g.knows g.counted_is in (
         g.after,
         o.1,
@@ -186,8 +196,11 @@ module _ {S : Type 0} (z : Sizes) (slots id i : ℕ) (me : Me (HashMap ℕ ℕ S
   pub settle_allows : Allows (Held {S = S} z) slots id me i (λ n. n) (λ n after. Told me i n n me.0.core after (Settles me.0 n))
   settle_allows s h homes seat small =
       let n : ℕ = get_or s.words i 0 in
-      let g = goes s h seat (get_or s.words i 0) me.0.core keeps h.words (stays s h seat) (copied me.0.copy i (get_or s.words i 0)) (own_copy s h seat (get_or s.words i 0)) (copied_some me.0.copy i (get_or s.words i 0)) me.0.counted in
-      let copies : Copies me.0 i (get_or s.words i 0) (get_or s.words i 0) g.after = record { copy = g.copy_is; seen = λ ws has. ap (λ (l : List ℕ). get_or l i 0) (h.copies id me.0 ws seat has).same } in (
+      let g =
+      goes s h seat (get_or s.words i 0) me.0.core keeps h.words (stays s h seat) (copied me.0.copy i (get_or s.words i 0))
+      (own_copy s h seat (get_or s.words i 0)) (copied_some me.0.copy i (get_or s.words i 0)) me.0.counted in
+      let copies : Copies me.0 i (get_or s.words i 0) (get_or s.words i 0) g.after =
+      record { copy = g.copy_is; seen = λ ws has. ap (λ (l : List ℕ). get_or l i 0) (h.copies id me.0 ws seat has).same } in (
         g.after,
         keeps,
         tt,

@@ -26,7 +26,8 @@ replicated x zero = refl
 replicated x (suc n) = ap (λ (l : List ℕ). x ∷ l) (replicated x n)
 
 -- a word so many times behind a list that is filled up with it
-pub filled_up : {E : Type 0} (r : Result (Unit {0}) E) (l m : List ℕ) (x n had k : ℕ) → had ≡ length l → k ≡ had + n → m ≡ (if is_ok r then take k l ++ replicate (k - had) x else l) → OnOk r (m ≡ l ++ repeated x n)
+pub filled_up : {E : Type 0} (r : Result (Unit {0}) E) (l m : List ℕ) (x n had k : ℕ) → had ≡ length l → k ≡ had + n →
+    m ≡ (if is_ok r then take k l ++ replicate (k - had) x else l) → OnOk r (m ≡ l ++ repeated x n)
 filled_up (Ok _) l m x n had k long more is =
     let rest : k - had ≡ n = omega arith in
     is ∙ ((λ i. take_all k l (omega arith) i ++ replicate (rest i) x) ∙ ap (λ (r : List ℕ). l ++ r) (replicated x n))
@@ -52,7 +53,8 @@ nine a z t r l c b =
 
 -- the words of the opening state, kind by kind
 pub words_laid : (z : Sizes) (n rest cells : ℕ) → rest ≡ z.names - (n + 2) → cells ≡ z.cells
-    → (((((((([] ++ repeated 0 (announced_words z)) ++ repeated 0 2) ++ repeated 2 n) ++ repeated 0 rest) ++ repeated 0 2) ++ literals 0 n) ++ repeated 0 rest) ++ repeated 0 cells) ++ repeated 0 (16 * z.workers + 128)
+    → (((((((([] ++ repeated 0 (announced_words z)) ++ repeated 0 2) ++ repeated 2 n) ++ repeated 0 rest) ++ repeated 0 2) ++ literals 0 n) ++ repeated 0 rest) ++ repeated 0 cells) ++ repeated
+    0 (16 * z.workers + 128)
     ≡ flat (opening z n).words
 words_laid z n rest cells er ec =
     nine (repeated 0 (announced_words z)) (repeated 0 2) (repeated 2 n) (repeated 0 rest) (literals 0 n) (repeated 0 cells) (repeated 0 (16 * z.workers + 128))
@@ -110,7 +112,8 @@ one_stripe_literal s i b (suc k) is lt few from upto = go (ℕ_discrete b i) (λ
         rw (ne_eqb (stripe_of (literal b)) s other_stripe) (rest (let ne : b ≢ i = n in omega arith))
 
 -- one table more
-pub one_home : {S : Type 0} (maps : List (HashMap ℕ ℕ S)) (m : HashMap ℕ ℕ S) (k n : ℕ) → homes_of (map some maps) ≡ homes_from 0 k n → m.entries ≡ stripe_entries k 0 n → homes_of (map some (maps ++ m ∷ [])) ≡ homes_from 0 (k + 1) n
+pub one_home : {S : Type 0} (maps : List (HashMap ℕ ℕ S)) (m : HashMap ℕ ℕ S) (k n : ℕ) → homes_of (map some maps) ≡ homes_from 0 k n →
+    m.entries ≡ stripe_entries k 0 n → homes_of (map some (maps ++ m ∷ [])) ≡ homes_from 0 (k + 1) n
 one_home maps m k n all is =
     ap homes_of (map-append some maps (m ∷ []))
     ∙ (map-append Rattle.eqc_guard.specs.Rule.entries_at (map some maps) (some m ∷ [])

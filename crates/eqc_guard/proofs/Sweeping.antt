@@ -58,7 +58,9 @@ kept_none : (xs : List ℕ) → kept [] xs ≡ []
 kept_none [] = refl
 kept_none (x ∷ xs) = rw (le-ltb 0 (times x []) (omega (arith, times-nil x))) (kept_none xs)
 
-module _ (old mid next : Standing) (name : ℕ) (m : IsScanning old mid) (s : Steps mid (scanned mid.known.core name) next) (copies : Copies mid.known mid.known.core.position name name next.known) (zero : IsSilent old.known.core → (ws : List ℕ) → old.known.copy ≡ Some ws → name ≡ 0) where
+module _ (old mid next : Standing) (name : ℕ) (m : IsScanning old mid) (s : Steps mid (scanned mid.known.core name) next)
+    (copies : Copies mid.known mid.known.core.position name name next.known)
+    (zero : IsSilent old.known.core → (ws : List ℕ) → old.known.copy ≡ Some ws → name ≡ 0) where
   there : (x : ℕ) → 0 < times x old.known.core.held → 0 < times x mid.known.core.held
   there x h = subst (λ (v : View). 0 < times x v.held) (sym m.core) h
 
@@ -73,7 +75,9 @@ module _ (old mid next : Standing) (name : ℕ) (m : IsScanning old mid) (s : St
       noted = note name m.noted;
       core = s.known.core ∙ (on ∙ ap (λ (v : View). scan_on v name) m.core);
       alone = notes_none old.known name m.noted m.alone zero;
-      trees = λ x two h. s.known.agrees x two (held_named mid.known.core x (there x h)) (subst (λ (v : View). 0 < times x (names_of v)) (sym on) (held_named (scan_on mid.known.core name) x (there x h))) ∙ m.trees x two h;
+      trees = λ x two h.
+          s.known.agrees x two (held_named mid.known.core x (there x h)) (subst (λ (v : View). 0 < times x (names_of v)) (sym on) (held_named (scan_on mid.known.core name) x (there x h)))
+          ∙ m.trees x two h;
       copy = cells_on old.known mid.known next.known (ap (λ (v : View). v.sizes) m.core) m.copy (load_keeps mid.known next.known mid.known.core.position name copies);
       known = s.known.known;
     }
@@ -89,7 +93,10 @@ cancel : (a b c : List ℕ) → a ++ b ≡ a ++ c → b ≡ c
 cancel [] b c e = e
 cancel (x ∷ a) b c e = cancel a b c (ap tail e)
 
-module _ (old mid next : Standing) (name : ℕ) (m : IsScanning old mid) (s : Steps mid (scanned mid.known.core name) next) (copies : Copies mid.known mid.known.core.position name name next.known) (zero : IsSilent old.known.core → (ws : List ℕ) → old.known.copy ≡ Some ws → name ≡ 0) (end : announced_words mid.known.core.sizes ≤ mid.known.core.position + 1) where
+module _ (old mid next : Standing) (name : ℕ) (m : IsScanning old mid) (s : Steps mid (scanned mid.known.core name) next)
+    (copies : Copies mid.known mid.known.core.position name name next.known)
+    (zero : IsSilent old.known.core → (ws : List ℕ) → old.known.copy ≡ Some ws → name ≡ 0)
+    (end : announced_words mid.known.core.sizes ≤ mid.known.core.position + 1) where
   off : scanned mid.known.core name ≡ scan_end mid.known.core name
   off = ap (λ (b : Bool). if b then scan_on mid.known.core name else scan_end mid.known.core name) (le-ltb (mid.known.core.position + 1) (announced_words mid.known.core.sizes) end)
 
@@ -102,7 +109,8 @@ module _ (old mid next : Standing) (name : ℕ) (m : IsScanning old mid) (s : St
       let same : go ≡ ejected (note name m.noted) old.known.core.retired =
       cancel old.known.core.held go (ejected (note name m.noted) old.known.core.retired) (ap (λ (l : List ℕ). l ++ go) (sym mine) ∙ (sym held ∙ ap (λ (v : View). v.held) last)) in
       let reads : (r : Read) → old.known.core.read ≡ Some r → 0 < times r.name old.known.core.held = subst (λ (v : View). (r : Read) → v.read ≡ Some r → 0 < times r.name v.held) m.core m.known.read in
-      let stays : forget (old.known.core.held ++ go) old.known.core.read ≡ old.known.core.read = forget_none (old.known.core.held ++ go) old.known.core.read (λ r e. let h = reads r e in omega (arith, times-append r.name old.known.core.held go)) in
+      let stays : forget (old.known.core.held ++ go) old.known.core.read ≡ old.known.core.read =
+      forget_none (old.known.core.held ++ go) old.known.core.read (λ r e. let h = reads r e in omega (arith, times-append r.name old.known.core.held go)) in
       let noted : length m.noted ≤ m.position = subst (λ (v : View). length v.noted ≤ v.position) m.core m.known.noted in
       let place : m.position < announced_words old.known.core.sizes = subst (λ (v : View). v.position < announced_words v.sizes) m.core m.known.place in
       record {
@@ -110,7 +118,8 @@ module _ (old mid next : Standing) (name : ℕ) (m : IsScanning old mid) (s : St
         retired = kept (note name m.noted) old.known.core.retired;
         core = last
             ∙ (ap (λ (l : List ℕ). record (with_held old.known.core (old.known.core.held ++ l)) { position = 0; noted = []; retired = kept (note name m.noted) old.known.core.retired }) (sym same)
-            ∙ ap (λ (o : Option Read). record old.known.core { held = old.known.core.held ++ go; read = o; position = 0; noted = []; retired = kept (note name m.noted) old.known.core.retired }) stays);
+            ∙ ap (λ (o : Option Read). record old.known.core { held = old.known.core.held ++ go; read = o; position = 0; noted = []; retired = kept (note name m.noted) old.known.core.retired })
+            stays);
         names = λ x. omega (arith, kept_ejected x (note name m.noted) old.known.core.retired, ap (λ (l : List ℕ). times x l) same);
         few = omega (arith, kept_few (note name m.noted) old.known.core.retired, length_note name m.noted);
         alone = λ silent ws e. ap (λ (l : List ℕ). kept l old.known.core.retired) (notes_none old.known name m.noted m.alone zero silent ws e) ∙ kept_none old.known.core.retired;
@@ -143,7 +152,8 @@ lets_all gone s known = record {
   known = known;
 }
 
-module _ (gone rest : List ℕ) (x : ℕ) (swept mid next : Standing) (m : IsLetting gone (x ∷ rest) swept mid) (s : Steps mid (downed mid.known.core x) next) (there : 0 < times x m.held) (keeps : KeepsCells mid.known next.known) where
+module _ (gone rest : List ℕ) (x : ℕ) (swept mid next : Standing) (m : IsLetting gone (x ∷ rest) swept mid)
+    (s : Steps mid (downed mid.known.core x) next) (there : 0 < times x m.held) (keeps : KeepsCells mid.known next.known) where
   mine : mid.known.core.held ≡ m.held
   mine = ap (λ (v : View). v.held) m.core
 
@@ -192,7 +202,8 @@ module _ (gone rest : List ℕ) (x : ℕ) (old swept mid : Standing) (w : IsSwep
 pub scans : (gone : List ℕ) (old swept new : Standing) → IsKnown old.known → IsSwept gone old swept → IsLetting gone [] swept new → IsScanned old new
 scans gone old swept new known w m =
     let same : (x : ℕ) → times x m.held ≡ times x old.known.core.held =
-    λ x. let h : times x swept.known.core.held ≡ times x (old.known.core.held ++ gone) = ap (λ (v : View). times x v.held) w.core in omega (arith, m.names x, times-append x old.known.core.held gone, times-nil x) in
+    λ x. let h : times x swept.known.core.held ≡ times x (old.known.core.held ++ gone) = ap (λ (v : View). times x v.held) w.core in
+    omega (arith, m.names x, times-append x old.known.core.held gone, times-nil x) in
     let stays : forget m.held old.known.core.read ≡ old.known.core.read = forget_none m.held old.known.core.read (λ r e. let h = known.read r e in omega (arith, same r.name)) in
     record {
       forest = m.forest ∙ w.forest;
@@ -202,7 +213,8 @@ scans gone old swept new known w m =
           ∙ (ap (λ (v : View). record v { held = m.held; read = forget m.held v.read }) w.core
           ∙ ap (λ (o : Option Read). record old.known.core { held = m.held; read = o; position = 0; noted = []; retired = w.retired }) stays);
       same = same;
-      lengths = let h : length swept.known.core.held ≡ length (old.known.core.held ++ gone) = ap (λ (v : View). length v.held) w.core in omega (arith, m.lengths, length-append old.known.core.held gone);
+      lengths = let h : length swept.known.core.held ≡ length (old.known.core.held ++ gone) = ap (λ (v : View). length v.held) w.core in
+          omega (arith, m.lengths, length-append old.known.core.held gone);
       names = λ x. omega (arith, w.names x);
       few = w.few;
       alone = w.alone;

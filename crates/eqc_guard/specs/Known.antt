@@ -23,7 +23,8 @@ pub record Known : Type 0 where
   pub counted : ℕ
 
 abbrev pub known_coded : Coded Known
-known_coded = coded_via (coded× view_coded (coded× (coded_list (coded× coded_ℕ coded_tree)) (coded× (coded_option (coded_list coded_ℕ)) coded_ℕ))) (λ (k : Known). (k.core, (k.trees, (k.copy, k.counted))))
+known_coded =
+    coded_via (coded× view_coded (coded× (coded_list (coded× coded_ℕ coded_tree)) (coded× (coded_option (coded_list coded_ℕ)) coded_ℕ))) (λ (k : Known). (k.core, (k.trees, (k.copy, k.counted))))
     (λ x y e i. record { core = (e i).0; trees = (e i).1.0; copy = (e i).1.1.0; counted = (e i).1.1.1 })
 
 abbrev pub nobody : Known

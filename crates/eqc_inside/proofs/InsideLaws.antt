@@ -38,7 +38,8 @@ pub record AreChosen (p : PairOf) (literals : List (Option ℕ)) (firsts more : 
   pub early : (k : ℕ) → k < n → chosen_for more k ≤ k
   pub same : (k : ℕ) (a : ℕ → Bool) → k < n → value_at p a (chosen_for more k) ≡ value_at p a k
 
-pub chosen_none : (p : PairOf) (literals : List (Option ℕ)) (firsts : List ℕ) → length firsts ≤ 4294967295 → ((l : ℕ) → l < length firsts → get_or firsts l 0 ≡ 4294967295) → AreChosen p literals firsts [] 0
+pub chosen_none : (p : PairOf) (literals : List (Option ℕ)) (firsts : List ℕ) → length firsts ≤ 4294967295 →
+    ((l : ℕ) → l < length firsts → get_or firsts l 0 ≡ 4294967295) → AreChosen p literals firsts [] 0
 chosen_none p literals firsts few none = record {
   few = few;
   size = refl;
@@ -53,7 +54,8 @@ pub record IsFirst (literals : List (Option ℕ)) (firsts : List ℕ) (n step fi
   pub within : literal_of literals step < length firsts → literal_of literals first ≡ literal_of literals step
   pub by : (first ≡ step) ⊎ HaveOneLiteral literals first step
 
-pub first_is : (literals : List (Option ℕ)) (firsts : List ℕ) (n step first : ℕ) → length firsts ≤ 4294967295 → AreNoted literals firsts n → step ≤ n → n < 4294967295 → first ≡ min (get_or firsts (literal_of literals step) step) step → IsFirst literals firsts n step first
+pub first_is : (literals : List (Option ℕ)) (firsts : List ℕ) (n step first : ℕ) → length firsts ≤ 4294967295 → AreNoted literals firsts n →
+    step ≤ n → n < 4294967295 → first ≡ min (get_or firsts (literal_of literals step) step) step → IsFirst literals firsts n step first
 first_is literals firsts n step first few noted early low is = elim (cases_lt (literal_of literals step) (length firsts)) [
   | inr past ↦
       let itself : first ≡ step = is ∙ (ap (λ f. min f step) (get_or_past firsts (literal_of literals step) step past) ∙ min-eq_left (omega arith)) in
@@ -66,7 +68,10 @@ first_is literals firsts n step first few noted early low is = elim (cases_lt (l
     itself : first ≡ step → IsFirst literals firsts n step first
     itself e = record { low = omega (arith, e); within = λ lt. ap (literal_of literals) e; by = inl e }
 
-    at : literal_of literals step < length firsts → first ≡ min (get_or firsts (literal_of literals step) 0) step → (get_or firsts (literal_of literals step) 0 ≡ 4294967295) ⊎ ((get_or firsts (literal_of literals step) 0 < n) × (literal_of literals (get_or firsts (literal_of literals step) 0) ≡ literal_of literals step)) → IsFirst literals firsts n step first
+    at : literal_of literals step < length firsts → first ≡ min (get_or firsts (literal_of literals step) 0) step →
+        (get_or firsts (literal_of literals step) 0 ≡ 4294967295) ⊎
+        ((get_or firsts (literal_of literals step) 0 < n) × (literal_of literals (get_or firsts (literal_of literals step) 0) ≡ literal_of literals step)) →
+        IsFirst literals firsts n step first
     at inside e (inl none) = itself (e ∙ min-eq_right (omega (arith, none)))
     at inside e (inr met) = elim (cases_lt (get_or firsts (literal_of literals step) 0) step) [
       | inl lower ↦
@@ -113,11 +118,14 @@ chosen_more p chosen literals firsts more n first choice tell inside few is m = 
         by (inl e) = ap (value_at p a) e ∙ choice.same n a inside
         by (inr one) = tell.each first step a (omega (arith, found.low, choice.early n inside, inside)) (omega (arith, choice.early n inside, inside)) one ∙ choice.same n a inside
 
-    noted : (l : ℕ) → l < length firsts → (get_or (set firsts (literal_of literals step) first) l 0 ≡ 4294967295) ⊎ ((get_or (set firsts (literal_of literals step) first) l 0 < n + 1) × (literal_of literals (get_or (set firsts (literal_of literals step) first) l 0) ≡ l))
+    noted : (l : ℕ) → l < length firsts →
+        (get_or (set firsts (literal_of literals step) first) l 0 ≡ 4294967295) ⊎
+        ((get_or (set firsts (literal_of literals step) first) l 0 < n + 1) × (literal_of literals (get_or (set firsts (literal_of literals step) first) l 0) ≡ l))
     noted l lt = elim (cases_eq l (literal_of literals step)) [
       | inl e ↦
           let here : literal_of literals step < length firsts = omega (arith, e, lt) in
-          let read : get_or (set firsts (literal_of literals step) first) l 0 ≡ first = ap (λ i. get_or (set firsts (literal_of literals step) first) i 0) e ∙ get_or-set_same firsts (literal_of literals step) first 0 here in
+          let read : get_or (set firsts (literal_of literals step) first) l 0 ≡ first = ap (λ i. get_or (set firsts (literal_of literals step) first) i 0) e
+          ∙ get_or-set_same firsts (literal_of literals step) first 0 here in
           inr (omega (arith, read, found.low, choice.early n inside), ap (literal_of literals) read ∙ (found.within here ∙ sym e))
       | inr other ↦
           let read : get_or (set firsts (literal_of literals step) first) l 0 ≡ get_or firsts l 0 = get_or-set_other firsts (literal_of literals step) l first 0 other in
@@ -128,12 +136,14 @@ chosen_more p chosen literals firsts more n first choice tell inside few is m = 
     ]
 
 -- as the loop comes by its step and its literal
-pub chosen_by : (p : PairOf) (chosen : List ℕ) (literals : List (Option ℕ)) (firsts more : List ℕ) (n step literal first : ℕ) → IsChoice p chosen → TellEqual p literals → n < steps_in p → n < 4294967295
+pub chosen_by : (p : PairOf) (chosen : List ℕ) (literals : List (Option ℕ)) (firsts more : List ℕ) (n step literal first : ℕ) →
+    IsChoice p chosen → TellEqual p literals → n < steps_in p → n < 4294967295
     → step ≡ chosen_for chosen n → literal ≡ literal_of literals step → first ≡ min (get_or firsts literal step) step
     → AreChosen p literals firsts more n → AreChosen p literals (set firsts literal first) (more ++ first ∷ []) (n + 1)
 chosen_by p chosen literals firsts more n step literal first choice tell inside few by at is m =
     let e : literal ≡ literal_of literals (chosen_for chosen n) = at ∙ ap (literal_of literals) by in
-    let least : first ≡ min (get_or firsts (literal_of literals (chosen_for chosen n)) (chosen_for chosen n)) (chosen_for chosen n) = is ∙ (ap (λ s. min (get_or firsts literal s) s) by ∙ ap (λ l. min (get_or firsts l (chosen_for chosen n)) (chosen_for chosen n)) e) in
+    let least : first ≡ min (get_or firsts (literal_of literals (chosen_for chosen n)) (chosen_for chosen n)) (chosen_for chosen n) = is
+    ∙ (ap (λ s. min (get_or firsts literal s) s) by ∙ ap (λ l. min (get_or firsts l (chosen_for chosen n)) (chosen_for chosen n)) e) in
     subst (λ l. AreChosen p literals (set firsts l first) (more ++ first ∷ []) (n + 1)) (sym e) (chosen_more p chosen literals firsts more n first choice tell inside few least m)
 
 pub chosen_all : (p : PairOf) (literals : List (Option ℕ)) (firsts more : List ℕ) → AreChosen p literals firsts more (steps_in p) → IsChoice p more
@@ -142,7 +152,8 @@ chosen_all p literals firsts more m = record { early = m.early; same = m.same }
 -- ---- outputs
 
 -- where the steps of an output's two signals have one value under all assignments, it never differs
-pub never_differs : (g : StepsOf) (o : ℕ) → AreSteps g → o < length g.pair.first.outputs → ((a : ℕ → Bool) → value_at g.pair a (first_root g o) ≡ value_at g.pair a (second_root g o)) → difference_at g.pair o ≡ None
+pub never_differs : (g : StepsOf) (o : ℕ) → AreSteps g → o < length g.pair.first.outputs →
+    ((a : ℕ → Bool) → value_at g.pair a (first_root g o) ≡ value_at g.pair a (second_root g o)) → difference_at g.pair o ≡ None
 unfolding differs_at values_differ_at
 never_differs g o h inside same =
     let p = g.pair in
@@ -161,13 +172,16 @@ roots_never_differ g o roots h inside is same =
     never_differs g o h inside (λ a. ap (value_at g.pair a) (sym first) ∙ (same a ∙ ap (value_at g.pair a) second))
 
 -- each is a step
-pub roots_are_steps : (g : StepsOf) (o : ℕ) (roots : List ℕ) → AreSteps g → o < length g.pair.first.outputs → roots ≡ roots_of g o → (get_or roots 0 0 < steps_in g.pair) × (get_or roots 1 0 < steps_in g.pair)
+pub roots_are_steps : (g : StepsOf) (o : ℕ) (roots : List ℕ) → AreSteps g → o < length g.pair.first.outputs → roots ≡ roots_of g o →
+    (get_or roots 0 0 < steps_in g.pair) × (get_or roots 1 0 < steps_in g.pair)
 roots_are_steps g o roots h inside is =
     let first : get_or roots 0 0 ≡ first_root g o = ap (λ r. get_or r 0 0) is ∙ root_first g o in
     let second : get_or roots 1 0 ≡ second_root g o = ap (λ r. get_or r 1 0) is ∙ root_second g o in
     (omega (arith, first, first_root_within g o h inside), omega (arith, second, second_root_within g o h inside))
 
-pub one_literal : (g : StepsOf) (o : ℕ) (roots : List ℕ) (literals : List (Option ℕ)) → AreSteps g → TellEqual g.pair literals → o < length g.pair.first.outputs → roots ≡ roots_of g o → HaveOneLiteral literals (get_or roots 0 0) (get_or roots 1 0) → difference_at g.pair o ≡ None
+pub one_literal : (g : StepsOf) (o : ℕ) (roots : List ℕ) (literals : List (Option ℕ)) → AreSteps g → TellEqual g.pair literals →
+    o < length g.pair.first.outputs → roots ≡ roots_of g o → HaveOneLiteral literals (get_or roots 0 0) (get_or roots 1 0) →
+    difference_at g.pair o ≡ None
 one_literal g o roots literals h tell inside is have =
     let are = roots_are_steps g o roots h inside is in
     roots_never_differ g o roots h inside is (λ a. tell.each (get_or roots 0 0) (get_or roots 1 0) a are.0 are.1 have)
@@ -177,7 +191,8 @@ abbrev pub AreEqualBelow : PairOf → List Bool → ℕ → Type 0
 AreEqualBelow p marks n = (o : ℕ) → o < n → is_marked marks o ≡ true → difference_at p o ≡ None
 
 -- one mark more
-pub equal_more : (p : PairOf) (marks : List Bool) (mark : Bool) (n : ℕ) → length marks ≡ n → AreEqualBelow p marks n → (mark ≡ true → difference_at p n ≡ None) → AreEqualBelow p (marks ++ mark ∷ []) (n + 1)
+pub equal_more : (p : PairOf) (marks : List Bool) (mark : Bool) (n : ℕ) → length marks ≡ n → AreEqualBelow p marks n →
+    (mark ≡ true → difference_at p n ≡ None) → AreEqualBelow p (marks ++ mark ∷ []) (n + 1)
 equal_more p marks mark n size before here o less marked = by (cases_eq o n)
   where
     by : (o ≡ n) ⊎ (o ≡ n → ⊥) → difference_at p o ≡ None
@@ -200,7 +215,8 @@ equal_set p marks o equal here = record {
 -- ---- literals of a graph
 
 -- the value of a step that has a literal is the literal's
-pub has_value : (p : PairOf) (nodes : List Node) (literals : List (Option ℕ)) (k : ℕ) → AreLiterals p nodes literals → literal_of literals k ≢ 4294967295 → HasValue nodes (literal_of literals k) (λ a. value_at p a k)
+pub has_value : (p : PairOf) (nodes : List Node) (literals : List (Option ℕ)) (k : ℕ) → AreLiterals p nodes literals →
+    literal_of literals k ≢ 4294967295 → HasValue nodes (literal_of literals k) (λ a. value_at p a k)
 has_value p nodes literals k are some = by (reference_of literals k) refl some
   where
     by : (r : Option ℕ) → reference_of literals k ≡ r → unwrap_or r 4294967295 ≢ 4294967295 → HasValue nodes (unwrap_or r 4294967295) (λ a. value_at p a k)

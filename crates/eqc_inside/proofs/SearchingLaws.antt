@@ -38,7 +38,8 @@ inside_along g old between new literals first second is = inside_stays g between
 -- ---- what literals say
 
 -- just one of the literals of an output's two steps is true where its two values differ
-values_differ : (g : StepsOf) (nodes : List Node) (literals : List (Option ℕ)) (roots : List ℕ) (o x y : ℕ) (a : ℕ → Bool) → IsInside g nodes literals → o < length g.pair.first.outputs → roots ≡ roots_of g o
+values_differ : (g : StepsOf) (nodes : List Node) (literals : List (Option ℕ)) (roots : List ℕ) (o x y : ℕ) (a : ℕ → Bool) →
+    IsInside g nodes literals → o < length g.pair.first.outputs → roots ≡ roots_of g o
     → x ≡ literal_of literals (get_or roots 0 0) → y ≡ literal_of literals (get_or roots 1 0) → x ≢ 4294967295 → y ≢ 4294967295
     → differ (literal_value nodes a x) (literal_value nodes a y) ≡ values_differ_at g.pair o a
 unfolding values_differ_at
@@ -58,7 +59,8 @@ values_differ g nodes literals roots o x y a is inside are ex ey some other =
     ∙ differ_is (value_of p.first (inputs_under (first_variables p) a) s) (value_of p.second (inputs_under (second_variables p) a) t)
 
 -- the conjunction of that and of what the assumption says
-pub says_different : (g : StepsOf) (nodes between new : List Node) (literals : List (Option ℕ)) (roots : List ℕ) (o x y allowed d l : ℕ) → IsInside g nodes literals → o < length g.pair.first.outputs → roots ≡ roots_of g o
+pub says_different : (g : StepsOf) (nodes between new : List Node) (literals : List (Option ℕ)) (roots : List ℕ) (o x y allowed d l : ℕ) →
+    IsInside g nodes literals → o < length g.pair.first.outputs → roots ≡ roots_of g o
     → x ≡ literal_of literals (get_or roots 0 0) → y ≡ literal_of literals (get_or roots 1 0) → x ≢ 4294967295 → y ≢ 4294967295
     → SaysAllowed g.pair nodes allowed → Extends nodes between → HasValue between d (λ a. differ (literal_value nodes a x) (literal_value nodes a y))
     → HasValue new l (λ a. literal_value between a allowed && literal_value between a d) → SaysDifferent g.pair new o l
@@ -73,7 +75,8 @@ says_different g nodes between new literals roots o x y allowed d l is inside ar
 }
 
 -- the literal of the assumption's step
-pub says_allowed : (g : StepsOf) (nodes : List Node) (literals : List (Option ℕ)) (root l : ℕ) → IsInside g nodes literals → root ∷ [] ≡ assumed_root g → l ≡ literal_of literals root → l ≢ 4294967295 → SaysAllowed g.pair nodes l
+pub says_allowed : (g : StepsOf) (nodes : List Node) (literals : List (Option ℕ)) (root l : ℕ) → IsInside g nodes literals →
+    root ∷ [] ≡ assumed_root g → l ≡ literal_of literals root → l ≢ 4294967295 → SaysAllowed g.pair nodes l
 says_allowed g nodes literals root l is are e some =
     let has = has_value g.pair nodes literals root is.values (λ none. some (e ∙ none)) in
     rw e (record { within = has.within; value = λ a. has.value a ∙ root_says g root a is.lawful are })
@@ -94,7 +97,8 @@ answer_at p nodes o l variables found lawful are inside says is =
     found_as (length p.first.inputs) (is_true_under nodes l (first_variables p)) (differs_under (netlist_of p.first) (netlist_of p.second) (assumption_of p) (get_or p.first.outputs o [])) found agrees
     (rw (are, differs.size) at is)
 
-pub witness_at : {E : Type 0} (p : PairOf) (nodes : List Node) (o l : ℕ) (variables : List ℕ) (found : Result Witness E) → IsPair p → variables ≡ first_variables p → o < length p.first.outputs → SaysDifferent p nodes o l
+pub witness_at : {E : Type 0} (p : PairOf) (nodes : List Node) (o l : ℕ) (variables : List ℕ) (found : Result Witness E) → IsPair p →
+    variables ≡ first_variables p → o < length p.first.outputs → SaysDifferent p nodes o l
     → IfOk found (IsWitness nodes l variables) → IfOk found (IsWitnessAt p o)
 witness_at p nodes o l variables (Err e) lawful are inside says is = tt
 witness_at p nodes o l variables (Ok found) lawful are inside says is = answer_at p nodes o l variables found lawful are inside says is
@@ -107,7 +111,8 @@ question_stays p old new q extends is = record {
 }
 
 -- what is found of the assumption's literal is found of the assignments that are allowed
-pub allowed_found : (p : PairOf) (nodes : List Node) (l : ℕ) (variables : List ℕ) (found : Witness) → IsPair p → variables ≡ first_variables p → SaysAllowed p nodes l → IsWitness nodes l variables found
+pub allowed_found : (p : PairOf) (nodes : List Node) (l : ℕ) (variables : List ℕ) (found : Witness) → IsPair p → variables ≡ first_variables p →
+    SaysAllowed p nodes l → IsWitness nodes l variables found
     → IsFoundOf (length p.first.inputs) (is_allowed (netlist_of p.first) (assumption_of p)) found
 allowed_found p nodes l variables found lawful are says is =
     let size : length (first_variables p) ≡ length p.first.inputs = (pair_matched p lawful).first.size in
@@ -128,7 +133,8 @@ seen_allowed p values long is = sym (some_allowed (netlist_of p.first) (assumpti
 pub tells_without : (g : StepsOf) → [] ≡ assumed_root g → TellsVacuous g.pair false
 tells_without g none = not_without g none
 
-pub allowed_as : (p : PairOf) (found : Witness) (seen : Option (Vec Bool Global)) (values : Vec Bool Global) → found ≡ Unknown seen → seen ≡ Some values → IsFoundOf (length p.first.inputs) (is_allowed (netlist_of p.first) (assumption_of p)) found → TellsVacuous p false
+pub allowed_as : (p : PairOf) (found : Witness) (seen : Option (Vec Bool Global)) (values : Vec Bool Global) → found ≡ Unknown seen →
+    seen ≡ Some values → IsFoundOf (length p.first.inputs) (is_allowed (netlist_of p.first) (assumption_of p)) found → TellsVacuous p false
 allowed_as p found seen values is some are =
     let seen_are : IsFoundOf (length p.first.inputs) (is_allowed (netlist_of p.first) (assumption_of p)) (Unknown (Some values)) =
     subst (IsFoundOf (length p.first.inputs) (is_allowed (netlist_of p.first) (assumption_of p))) (is ∙ ap Unknown some) are in

@@ -45,10 +45,12 @@ knows_of q o found is tells = by q.every refl
     by false e = knows_more q o found e is (rw e at tells)
 
 -- what a comparison answers of a chosen output is what is found
-pub none_found_at : (q : Question) (o : ℕ) (found : Option (Vec Bool Global)) → is_chosen_at q.pair o ≡ true → option_map (λ v. v.items) found ≡ difference_at q.pair o → found ≡ None → IsFoundAt q o Equal
+pub none_found_at : (q : Question) (o : ℕ) (found : Option (Vec Bool Global)) → is_chosen_at q.pair o ≡ true →
+    option_map (λ v. v.items) found ≡ difference_at q.pair o → found ≡ None → IsFoundAt q o Equal
 none_found_at q o found chosen e none = told_chosen q.pair o chosen ∙ (sym e ∙ ap (option_map (λ v. v.items)) none)
 
-pub some_found_at : (q : Question) (o : ℕ) (found : Option (Vec Bool Global)) (values : Vec Bool Global) → is_chosen_at q.pair o ≡ true → option_map (λ v. v.items) found ≡ difference_at q.pair o → found ≡ Some values → IsFoundAt q o (Differs values)
+pub some_found_at : (q : Question) (o : ℕ) (found : Option (Vec Bool Global)) (values : Vec Bool Global) → is_chosen_at q.pair o ≡ true →
+    option_map (λ v. v.items) found ≡ difference_at q.pair o → found ≡ Some values → IsFoundAt q o (Differs values)
 some_found_at q o found values chosen e is = told_chosen q.pair o chosen ∙ (sym e ∙ ap (option_map (λ v. v.items)) is)
 
 module _ (q : Question) (id : TableId) (least n : ℕ) (behind : Bool) (seat after : Seat ℕ View) (vs : List Verdict) (h : IsWork q id least behind seat vs) where
@@ -65,12 +67,15 @@ module _ (q : Question) (id : TableId) (least n : ℕ) (behind : Bool) (seat aft
   knows_on above is = differs_later q least n (lower above) (h.knows is)
 
   -- an output was drawn, and has its verdict
-  pub goes : IsSeat id after → after.me.0 ≡ drew seat.me.0 n → n < length q.pair.first.outputs → (v : Verdict) → v.output ≡ n → IsRight q v → All (IsRight q) (vs ++ v ∷ []) → IsWork q id (n + 1) (not q.every && tells_difference v.finding) after (vs ++ v ∷ [])
+  pub goes : IsSeat id after → after.me.0 ≡ drew seat.me.0 n → n < length q.pair.first.outputs → (v : Verdict) → v.output ≡ n → IsRight q v →
+      All (IsRight q) (vs ++ v ∷ []) → IsWork q id (n + 1) (not q.every && tells_difference v.finding) after (vs ++ v ∷ [])
   goes own is lt v at right all = record {
     own = own;
     seats = ap (λ (u : View). u.seats) is ∙ h.seats;
     going = rw is (omega (arith, strangers-append (length q.pair.first.outputs) seat.me.0.drawn (n ∷ []), inside, h.going));
-    each = rw is (map-append (λ (u : Verdict). u.output) vs (v ∷ []) ∙ ap₂ ◌++◌ h.each (ap (λ (k : ℕ). k ∷ []) at ∙ sym one) ∙ sym (insiders-append (length q.pair.first.outputs) seat.me.0.drawn (n ∷ [])));
+    each =
+        rw is (map-append (λ (u : Verdict). u.output) vs (v ∷ []) ∙ ap₂ ◌++◌ h.each (ap (λ (k : ℕ). k ∷ []) at ∙ sym one)
+        ∙ sym (insiders-append (length q.pair.first.outputs) seat.me.0.drawn (n ∷ [])));
     right = all;
     below = omega arith;
     last = λ x e. let q : n ≡ x = omega arith in rw is (subst (λ (k : ℕ). 0 < times k (seat.me.0.drawn ++ n ∷ [])) q (omega (arith, times-append n seat.me.0.drawn (n ∷ []), times-one n)));
@@ -89,7 +94,10 @@ module _ (q : Question) (id : TableId) (least n : ℕ) (behind : Bool) (seat aft
     own = own;
     seats = ap (λ (u : View). u.seats) is ∙ h.seats;
     done = rw is (omega (arith, strangers-append (length q.pair.first.outputs) seat.me.0.drawn (n ∷ []), outside, h.going));
-    each = rw is (h.each ∙ sym (insiders-append (length q.pair.first.outputs) seat.me.0.drawn (n ∷ []) ∙ (ap (λ l. insiders (length q.pair.first.outputs) seat.me.0.drawn ++ l) none ∙ append-nil (insiders (length q.pair.first.outputs) seat.me.0.drawn))));
+    each =
+        rw is (h.each
+        ∙ sym (insiders-append (length q.pair.first.outputs) seat.me.0.drawn (n ∷ [])
+        ∙ (ap (λ l. insiders (length q.pair.first.outputs) seat.me.0.drawn ++ l) none ∙ append-nil (insiders (length q.pair.first.outputs) seat.me.0.drawn))));
     right = h.right;
   }
     where
@@ -100,7 +108,9 @@ module _ (q : Question) (id : TableId) (least n : ℕ) (behind : Bool) (seat aft
       none = rw (le-ltb n (length q.pair.first.outputs) le) refl
 
 -- two shares put together
-pub joined : (q : Question) (id : TableId) (a b : ℕ) (seat other after : Seat ℕ View) (vs ws : List Verdict) → IsShare q id a seat vs → IsShare q id b other ws → IsSeat id after → after.me.0 ≡ both seat.me.0 other.me.0 → All (IsRight q) (vs ++ ws) → IsShare q id (a + b) after (vs ++ ws)
+pub joined : (q : Question) (id : TableId) (a b : ℕ) (seat other after : Seat ℕ View) (vs ws : List Verdict) → IsShare q id a seat vs →
+    IsShare q id b other ws → IsSeat id after → after.me.0 ≡ both seat.me.0 other.me.0 → All (IsRight q) (vs ++ ws) →
+    IsShare q id (a + b) after (vs ++ ws)
 joined q id a b seat other after vs ws h k own is all = record {
   own = own;
   seats = ap (λ (u : View). u.seats) is ∙ ap₂ ◌+◌ h.seats k.seats;
@@ -122,7 +132,8 @@ times-insiders m x (y ∷ xs) = go (times-insiders m x xs) (dec_le (suc x) m) (d
 
     go : times x (insiders m xs) ≡ (if ltb x m then times x xs else 0) → Dec (suc x ≤ m) → Dec (suc y ≤ m) → times x (insiders m (y ∷ xs)) ≡ (if ltb x m then times x (y ∷ xs) else 0)
     go r (yes a) (yes b) = let r' : times x (insiders m xs) ≡ times x xs = r ∙ rw (lt-ltb x m a) refl in rw (lt-ltb x m a, lt-ltb y m b) (ap (λ k. (if eqb y x then 1 else 0) + k) r')
-    go r (yes a) (no b) = let r' : times x (insiders m xs) ≡ times x xs = r ∙ rw (lt-ltb x m a) refl in rw (lt-ltb x m a, le-ltb y m (omega arith), ne_eqb y x (λ e. apart x y a b (sym e))) (omega (arith, r'))
+    go r (yes a) (no b) = let r' : times x (insiders m xs) ≡ times x xs = r ∙ rw (lt-ltb x m a) refl in
+        rw (lt-ltb x m a, le-ltb y m (omega arith), ne_eqb y x (λ e. apart x y a b (sym e))) (omega (arith, r'))
     go r (no a) (yes b) = let r' : times x (insiders m xs) ≡ 0 = r ∙ rw (le-ltb x m (omega arith)) refl in rw (le-ltb x m (omega arith), lt-ltb y m b, ne_eqb y x (apart y x b a)) (omega (arith, r'))
     go r (no a) (no b) = let r' : times x (insiders m xs) ≡ 0 = r ∙ rw (le-ltb x m (omega arith)) refl in rw (le-ltb x m (omega arith), le-ltb y m (omega arith)) r'
 

@@ -89,7 +89,10 @@ module _ (k : Key) (n : ℕ) (vs : List View) (h : Counts k n vs) (id : ℕ) (v 
   above x there = go (dec_le (suc x) n)
     where
       le : times x v.drawn ≤ once_below x n
-      le = let a = total-gap (λ (u : View). 0) (λ (u : View). times x u.drawn) vs id v at (λ i u e. omega arith) in let b = h.numbers x in let z = total-le (λ (u : View). 0) (λ (u : View). 0) vs (λ i u e. omega arith) in omega arith
+      le = let a = total-gap (λ (u : View). 0) (λ (u : View). times x u.drawn) vs id v at (λ i u e. omega arith) in
+          let b = h.numbers x in
+          let z = total-le (λ (u : View). 0) (λ (u : View). 0) vs (λ i u e. omega arith) in
+          omega arith
 
       go : Dec (suc x ≤ n) → x < n
       go (yes lt) = lt
@@ -101,8 +104,13 @@ module _ (k : Key) (n : ℕ) (vs : List View) (h : Counts k n vs) (id : ℕ) (v 
     seats = let t = total-set (λ (u : View). u.seats) vs id v w at in let s = h.seats in omega arith;
     numbers = λ x. let t = total-set (λ (u : View). times x u.drawn) vs id v w at in let s = h.numbers x in omega (arith, times-append x v.drawn (n ∷ []), once_next x n);
     beyond = let t = total-set (λ (u : View). strangers k.outputs u.drawn) vs id v w at in let s = h.beyond in omega (arith, strangers-append k.outputs v.drawn (n ∷ []), beyond_next k.outputs n);
-    few = λ j u e. ⊎_elim (λ (p : (j ≡ id) × (w ≡ u)). subst (λ (y : View). strangers k.outputs y.drawn ≤ y.seats) p.1 (omega (arith, strangers-append k.outputs v.drawn (n ∷ []), stranger_small k.outputs n))) (λ (p : (j ≢ id) × (get_elem? vs j ≡ some u)). h.few j u p.1) (at_set vs id j w u e);
-    idle = λ j u e z. ⊎_elim (λ (p : (j ≡ id) × (w ≡ u)). absurd (let q : v.seats ≡ 0 = ap (λ (y : View). y.seats) p.1 ∙ z in omega arith)) (λ (p : (j ≢ id) × (get_elem? vs j ≡ some u)). h.idle j u p.1 z) (at_set vs id j w u e);
+    few = λ j u e.
+        ⊎_elim
+        (λ (p : (j ≡ id) × (w ≡ u)). subst (λ (y : View). strangers k.outputs y.drawn ≤ y.seats) p.1 (omega (arith, strangers-append k.outputs v.drawn (n ∷ []), stranger_small k.outputs n)))
+        (λ (p : (j ≢ id) × (get_elem? vs j ≡ some u)). h.few j u p.1) (at_set vs id j w u e);
+    idle = λ j u e z.
+        ⊎_elim (λ (p : (j ≡ id) × (w ≡ u)). absurd (let q : v.seats ≡ 0 = ap (λ (y : View). y.seats) p.1 ∙ z in omega arith))
+        (λ (p : (j ≢ id) × (get_elem? vs j ≡ some u)). h.idle j u p.1 z) (at_set vs id j w u e);
   }
     where
       w : View
@@ -113,8 +121,12 @@ module _ (k : Key) (n : ℕ) (vs : List View) (h : Counts k n vs) (id : ℕ) (v 
   splits none = record {
     small = h.small;
     seats = let t = total-set (λ (u : View). u.seats) vs id v (halved v) at in let s = h.seats in omega (arith, total-snoc (λ (u : View). u.seats) (set vs id (halved v)) (half v));
-    numbers = λ x. let t = total-set (λ (u : View). times x u.drawn) vs id v (halved v) at in let s = h.numbers x in omega (arith, total-snoc (λ (u : View). times x u.drawn) (set vs id (halved v)) (half v));
-    beyond = let t = total-set (λ (u : View). strangers k.outputs u.drawn) vs id v (halved v) at in let s = h.beyond in omega (arith, total-snoc (λ (u : View). strangers k.outputs u.drawn) (set vs id (halved v)) (half v));
+    numbers = λ x. let t = total-set (λ (u : View). times x u.drawn) vs id v (halved v) at in
+        let s = h.numbers x in
+        omega (arith, total-snoc (λ (u : View). times x u.drawn) (set vs id (halved v)) (half v));
+    beyond = let t = total-set (λ (u : View). strangers k.outputs u.drawn) vs id v (halved v) at in
+        let s = h.beyond in
+        omega (arith, total-snoc (λ (u : View). strangers k.outputs u.drawn) (set vs id (halved v)) (half v));
     few = λ j u e. (each j u e).0;
     idle = λ j u e. (each j u e).1;
   }
@@ -127,7 +139,8 @@ module _ (k : Key) (n : ℕ) (vs : List View) (h : Counts k n vs) (id : ℕ) (v 
 
       each : (j : ℕ) (u : View) → get_elem? (set vs id (halved v) ++ half v ∷ []) j ≡ some u → Fits u
       each j u e = ⊎_elim
-          (λ (q : get_elem? (set vs id (halved v)) j ≡ some u). ⊎_elim (λ (p : (j ≡ id) × (halved v ≡ u)). subst Fits p.1 (fresh (halved v) none)) (λ (p : (j ≢ id) × (get_elem? vs j ≡ some u)). (h.few j u p.1, h.idle j u p.1)) (at_set vs id j (halved v) u q))
+          (λ (q : get_elem? (set vs id (halved v)) j ≡ some u). ⊎_elim (λ (p : (j ≡ id) × (halved v ≡ u)). subst Fits p.1 (fresh (halved v) none))
+          (λ (p : (j ≢ id) × (get_elem? vs j ≡ some u)). (h.few j u p.1, h.idle j u p.1)) (at_set vs id j (halved v) u q))
           (λ (p : half v ≡ u). subst Fits p (fresh (half v) refl))
           (at_snoc (set vs id (halved v)) (half v) u j e)
 
@@ -136,8 +149,14 @@ module _ (k : Key) (n : ℕ) (vs : List View) (h : Counts k n vs) (id : ℕ) (v 
   joins other o at' apart was = record {
     small = h.small;
     seats = let t = total-set (λ (u : View). u.seats) vs id v (both v o) at in let r = total-set (λ (u : View). u.seats) (set vs id (both v o)) other o spent at' in let s = h.seats in omega arith;
-    numbers = λ x. let t = total-set (λ (u : View). times x u.drawn) vs id v (both v o) at in let r = total-set (λ (u : View). times x u.drawn) (set vs id (both v o)) other o spent at' in let s = h.numbers x in omega (arith, times-append x v.drawn o.drawn);
-    beyond = let t = total-set (λ (u : View). strangers k.outputs u.drawn) vs id v (both v o) at in let r = total-set (λ (u : View). strangers k.outputs u.drawn) (set vs id (both v o)) other o spent at' in let s = h.beyond in omega (arith, strangers-append k.outputs v.drawn o.drawn);
+    numbers = λ x. let t = total-set (λ (u : View). times x u.drawn) vs id v (both v o) at in
+        let r = total-set (λ (u : View). times x u.drawn) (set vs id (both v o)) other o spent at' in
+        let s = h.numbers x in
+        omega (arith, times-append x v.drawn o.drawn);
+    beyond = let t = total-set (λ (u : View). strangers k.outputs u.drawn) vs id v (both v o) at in
+        let r = total-set (λ (u : View). strangers k.outputs u.drawn) (set vs id (both v o)) other o spent at' in
+        let s = h.beyond in
+        omega (arith, strangers-append k.outputs v.drawn o.drawn);
     few = λ j u e. (each j u e).0;
     idle = λ j u e. (each j u e).1;
   }
@@ -156,7 +175,8 @@ module _ (k : Key) (n : ℕ) (vs : List View) (h : Counts k n vs) (id : ℕ) (v 
 
       each : (j : ℕ) (u : View) → get_elem? (set (set vs id (both v o)) other spent) j ≡ some u → Fits u
       each j u e = ⊎_elim (λ (p : (j ≡ other) × (spent ≡ u)). subst Fits p.1 none)
-          (λ (q : (j ≢ other) × (get_elem? (set vs id (both v o)) j ≡ some u)). ⊎_elim (λ (p : (j ≡ id) × (both v o ≡ u)). subst Fits p.1 mine) (λ (p : (j ≢ id) × (get_elem? vs j ≡ some u)). (h.few j u p.1, h.idle j u p.1)) (at_set vs id j (both v o) u q.1))
+          (λ (q : (j ≢ other) × (get_elem? (set vs id (both v o)) j ≡ some u)). ⊎_elim (λ (p : (j ≡ id) × (both v o ≡ u)). subst Fits p.1 mine)
+          (λ (p : (j ≢ id) × (get_elem? vs j ≡ some u)). (h.few j u p.1, h.idle j u p.1)) (at_set vs id j (both v o) u q.1))
           (at_set (set vs id (both v o)) other j spent u e)
 
   -- a view that stands for all seats has drawn all numbers
@@ -167,9 +187,13 @@ module _ (k : Key) (n : ℕ) (vs : List View) (h : Counts k n vs) (id : ℕ) (v 
       zeros [] i z = refl
       zeros (u ∷ us) i z = let a : u.seats ≡ 0 = omega arith in let b = empty u (i zero u refl a) in omega (arith, zeros us (λ j w e. i (suc j) w e) (omega arith))
 
-      only : (us : List View) (i : ℕ) → get_elem? us i ≡ some v → ((j : ℕ) (u : View) → get_elem? us j ≡ some u → u.seats ≡ 0 → u.drawn ≡ []) → total (λ (u : View). u.seats) us ≡ v.seats → total f us ≡ f v
+      only : (us : List View) (i : ℕ) → get_elem? us i ≡ some v → ((j : ℕ) (u : View) → get_elem? us j ≡ some u → u.seats ≡ 0 → u.drawn ≡ []) →
+          total (λ (u : View). u.seats) us ≡ v.seats → total f us ≡ f v
       only [] i e d z = absurd (some-ne-none v (sym e))
-      only (u ∷ us) zero e d z = let q : u ≡ v = some-injective u v e in let a : f u ≡ f v = ap f q in let b : u.seats ≡ v.seats = ap (λ (y : View). y.seats) q in omega (arith, zeros us (λ j w e. d (suc j) w e) (omega arith))
+      only (u ∷ us) zero e d z = let q : u ≡ v = some-injective u v e in
+          let a : f u ≡ f v = ap f q in
+          let b : u.seats ≡ v.seats = ap (λ (y : View). y.seats) q in
+          omega (arith, zeros us (λ j w e. d (suc j) w e) (omega arith))
       only (u ∷ us) (suc i) e d z = let g = total-gap (λ (y : View). 0) (λ (y : View). y.seats) us i v e (λ j w e. omega arith) in
           let n0 = total-le (λ (y : View). 0) (λ (y : View). 0) us (λ j w e. omega arith) in
           let a : u.seats ≡ 0 = omega arith in let b = empty u (d zero u refl a) in omega (arith, only us i e (λ j w e. d (suc j) w e) (omega arith))

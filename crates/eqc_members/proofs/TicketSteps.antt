@@ -34,10 +34,12 @@ module _ {S : Type 0} (k : Key) (id : ℕ) (v : View) where
 
   pub join_allows : (other : ℕ) (o : View) → Joins {S = S} (IsTicket k) id v other o (both v o) spent
   join_allows other o s h at apart at' =
-      let was : get_elem? s.views other ≡ some o = ⊎_elim (λ (p : (other ≡ id) × (both v o ≡ o)). absurd (apart p.0)) (λ (p : (other ≢ id) × (get_elem? s.views other ≡ some o)). p.1) (at_set s.views id other (both v o) o at') in
+      let was : get_elem? s.views other ≡ some o =
+      ⊎_elim (λ (p : (other ≡ id) × (both v o ≡ o)). absurd (apart p.0)) (λ (p : (other ≢ id) × (get_elem? s.views other ≡ some o)). p.1) (at_set s.views id other (both v o) o at') in
       (h.0, joins k (slice_index s.words 0) s.views h.1 id v at other o at' apart was)
 
-  pub settles : (ws : List ℕ) (xs : List S) → v.seats ≡ k.seats → Final (Seen (IsTicket k) id v) ws xs → ((x : ℕ) → times x v.drawn ≡ once_below x (slice_index ws 0)) × (strangers k.outputs v.drawn ≡ slice_index ws 0 - k.outputs)
+  pub settles : (ws : List ℕ) (xs : List S) → v.seats ≡ k.seats → Final (Seen (IsTicket k) id v) ws xs →
+      ((x : ℕ) → times x v.drawn ≡ once_below x (slice_index ws 0)) × (strangers k.outputs v.drawn ≡ slice_index ws 0 - k.outputs)
   settles ws xs all f =
       let a = account k (slice_index f.0.words 0) f.0.views f.1.0.1 id v f.1.1 all in
       subst (λ (l : List ℕ). ((x : ℕ) → times x v.drawn ≡ once_below x (slice_index l 0)) × (strangers k.outputs v.drawn ≡ slice_index l 0 - k.outputs)) f.2 a

@@ -56,11 +56,15 @@ module _ (q : Question) (m : ℕ) (rest : List Verdict) (v : Verdict) (few : (x 
   stays o None n h = omega (arith, more o rest v, other o v.output n)
   stays o (Some w) n h = (h.0, (let z = h.1 in omega (arith, more o rest v)))
 
-  pub placed : (row : List (Option Finding)) → length row ≡ m → IsRight q v → ((o : ℕ) → o < m → Stands q (rest ++ v ∷ []) o (get_or row o None)) → (o : ℕ) → o < m → Stands q rest o (get_or (set row v.output (Some v.finding)) o None)
+  pub placed : (row : List (Option Finding)) → length row ≡ m → IsRight q v →
+      ((o : ℕ) → o < m → Stands q (rest ++ v ∷ []) o (get_or row o None)) → (o : ℕ) → o < m →
+      Stands q rest o (get_or (set row v.output (Some v.finding)) o None)
   placed row len right h o lt = go (ℕ_discrete v.output o)
     where
       go : Dec (v.output ≡ o) → Stands q rest o (get_or (set row v.output (Some v.finding)) o None)
-      go (yes e) = subst (λ (k : ℕ). Stands q rest k (get_or (set row v.output (Some v.finding)) k None)) e (rw (get_or-set_same row v.output (Some v.finding) None (rw len is_output)) (right, (let f = few v.output in omega (arith, more v.output rest v, one v.output, once_small v.output m))))
+      go (yes e) =
+          subst (λ (k : ℕ). Stands q rest k (get_or (set row v.output (Some v.finding)) k None)) e
+          (rw (get_or-set_same row v.output (Some v.finding) None (rw len is_output)) (right, (let f = few v.output in omega (arith, more v.output rest v, one v.output, once_small v.output m))))
       go (no n) = rw (get_else row v.output o (Some v.finding) (λ e. n (sym e))) (stays o (get_or row o None) n (h o lt))
 
   -- its place is free

@@ -43,12 +43,14 @@ unfolding one
 one_more x r refs = omega (arith, sum_by-append (one x) refs (r ∷ []), sum_by-cons (one x) r [])
 
 -- a node was read whose variable is greater
-pub read_above : (x word root var : ℕ) (old new : Standing) → Steps old (read_node old.known.core x word) new → IsHeld old.known.core x → Reads old.known x word new.known → root ≡ word / 2 ^ 40 % 2 ^ 16 → var < root → StartsAbove var (tree_of new.known x)
+pub read_above : (x word root var : ℕ) (old new : Standing) → Steps old (read_node old.known.core x word) new → IsHeld old.known.core x →
+    Reads old.known x word new.known → root ≡ word / 2 ^ 40 % 2 ^ 16 → var < root → StartsAbove var (tree_of new.known x)
 read_above x word root var old new step held tells is lt =
     subst (λ (t : Tree). StartsAbove var t) (sym (same_tree (reads x word old new step) x held ∙ tells.tree)) (let e = variable_is word tells.small in omega arith)
 
 -- two looks at what is held, and then a node may be asked for
-module _ (var low high : ℕ) (w0 w1 w2 : Standing) (rest : IsAtRest w0.known.core) (cells : 0 < w0.known.core.sizes.cells) (few : var < w0.known.core.sizes.variables) (room : length w0.known.core.held ≤ 2 ^ 30)
+module _ (var low high : ℕ) (w0 w1 w2 : Standing) (rest : IsAtRest w0.known.core) (cells : 0 < w0.known.core.sizes.cells)
+    (few : var < w0.known.core.sizes.variables) (room : length w0.known.core.held ≤ 2 ^ 30)
     (low_held : IsHeld w0.known.core low) (high_held : IsHeld w0.known.core high) (t : Exchanges [] [] w0 w1) (u : Exchanges [] [] w1 w2) where
   pub both_looks : Exchanges [] [] w0 w2
   both_looks = still t (here t u)
@@ -67,7 +69,8 @@ module _ (var low high : ℕ) (w0 w1 w2 : Standing) (rest : IsAtRest w0.known.co
   }
 
 -- a node came, or none
-pub made_after : (old mid new : Standing) (o : Result Ref Stop) → Exchanges [] [] old mid → IfOk o (λ r. Exchanges [] (slots_of (r.number ∷ [])) mid new) → IfOk o (λ r. Exchanges [] (slots_of (r.number ∷ [])) old new)
+pub made_after : (old mid new : Standing) (o : Result Ref Stop) → Exchanges [] [] old mid →
+    IfOk o (λ r. Exchanges [] (slots_of (r.number ∷ [])) mid new) → IfOk o (λ r. Exchanges [] (slots_of (r.number ∷ [])) old new)
 made_after old mid new (Ok r) t u = one_comes r.number t u
 made_after old mid new (Err e) t u = tt
 
@@ -142,7 +145,8 @@ makes_more v r refs more old new m t is = record {
 }
 
 -- a reference went
-pub makes_fewer : (v i : ℕ) (r : Ref) (refs left : List Ref) (old new : Standing) → IsMaking v refs old → Exchanges (slots_of (r.number ∷ [])) [] old new → i < length refs → r ≡ get_or refs i r → left ≡ swap_remove refs i r → IsMaking v left new
+pub makes_fewer : (v i : ℕ) (r : Ref) (refs left : List Ref) (old new : Standing) → IsMaking v refs old →
+    Exchanges (slots_of (r.number ∷ [])) [] old new → i < length refs → r ≡ get_or refs i r → left ≡ swap_remove refs i r → IsMaking v left new
 unfolding one
 makes_fewer v i r refs left old new m t lt e is = record {
   rests = rests_then m.rests t;
@@ -223,7 +227,8 @@ makes_hit v f g op r refs more old new m h is = record {
 }
 
 -- the result of a word that was seen was counted up
-pub makes_taken : (v cell word : ℕ) (r : Ref) (refs more : List Ref) (old mid new : Standing) → IsMaking v refs old → IsAt (Seen cell word) old mid → IsTaken r.number mid new → more ≡ refs ++ r ∷ [] → IsMaking v more new
+pub makes_taken : (v cell word : ℕ) (r : Ref) (refs more : List Ref) (old mid new : Standing) → IsMaking v refs old →
+    IsAt (Seen cell word) old mid → IsTaken r.number mid new → more ≡ refs ++ r ∷ [] → IsMaking v more new
 makes_taken v cell word r refs more old mid new m looks t is =
     let n : IsMaking v refs mid = makes_passed v refs old mid m (record { phase = Seen cell word; quiet = tt; stands = looks }) in
     record {
@@ -242,7 +247,8 @@ makes_taken v cell word r refs more old mid new m looks t is =
     }
 
 -- a node was read, and has these parts
-pub reads_node : (x word var low high : ℕ) (p : ℕ × ℕ × ℕ) (old new : Standing) → Reads old.known x word new.known → p ≡ (word / 2 ^ 40 % 2 ^ 16, word / 2 ^ 20 % 2 ^ 20, word % 2 ^ 20) → p.0 ≡ var → p.1 ≡ low → p.2 ≡ high
+pub reads_node : (x word var low high : ℕ) (p : ℕ × ℕ × ℕ) (old new : Standing) → Reads old.known x word new.known →
+    p ≡ (word / 2 ^ 40 % 2 ^ 16, word / 2 ^ 20 % 2 ^ 20, word % 2 ^ 20) → p.0 ≡ var → p.1 ≡ low → p.2 ≡ high
     → tree_of old.known x ≡ Node var (tree_of new.known low) (tree_of new.known high)
 reads_node x word var low high p old new tells is a b c =
     let root : variable_of word ≡ var = sym (variable_is word tells.small) ∙ (sym (ap {B = ℕ} (λ (q : ℕ × ℕ × ℕ). q.0) is) ∙ a) in
@@ -254,8 +260,10 @@ reads_node x word var low high p old new tells is a b c =
 and_is : (var : ℕ) (s : Tree) (a : ℕ → Bool) → operate And (value (Node var False True) a) (value s a) ≡ value (Node var False s) a
 and_is var s a = elim (a var) as (λ (b : Bool). operate And (if b then true else false) (value s a) ≡ (if b then value s a else false)) [ true ↦ refl | false ↦ refl ]
 
-pub right_and : (var f g r : ℕ) (w0 w1 w2 : Standing) → IsHeld w0.known.core f → IsHeld w0.known.core g → Exchanges [] [] w0 w1 → Exchanges [] [] w1 w2 → tree_of w0.known f ≡ Node var (tree_of w1.known 0) (tree_of w1.known 1)
-    → tree_of w1.known r ≡ Node var (tree_of w2.known 0) (tree_of w2.known g) → IsHeld w0.known.core r → (a : ℕ → Bool) → operate And (value (tree_of w2.known f) a) (value (tree_of w2.known g) a) ≡ value (tree_of w2.known r) a
+pub right_and : (var f g r : ℕ) (w0 w1 w2 : Standing) → IsHeld w0.known.core f → IsHeld w0.known.core g → Exchanges [] [] w0 w1 →
+    Exchanges [] [] w1 w2 → tree_of w0.known f ≡ Node var (tree_of w1.known 0) (tree_of w1.known 1)
+    → tree_of w1.known r ≡ Node var (tree_of w2.known 0) (tree_of w2.known g) → IsHeld w0.known.core r → (a : ℕ → Bool) →
+    operate And (value (tree_of w2.known f) a) (value (tree_of w2.known g) a) ≡ value (tree_of w2.known r) a
 right_and var f g r w0 w1 w2 held_f held_g t u is_f is_r held_r a =
     let first : tree_of w2.known f ≡ Node var False True = same_tree u f (held_still t f held_f) ∙ (same_tree t f held_f ∙ is_f) in
     let last : tree_of w2.known r ≡ Node var False (tree_of w2.known g) = same_tree u r (held_still t r held_r) ∙ is_r in

@@ -14,12 +14,16 @@ use Rattle.eqc_pair.proofs.NameLemmas.{bytes_more, named_found, named_missing}
 use Rattle.eqc_flat.proofs.NameSetLaws.{bytes_in}
 
 -- one more name that the others have, or lack
-pub known_more : (others : List (List ℕ)) (names : List (Bor (List ℕ))) (i : ℕ) (d : Bor (List ℕ)) → i < length names → is_named others (get_or names i d).now ≡ true → unmatched others (bytes_in (take (i + 1) names)) ≡ unmatched others (bytes_in (take i names))
+pub known_more : (others : List (List ℕ)) (names : List (Bor (List ℕ))) (i : ℕ) (d : Bor (List ℕ)) → i < length names →
+    is_named others (get_or names i d).now ≡ true → unmatched others (bytes_in (take (i + 1) names)) ≡ unmatched others (bytes_in (take i names))
 known_more others names i d inside is =
     let name = (get_or names i d).now in
-    ap (unmatched others) (bytes_more names i d inside) ∙ (filter-append (λ n. not (is_named others n)) (bytes_in (take i names)) (name ∷ []) ∙ rw is (append-nil (unmatched others (bytes_in (take i names)))))
+    ap (unmatched others) (bytes_more names i d inside)
+    ∙ (filter-append (λ n. not (is_named others n)) (bytes_in (take i names)) (name ∷ []) ∙ rw is (append-nil (unmatched others (bytes_in (take i names)))))
 
-pub lacked_more : (others : List (List ℕ)) (names : List (Bor (List ℕ))) (i : ℕ) (d : Bor (List ℕ)) → i < length names → is_named others (get_or names i d).now ≡ false → unmatched others (bytes_in (take (i + 1) names)) ≡ unmatched others (bytes_in (take i names)) ++ (get_or names i d).now ∷ []
+pub lacked_more : (others : List (List ℕ)) (names : List (Bor (List ℕ))) (i : ℕ) (d : Bor (List ℕ)) → i < length names →
+    is_named others (get_or names i d).now ≡ false →
+    unmatched others (bytes_in (take (i + 1) names)) ≡ unmatched others (bytes_in (take i names)) ++ (get_or names i d).now ∷ []
 lacked_more others names i d inside isnt =
     let name = (get_or names i d).now in
     ap (unmatched others) (bytes_more names i d inside) ∙ (filter-append (λ n. not (is_named others n)) (bytes_in (take i names)) (name ∷ []) ∙ rw isnt refl)
@@ -38,7 +42,8 @@ module _ (others : List (List ℕ)) (names : List (Bor (List ℕ))) (i : ℕ) (d
       rw (lacked_more others names i d inside (named_missing others (get_or names i d).now (sym is))) (takes (unmatched others (bytes_in (take i names))) so_far)
   with_lacked (Some k) is none so_far takes = absurd (true≢false none)
 
-  pub with_known : (found : Option ℕ) → found ≡ position (λ other. bytes_eq (get_or names i d).now other) others → is_some found ≡ true → AreUnmatched others (bytes_in (take i names)) old → new ≡ old → AreUnmatched others (bytes_in (take (i + 1) names)) new
+  pub with_known : (found : Option ℕ) → found ≡ position (λ other. bytes_eq (get_or names i d).now other) others → is_some found ≡ true →
+      AreUnmatched others (bytes_in (take i names)) old → new ≡ old → AreUnmatched others (bytes_in (take (i + 1) names)) new
   with_known None is some so_far same = absurd (false≢true some)
   with_known (Some k) is some so_far same =
       rw (same, known_more others names i d inside (named_found others (get_or names i d).now k (sym is)).0) so_far
@@ -76,7 +81,9 @@ none_left xs ys others names count ex ey none few =
     all ∙ eq-eqb count 0 (omega arith)
 
 -- no word stands twice where none was found
-pub once_left : (found : Option (Bor (List ℕ))) (xs words : List (List ℕ)) → xs ≡ words → MatchOption found (has_twice xs ≡ false) (λ word. (has_twice xs ≡ true) × StandsTwice xs word.now) → ((word : Bor (List ℕ)) → found ≡ Some word → ⊥) → has_twice words ≡ false
+pub once_left : (found : Option (Bor (List ℕ))) (xs words : List (List ℕ)) → xs ≡ words →
+    MatchOption found (has_twice xs ≡ false) (λ word. (has_twice xs ≡ true) × StandsTwice xs word.now) →
+    ((word : Bor (List ℕ)) → found ≡ Some word → ⊥) → has_twice words ≡ false
 once_left None xs words e once none = rw e at once
 once_left (Some word) xs words e twice none = absurd (none word refl)
 
@@ -84,5 +91,6 @@ once_left (Some word) xs words e twice none = absurd (none word refl)
 pub code_of_unknown : (inputs : List (List ℕ)) (text : List ℕ) → length text ≤ 16777216 → has_all inputs (order_words text) ≡ false → order_code inputs text ≡ Some 51
 code_of_unknown inputs text short unknown = rw (le-ltb 16777216 (length text) short, unknown) refl
 
-pub code_of_left_out : (inputs : List (List ℕ)) (text : List ℕ) → length text ≤ 16777216 → has_all inputs (order_words text) ≡ true → has_twice (order_words text) ≡ false → has_all (order_words text) inputs ≡ false → order_code inputs text ≡ Some 53
+pub code_of_left_out : (inputs : List (List ℕ)) (text : List ℕ) → length text ≤ 16777216 → has_all inputs (order_words text) ≡ true →
+    has_twice (order_words text) ≡ false → has_all (order_words text) inputs ≡ false → order_code inputs text ≡ Some 53
 code_of_left_out inputs text short known once left_out = rw (le-ltb 16777216 (length text) short, known, once, left_out) refl

@@ -49,7 +49,8 @@ named_missing names name e = by (nat_lt (position_of names name) (length names))
 -- ---- the set of names so far
 
 -- a name that the set has is among those before it
-seen_before : (set : List (List ℕ)) (names : List (Bor (List ℕ))) (i : ℕ) (name : List ℕ) (fresh : Bool) → set ≡ bytes_in (take i names) → fresh ≡ not (is_named set name) → fresh ≡ false → is_named (bytes_in (take i names)) name ≡ true
+seen_before : (set : List (List ℕ)) (names : List (Bor (List ℕ))) (i : ℕ) (name : List ℕ) (fresh : Bool) → set ≡ bytes_in (take i names) →
+    fresh ≡ not (is_named set name) → fresh ≡ false → is_named (bytes_in (take i names)) name ≡ true
 seen_before set names i name fresh e f stale = sym (ap (λ l. is_named l name) e) ∙ by (is_named set name) (sym f ∙ stale)
   where
     by : (b : Bool) → not b ≡ false → b ≡ true
@@ -64,7 +65,8 @@ names_cut names i d inside = ap bytes_in (split_at names i d inside) ∙ map-app
 pub seen_twice : (set : List (List ℕ)) (names : List (Bor (List ℕ))) (i : ℕ) (d : Bor (List ℕ)) (fresh : Bool) → i < length names → set ≡ bytes_in (take i names)
     → fresh ≡ not (is_named set (get_or names i d).now) → fresh ≡ false → has_twice (bytes_in names) ≡ true
 seen_twice set names i d fresh inside e f stale =
-    ap has_twice (names_cut names i d inside) ∙ twice_there (bytes_in (take i names)) (bytes_in (drop (suc i) names)) (get_or names i d).now (seen_before set names i (get_or names i d).now fresh e f stale)
+    ap has_twice (names_cut names i d inside)
+    ∙ twice_there (bytes_in (take i names)) (bytes_in (drop (suc i) names)) (get_or names i d).now (seen_before set names i (get_or names i d).now fresh e f stale)
 
 -- and where it stands
 pub seen_at : (set : List (List ℕ)) (names : List (Bor (List ℕ))) (i : ℕ) (d : Bor (List ℕ)) (fresh : Bool) → i < length names → set ≡ bytes_in (take i names)
@@ -75,7 +77,8 @@ seen_at set names i d fresh inside e f stale =
     twice_at (bytes_in (take i names)) (name ∷ behind) behind (bytes_in names) name name (sym (names_cut names i d inside)) refl refl (seen_before set names i name fresh e f stale)
 
 -- a name that the set didn't have
-pub seen_more : (set new : List (List ℕ)) (names : List (Bor (List ℕ))) (i : ℕ) (d : Bor (List ℕ)) (fresh : Bool) → i < length names → set ≡ bytes_in (take i names) → has_twice (bytes_in (take i names)) ≡ false
+pub seen_more : (set new : List (List ℕ)) (names : List (Bor (List ℕ))) (i : ℕ) (d : Bor (List ℕ)) (fresh : Bool) → i < length names →
+    set ≡ bytes_in (take i names) → has_twice (bytes_in (take i names)) ≡ false
     → fresh ≡ not (is_named set (get_or names i d).now) → fresh ≡ true → new ≡ with_name set (get_or names i d).now
     → (new ≡ bytes_in (take (i + 1) names)) × (has_twice (bytes_in (take (i + 1) names)) ≡ false)
 seen_more set new names i d fresh inside e once f is n =
@@ -97,7 +100,8 @@ pub once_added : (set new : List (List ℕ)) (names : List (Bor (List ℕ))) (i 
     → new ≡ with_name set (get_or names i d).now → new ≡ bytes_in (take (i + 1) names)
 once_added set new names i d inside once e n =
     let name = (get_or names i d).now in
-    let absent : is_named set name ≡ false = false_from_ne_true (is_named set name) (λ there. true≢false (sym (seen_twice set names i d (not (is_named set name)) inside e refl (ap not there)) ∙ once)) in
+    let absent : is_named set name ≡ false =
+    false_from_ne_true (is_named set name) (λ there. true≢false (sym (seen_twice set names i d (not (is_named set name)) inside e refl (ap not there)) ∙ once)) in
     n ∙ (ap (λ b. if b then set else set ++ name ∷ []) absent ∙ (ap (λ l. l ++ name ∷ []) e ∙ sym (bytes_more names i d inside)))
 
 -- ---- the places of names among others
@@ -112,7 +116,10 @@ place_more names words i d places more n inside all is found grown =
     let at = named_found names word n found in
     let one = bytes_more words i d inside in (
       ap (has_all names) one ∙ (list_all-append (λ name. is_named names name) (bytes_in (take i words)) (word ∷ []) ∙ rw (all, at.0) refl),
-      grown ∙ (ap (λ l. l ++ n ∷ []) is ∙ (ap (λ m. map (position_of names) (bytes_in (take i words)) ++ m ∷ []) (sym at.1) ∙ sym (ap (map (position_of names)) one ∙ map-append (position_of names) (bytes_in (take i words)) (word ∷ [])))),
+      grown
+          ∙ (ap (λ l. l ++ n ∷ []) is
+          ∙ (ap (λ m. map (position_of names) (bytes_in (take i words)) ++ m ∷ []) (sym at.1)
+          ∙ sym (ap (map (position_of names)) one ∙ map-append (position_of names) (bytes_in (take i words)) (word ∷ [])))),
     )
 
 -- a name that isn't there
@@ -124,5 +131,7 @@ place_missing names words i d inside none =
     list_all_at (λ name. is_named names name) (bytes_in words) i d.now (omega (arith, length-map words (λ (name : Bor (List ℕ)). name.now))) (ap (is_named names) here ∙ named_missing names word none)
 
 -- the places of all names
-pub places_all : (self : List (List ℕ)) (names : List (Bor (List ℕ))) (i : ℕ) (all : List ℕ) → length names ≤ i → has_all self (bytes_in (take i names)) ≡ true → all ≡ map (position_of self) (bytes_in (take i names)) → (has_all self (bytes_in names) ≡ true) × (all ≡ map (position_of self) (bytes_in names))
+pub places_all : (self : List (List ℕ)) (names : List (Bor (List ℕ))) (i : ℕ) (all : List ℕ) → length names ≤ i →
+    has_all self (bytes_in (take i names)) ≡ true → all ≡ map (position_of self) (bytes_in (take i names)) →
+    (has_all self (bytes_in names) ≡ true) × (all ≡ map (position_of self) (bytes_in names))
 places_all self names i all whole each found = let e = take_all i names whole in (rw e at each, rw e at found)

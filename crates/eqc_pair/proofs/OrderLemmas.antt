@@ -16,14 +16,17 @@ part_more p text end is inside =
 part_last : (p : ℕ → Bool) (text : List ℕ) (end : ℕ) → end ≡ position_or_len p text → length text ≤ end → slice_split p text ≡ take end text ∷ []
 part_last p text end is past = slice_split_none p text (λ k d l. fails_before_first p text k d (omega arith)) ∙ ap (λ part. part ∷ []) (sym (take_all end text past))
 
-module _ {W : Type 0} (each : List (List ℕ) → List W) (joins : (x : List ℕ) (xs : List (List ℕ)) → each (x ∷ xs) ≡ each (x ∷ []) ++ each xs) (p : ℕ → Bool) (before after all : List W) (text : List ℕ) (end : ℕ) where
+module _ {W : Type 0} (each : List (List ℕ) → List W) (joins : (x : List ℕ) (xs : List (List ℕ)) → each (x ∷ xs) ≡ each (x ∷ []) ++ each xs)
+    (p : ℕ → Bool) (before after all : List W) (text : List ℕ) (end : ℕ) where
   -- what is made of the parts so far and of those that are left
-  pub made_more : (others : List ℕ) → end ≡ position_or_len p text → (end < length text) × (others ≡ drop (end + 1) text) → before ++ each (slice_split p text) ≡ all → after ≡ before ++ each (take end text ∷ [])
+  pub made_more : (others : List ℕ) → end ≡ position_or_len p text → (end < length text) × (others ≡ drop (end + 1) text) →
+      before ++ each (slice_split p text) ≡ all → after ≡ before ++ each (take end text ∷ [])
       → after ++ each (slice_split p others) ≡ all
   made_more others is inside made grown =
       let rest = slice_split p (drop (end + 1) text) in
       ap (λ l. after ++ each (slice_split p l)) inside.1 ∙
-      (ap (λ l. l ++ each rest) grown ∙ (append_assoc before (each (take end text ∷ [])) (each rest) ∙ (ap (λ l. before ++ l) (sym (joins (take end text) rest) ∙ sym (ap each (part_more p text end is inside.0))) ∙ made)))
+      (ap (λ l. l ++ each rest) grown
+      ∙ (append_assoc before (each (take end text ∷ [])) (each rest) ∙ (ap (λ l. before ++ l) (sym (joins (take end text) rest) ∙ sym (ap each (part_more p text end is inside.0))) ∙ made)))
 
   pub made_last : end ≡ position_or_len p text → length text ≤ end → before ++ each (slice_split p text) ≡ all → after ≡ before ++ each (take end text ∷ []) → after ≡ all
   made_last is past made grown = grown ∙ (ap (λ parts. before ++ each parts) (sym (part_last p text end is past)) ∙ made)

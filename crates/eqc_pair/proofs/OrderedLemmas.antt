@@ -10,7 +10,8 @@ use Rattle.eqc_pair.specs.PairOf.{IsOrder, variable_in, variables_in}
 use Rattle.eqc_pair.proofs.PlaceLemmas.{place_below, all_named, place_within, word_below, word_back, same_count, variable_at, position_back, variables_all, declared_at, declared_all}
 
 -- the order of words, each of which names one input
-pub words_order : (inputs words : List (List ℕ)) → has_twice inputs ≡ false → has_twice words ≡ false → has_all inputs words ≡ true → has_all words inputs ≡ true → IsOrder (length inputs) (map (position_of inputs) words)
+pub words_order : (inputs words : List (List ℕ)) → has_twice inputs ≡ false → has_twice words ≡ false → has_all inputs words ≡ true →
+    has_all words inputs ≡ true → IsOrder (length inputs) (map (position_of inputs) words)
 words_order inputs words once words_once all back =
     let count = same_count inputs words once words_once all back in
     record {
@@ -22,7 +23,8 @@ words_order inputs words once words_once all back =
     }
 
 -- its variables
-pub words_variables : (inputs words : List (List ℕ)) → has_twice inputs ≡ false → has_twice words ≡ false → has_all inputs words ≡ true → has_all words inputs ≡ true → map (position_of words) inputs ≡ variables_in (length inputs) (map (position_of inputs) words)
+pub words_variables : (inputs words : List (List ℕ)) → has_twice inputs ≡ false → has_twice words ≡ false → has_all inputs words ≡ true →
+    has_all words inputs ≡ true → map (position_of words) inputs ≡ variables_in (length inputs) (map (position_of inputs) words)
 words_variables inputs words once words_once all back = variables_all inputs words once words_once all back
 
 pub declared_order : (n : ℕ) → IsOrder n (range_with_len 0 n)
@@ -52,7 +54,8 @@ range_small n numbers slice few is same i inside =
     let e = same ∙ is in
     omega (arith, ap (λ l. get_or l i 0) e, ap length e, get_or-range_with_len 0 n i 0 (omega (arith, ap length e, length-range_with_len 0 n)), length-range_with_len 0 n)
 
-pub range_variables : (n k : ℕ) (numbers slice other order variables : List ℕ) → k ≡ n → numbers ≡ range_with_len 0 k → slice ≡ numbers → order ≡ slice → other ≡ numbers → variables ≡ other → variables ≡ variables_in n order
+pub range_variables : (n k : ℕ) (numbers slice other order variables : List ℕ) → k ≡ n → numbers ≡ range_with_len 0 k → slice ≡ numbers →
+    order ≡ slice → other ≡ numbers → variables ≡ other → variables ≡ variables_in n order
 range_variables n k numbers slice other order variables whole is s o t v =
     let range = is ∙ ap (range_with_len 0) whole in
     v ∙ (t ∙ (range ∙ (declared_variables n ∙ ap (variables_in n) (sym (o ∙ (s ∙ range))))))
@@ -60,7 +63,8 @@ range_variables n k numbers slice other order variables whole is s o t v =
 pub range_order : (n k : ℕ) (numbers slice order : List ℕ) → k ≡ n → numbers ≡ range_with_len 0 k → slice ≡ numbers → order ≡ slice → IsOrder n order
 range_order n k numbers slice order whole is s o = subst (IsOrder n) (sym (o ∙ (s ∙ (is ∙ ap (range_with_len 0) whole)))) (declared_order n)
 
-module _ (inputs words : List (List ℕ)) (once : has_twice inputs ≡ false) (words_once : has_twice words ≡ false) (all : has_all inputs words ≡ true) (back : has_all words inputs ≡ true) (few : length inputs ≤ 2048) where
+module _ (inputs words : List (List ℕ)) (once : has_twice inputs ≡ false) (words_once : has_twice words ≡ false)
+    (all : has_all inputs words ≡ true) (back : has_all words inputs ≡ true) (few : length inputs ≤ 2048) where
   words_small : (k : ℕ) → k < length (map (position_of inputs) words) → get_or (map (position_of inputs) words) k 0 < 65536
   words_small k inside = omega (arith, place_within inputs words all k (omega (arith, length-map words (position_of inputs))))
 
@@ -72,7 +76,8 @@ abbrev code_by : Bool → Bool → Bool → Bool → Option ℕ
 code_by long all twice back = if long then Some 2 else if not all then Some 51 else if twice then Some 52 else if not back then Some 53 else None
 
 -- what an order text that is taken says of its words
-taken_words : (inputs : List (List ℕ)) (text : List ℕ) → order_code inputs text ≡ None → (has_all inputs (order_words text) ≡ true) × (has_twice (order_words text) ≡ false) × (has_all (order_words text) inputs ≡ true)
+taken_words : (inputs : List (List ℕ)) (text : List ℕ) → order_code inputs text ≡ None →
+    (has_all inputs (order_words text) ≡ true) × (has_twice (order_words text) ≡ false) × (has_all (order_words text) inputs ≡ true)
 taken_words inputs text taken = by (nat_lt 16777216 (length text)) (has_all inputs (order_words text)) (has_twice (order_words text)) (has_all (order_words text) inputs) taken
   where
     by : (long all twice back : Bool) → code_by long all twice back ≡ None → (all ≡ true) × (twice ≡ false) × (back ≡ true)
@@ -99,7 +104,8 @@ module _ (inputs : List (List ℕ)) (text : List ℕ) (once : has_twice inputs �
   pub taken_order : (order : List ℕ) → order ≡ map (position_of inputs) (order_words text) → IsOrder (length inputs) order
   taken_order order are = let t = taken_words inputs text taken in subst (IsOrder (length inputs)) (sym are) (words_order inputs (order_words text) once t.1 t.0 t.2)
 
-  pub taken_variables : (order variables : List ℕ) → order ≡ map (position_of inputs) (order_words text) → variables ≡ map (position_of (order_words text)) inputs → variables ≡ variables_in (length inputs) order
+  pub taken_variables : (order variables : List ℕ) → order ≡ map (position_of inputs) (order_words text) →
+      variables ≡ map (position_of (order_words text)) inputs → variables ≡ variables_in (length inputs) order
   taken_variables order variables are is =
       let t = taken_words inputs text taken in
       is ∙ (words_variables inputs (order_words text) once t.1 t.0 t.2 ∙ ap (variables_in (length inputs)) (sym are))
@@ -110,13 +116,15 @@ map_map : {A B C : Type 0} (f : B → C) (g : A → B) (xs : List A) → map f (
 map_map f g [] = refl
 map_map f g (x ∷ xs) = ap (λ l. f (g x) ∷ l) (map_map f g xs)
 
-pub signals_picked : (signals places all : List ℕ) (names others : List (List ℕ)) → places ≡ map (position_of names) others → all ≡ map (λ place. get_or signals place 0) places → all ≡ map (λ name. get_or signals (position_of names name) 0) others
+pub signals_picked : (signals places all : List ℕ) (names others : List (List ℕ)) → places ≡ map (position_of names) others →
+    all ≡ map (λ place. get_or signals place 0) places → all ≡ map (λ name. get_or signals (position_of names name) 0) others
 signals_picked signals places all names others are picked = picked ∙ (ap (map (λ place. get_or signals place 0)) are ∙ map_map (λ place. get_or signals place 0) (position_of names) others)
 
 pub length-variables_in : (n : ℕ) (order : List ℕ) → length (variables_in n order) ≡ n
 length-variables_in n order = length-map-range_with_len (variable_in order) 0 n
 
-pub variables_picked : (order variables places all : List ℕ) (names others : List (List ℕ)) → has_all names others ≡ true → variables ≡ variables_in (length names) order → places ≡ map (position_of names) others
+pub variables_picked : (order variables places all : List ℕ) (names others : List (List ℕ)) → has_all names others ≡ true →
+    variables ≡ variables_in (length names) order → places ≡ map (position_of names) others
     → all ≡ map (λ place. get_or variables place 0) places → all ≡ map (λ name. variable_in order (position_of names name)) others
 variables_picked order variables places all names others each are at picked =
     let whole = signals_picked variables places all names others at picked in
@@ -131,7 +139,8 @@ variables_picked order variables places all names others each are at picked =
     ∙ (get_or-map-range_with_len (variable_in order) 0 (length names) (position_of names name) (position_of names name) 0 below (omega arith)
     ∙ sym (get_or-map (λ name. variable_in order (position_of names name)) others k [] 0 less)))))
 
-pub places_fit : (names others : List (List ℕ)) (places : List ℕ) (n : ℕ) → has_all names others ≡ true → places ≡ map (position_of names) others → n ≡ length names → (k : ℕ) → k < length places → get_or places k 0 < n
+pub places_fit : (names others : List (List ℕ)) (places : List ℕ) (n : ℕ) → has_all names others ≡ true →
+    places ≡ map (position_of names) others → n ≡ length names → (k : ℕ) → k < length places → get_or places k 0 < n
 places_fit names others places n each are whole k inside =
     omega (arith, ap (λ l. get_or l k 0) are, place_within names others each k (omega (arith, ap length are, length-map others (position_of names))))
 

@@ -43,7 +43,8 @@ place_itself (x ∷ xs) zero once inside = rw (bytes_itself x) refl
 place_itself (x ∷ xs) (suc i) once inside = by (place_itself xs i (or_parts (is_named xs x) (has_twice xs) once).1 (omega arith)) (cases_Bool (bytes_eq (get_or xs i []) x))
   where
     by : position_of xs (get_or xs i []) ≡ i → (bytes_eq (get_or xs i []) x ≡ true) ⊎ (bytes_eq (get_or xs i []) x ≡ false) → position_of (x ∷ xs) (get_or xs i []) ≡ suc i
-    by rest (inl same) = absurd (true≢false (sym (list_any_at (λ other. bytes_eq x other) xs i [] (omega arith) (bytes_eq-sym x (get_or xs i []) ∙ same)) ∙ (or_parts (is_named xs x) (has_twice xs) once).0))
+    by rest (inl same) =
+        absurd (true≢false (sym (list_any_at (λ other. bytes_eq x other) xs i [] (omega arith) (bytes_eq-sym x (get_or xs i []) ∙ same)) ∙ (or_parts (is_named xs x) (has_twice xs) once).0))
     by rest (inr other) = rw other (omega (arith, rest))
 
 -- each of the others is among the names
@@ -72,7 +73,12 @@ module _ (xs ws : List (List ℕ)) (once : has_twice xs ≡ false) (back : has_a
 -- a list whose names are all in another, none of them twice, is no longer
 no_longer : (xs ws : List (List ℕ)) → has_twice xs ≡ false → has_all ws xs ≡ true → length xs ≤ length ws
 no_longer xs ws once back =
-    let less = le-length_from_below (map (position_of xs) ws) (length xs) (λ q inside. list_any_at (λ x. eqb q x) (map (position_of xs) ws) (position_of ws (get_or xs q [])) 0 (omega (arith, length-map ws (position_of xs), word_below xs ws once back q inside)) (eq-eqb q (get_or (map (position_of xs) ws) (position_of ws (get_or xs q [])) 0) (sym (word_back xs ws once back q inside)))) in
+    let less =
+    le-length_from_below (map (position_of xs) ws) (length xs)
+    (λ q inside.
+    list_any_at (λ x. eqb q x) (map (position_of xs) ws) (position_of ws (get_or xs q [])) 0
+    (omega (arith, length-map ws (position_of xs), word_below xs ws once back q inside))
+    (eq-eqb q (get_or (map (position_of xs) ws) (position_of ws (get_or xs q [])) 0) (sym (word_back xs ws once back q inside)))) in
     omega (arith, less, length-map ws (position_of xs))
 
 module _ (xs ws : List (List ℕ)) (xs_once : has_twice xs ≡ false) (ws_once : has_twice ws ≡ false) (all : has_all xs ws ≡ true) (back : has_all ws xs ≡ true) where
@@ -111,14 +117,16 @@ module _ (xs ws : List (List ℕ)) (xs_once : has_twice xs ≡ false) (ws_once :
       (length-map xs (position_of ws) ∙ sym (length-map-range_with_len (λ i. position_or_len (λ other. eqb i other) (map (position_of xs) ws)) 0 (length xs)))
       (λ i inside.
       let less : i < length xs = omega (arith, length-map xs (position_of ws)) in
-      get_or-map (position_of ws) xs i [] 0 less ∙ (sym (variable_at i less) ∙ sym (get_or-map-range_with_len (λ i. position_or_len (λ other. eqb i other) (map (position_of xs) ws)) 0 (length xs) i i 0 less (omega arith))))
+      get_or-map (position_of ws) xs i [] 0 less
+      ∙ (sym (variable_at i less) ∙ sym (get_or-map-range_with_len (λ i. position_or_len (λ other. eqb i other) (map (position_of xs) ws)) 0 (length xs) i i 0 less (omega arith))))
 
 -- places behind other names of the two lists
 pub places_as : (names others xs ys : List (List ℕ)) (found : Option (Vec ℕ Global)) → xs ≡ names → ys ≡ others → ArePlaces xs ys found → ArePlaces names others found
 places_as names others xs ys found ex ey h = rw (ex, ey) at h
 
 -- where both lists have each other's names, their places are those of lists with the same names
-pub same_places : (names others xs ys : List (List ℕ)) (back : Option (Vec ℕ Global)) (none : Bool) (result : Result (Option (Vec ℕ Global)) AllocError) → xs ≡ names → ys ≡ others → ArePlaces others names back → is_some back ≡ not none → none ≡ false → IfOk result (ArePlaces xs ys)
+pub same_places : (names others xs ys : List (List ℕ)) (back : Option (Vec ℕ Global)) (none : Bool) (result : Result (Option (Vec ℕ Global)) AllocError) →
+    xs ≡ names → ys ≡ others → ArePlaces others names back → is_some back ≡ not none → none ≡ false → IfOk result (ArePlaces xs ys)
     → IfOk result (λ found. MatchOption found (same_names names others ≡ false) (λ all. (same_names names others ≡ true) × (all.items ≡ map (position_of names) others)))
 same_places names others xs ys None none result ex ey back some here h = absurd (false≢true (rw here at some))
 same_places names others xs ys (Some v) none (Err e) ex ey back some here h = tt

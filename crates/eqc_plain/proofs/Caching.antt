@@ -71,7 +71,8 @@ lengthened old new m op f g r h =
     ]
 
 -- one cell is written
-pub written : (cells : List ℕ) (op : Op) (f g p q x i : ℕ) → p < 2 ^ 20 → q < 2 ^ 20 → x < 2 ^ 20 → AreOperands op f g p q → i < length cells → MayHave op f g x cells (set cells i (cell_word (tag_of op) p q x))
+pub written : (cells : List ℕ) (op : Op) (f g p q x i : ℕ) → p < 2 ^ 20 → q < 2 ^ 20 → x < 2 ^ 20 → AreOperands op f g p q → i < length cells →
+    MayHave op f g x cells (set cells i (cell_word (tag_of op) p q x))
 written cells op f g p q x i hp hq hx m inside o u v r h =
     elim (cases_eq h.place i) [
       | inl here ↦
@@ -90,7 +91,8 @@ written cells op f g p q x i hp hq hx m inside o u v r h =
     ]
 
 -- a cell whose operation and operands are those that are asked for
-pub cell_found : (cells : List ℕ) (op : Op) (f g p q k r : ℕ) → p < 2 ^ 20 → q < 2 ^ 20 → AreOperands op f g p q → k < length cells → get_or cells k 0 / 2 ^ 20 ≡ cell_word (tag_of op) p q 0 / 2 ^ 20 → r ≡ get_or cells k 0 % 2 ^ 20 → IsKept cells op f g r
+pub cell_found : (cells : List ℕ) (op : Op) (f g p q k r : ℕ) → p < 2 ^ 20 → q < 2 ^ 20 → AreOperands op f g p q → k < length cells →
+    get_or cells k 0 / 2 ^ 20 ≡ cell_word (tag_of op) p q 0 / 2 ^ 20 → r ≡ get_or cells k 0 % 2 ^ 20 → IsKept cells op f g r
 cell_found cells op f g p q k r hp hq m h e er =
     record { p = p; q = q; operands = m; entry = record { place = k; there = h; first = hp; second = hq; fits = omega arith; word = omega arith } }
 
@@ -100,7 +102,8 @@ ordered_small op f g p q n hf hg (inl e) = (omega arith, omega arith)
 ordered_small op f g p q n hf hg (inr e) = (omega arith, omega arith)
 
 -- cells that were added are empty
-pub filled : (b : Bool) (n m : ℕ) (old new : List ℕ) → length old ≤ n → m ≡ n - length old → new ≡ cond b (take n old ++ replicate m 0) old → (k : ℕ) → k < length new → ((k < length old) × (get_or new k 0 ≡ get_or old k 0)) ⊎ (get_or new k 0 ≡ 0)
+pub filled : (b : Bool) (n m : ℕ) (old new : List ℕ) → length old ≤ n → m ≡ n - length old → new ≡ cond b (take n old ++ replicate m 0) old →
+    (k : ℕ) → k < length new → ((k < length old) × (get_or new k 0 ≡ get_or old k 0)) ⊎ (get_or new k 0 ≡ 0)
 filled false n m old new h z e k b = inl (omega (arith, ap length e), ap (λ l. get_or l k 0) e)
 filled true n m old new h z e k b =
     let t : new ≡ old ++ replicate m 0 = e ∙ ap (λ l. l ++ replicate m 0) (take_all n old h) in

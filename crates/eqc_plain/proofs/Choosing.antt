@@ -16,7 +16,8 @@ pub record IsDecided (vs : List ℕ) (f : (ℕ → Bool) → Bool) (choices : Li
   pub free : (j : ℕ) → length values ≤ j → j < length vs → get_or choices (get_or vs j 0) None ≡ None
 
 -- at the start no variable has a value
-pub starts_decided : (vs : List ℕ) (f : (ℕ → Bool) → Bool) (choices : List (Option Bool)) (values : List Bool) → ((v : ℕ) → get_or choices v None ≡ None) → IsSatisfiable f → values ≡ [] → IsDecided vs f choices values
+pub starts_decided : (vs : List ℕ) (f : (ℕ → Bool) → Bool) (choices : List (Option Bool)) (values : List Bool) →
+    ((v : ℕ) → get_or choices v None ≡ None) → IsSatisfiable f → values ≡ [] → IsDecided vs f choices values
 starts_decided vs f choices values free satisfiable empty =
     let start : IsDecided vs f choices [] = record {
       chosen = starts_chosen vs f (λ a. f a && follows vs [] a) [] (λ a. and_true (f a)) satisfiable refl;

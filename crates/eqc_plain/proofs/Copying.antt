@@ -154,14 +154,17 @@ copies_node s c d xs ms v l h i j m r k more two branch hi ei hj ej e one node =
     }
 
 -- the node's variable is above the copies of its children
-pub above_child : (s c : Store) (xs ms : List ℕ) (v y i : ℕ) → IsCopying s xs ms c → i < length ms → get_or xs i 0 ≡ y → v < root s.variables (tree_at s.nodes y) → v < root c.variables (tree_at c.nodes (get_or ms i 0))
+pub above_child : (s c : Store) (xs ms : List ℕ) (v y i : ℕ) → IsCopying s xs ms c → i < length ms → get_or xs i 0 ≡ y →
+    v < root s.variables (tree_at s.nodes y) → v < root c.variables (tree_at c.nodes (get_or ms i 0))
 above_child s c xs ms v y i k hi ei above =
     let copy = k.copied i hi in
-    let starts : root s.variables (tree_at s.nodes y) ≤ root c.variables (tree_at c.nodes (get_or ms i 0)) = subst (λ z. root s.variables (tree_at s.nodes z) ≤ root c.variables (tree_at c.nodes (get_or ms i 0))) ei copy.starts in
+    let starts : root s.variables (tree_at s.nodes y) ≤ root c.variables (tree_at c.nodes (get_or ms i 0)) =
+    subst (λ z. root s.variables (tree_at s.nodes z) ≤ root c.variables (tree_at c.nodes (get_or ms i 0))) ei copy.starts in
     omega (arith, starts)
 
 -- a node is above its children
-pub above_children : (s : Store) (x v l h : ℕ) → 2 ≤ x → x < length s.nodes + 2 → IsBranch s.variables s.nodes x v l h → (v < root s.variables (tree_at s.nodes l)) × (v < root s.variables (tree_at s.nodes h))
+pub above_children : (s : Store) (x v l h : ℕ) → 2 ≤ x → x < length s.nodes + 2 → IsBranch s.variables s.nodes x v l h →
+    (v < root s.variables (tree_at s.nodes l)) × (v < root s.variables (tree_at s.nodes h))
 above_children s x v l h two within b =
     let p = s.lawful.shape (x - 2) (omega arith) in
     (rw (b.variable, b.low_child) p.above_low, rw (b.variable, b.high_child) p.above_high)
@@ -182,7 +185,8 @@ has_room s c xs ms r k more two =
     omega (arith, k.few, r.few, s.lawful.fits, k.limit)
 
 -- where it had room, an error is of memory
-pub only_memory : (r : Result ℕ Stop) (c d : Store) → length c.nodes < c.limit → Extends c d → (r ≡ Err NodeLimit → length d.nodes ≡ d.limit) → OnErr r (d.nodes ≡ c.nodes) → IfErr r (λ s. (s ≡ NodeLimit) ⊎ (s ≡ Memory)) → IfErr r (λ s. s ≡ Memory)
+pub only_memory : (r : Result ℕ Stop) (c d : Store) → length c.nodes < c.limit → Extends c d → (r ≡ Err NodeLimit → length d.nodes ≡ d.limit) →
+    OnErr r (d.nodes ≡ c.nodes) → IfErr r (λ s. (s ≡ NodeLimit) ⊎ (s ≡ Memory)) → IfErr r (λ s. s ≡ Memory)
 only_memory (Ok x) c d room e full still only = tt
 only_memory (Err s) c d room e full still only = elim only [
   | inl limit ↦ absurd (omega (arith, room, full (ap Err limit), ap length still, e.limit))
@@ -211,5 +215,10 @@ module _ (s c : Store) (x m : ℕ) (copy : IsCopyOf s c x m) where
   pub copy_depends : (variables : List ℕ) → DependsOnlyOn variables (value (tree_at s.nodes x)) → DependsOnlyOn variables (value (tree_at c.nodes m))
   copy_depends variables depends a b same = copy.function a ∙ (depends a b same ∙ sym (copy.function b))
 
-  pub copy_least : (variables : List ℕ) → find (λ values. value (tree_at c.nodes m) (assigned variables values)) (assignments (length variables)) ≡ find (λ values. value (tree_at s.nodes x) (assigned variables values)) (assignments (length variables))
-  copy_least variables = find_same (λ values. value (tree_at c.nodes m) (assigned variables values)) (λ values. value (tree_at s.nodes x) (assigned variables values)) (λ values. copy.function (assigned variables values)) (assignments (length variables))
+  pub copy_least : (variables : List ℕ) →
+      find (λ values. value (tree_at c.nodes m) (assigned variables values)) (assignments (length variables)) ≡ find
+      (λ values. value (tree_at s.nodes x) (assigned variables values)) (assignments (length variables))
+  copy_least variables =
+      find_same (λ values. value (tree_at c.nodes m) (assigned variables values))
+      (λ values. value (tree_at s.nodes x) (assigned variables values)) (λ values. copy.function (assigned variables values))
+      (assignments (length variables))

@@ -43,7 +43,9 @@ count_by-listed i (t ∷ ts) (c ∷ cs) e =
     ∙ omega (arith, sum_by-replicate (λ x. cond (entry_eq e x) 1 0) c (record { number = i; tree = t }), times_test (entry_eq e (record { number = i; tree = t })) c, count_by-listed (i + 1) ts cs e)
 
 -- a count that is written
-pub tally-set : (i k m : ℕ) (ts : List Tree) (cs : List ℕ) (e : Entry) → k < length ts → k < length cs → tally i ts (set cs k m) e + cond (entry_eq e (record { number = i + k; tree = get_or ts k False })) (get_or cs k 0) 0 ≡ tally i ts cs e + cond (entry_eq e (record { number = i + k; tree = get_or ts k False })) m 0
+pub tally-set : (i k m : ℕ) (ts : List Tree) (cs : List ℕ) (e : Entry) → k < length ts → k < length cs →
+    tally i ts (set cs k m) e + cond (entry_eq e (record { number = i + k; tree = get_or ts k False })) (get_or cs k 0) 0 ≡ tally i ts cs e + cond
+    (entry_eq e (record { number = i + k; tree = get_or ts k False })) m 0
 tally-set i k m [] cs e a b = absurd (omega arith)
 tally-set i k m (t ∷ ts) [] e a b = absurd (omega arith)
 tally-set i zero m (t ∷ ts) (c ∷ cs) e a b = let z : i + 0 ≡ i = omega arith in rw z (omega arith)
@@ -74,7 +76,8 @@ pub record IsCounted (i : ℕ) (ts : List Tree) (cs : List ℕ) (e : Entry) : Ty
 counted_later : (i : ℕ) (t : Tree) (ts : List Tree) (c : ℕ) (cs : List ℕ) (e : Entry) → IsCounted (i + 1) ts cs e → IsCounted i (t ∷ ts) (c ∷ cs) e
 counted_later i t ts c cs e h = record { place = suc h.place; within = omega (arith, h.within); number = omega (arith, h.number); tree = h.tree; counted = h.counted }
 
-counted_by : (b : Bool) (i : ℕ) (t : Tree) (ts : List Tree) (c : ℕ) (cs : List ℕ) (e : Entry) → entry_eq e (record { number = i; tree = t }) ≡ b → 0 < cond b c 0 + tally (i + 1) ts cs e → (0 < tally (i + 1) ts cs e → IsCounted (i + 1) ts cs e) → IsCounted i (t ∷ ts) (c ∷ cs) e
+counted_by : (b : Bool) (i : ℕ) (t : Tree) (ts : List Tree) (c : ℕ) (cs : List ℕ) (e : Entry) → entry_eq e (record { number = i; tree = t }) ≡ b →
+    0 < cond b c 0 + tally (i + 1) ts cs e → (0 < tally (i + 1) ts cs e → IsCounted (i + 1) ts cs e) → IsCounted i (t ∷ ts) (c ∷ cs) e
 counted_by true i t ts zero cs e q h ih = counted_later i t ts zero cs e (ih (omega arith))
 counted_by true i t ts (suc c) cs e q h ih =
     let p = and_parts (nat_eq e.number i) (tree_eq e.tree t) q in

@@ -54,7 +54,9 @@ chosen_constant f g a b x h two_f two_g = rw (ne_eqb x f (λ e. absurd (omega ar
 -- two nodes that differ decide nothing
 pub two_nodes : (op : Op) (f g x : ℕ) → 2 ≤ f → 2 ≤ g → f ≢ g → Decides op f g x → ⊥
 two_nodes op f g x two_f two_g n d =
-    let r : (a b : Bool) → chosen f g a b x ≡ operate op a b = λ a b. d.right (chosen f g a b) (chosen_constant f g a b 0 (omega arith) two_f two_g) (chosen_constant f g a b 1 (omega arith) two_f two_g) ∙ rw (chosen_first f g a b, chosen_second f g a b n) refl in
+    let r : (a b : Bool) →
+    chosen f g a b x ≡ operate op a b = λ a b. d.right (chosen f g a b) (chosen_constant f g a b 0 (omega arith) two_f two_g) (chosen_constant f g a b 1 (omega arith) two_f two_g)
+    ∙ rw (chosen_first f g a b, chosen_second f g a b n) refl in
     elim d.among [
       | inl e ↦ no_first op (λ a b. sym (ap (chosen f g a b) e ∙ chosen_first f g a b) ∙ r a b)
       | inr s ↦ elim s [

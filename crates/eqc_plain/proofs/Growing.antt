@@ -66,7 +66,9 @@ by_slot ws w P old new k h =
       | inr above ↦ let e : length ws ≡ k = omega (arith, length-append ws (w ∷ [])) in subst P e new
     ]
 
-once_more : (ws : List ℕ) (w : ℕ) → ((i j : ℕ) → i < length ws → j < length ws → get_or ws i 0 ≡ get_or ws j 0 → i ≡ j) → ((k : ℕ) → k < length ws → get_or ws k 0 ≢ w) → (i j : ℕ) → i < length (ws ++ w ∷ []) → j < length (ws ++ w ∷ []) → get_or (ws ++ w ∷ []) i 0 ≡ get_or (ws ++ w ∷ []) j 0 → i ≡ j
+once_more : (ws : List ℕ) (w : ℕ) → ((i j : ℕ) → i < length ws → j < length ws → get_or ws i 0 ≡ get_or ws j 0 → i ≡ j) →
+    ((k : ℕ) → k < length ws → get_or ws k 0 ≢ w) → (i j : ℕ) → i < length (ws ++ w ∷ []) → j < length (ws ++ w ∷ []) →
+    get_or (ws ++ w ∷ []) i 0 ≡ get_or (ws ++ w ∷ []) j 0 → i ≡ j
 once_more ws w once absent i j hi hj =
     by_slot ws w (λ i. get_or (ws ++ w ∷ []) i 0 ≡ get_or (ws ++ w ∷ []) j 0 → i ≡ j)
     (λ i a. by_slot ws w (λ j. get_or (ws ++ w ∷ []) i 0 ≡ get_or (ws ++ w ∷ []) j 0 → i ≡ j)
@@ -93,7 +95,9 @@ shape_new variables ws v l h m =
     record { low = rw el m.low; high = rw eh m.high; differ = rw (el, eh) m.differ; above_low = rw (ev, el) m.above_low; above_high = rw (ev, eh) m.above_high; packed = rw (ev, el, eh) refl }
 
 -- a node is made
-pub made : {variables limit : ℕ} {ws counts : List ℕ} → IsStore variables limit ws counts → (v l h : ℕ) → length ws < limit → MayStand variables ws v l h → ((k : ℕ) → k < length ws → get_or ws k 0 ≢ node_word v l h) → IsStore variables limit (ws ++ node_word v l h ∷ []) (counts ++ 0 ∷ [])
+pub made : {variables limit : ℕ} {ws counts : List ℕ} → IsStore variables limit ws counts → (v l h : ℕ) → length ws < limit →
+    MayStand variables ws v l h → ((k : ℕ) → k < length ws → get_or ws k 0 ≢ node_word v l h) →
+    IsStore variables limit (ws ++ node_word v l h ∷ []) (counts ++ 0 ∷ [])
 made {variables} {limit} {ws} {counts} s v l h room m absent =
     let w = node_word v l h in
     let len : length (ws ++ w ∷ []) ≡ length ws + 1 = length-append ws (w ∷ []) in
@@ -127,7 +131,8 @@ made_node variables ws v l h m =
     }
 
 -- a word that is found is the node's
-pub found_node : {variables limit : ℕ} {ws counts : List ℕ} → IsStore variables limit ws counts → (v l h k : ℕ) → IsPacked v l h (node_word v l h) → k < length ws → get_or ws k 0 ≡ node_word v l h → IsNode variables ws v l h (k + 2)
+pub found_node : {variables limit : ℕ} {ws counts : List ℕ} → IsStore variables limit ws counts → (v l h k : ℕ) →
+    IsPacked v l h (node_word v l h) → k < length ws → get_or ws k 0 ≡ node_word v l h → IsNode variables ws v l h (k + 2)
 found_node {variables} {limit} {ws} {counts} s v l h k w at e =
     let z : k + 2 - 2 ≡ k = omega arith in
     let t0 = tree_at-node s (k + 2) (omega arith) (omega arith) in
@@ -163,7 +168,8 @@ cofactors_same variables ws v x h above =
     }
 
 -- a node of v is its children
-pub cofactors_node : {variables limit : ℕ} {ws counts : List ℕ} → IsStore variables limit ws counts → (v x : ℕ) → 2 ≤ x → x < length ws + 2 → variable_of (get_or ws (x - 2) 0) ≡ v → AreCofactors variables ws v x (low_of (get_or ws (x - 2) 0)) (high_of (get_or ws (x - 2) 0))
+pub cofactors_node : {variables limit : ℕ} {ws counts : List ℕ} → IsStore variables limit ws counts → (v x : ℕ) → 2 ≤ x → x < length ws + 2 →
+    variable_of (get_or ws (x - 2) 0) ≡ v → AreCofactors variables ws v x (low_of (get_or ws (x - 2) 0)) (high_of (get_or ws (x - 2) 0))
 cofactors_node {variables} {limit} {ws} {counts} s v x two h e =
     let k : x - 2 < length ws = omega arith in
     let p = s.shape (x - 2) k in
@@ -172,10 +178,14 @@ cofactors_node {variables} {limit} {ws} {counts} s v x two h e =
       high_within = omega (arith, p.high);
       above_low = omega (arith, p.above_low);
       above_high = omega (arith, p.above_high);
-      function = λ a. subst (λ u. value (tree_at ws x) a ≡ cond (a u) (value (tree_at ws (high_of (get_or ws (x - 2) 0))) a) (value (tree_at ws (low_of (get_or ws (x - 2) 0))) a)) e (ap (λ t. value t a) (tree_at-node s x two h));
+      function = λ a.
+          subst
+          (λ u. value (tree_at ws x) a ≡ cond (a u) (value (tree_at ws (high_of (get_or ws (x - 2) 0))) a) (value (tree_at ws (low_of (get_or ws (x - 2) 0))) a))
+          e (ap (λ t. value t a) (tree_at-node s x two h));
     }
 
 -- what a node needs of its children
-pub may_stand : {variables limit : ℕ} {ws counts : List ℕ} → IsStore variables limit ws counts → (v l h : ℕ) → v < 2 ^ 16 → l < length ws + 2 → h < length ws + 2 → l ≢ h → v < root variables (tree_at ws l) → v < root variables (tree_at ws h) → MayStand variables ws v l h
+pub may_stand : {variables limit : ℕ} {ws counts : List ℕ} → IsStore variables limit ws counts → (v l h : ℕ) → v < 2 ^ 16 → l < length ws + 2 →
+    h < length ws + 2 → l ≢ h → v < root variables (tree_at ws l) → v < root variables (tree_at ws h) → MayStand variables ws v l h
 may_stand s v l h small low high differ above_low above_high =
     record { low = low; high = high; differ = differ; above_low = above_low; above_high = above_high; word = packed v l h small (omega (arith, s.limited, s.fits)) (omega (arith, s.limited, s.fits)) }

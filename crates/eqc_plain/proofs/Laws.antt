@@ -28,7 +28,8 @@ held_is variables ws then counts x h =
       | inl low ↦ known_constant ws then counts x low
       | inr high ↦
           let e : nat_lt x 2 ≡ false = le-ltb x 2 high in
-          let h' : 0 < cond false 1 0 + count_by (entry_eq (entry_at then x)) (listed 0 (trees ws) counts) = subst (λ b. 0 < cond b 1 0 + count_by (entry_eq (entry_at then x)) (listed 0 (trees ws) counts)) e h in
+          let h' : 0 < cond false 1 0 + count_by (entry_eq (entry_at then x)) (listed 0 (trees ws) counts) =
+          subst (λ b. 0 < cond b 1 0 + count_by (entry_eq (entry_at then x)) (listed 0 (trees ws) counts)) e h in
           let t : 0 < tally 0 (trees ws) counts (entry_at then x) = omega (arith, count_by-listed 0 (trees ws) counts (entry_at then x)) in
           let k = counted 0 (trees ws) counts (entry_at then x) t in
           let at : k.place ≡ x = omega (arith, k.number) in
@@ -47,19 +48,23 @@ down_by : (b : Bool) (s t c : ℕ) → 0 < c → s + cond b c 0 ≡ t + cond b (
 down_by true s t c p h = omega arith
 down_by false s t c p h = omega arith
 
-set_at_x : (x m : ℕ) (ws counts : List ℕ) (e : Entry) → x < length ws + 2 → x < length counts → tally 0 (trees ws) (set counts x m) e + cond (entry_eq e (entry_at ws x)) (get_or counts x 0) 0 ≡ tally 0 (trees ws) counts e + cond (entry_eq e (entry_at ws x)) m 0
+set_at_x : (x m : ℕ) (ws counts : List ℕ) (e : Entry) → x < length ws + 2 → x < length counts →
+    tally 0 (trees ws) (set counts x m) e + cond (entry_eq e (entry_at ws x)) (get_or counts x 0) 0 ≡ tally 0 (trees ws) counts e + cond (entry_eq e (entry_at ws x)) m 0
 set_at_x x m ws counts e a b =
     let z : 0 + x ≡ x = omega arith in
     rw z at (tally-set 0 x m (trees ws) counts e (omega (arith, length-trees ws)) b)
 
-counted_up : (variables : ℕ) (ws counts : List ℕ) (x : ℕ) → 2 ≤ x → x < length ws + 2 → x < length counts → (e : Entry) → copies (holding_of variables ws (set counts x (get_or counts x 0 + 1))) e ≡ copies (holding_of variables ws counts) e + weight (entry_at ws x) e
+counted_up : (variables : ℕ) (ws counts : List ℕ) (x : ℕ) → 2 ≤ x → x < length ws + 2 → x < length counts → (e : Entry) →
+    copies (holding_of variables ws (set counts x (get_or counts x 0 + 1))) e ≡ copies (holding_of variables ws counts) e + weight (entry_at ws x) e
 unfolding copies weight holding_of
 counted_up variables ws counts x two within room e =
     let t : nat_lt x 2 ≡ false = le-ltb x 2 two in
     let u = up_by (entry_eq e (entry_at ws x)) _ _ _ (set_at_x x (get_or counts x 0 + 1) ws counts e within room) in
     rw t (omega (arith, u, count_by-listed 0 (trees ws) counts e, count_by-listed 0 (trees ws) (set counts x (get_or counts x 0 + 1)) e))
 
-counted_down : (variables : ℕ) (ws counts : List ℕ) (x : ℕ) → 2 ≤ x → x < length ws + 2 → x < length counts → 0 < get_or counts x 0 → (e : Entry) → copies (holding_of variables ws (set counts x (get_or counts x 0 - 1))) e + weight (entry_at ws x) e ≡ copies (holding_of variables ws counts) e
+counted_down : (variables : ℕ) (ws counts : List ℕ) (x : ℕ) → 2 ≤ x → x < length ws + 2 → x < length counts → 0 < get_or counts x 0 →
+    (e : Entry) →
+    copies (holding_of variables ws (set counts x (get_or counts x 0 - 1))) e + weight (entry_at ws x) e ≡ copies (holding_of variables ws counts) e
 unfolding copies weight holding_of
 counted_down variables ws counts x two within room some e =
     let t : nat_lt x 2 ≡ false = le-ltb x 2 two in
@@ -84,18 +89,22 @@ recounted {variables} {limit} {ws} {counts} {x} s two m =
     }
 
 -- equal numbers, equal functions
-pub same_number : {variables limit : ℕ} {ws then thereafter counts : List ℕ} {x y : ℕ} → IsStore variables limit ws counts → IsKnown ws then counts x → IsKnown ws thereafter counts y → IsTrue (nat_eq x y) ↔ ((a : ℕ → Bool) → says (entry_at then x) a ≡ says (entry_at thereafter y) a)
+pub same_number : {variables limit : ℕ} {ws then thereafter counts : List ℕ} {x y : ℕ} → IsStore variables limit ws counts →
+    IsKnown ws then counts x → IsKnown ws thereafter counts y →
+    IsTrue (nat_eq x y) ↔ ((a : ℕ → Bool) → says (entry_at then x) a ≡ says (entry_at thereafter y) a)
 same_number {variables} {limit} {ws} {then} {thereafter} {counts} {x} {y} s p q = (
   (λ e a. let n : x ≡ y = eqb-true x y e in ap (λ t. value t a) (p.tree ∙ (ap (tree_at ws) n ∙ sym q.tree))),
   (λ f. eq-eqb x y (unique_number s x y p.within q.within (λ a. sym (ap (λ t. value t a) p.tree) ∙ (f a ∙ ap (λ t. value t a) q.tree)))),
 )
 
 -- a constant's reference comes
-pub gains_constant : (variables : ℕ) (ws then counts : List ℕ) (x : ℕ) (f : (ℕ → Bool) → Bool) → x < 2 → ((a : ℕ → Bool) → value (tree_at then x) a ≡ f a) → Gains (holding_of variables ws counts) (holding_of variables ws counts) (entry_at then x) f
+pub gains_constant : (variables : ℕ) (ws then counts : List ℕ) (x : ℕ) (f : (ℕ → Bool) → Bool) → x < 2 →
+    ((a : ℕ → Bool) → value (tree_at then x) a ≡ f a) → Gains (holding_of variables ws counts) (holding_of variables ws counts) (entry_at then x) f
 gains_constant variables ws then counts x f h e =
     record { variables = refl; held = λ d. omega (arith, weight_constant then x h d); function = e }
 
-gains_node : (variables : ℕ) (ws then counts : List ℕ) (x : ℕ) → 2 ≤ x → x < length ws + 2 → x < length counts → then ≡ ws → Gains (holding_of variables ws counts) (holding_of variables ws (set counts x (get_or counts x 0 + 1))) (entry_at then x) (says (entry_at ws x))
+gains_node : (variables : ℕ) (ws then counts : List ℕ) (x : ℕ) → 2 ≤ x → x < length ws + 2 → x < length counts → then ≡ ws →
+    Gains (holding_of variables ws counts) (holding_of variables ws (set counts x (get_or counts x 0 + 1))) (entry_at then x) (says (entry_at ws x))
 unfolding holding_of
 gains_node variables ws then counts x two within room same =
     record {
@@ -104,7 +113,8 @@ gains_node variables ws then counts x two within room same =
       function = λ a. rw same refl;
     }
 
-loses_node : (variables limit : ℕ) (ws then counts : List ℕ) (x : ℕ) → IsStore variables limit ws counts → 2 ≤ x → IsKnown ws then counts x → Loses (holding_of variables ws counts) (holding_of variables ws (set counts x (get_or counts x 0 - 1))) (entry_at then x)
+loses_node : (variables limit : ℕ) (ws then counts : List ℕ) (x : ℕ) → IsStore variables limit ws counts → 2 ≤ x → IsKnown ws then counts x →
+    Loses (holding_of variables ws counts) (holding_of variables ws (set counts x (get_or counts x 0 - 1))) (entry_at then x)
 unfolding holding_of
 loses_node variables limit ws then counts x s two k =
     record {
@@ -118,7 +128,8 @@ loses_constant variables ws then counts x h =
     record { variables = refl; held = λ d. omega (arith, weight_constant then x h d) }
 
 -- a node's function is no constant
-pub not_constant : (variables limit : ℕ) (ws then counts : List ℕ) (x : ℕ) (b : Bool) → IsStore variables limit ws counts → 2 ≤ x → IsKnown ws then counts x → ((a : ℕ → Bool) → value (tree_at then x) a ≡ b) → ⊥
+pub not_constant : (variables limit : ℕ) (ws then counts : List ℕ) (x : ℕ) (b : Bool) → IsStore variables limit ws counts → 2 ≤ x →
+    IsKnown ws then counts x → ((a : ℕ → Bool) → value (tree_at then x) a ≡ b) → ⊥
 not_constant variables limit ws then counts x false s two k e =
     let n : x ≡ 0 = unique_number s x 0 k.within (omega arith) (λ a. sym (ap (λ t. value t a) k.tree) ∙ (e a ∙ sym (ap (λ t. value t a) (tree_at-zero ws)))) in
     omega arith
@@ -127,13 +138,17 @@ not_constant variables limit ws then counts x true s two k e =
     omega arith
 
 -- a reference to a node comes, by the count that was read
-pub gains_read : (variables : ℕ) (ws then counts : List ℕ) (x m : ℕ) → 2 ≤ x → x < length ws + 2 → x < length counts → m ≡ get_or counts x m → then ≡ ws → Gains (holding_of variables ws counts) (holding_of variables ws (set counts x (m + 1))) (entry_at then x) (says (entry_at ws x))
+pub gains_read : (variables : ℕ) (ws then counts : List ℕ) (x m : ℕ) → 2 ≤ x → x < length ws + 2 → x < length counts → m ≡ get_or counts x m →
+    then ≡ ws → Gains (holding_of variables ws counts) (holding_of variables ws (set counts x (m + 1))) (entry_at then x) (says (entry_at ws x))
 gains_read variables ws then counts x m two within room read same =
     let z : m ≡ get_or counts x 0 = read ∙ get_or_default counts x m 0 room in
-    subst (λ n. Gains (holding_of variables ws counts) (holding_of variables ws (set counts x (n + 1))) (entry_at then x) (says (entry_at ws x))) (sym z) (gains_node variables ws then counts x two within room same)
+    subst (λ n. Gains (holding_of variables ws counts) (holding_of variables ws (set counts x (n + 1))) (entry_at then x) (says (entry_at ws x)))
+    (sym z) (gains_node variables ws then counts x two within room same)
 
 -- a reference to a node goes, by the count that was read
-pub loses_read : (variables limit : ℕ) (ws then counts : List ℕ) (x m : ℕ) → IsStore variables limit ws counts → 2 ≤ x → IsKnown ws then counts x → m ≡ get_or counts x m → Loses (holding_of variables ws counts) (holding_of variables ws (set counts x (m - 1))) (entry_at then x)
+pub loses_read : (variables limit : ℕ) (ws then counts : List ℕ) (x m : ℕ) → IsStore variables limit ws counts → 2 ≤ x →
+    IsKnown ws then counts x → m ≡ get_or counts x m →
+    Loses (holding_of variables ws counts) (holding_of variables ws (set counts x (m - 1))) (entry_at then x)
 loses_read variables limit ws then counts x m s two k read =
     let z : m ≡ get_or counts x 0 = read ∙ get_or_default counts x m 0 (omega (arith, k.within, s.counted)) in
     subst (λ n. Loses (holding_of variables ws counts) (holding_of variables ws (set counts x (n - 1))) (entry_at then x)) (sym z) (loses_node variables limit ws then counts x s two k)
@@ -188,7 +203,8 @@ keeps_push variables ws counts w h =
     record {
       variables = refl;
       held = λ e.
-          let p : tally 0 (trees (ws ++ w ∷ [])) (counts ++ 0 ∷ []) e ≡ tally 0 (trees ws) counts e = ap (λ ts. tally 0 ts (counts ++ 0 ∷ []) e) (trees-push ws w) ∙ tally-push 0 (trees ws) (planted (trees ws) w) counts e (omega (arith, length-trees ws)) in
+          let p : tally 0 (trees (ws ++ w ∷ [])) (counts ++ 0 ∷ []) e ≡ tally 0 (trees ws) counts e = ap (λ ts. tally 0 ts (counts ++ 0 ∷ []) e) (trees-push ws w)
+          ∙ tally-push 0 (trees ws) (planted (trees ws) w) counts e (omega (arith, length-trees ws)) in
           omega (arith, p, count_by-listed 0 (trees (ws ++ w ∷ [])) (counts ++ 0 ∷ []) e, count_by-listed 0 (trees ws) counts e);
     }
 

@@ -37,7 +37,8 @@ pub whole_of : {variables : ℕ} {ws : List ℕ} {v low high x : ℕ} → IsNode
 whole_of n = record { within = n.within; root_at = n.root_at; function = n.function }
 
 -- the top variable of two that are no constants
-pub top_below : {variables limit : ℕ} {ws counts : List ℕ} → IsStore variables limit ws counts → (f g : ℕ) → f < length ws + 2 → g < length ws + 2 → ((f < 2) × (g < 2) → ⊥) → min (root variables (tree_at ws f)) (root variables (tree_at ws g)) < variables
+pub top_below : {variables limit : ℕ} {ws counts : List ℕ} → IsStore variables limit ws counts → (f g : ℕ) → f < length ws + 2 →
+    g < length ws + 2 → ((f < 2) × (g < 2) → ⊥) → min (root variables (tree_at ws f)) (root variables (tree_at ws g)) < variables
 top_below s f g hf hg inner =
     elim (cases_lt f 2) [
       | inl small ↦ elim (cases_lt g 2) [

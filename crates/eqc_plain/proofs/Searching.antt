@@ -24,13 +24,15 @@ leads_on (Some true) l h e = e
 leads_on (Some false) l h e = e
 
 -- a constant that is not marked is false
-constant_dead : (ws : List ℕ) (choices : List (Option Bool)) (marks : List Bool) (n x : ℕ) (a : ℕ → Bool) → x < 2 → AreMarked ws choices marks n → get_or marks x false ≡ false → value (tree_at ws x) a ≡ false
+constant_dead : (ws : List ℕ) (choices : List (Option Bool)) (marks : List Bool) (n x : ℕ) (a : ℕ → Bool) → x < 2 → AreMarked ws choices marks n →
+    get_or marks x false ≡ false → value (tree_at ws x) a ≡ false
 constant_dead ws choices marks n zero a h marked e = ap (λ t. value t a) (tree_at-zero ws)
 constant_dead ws choices marks n (suc zero) a h marked e = absurd (true≢false (sym marked.at_true ∙ e))
 constant_dead ws choices marks n (suc (suc x)) a h marked e = absurd (omega arith)
 
 -- a constant that is marked is true
-constant_live : (ws : List ℕ) (choices : List (Option Bool)) (marks : List Bool) (n x : ℕ) (a : ℕ → Bool) → x < 2 → AreMarked ws choices marks n → get_or marks x false ≡ true → value (tree_at ws x) a ≡ true
+constant_live : (ws : List ℕ) (choices : List (Option Bool)) (marks : List Bool) (n x : ℕ) (a : ℕ → Bool) → x < 2 → AreMarked ws choices marks n →
+    get_or marks x false ≡ true → value (tree_at ws x) a ≡ true
 constant_live ws choices marks n zero a h marked e = absurd (true≢false (sym e ∙ marked.at_false))
 constant_live ws choices marks n (suc zero) a h marked e = ap (λ t. value t a) (tree_at-one ws)
 constant_live ws choices marks n (suc (suc x)) a h marked e = absurd (omega arith)
@@ -48,12 +50,14 @@ pub record IsOnWay (variables : ℕ) (ws : List ℕ) (choices : List (Option Boo
   pub way : IsWay variables ws f x values
 
 -- at a constant that is marked the way has reached true
-pub way_ends : (variables : ℕ) (ws : List ℕ) (choices : List (Option Bool)) (marks values : List Bool) (n f x : ℕ) → x < 2 → AreMarked ws choices marks n → get_or marks x false ≡ true → IsWay variables ws f x values → value (tree_at ws f) (given values) ≡ true
+pub way_ends : (variables : ℕ) (ws : List ℕ) (choices : List (Option Bool)) (marks values : List Bool) (n f x : ℕ) → x < 2 →
+    AreMarked ws choices marks n → get_or marks x false ≡ true → IsWay variables ws f x values → value (tree_at ws f) (given values) ≡ true
 way_ends variables ws choices marks values n f x h marked e way =
     way (given values) (λ v less. refl) ∙ constant_live ws choices marks n x (given values) h marked e
 
 module _ {variables limit : ℕ} {ws counts : List ℕ} (s : IsStore variables limit ws counts) where
-  dead_upto : (choices : List (Option Bool)) (marks : List Bool) (n m x : ℕ) (a : ℕ → Bool) → x < m → x < n → n ≤ length ws + 2 → AreMarked ws choices marks n → Agrees choices a → get_or marks x false ≡ false → value (tree_at ws x) a ≡ false
+  dead_upto : (choices : List (Option Bool)) (marks : List Bool) (n m x : ℕ) (a : ℕ → Bool) → x < m → x < n → n ≤ length ws + 2 →
+      AreMarked ws choices marks n → Agrees choices a → get_or marks x false ≡ false → value (tree_at ws x) a ≡ false
   dead_upto choices marks n zero x a h less within marked agrees e = absurd (omega arith)
   dead_upto choices marks n (suc m) x a h less within marked agrees e =
       elim (cases_lt x 2) [
@@ -62,7 +66,8 @@ module _ {variables limit : ℕ} {ws counts : List ℕ} (s : IsStore variables l
             let w : ℕ = get_or ws (x - 2) 0 in
             let p = s.shape (x - 2) (omega arith) in
             ap (λ t. value t a) (tree_at-node s x high (omega arith))
-            ∙ leads_nowhere (get_or choices (variable_of w) None) (get_or marks (low_of w) false) (get_or marks (high_of w) false) (a (variable_of w)) (value (tree_at ws (low_of w)) a) (value (tree_at ws (high_of w)) a)
+            ∙ leads_nowhere (get_or choices (variable_of w) None) (get_or marks (low_of w) false) (get_or marks (high_of w) false)
+            (a (variable_of w)) (value (tree_at ws (low_of w)) a) (value (tree_at ws (high_of w)) a)
             (agrees (variable_of w))
             (sym (marked.nodes x high less) ∙ e)
             (dead_upto choices marks n m (low_of w) a (omega (arith, p.low)) (omega (arith, p.low)) within marked agrees)
@@ -70,11 +75,13 @@ module _ {variables limit : ℕ} {ws counts : List ℕ} (s : IsStore variables l
       ]
 
   -- a number that is not marked is false under each assignment that agrees
-  pub dead : (choices : List (Option Bool)) (marks : List Bool) (n x : ℕ) (a : ℕ → Bool) → x < n → n ≤ length ws + 2 → AreMarked ws choices marks n → Agrees choices a → get_or marks x false ≡ false → value (tree_at ws x) a ≡ false
+  pub dead : (choices : List (Option Bool)) (marks : List Bool) (n x : ℕ) (a : ℕ → Bool) → x < n → n ≤ length ws + 2 →
+      AreMarked ws choices marks n → Agrees choices a → get_or marks x false ≡ false → value (tree_at ws x) a ≡ false
   dead choices marks n x a less within marked agrees e = dead_upto choices marks n (suc x) x a (omega arith) less within marked agrees e
 
   -- the fields of a node's word are its branch
-  pub is_branch : (x v l h : ℕ) → 2 ≤ x → x < length ws + 2 → v ≡ variable_of (get_or ws (x - 2) 0) → l ≡ low_of (get_or ws (x - 2) 0) → h ≡ high_of (get_or ws (x - 2) 0) → IsBranch variables ws x v l h
+  pub is_branch : (x v l h : ℕ) → 2 ≤ x → x < length ws + 2 → v ≡ variable_of (get_or ws (x - 2) 0) → l ≡ low_of (get_or ws (x - 2) 0) →
+      h ≡ high_of (get_or ws (x - 2) 0) → IsBranch variables ws x v l h
   is_branch x v l h two within ev el eh =
       let p = s.shape (x - 2) (omega arith) in
       record {
@@ -87,7 +94,9 @@ module _ {variables limit : ℕ} {ws counts : List ℕ} (s : IsStore variables l
       }
 
   -- one number more is marked
-  pub marks_more : (choices : List (Option Bool)) (marks : List Bool) (x v l h : ℕ) (b : Bool) → 2 ≤ x → x < length marks → x < length ws + 2 → IsBranch variables ws x v l h → b ≡ leads_by (get_or choices v None) (get_or marks l false) (get_or marks h false) → AreMarked ws choices marks x → AreMarked ws choices (set marks x b) (x + 1)
+  pub marks_more : (choices : List (Option Bool)) (marks : List Bool) (x v l h : ℕ) (b : Bool) → 2 ≤ x → x < length marks → x < length ws + 2 →
+      IsBranch variables ws x v l h → b ≡ leads_by (get_or choices v None) (get_or marks l false) (get_or marks h false) →
+      AreMarked ws choices marks x → AreMarked ws choices (set marks x b) (x + 1)
   marks_more choices marks x v l h b two long within branch e marked = record {
     at_false = get_or-set_other marks x 0 b false (λ z. omega arith) ∙ marked.at_false;
     at_true = get_or-set_other marks x 1 b false (λ z. omega arith) ∙ marked.at_true;
@@ -96,7 +105,10 @@ module _ {variables limit : ℕ} {ws counts : List ℕ} (s : IsStore variables l
         let p = s.shape (y - 2) (omega arith) in
         let low : get_or (set marks x b) (low_of w) false ≡ get_or marks (low_of w) false = get_or-set_other marks x (low_of w) b false (λ z. omega (arith, p.low)) in
         let up : get_or (set marks x b) (high_of w) false ≡ get_or marks (high_of w) false = get_or-set_other marks x (high_of w) b false (λ z. omega (arith, p.high)) in
-        let same : leads_by (get_or choices (variable_of w) None) (get_or (set marks x b) (low_of w) false) (get_or (set marks x b) (high_of w) false) ≡ leads_by (get_or choices (variable_of w) None) (get_or marks (low_of w) false) (get_or marks (high_of w) false) = rw (low, up) refl in
+        let same : leads_by (get_or choices (variable_of w) None) (get_or (set marks x b) (low_of w) false)
+        (get_or (set marks x b) (high_of w) false) ≡ leads_by (get_or choices (variable_of w) None) (get_or marks (low_of w) false)
+        (get_or marks (high_of w) false) =
+        rw (low, up) refl in
         elim (cases_eq y x) [
           | inl z ↦
               let is : b ≡ leads_by (get_or choices (variable_of w) None) (get_or marks (low_of w) false) (get_or marks (high_of w) false) =
@@ -107,7 +119,8 @@ module _ {variables limit : ℕ} {ws counts : List ℕ} (s : IsStore variables l
   }
 
   -- the way goes on to a child
-  pub way_more : (f x v l h : ℕ) (values : List Bool) (up : Bool) → 2 ≤ x → x < length ws + 2 → length values ≡ variables → IsBranch variables ws x v l h → IsWay variables ws f x values → IsWay variables ws f (cond up h l) (set values v up)
+  pub way_more : (f x v l h : ℕ) (values : List Bool) (up : Bool) → 2 ≤ x → x < length ws + 2 → length values ≡ variables →
+      IsBranch variables ws x v l h → IsWay variables ws f x values → IsWay variables ws f (cond up h l) (set values v up)
   way_more f x v l h values up two within long branch way a same =
       let w : ℕ = get_or ws (x - 2) 0 in
       let p = s.shape (x - 2) (omega arith) in
@@ -139,7 +152,8 @@ marks_start ws choices marks long = record {
 }
 
 -- values that agree still do with the value that a way gives a variable
-pub agrees_rising : (choices : List (Option Bool)) (values : List Bool) (v : ℕ) (low b : Bool) → v < length values → b ≡ rises_by (get_or choices v None) low → Agrees choices (given values) → Agrees choices (given (set values v b))
+pub agrees_rising : (choices : List (Option Bool)) (values : List Bool) (v : ℕ) (low b : Bool) → v < length values →
+    b ≡ rises_by (get_or choices v None) low → Agrees choices (given values) → Agrees choices (given (set values v b))
 agrees_rising choices values v low b long is agrees u c e =
     elim (cases_eq u v) [
       | inl z ↦
@@ -157,7 +171,9 @@ started_agrees choices values started u b e =
     ]
 
 -- one value more is that of its choice
-pub started_more : (choices : List (Option Bool)) (values : List Bool) (n : ℕ) (b : Bool) → n < length values → b ≡ rises_by (get_or choices n None) true → ((u : ℕ) → u < n → given values u ≡ rises_by (get_or choices u None) true) → (u : ℕ) → u < n + 1 → given (set values n b) u ≡ rises_by (get_or choices u None) true
+pub started_more : (choices : List (Option Bool)) (values : List Bool) (n : ℕ) (b : Bool) → n < length values →
+    b ≡ rises_by (get_or choices n None) true → ((u : ℕ) → u < n → given values u ≡ rises_by (get_or choices u None) true) → (u : ℕ) → u < n + 1 →
+    given (set values n b) u ≡ rises_by (get_or choices u None) true
 started_more choices values n b long is started u less =
     elim (cases_eq u n) [
       | inl z ↦ ap (λ k. get_or (set values n b) k false) z ∙ get_or-set_same values n b false long ∙ is ∙ ap (λ k. rises_by (get_or choices k None) true) (sym z)
@@ -202,7 +218,8 @@ some_number ws (suc f) satisfiable = omega arith
 
 module _ {variables limit : ℕ} {ws counts : List ℕ} (s : IsStore variables limit ws counts) where
   -- a function that is true somewhere is marked where nothing is chosen
-  pub root_marked : (choices : List (Option Bool)) (marks : List Bool) (f : ℕ) → f < length ws + 2 → AreMarked ws choices marks (f + 1) → ((v : ℕ) → get_or choices v None ≡ None) → IsSatisfiable (value (tree_at ws f)) → get_or marks f false ≡ true
+  pub root_marked : (choices : List (Option Bool)) (marks : List Bool) (f : ℕ) → f < length ws + 2 → AreMarked ws choices marks (f + 1) →
+      ((v : ℕ) → get_or choices v None ≡ None) → IsSatisfiable (value (tree_at ws f)) → get_or marks f false ≡ true
   root_marked choices marks f within marked free satisfiable = by (get_or marks f false) refl
     where
       by : (b : Bool) → get_or marks f false ≡ b → b ≡ true

@@ -111,12 +111,14 @@ work_below : (m : Meaning) (v p q : ℕ) → v < m.variables → v < m.root p �
 work_below m v p q a b c = pow_le (m.variables - min (m.root p) (m.root q) + 1) (m.variables - v) (omega arith)
 
 -- the cofactors at the top variable are an expansion
-pub expansion_at : (m n : Meaning) (f g v f0 f1 g0 g1 : ℕ) → Stays m n → m.there f → m.there g → v ≡ min (m.root f) (m.root g) → v < m.variables → AreHalves n v f f0 f1 → AreHalves n v g g0 g1 → IsExpansion n v f g f0 f1 g0 g1
+pub expansion_at : (m n : Meaning) (f g v f0 f1 g0 g1 : ℕ) → Stays m n → m.there f → m.there g → v ≡ min (m.root f) (m.root g) → v < m.variables →
+    AreHalves n v f f0 f1 → AreHalves n v g g0 g1 → IsExpansion n v f g f0 f1 g0 g1
 expansion_at m n f g v f0 f1 g0 g1 s hf hg e below sf sg =
     record { first = s.there f hf; second = s.there g hg; below = omega (arith, s.variables); cofactors_f = sf; cofactors_g = sg; top = λ w a b. omega (arith, s.root f hf, s.root g hg) }
 
 -- f and g are expanded
-pub expanded_step : (m n : Meaning) (ts us : List Task) (f g v f0 f1 g0 g1 : ℕ) → us ≡ ts ++ Low f g v f1 g1 ∷ [] → Stays m n → m.there f → m.there g → v ≡ min (m.root f) (m.root g) → v < m.variables → AreHalves n v f f0 f1 → AreHalves n v g g0 g1 → StepsTo m n ts us f g f0 g0
+pub expanded_step : (m n : Meaning) (ts us : List Task) (f g v f0 f1 g0 g1 : ℕ) → us ≡ ts ++ Low f g v f1 g1 ∷ [] → Stays m n → m.there f →
+    m.there g → v ≡ min (m.root f) (m.root g) → v < m.variables → AreHalves n v f f0 f1 → AreHalves n v g g0 g1 → StepsTo m n ts us f g f0 g0
 expanded_step m n ts us f g v f0 f1 g0 g1 is s hf hg e below sf sg =
     let h = expansion_at m n f g v f0 f1 g0 g1 s hf hg e below sf sg in
     let p : work m f g ≡ 2 * 2 ^ (m.variables - v) = rw (← e) (pow_next (m.variables - v)) in
@@ -130,7 +132,8 @@ expanded_step m n ts us f g v f0 f1 g0 g1 is s hf hg e below sf sg =
     }
 
 -- the low result is there
-pub low_done : (m : Meaning) (op : Op) (us ts ns all : List Task) (F G p q v p1 q1 x : ℕ) → us ≡ ts ++ Low p q v p1 q1 ∷ [] → ns ≡ ts ++ High p q v x ∷ [] → owed_all m.variables us ≤ owed_all m.variables all → LeadsTo m op us F G x → ComesNext m op all ns F G p1 q1
+pub low_done : (m : Meaning) (op : Op) (us ts ns all : List Task) (F G p q v p1 q1 x : ℕ) → us ≡ ts ++ Low p q v p1 q1 ∷ [] →
+    ns ≡ ts ++ High p q v x ∷ [] → owed_all m.variables us ≤ owed_all m.variables all → LeadsTo m op us F G x → ComesNext m op all ns F G p1 q1
 low_done m op us ts ns all F G p q v p1 q1 x was is less k =
     let l = subst (λ ts. LeadsTo m op ts F G x) was k in
     let r = leads_apart m op ts (Low p q v p1 q1 ∷ []) F G l.f l.g l.leads in
@@ -150,5 +153,6 @@ two_work m f g =
     omega (arith, pow_next k, pow_pos k)
 
 -- a result that came leaves less
-pub turn_less : (m n : Meaning) (op : Op) (ts us : List Task) (F G f g p q : ℕ) → n.variables ≡ m.variables → ComesNext n op ts us F G p q → owed_all n.variables us + work n p q < owed_all m.variables ts + work m f g
+pub turn_less : (m n : Meaning) (op : Op) (ts us : List Task) (F G f g p q : ℕ) → n.variables ≡ m.variables → ComesNext n op ts us F G p q →
+    owed_all n.variables us + work n p q < owed_all m.variables ts + work m f g
 turn_less m n op ts us F G f g p q e c = omega (arith, two_work m f g, c.less, ap (λ k. owed_all k ts) e)

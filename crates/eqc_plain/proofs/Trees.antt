@@ -58,7 +58,8 @@ tree_at-last ws w =
     ap (λ ts. get_or ts (length ws + 2) False) (trees-push ws w) ∙ e
 
 -- the tree of slot k is planted over the others
-grown_at : (ts : List Tree) (ws : List ℕ) (k : ℕ) → k < length ws → low_of (get_or ws k 0) < length ts + k → high_of (get_or ws k 0) < length ts + k → get_or (grown ts ws) (length ts + k) False ≡ planted (grown ts ws) (get_or ws k 0)
+grown_at : (ts : List Tree) (ws : List ℕ) (k : ℕ) → k < length ws → low_of (get_or ws k 0) < length ts + k →
+    high_of (get_or ws k 0) < length ts + k → get_or (grown ts ws) (length ts + k) False ≡ planted (grown ts ws) (get_or ws k 0)
 grown_at ts [] k h l r = absurd (omega arith)
 grown_at ts (w ∷ ws) zero h l r =
     let more = ts ++ planted ts w ∷ [] in
@@ -93,11 +94,13 @@ module _ {variables limit : ℕ} {ws counts : List ℕ} (s : IsStore variables l
   node_at k h = tree_at-slot ws k h (s.shape k h).low (s.shape k h).high
 
   -- words of slots with equal children and variable are equal
-  same_word : (i j : ℕ) → i < length ws → j < length ws → variable_of (get_or ws i 0) ≡ variable_of (get_or ws j 0) → low_of (get_or ws i 0) ≡ low_of (get_or ws j 0) → high_of (get_or ws i 0) ≡ high_of (get_or ws j 0) → get_or ws i 0 ≡ get_or ws j 0
+  same_word : (i j : ℕ) → i < length ws → j < length ws → variable_of (get_or ws i 0) ≡ variable_of (get_or ws j 0) →
+      low_of (get_or ws i 0) ≡ low_of (get_or ws j 0) → high_of (get_or ws i 0) ≡ high_of (get_or ws j 0) → get_or ws i 0 ≡ get_or ws j 0
   same_word i j hi hj ev el eh =
       let p = (s.shape i hi).packed in
       let q = (s.shape j hj).packed in
-      let w : node_word (variable_of (get_or ws i 0)) (low_of (get_or ws i 0)) (high_of (get_or ws i 0)) ≡ node_word (variable_of (get_or ws j 0)) (low_of (get_or ws j 0)) (high_of (get_or ws j 0)) = rw (ev, el, eh) refl in
+      let w : node_word (variable_of (get_or ws i 0)) (low_of (get_or ws i 0)) (high_of (get_or ws i 0)) ≡ node_word (variable_of (get_or ws j 0)) (low_of (get_or ws j 0)) (high_of (get_or ws j 0)) =
+      rw (ev, el, eh) refl in
       p ∙ (w ∙ sym q)
 
   -- different numbers have different trees

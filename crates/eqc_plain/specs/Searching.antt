@@ -37,7 +37,9 @@ pub record IsBranch (variables : ℕ) (ws : List ℕ) (x v low high : ℕ) : Typ
 pub record AreMarked (ws : List ℕ) (choices : List (Option Bool)) (marks : List Bool) (n : ℕ) : Type 0 where
   pub at_false : slice_index_or marks 0 false ≡ false
   pub at_true : slice_index_or marks 1 false ≡ true
-  pub nodes : (x : ℕ) → 2 ≤ x → x < n → slice_index_or marks x false ≡ leads_by (slice_index_or choices (variable_of (slice_index ws (x - 2))) None) (slice_index_or marks (low_of (slice_index ws (x - 2))) false) (slice_index_or marks (high_of (slice_index ws (x - 2))) false)
+  pub nodes : (x : ℕ) → 2 ≤ x → x < n →
+      slice_index_or marks x false ≡ leads_by (slice_index_or choices (variable_of (slice_index ws (x - 2))) None)
+      (slice_index_or marks (low_of (slice_index ws (x - 2))) false) (slice_index_or marks (high_of (slice_index ws (x - 2))) false)
 
 -- a search at number f has its lists' lengths
 pub record IsSized (store : Store) (f : ℕ) (search : Search) : Type 0 where

@@ -6,7 +6,8 @@ use Rattle.eqc_flat.specs.Graph.{FlatOf, value_of}
 use Rattle.eqc_flat.specs.Evaluating.{values_of}
 use Rattle.eqc_report.specs.Evaluation.{AreRight, AreRead}
 
-pub read_values : {S : Type 0} (f : FlatOf) (inputs : List Bool) (known : IndexMap ℕ Bool S) (signals : List ℕ) (read : List Bool) → AreRight f inputs known → AreRead known signals read → read ≡ map (value_of f (values_of inputs)) signals
+pub read_values : {S : Type 0} (f : FlatOf) (inputs : List Bool) (known : IndexMap ℕ Bool S) (signals : List ℕ) (read : List Bool) →
+    AreRight f inputs known → AreRead known signals read → read ≡ map (value_of f (values_of inputs)) signals
 read_values f inputs known signals read right are =
     same_lists read (map (value_of f (values_of inputs)) signals) (are.long ∙ sym (length-map signals (value_of f (values_of inputs))))
     (λ k d inside.

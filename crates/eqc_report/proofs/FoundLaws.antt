@@ -23,7 +23,8 @@ use Rattle.eqc_compare.specs.Comparing.{netlist_of, assumption_of, differences_i
 use Rattle.eqc_pair.proofs.PlaceLemmas.{place_itself}
 
 -- one more name with its value
-pub zipped_more : {A B : Type 0} (xs : List A) (ys : List B) (i : ℕ) (d : A) (e : B) → i < length xs → i < length ys → zip (take (i + 1) xs) (take (i + 1) ys) ≡ zip (take i xs) (take i ys) ++ (get_or xs i d, get_or ys i e) ∷ []
+pub zipped_more : {A B : Type 0} (xs : List A) (ys : List B) (i : ℕ) (d : A) (e : B) → i < length xs → i < length ys →
+    zip (take (i + 1) xs) (take (i + 1) ys) ≡ zip (take i xs) (take i ys) ++ (get_or xs i d, get_or ys i e) ∷ []
 zipped_more [] ys i d e h k = absurd (omega arith)
 zipped_more (x ∷ xs) [] i d e h k = absurd (omega arith)
 zipped_more (x ∷ xs) (y ∷ ys) zero d e h k = refl
@@ -32,14 +33,17 @@ zipped_more (x ∷ xs) (y ∷ ys) (suc i) d e h k = rw (suc_one i) (ap (λ ps. (
     suc_one : (i : ℕ) → suc i + 1 ≡ suc (i + 1)
     suc_one i = omega arith
 
-pub pairs_more : (xs : List (List ℕ)) (ys : List Bool) (i : ℕ) (x name : List ℕ) (old new : List (List ℕ × Bool)) → i < length xs → i < length ys → x ≡ get_or xs i x → name ≡ x → old ≡ zip (take i xs) (take i ys) → new ≡ old ++ (name, get_or ys i false) ∷ [] → new ≡ zip (take (i + 1) xs) (take (i + 1) ys)
+pub pairs_more : (xs : List (List ℕ)) (ys : List Bool) (i : ℕ) (x name : List ℕ) (old new : List (List ℕ × Bool)) → i < length xs →
+    i < length ys → x ≡ get_or xs i x → name ≡ x → old ≡ zip (take i xs) (take i ys) → new ≡ old ++ (name, get_or ys i false) ∷ [] →
+    new ≡ zip (take (i + 1) xs) (take (i + 1) ys)
 pairs_more xs ys i x name old new h k is same o n = rw (n, o, same, is) (sym (zipped_more xs ys i x false h k))
 
 -- an output's value under values of the inputs in their order
 pub own_value : (f : FlatOf) (a : List Bool) (o : ℕ) → IsFlat f → o < length f.outputs → first_value (netlist_of f) (get_or f.outputs o []) a ≡ value_of f (values_of a) (get_or f.output_signals o 0)
 own_value f a o h inside =
     ap (λ k. value_of f (values_for f.inputs a f.inputs) (get_or f.output_signals k 0)) (place_itself f.outputs o h.outputs_differ inside)
-    ∙ value_agrees f (values_for f.inputs a f.inputs) (values_of a) (get_or f.output_signals o 0) h (λ p within. ap (λ k. get_or a k false) (place_itself f.inputs p h.inputs_differ within)) (h.outputs_within o inside)
+    ∙ value_agrees f (values_for f.inputs a f.inputs) (values_of a) (get_or f.output_signals o 0) h
+    (λ p within. ap (λ k. get_or a k false) (place_itself f.inputs p h.inputs_differ within)) (h.outputs_within o inside)
 
 opposite : (x y : Bool) → is_different x y ≡ true → not x ≡ y
 opposite true true e = absurd (true≢false (sym e))
@@ -59,7 +63,8 @@ found_of : (p : PairOf) (found : List Difference) (all : List (List ℕ × List 
 found_of p [] all within is least = All-nil (IsFoundOf p)
 found_of p (d ∷ found) [] within is least = let clash : ◌≡◌ {A = List (List ℕ × List Bool)} ((get_or p.first.outputs d.output [], d.values.items) ∷ found_in p.first found) [] = is in cc
 found_of p (d ∷ found) (q ∷ all) within is least =
-    let first : IsLeastOf p (get_or p.first.outputs d.output [], d.values.items) = subst (IsLeastOf p) (sym (ap (λ (l : List (List ℕ × List Bool)). get_or l 0 q) is)) (All-head (IsLeastOf p) q all least) in
+    let first : IsLeastOf p (get_or p.first.outputs d.output [], d.values.items) =
+    subst (IsLeastOf p) (sym (ap (λ (l : List (List ℕ × List Bool)). get_or l 0 q) is)) (All-head (IsLeastOf p) q all least) in
     All-cons (IsFoundOf p) d found
     (record { within = All-head (IsWithin p) d found within; size = first.long; differs = (and_parts _ _ first.passes).1 })
     (found_of p found all (All-tail (IsWithin p) d found within) (ap (drop 1) is) (All-tail (IsLeastOf p) q all least))
@@ -102,7 +107,8 @@ difference_shown p found d is e =
     e ∙ ap (λ b. record { output = output; inputs = zip p.first.inputs a; first = first_value (netlist_of p.first) output a; second = b }) other
 
 -- one more
-pub shown_next : {A B C : Type 0} (of : A → C) (at : B → C) (old new : List A) (a : A) (found : List B) (b : B) → map of old ≡ map at found → new ≡ old ++ a ∷ [] → of a ≡ at b → map of new ≡ map at (found ++ b ∷ [])
+pub shown_next : {A B C : Type 0} (of : A → C) (at : B → C) (old new : List A) (a : A) (found : List B) (b : B) → map of old ≡ map at found →
+    new ≡ old ++ a ∷ [] → of a ≡ at b → map of new ≡ map at (found ++ b ∷ [])
 shown_next of at old new a found b before grown same =
     ap (map of) grown ∙ (map-append of old (a ∷ []) ∙ (ap (λ l. l ++ of a ∷ []) before ∙ (ap (λ c. map at found ++ c ∷ []) same ∙ sym (map-append at found (b ∷ [])))))
 
@@ -122,10 +128,12 @@ none_reported p every found is e =
     sym (ap (λ l. differences_report (map (shown (netlist_of p.first) (netlist_of p.second)) (found_in p.first l))) e) ∙ outcome_reported p every (kind.Compared found) is
 
 -- something was
-pub some_reported : (p : PairOf) (every : Bool) (found : Vec Difference Global) (ds : List DifferenceOf) → IsOutcome p every (kind.Compared found) → (found.items ≡ [] → ⊥) → ds ≡ map (shown_of p) found.items → differs ds ≡ pair_report every p
+pub some_reported : (p : PairOf) (every : Bool) (found : Vec Difference Global) (ds : List DifferenceOf) →
+    IsOutcome p every (kind.Compared found) → (found.items ≡ [] → ⊥) → ds ≡ map (shown_of p) found.items → differs ds ≡ pair_report every p
 some_reported p every found ds is some e =
     ap differs (e ∙ all_found p found.items) ∙ (by found.items some ∙ outcome_reported p every (kind.Compared found) is)
   where
-    by : (l : List Difference) → (l ≡ [] → ⊥) → differs (map (shown (netlist_of p.first) (netlist_of p.second)) (found_in p.first l)) ≡ differences_report (map (shown (netlist_of p.first) (netlist_of p.second)) (found_in p.first l))
+    by : (l : List Difference) → (l ≡ [] → ⊥) →
+        differs (map (shown (netlist_of p.first) (netlist_of p.second)) (found_in p.first l)) ≡ differences_report (map (shown (netlist_of p.first) (netlist_of p.second)) (found_in p.first l))
     by [] some = absurd (some refl)
     by (d ∷ l) some = refl

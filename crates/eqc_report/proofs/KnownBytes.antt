@@ -23,5 +23,6 @@ keeps_appended (Some x) (Some y) None xs a b = absurd b
 keeps_appended (Some x) (Some y) (Some z) xs a b = b ∙ a
 
 -- one more write of a text
-pub writes_on : (old mid new : Option (List ℕ)) (text : List ℕ) (done n : ℕ) → Appends old mid (take done text) → Appends mid new (take n (take (length text - done) (drop done text))) → Appends old new (take (done + n) text)
+pub writes_on : (old mid new : Option (List ℕ)) (text : List ℕ) (done n : ℕ) → Appends old mid (take done text) →
+    Appends mid new (take n (take (length text - done) (drop done text))) → Appends old new (take (done + n) text)
 writes_on old mid new text done n a b = rw take-add (appends_more old mid new (take done text) (take n (drop done text)) a (rw take_rest at b))

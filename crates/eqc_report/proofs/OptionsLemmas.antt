@@ -35,7 +35,8 @@ unfolding is_cell_count
 cell_count_at n one few =
     let k = one_bit n n (omega arith) one in
     let small : k.0 < 21 = elim (cases_lt k.0 21) [ inl l ↦ l | inr g ↦ absurd (omega (arith, pow_mono {i = 21} {j = k.0} g, k.1)) ] in
-    list_any_at (λ k. n == 2 ^ k) (range_with_len 0 21) k.0 0 (omega (arith, length-range_with_len 0 21)) (eq-eqb n (2 ^ get_or (range_with_len 0 21) k.0 0) (k.1 ∙ ap (λ e. 2 ^ e) (sym (get_or-range_with_len 0 21 k.0 0 small ∙ zero-add k.0))))
+    list_any_at (λ k. n == 2 ^ k) (range_with_len 0 21) k.0 0 (omega (arith, length-range_with_len 0 21))
+    (eq-eqb n (2 ^ get_or (range_with_len 0 21) k.0 0) (k.1 ∙ ap (λ e. 2 ^ e) (sym (get_or-range_with_len 0 21 k.0 0 small ∙ zero-add k.0))))
 
 pub cell_count_bits : (n : ℕ) → is_cell_count n ≡ true → (count_ones n ≡ 1) × (n ≤ 1048576)
 unfolding is_cell_count

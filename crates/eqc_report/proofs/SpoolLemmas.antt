@@ -24,8 +24,11 @@ part_longer start now text more part = (part.0, longer, subst (Appends start now
 -- where a write of what waits is cut off, a part of the text was written
 pub part_waited : (start mid now : Option (List ℕ)) (written waits text : List ℕ) → Appends start mid written → text ≡ written ++ waits → AppendsPrefix mid now waits → AppendsPrefix start now text
 part_waited start mid now written waits text a e part =
-    subst (AppendsPrefix start now) (sym e)
-    (length written + part.0, omega (arith, part.1, length-append written waits), subst (Appends start now) (sym (take-append-add written waits part.0)) (appends_more start mid now written (take part.0 waits) a part.2))
+    subst (AppendsPrefix start now) (sym e) (
+      length written + part.0,
+      omega (arith, part.1, length-append written waits),
+      subst (Appends start now) (sym (take-append-add written waits part.0)) (appends_more start mid now written (take part.0 waits) a part.2),
+    )
 
 -- nothing was put
 pub put_none : (now : Option (List ℕ)) → IsPut now now (record { waits = []; failed = false }) []
@@ -46,14 +49,19 @@ pub puts_more : {A : Type 0} (a b c : Option (List ℕ)) (p q r : SpoolOf) (put 
     → Puts a b p q (flat_map put (take k all)) → Puts b c q r (put d) → Puts a c p r (flat_map put (take (k + 1) all))
 puts_more a b c p q r put all k d inside at x y =
     puts_same a c p r (flat_map put (take k all) ++ put d) (flat_map put (take (k + 1) all))
-    (sym (ap (flat_map put) (take_more all k d inside) ∙ (flat_map-append put (take k all) (get_or all k d ∷ []) ∙ (ap (λ z. flat_map put (take k all) ++ flat_map put (z ∷ [])) (sym at) ∙ ap (λ l. flat_map put (take k all) ++ l) (append-nil (put d))))))
+    (sym
+    (ap (flat_map put) (take_more all k d inside)
+    ∙ (flat_map-append put (take k all) (get_or all k d ∷ [])
+    ∙ (ap (λ z. flat_map put (take k all) ++ flat_map put (z ∷ [])) (sym at) ∙ ap (λ l. flat_map put (take k all) ++ l) (append-nil (put d))))))
     (puts_both a b c p q r (flat_map put (take k all)) (put d) x y)
 
-pub puts_all : {A : Type 0} (a b : Option (List ℕ)) (p q : SpoolOf) (put : A → List ℕ) (all : List A) (k : ℕ) → length all ≤ k → Puts a b p q (flat_map put (take k all)) → Puts a b p q (flat_map put all)
+pub puts_all : {A : Type 0} (a b : Option (List ℕ)) (p q : SpoolOf) (put : A → List ℕ) (all : List A) (k : ℕ) → length all ≤ k →
+    Puts a b p q (flat_map put (take k all)) → Puts a b p q (flat_map put all)
 puts_all a b p q put all k whole x = puts_same a b p q (flat_map put (take k all)) (flat_map put all) (ap (flat_map put) (take_all k all whole)) x
 
 -- one more byte of a list, and all of them
-pub bytes_more : (a b c : Option (List ℕ)) (p q r : SpoolOf) (all : List ℕ) (k byte : ℕ) → k < length all → byte ≡ get_or all k byte → Puts a b p q (take k all) → Puts b c q r (byte ∷ []) → Puts a c p r (take (k + 1) all)
+pub bytes_more : (a b c : Option (List ℕ)) (p q r : SpoolOf) (all : List ℕ) (k byte : ℕ) → k < length all → byte ≡ get_or all k byte →
+    Puts a b p q (take k all) → Puts b c q r (byte ∷ []) → Puts a c p r (take (k + 1) all)
 bytes_more a b c p q r all k byte inside at x y =
     puts_same a c p r (take k all ++ byte ∷ []) (take (k + 1) all) (sym (take_more all k byte inside ∙ ap (λ z. take k all ++ z ∷ []) (sym at))) (puts_both a b c p q r (take k all) (byte ∷ []) x y)
 
@@ -96,7 +104,8 @@ fresh_puts old new p q bytes e f a w = record { each = λ start text is. by p.fa
     by false false e f start text is = (text, subst (Appends start new) (sym is.2) (appends_more start old new is.0 p.waits is.1 a), ap (λ l. text ++ l) (sym w))
 
 -- the rest was written, or a part of it
-pub closed_whole : {X E : Type 0} (r : Result X E) (old new : Option (List ℕ)) (s : SpoolOf) (start : Option (List ℕ)) (text : List ℕ) → s.failed ≡ false → OnOk r (Appends old new s.waits) → IsPut start old s text → OnOk r (Appends start new text)
+pub closed_whole : {X E : Type 0} (r : Result X E) (old new : Option (List ℕ)) (s : SpoolOf) (start : Option (List ℕ)) (text : List ℕ) →
+    s.failed ≡ false → OnOk r (Appends old new s.waits) → IsPut start old s text → OnOk r (Appends start new text)
 closed_whole (Err error) old new s start text e a is = tt
 closed_whole (Ok x) old new s start text e a is = by s.failed e is
   where
@@ -104,7 +113,8 @@ closed_whole (Ok x) old new s start text e a is = by s.failed e is
     by true e is = let clash : true ≡ false = e in cc
     by false e is = subst (Appends start new) (sym is.2) (appends_more start old new is.0 s.waits is.1 a)
 
-pub closed_part : {X E : Type 0} (r : Result X E) (old new : Option (List ℕ)) (s : SpoolOf) (start : Option (List ℕ)) (text : List ℕ) → s.failed ≡ false → OnErr r (AppendsPrefix old new s.waits) → IsPut start old s text → OnErr r (AppendsPrefix start new text)
+pub closed_part : {X E : Type 0} (r : Result X E) (old new : Option (List ℕ)) (s : SpoolOf) (start : Option (List ℕ)) (text : List ℕ) →
+    s.failed ≡ false → OnErr r (AppendsPrefix old new s.waits) → IsPut start old s text → OnErr r (AppendsPrefix start new text)
 closed_part (Ok x) old new s start text e part is = tt
 closed_part (Err error) old new s start text e part is = by s.failed e is
   where

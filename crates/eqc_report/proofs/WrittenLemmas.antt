@@ -18,10 +18,12 @@ shown_instead report old mid new status k s = record { shown = stopped 72; one_o
 cut_instead : (report : ReportOf) (old mid new : Option (List ℕ)) → Keeps old mid → AppendsPrefix mid new (text (stopped 72)) → IsCutShort report old new
 cut_instead report old mid new k p = record { shown = stopped 72; one_of = inr refl; written = (p.0, p.1, kept_appends old mid new (take p.0 (text (stopped 72))) k p.2) }
 
-pub written_instead : {E : Type 0} (result : Result Status E) (report : ReportOf) (old mid new : Option (List ℕ)) → Keeps old mid → IfOk result (λ status. IsShown (stopped 72) mid new status) → IfOk result (λ status. IsWritten report old new status)
+pub written_instead : {E : Type 0} (result : Result Status E) (report : ReportOf) (old mid new : Option (List ℕ)) → Keeps old mid →
+    IfOk result (λ status. IsShown (stopped 72) mid new status) → IfOk result (λ status. IsWritten report old new status)
 written_instead (Ok status) report old mid new k s = shown_instead report old mid new status k s
 written_instead (Err fault) report old mid new k s = tt
 
-pub part_instead : {E : Type 0} (result : Result Status E) (report : ReportOf) (old mid new : Option (List ℕ)) → Keeps old mid → OnErr result (AppendsPrefix mid new (text (stopped 72))) → OnErr result (IsCutShort report old new)
+pub part_instead : {E : Type 0} (result : Result Status E) (report : ReportOf) (old mid new : Option (List ℕ)) → Keeps old mid →
+    OnErr result (AppendsPrefix mid new (text (stopped 72))) → OnErr result (IsCutShort report old new)
 part_instead (Ok status) report old mid new k p = tt
 part_instead (Err fault) report old mid new k p = cut_instead report old mid new k p

@@ -20,11 +20,14 @@ false_refutes nodes assumptions l among never = record {
 }
 
 -- of two complements one is false
-one_is_false : (nodes : List Node) (assumptions : List ℕ) (l m : ℕ) (a : ℕ → Bool) (v : Bool) → IsAmong l assumptions → IsAmong m assumptions → literal_value nodes a m ≡ not (literal_value nodes a l) → literal_value nodes a l ≡ v → list_any (λ k. not (literal_value nodes a k)) assumptions ≡ true
+one_is_false : (nodes : List Node) (assumptions : List ℕ) (l m : ℕ) (a : ℕ → Bool) (v : Bool) → IsAmong l assumptions → IsAmong m assumptions →
+    literal_value nodes a m ≡ not (literal_value nodes a l) → literal_value nodes a l ≡ v →
+    list_any (λ k. not (literal_value nodes a k)) assumptions ≡ true
 one_is_false nodes assumptions l m a false here there opposite is = here.found (λ k. not (literal_value nodes a k)) (ap not is)
 one_is_false nodes assumptions l m a true here there opposite is = there.found (λ k. not (literal_value nodes a k)) (ap not (opposite ∙ ap not is))
 
-pub both_refute : (nodes : List Node) (assumptions : List ℕ) (l m : ℕ) → IsAmong l assumptions → IsAmong m assumptions → ((a : ℕ → Bool) → literal_value nodes a m ≡ not (literal_value nodes a l)) → IsRefuted nodes assumptions
+pub both_refute : (nodes : List Node) (assumptions : List ℕ) (l m : ℕ) → IsAmong l assumptions → IsAmong m assumptions →
+    ((a : ℕ → Bool) → literal_value nodes a m ≡ not (literal_value nodes a l)) → IsRefuted nodes assumptions
 both_refute nodes assumptions l m here there opposite = record {
   one_is_false = λ a. one_is_false nodes assumptions l m a (literal_value nodes a l) here there (opposite a) refl;
 }

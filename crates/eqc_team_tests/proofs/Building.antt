@@ -58,14 +58,21 @@ builds v f refs left old new b range same held = record {
 }
 
 -- a call made nothing, or one reference
-pub makes_nothing : (v : ℕ) (f : Bool) (refs : List Ref) (old new : Applier) → IsBuilding v f refs old → (holding_in new.names).variables ≡ v → IsSame old new → Keeps (holding_in old.names) (holding_in new.names) → IsBuilding v f refs new
+pub makes_nothing : (v : ℕ) (f : Bool) (refs : List Ref) (old new : Applier) → IsBuilding v f refs old → (holding_in new.names).variables ≡ v →
+    IsSame old new → Keeps (holding_in old.names) (holding_in new.names) → IsBuilding v f refs new
 makes_nothing v f refs old new b range same k = builds v f refs refs old new b range same (λ e. k.held e ∙ b.held e)
 
-pub makes_one : (v : ℕ) (f : Bool) (refs all : List Ref) (r : Ref) (old new : Applier) → IsBuilding v f refs old → (holding_in new.names).variables ≡ v → IsSame old new → ((e : Entry) → copies (holding_in new.names) e ≡ copies (holding_in old.names) e + weight (entry_of r) e) → all ≡ refs ++ r ∷ [] → IsBuilding v f all new
-makes_one v f refs all r old new b range same more is = builds v f refs all old new b range same (λ e. omega (arith, b.held e, more e, ap {B = ℕ} (made_of e) is, sum_by_push (λ (q : Ref). weight (entry_of q) e) refs r))
+pub makes_one : (v : ℕ) (f : Bool) (refs all : List Ref) (r : Ref) (old new : Applier) → IsBuilding v f refs old →
+    (holding_in new.names).variables ≡ v → IsSame old new →
+    ((e : Entry) → copies (holding_in new.names) e ≡ copies (holding_in old.names) e + weight (entry_of r) e) → all ≡ refs ++ r ∷ [] →
+    IsBuilding v f all new
+makes_one v f refs all r old new b range same more is =
+    builds v f refs all old new b range same (λ e. omega (arith, b.held e, more e, ap {B = ℕ} (made_of e) is, sum_by_push (λ (q : Ref). weight (entry_of q) e) refs r))
 
 -- one was given back
-pub gives_back : (v : ℕ) (f : Bool) (refs left : List Ref) (i : ℕ) (r : Ref) (old new : Applier) → IsBuilding v f refs old → Loses (holding_in old.names) (holding_in new.names) (entry_of r) → IsWorker old.names.worker new.names.worker → i < length refs → r ≡ get_or refs i r → left ≡ swap_remove refs i r → IsBuilding v f left new
+pub gives_back : (v : ℕ) (f : Bool) (refs left : List Ref) (i : ℕ) (r : Ref) (old new : Applier) → IsBuilding v f refs old →
+    Loses (holding_in old.names) (holding_in new.names) (entry_of r) → IsWorker old.names.worker new.names.worker → i < length refs →
+    r ≡ get_or refs i r → left ≡ swap_remove refs i r → IsBuilding v f left new
 gives_back v f refs left i r old new b less worker lt at is = builds v f refs left old new b (less.variables ∙ b.range) (worker.forest, worker.seat.number) fewer
   where
     fewer : AreHeld left new
@@ -74,17 +81,21 @@ gives_back v f refs left i r old new b less worker lt at is = builds v f refs le
         omega (arith, b.held e, less.held e, ap {B = ℕ} (made_of e) is, ap {B = ℕ} one at, sum_by-swap_remove one refs i r lt)
 
 -- another member was taken in
-copies_join : (old other new : Applier) → Joins (holding_in old.names) (holding_in other.names) (holding_in new.names) → (e : Entry) → copies (holding_in new.names) e + constants_of e ≡ copies (holding_in old.names) e + copies (holding_in other.names) e
+copies_join : (old other new : Applier) → Joins (holding_in old.names) (holding_in other.names) (holding_in new.names) → (e : Entry) →
+    copies (holding_in new.names) e + constants_of e ≡ copies (holding_in old.names) e + copies (holding_in other.names) e
 unfolding copies
 copies_join old other new j e = omega (arith, j.held e)
 
-pub takes_in : (v : ℕ) (f : Bool) (refs others all : List Ref) (old other new : Applier) → IsBuilding v f refs old → AreHeld others other → Joins (holding_in old.names) (holding_in other.names) (holding_in new.names) → TakesIn old.names.worker other.names.worker new.names.worker → all ≡ refs ++ others → IsBuilding v f all new
+pub takes_in : (v : ℕ) (f : Bool) (refs others all : List Ref) (old other new : Applier) → IsBuilding v f refs old → AreHeld others other →
+    Joins (holding_in old.names) (holding_in other.names) (holding_in new.names) → TakesIn old.names.worker other.names.worker new.names.worker →
+    all ≡ refs ++ others → IsBuilding v f all new
 takes_in v f refs others all old other new b held j takes is = builds v f refs all old new b (j.variables ∙ b.range) (takes.forest, takes.number) both
   where
     both : AreHeld all new
     both e = omega (arith, b.held e, held e, copies_join old other new j e, ap {B = ℕ} (made_of e) is, sum_by-append (λ (q : Ref). weight (entry_of q) e) refs others)
 
-pub few_both : (refs others : List Ref) (a b : Applier) → AreHeld refs a → AreHeld others b → length refs ≤ 1000 → length others ≤ 1000 → (e : Entry) → copies (holding_in a.names) e + copies (holding_in b.names) e ≤ 2 ^ 38
+pub few_both : (refs others : List Ref) (a b : Applier) → AreHeld refs a → AreHeld others b → length refs ≤ 1000 → length others ≤ 1000 →
+    (e : Entry) → copies (holding_in a.names) e + copies (holding_in b.names) e ≤ 2 ^ 38
 few_both refs others a b h i lt less e = omega (arith, h e, i e, constants-le e, made-le e refs, made-le e others)
 
 -- members behind the first are not worker 0
@@ -112,7 +123,8 @@ lead_builds v nodes cells w a others t =
           (other.variables, none_held v (get_or others k d) other, All-tail Q a others t.one k d lt ∙ sym (All-head Q a others t.one), behind a others w t.numbers k d lt),
     )
 
-pub first_builds : (v nodes cells w : ℕ) (all left : List Applier) (a : Applier) → IsTeam v nodes cells w all → 0 < length all → a ≡ get_or all 0 a → left ≡ remove all 0 → IsBuilding v true [] a × All (IsBeside v a) left
+pub first_builds : (v nodes cells w : ℕ) (all left : List Applier) (a : Applier) → IsTeam v nodes cells w all → 0 < length all →
+    a ≡ get_or all 0 a → left ≡ remove all 0 → IsBuilding v true [] a × All (IsBeside v a) left
 first_builds v nodes cells w [] left a t lt at is = absurd (omega arith)
 first_builds v nodes cells w (b ∷ bs) left a t lt at is =
     let P : Applier → Type 0 = λ c. IsBuilding v true [] c × All (IsBeside v c) left in

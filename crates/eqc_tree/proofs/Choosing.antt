@@ -24,7 +24,8 @@ at_values : (vs : List ℕ) (f : (ℕ → Bool) → Bool) (a : ℕ → Bool) →
 at_values vs f a over = over.depends (assigned vs (map a vs)) a (λ i h. assigned_values vs a i over.distinct h)
 
 -- where no completion of the values makes the function true, nothing is left of it
-nothing_left : (vs : List ℕ) (f : (ℕ → Bool) → Bool) (bits : List Bool) (n : ℕ) (a : ℕ → Bool) → IsOver vs f → length bits + n ≡ length vs → find (λ t. f (assigned vs (bits ++ t))) (assignments n) ≡ None → follows vs bits a ≡ true → f a ≡ false
+nothing_left : (vs : List ℕ) (f : (ℕ → Bool) → Bool) (bits : List Bool) (n : ℕ) (a : ℕ → Bool) → IsOver vs f → length bits + n ≡ length vs →
+    find (λ t. f (assigned vs (bits ++ t))) (assignments n) ≡ None → follows vs bits a ≡ true → f a ≡ false
 nothing_left vs f bits n a over size none follow =
     let within : length bits ≤ length vs = omega arith in
     let tail : List Bool = map a (drop (length bits) vs) in
@@ -40,7 +41,9 @@ left_false true false h = refl
 left_false false y h = refl
 
 -- what is left of a function can be satisfied by a completion
-pub is_found : (vs : List ℕ) (f rest : (ℕ → Bool) → Bool) (bits : List Bool) (n : ℕ) → IsOver vs f → ((a : ℕ → Bool) → rest a ≡ (f a && follows vs bits a)) → IsSatisfiable rest → length bits + n ≡ length vs → find (λ t. f (assigned vs (bits ++ t))) (assignments n) ≡ None → ⊥
+pub is_found : (vs : List ℕ) (f rest : (ℕ → Bool) → Bool) (bits : List Bool) (n : ℕ) → IsOver vs f →
+    ((a : ℕ → Bool) → rest a ≡ (f a && follows vs bits a)) → IsSatisfiable rest → length bits + n ≡ length vs →
+    find (λ t. f (assigned vs (bits ++ t))) (assignments n) ≡ None → ⊥
 is_found vs f rest bits n over narrowed satisfiable size none =
     satisfiable (λ a. narrowed a ∙ left_false (f a) (follows vs bits a) (nothing_left vs f bits n a over size none))
 
@@ -55,7 +58,8 @@ first_of_two None u there = absurd (there refl)
 first_of_two (Some t) u there = refl
 
 -- a search among completions of values with one more
-completed : (vs : List ℕ) (f : (ℕ → Bool) → Bool) (bits : List Bool) (b : Bool) (n : ℕ) → find (λ t. f (assigned vs (bits ++ b ∷ t))) (assignments n) ≡ find (λ t. f (assigned vs ((bits ++ b ∷ []) ++ t))) (assignments n)
+completed : (vs : List ℕ) (f : (ℕ → Bool) → Bool) (bits : List Bool) (b : Bool) (n : ℕ) →
+    find (λ t. f (assigned vs (bits ++ b ∷ t))) (assignments n) ≡ find (λ t. f (assigned vs ((bits ++ b ∷ []) ++ t))) (assignments n)
 completed vs f bits b n =
     find_same (λ t. f (assigned vs (bits ++ b ∷ t))) (λ t. f (assigned vs ((bits ++ b ∷ []) ++ t)))
     (λ t. ap (λ u. f (assigned vs u)) (sym (append_assoc bits (b ∷ []) t)))
@@ -74,7 +78,9 @@ starts_chosen vs f rest bits same satisfiable empty =
     rw empty start
 
 -- a value more, where what is left with the value false is satisfiable
-pub chooses_false : (vs : List ℕ) (f rest low : (ℕ → Bool) → Bool) (bits : List Bool) → IsOver vs f → IsChosen vs f rest bits → length bits < length vs → ((a : ℕ → Bool) → low a ≡ (rest a && not (a (get_or vs (length bits) 0)))) → IsSatisfiable low → IsChosen vs f low (bits ++ false ∷ [])
+pub chooses_false : (vs : List ℕ) (f rest low : (ℕ → Bool) → Bool) (bits : List Bool) → IsOver vs f → IsChosen vs f rest bits →
+    length bits < length vs → ((a : ℕ → Bool) → low a ≡ (rest a && not (a (get_or vs (length bits) 0)))) → IsSatisfiable low →
+    IsChosen vs f low (bits ++ false ∷ [])
 chooses_false vs f rest low bits over chosen h left satisfiable =
     let narrowed : (a : ℕ → Bool) → low a ≡ (f a && follows vs (bits ++ false ∷ []) a) =
     λ a. left a
@@ -108,7 +114,9 @@ all_left true true nothing = refl
 all_left true false nothing = nothing
 
 -- no completion with the value false makes the function true where nothing is left with it
-none_with_false : (vs : List ℕ) (f rest : (ℕ → Bool) → Bool) (bits : List Bool) → IsOver vs f → IsChosen vs f rest bits → length bits < length vs → ((a : ℕ → Bool) → (rest a && not (a (get_or vs (length bits) 0))) ≡ false) → (t : List Bool) → f (assigned vs (bits ++ false ∷ t)) ≡ false
+none_with_false : (vs : List ℕ) (f rest : (ℕ → Bool) → Bool) (bits : List Bool) → IsOver vs f → IsChosen vs f rest bits →
+    length bits < length vs → ((a : ℕ → Bool) → (rest a && not (a (get_or vs (length bits) 0))) ≡ false) → (t : List Bool) →
+    f (assigned vs (bits ++ false ∷ t)) ≡ false
 none_with_false vs f rest bits over chosen h nothing t =
     let a : ℕ → Bool = assigned vs (bits ++ false ∷ t) in
     let within : length bits ≤ length vs = omega arith in
@@ -119,7 +127,8 @@ none_with_false vs f rest bits over chosen h nothing t =
     (nothing a)
 
 -- a value more, where nothing is left with the value false
-pub chooses_true : (vs : List ℕ) (f rest : (ℕ → Bool) → Bool) (bits : List Bool) → IsOver vs f → IsChosen vs f rest bits → length bits < length vs → ((a : ℕ → Bool) → (rest a && not (a (get_or vs (length bits) 0))) ≡ false) → IsChosen vs f rest (bits ++ true ∷ [])
+pub chooses_true : (vs : List ℕ) (f rest : (ℕ → Bool) → Bool) (bits : List Bool) → IsOver vs f → IsChosen vs f rest bits →
+    length bits < length vs → ((a : ℕ → Bool) → (rest a && not (a (get_or vs (length bits) 0))) ≡ false) → IsChosen vs f rest (bits ++ true ∷ [])
 chooses_true vs f rest bits over chosen h nothing = record {
   narrowed = λ a.
       all_left (rest a) (a (get_or vs (length bits) 0)) (nothing a)
@@ -153,7 +162,8 @@ one_completion bits true o e there = ap (λ u. option_map (λ t. bits ++ t) u) e
 one_completion bits false o e there = absurd (there e)
 
 -- at the end the values chosen are the least
-pub ends_chosen : (vs : List ℕ) (f rest : (ℕ → Bool) → Bool) (bits : List Bool) → IsOver vs f → IsChosen vs f rest bits → length bits ≡ length vs → Some bits ≡ find (λ t. f (assigned vs t)) (assignments (length vs))
+pub ends_chosen : (vs : List ℕ) (f rest : (ℕ → Bool) → Bool) (bits : List Bool) → IsOver vs f → IsChosen vs f rest bits →
+    length bits ≡ length vs → Some bits ≡ find (λ t. f (assigned vs t)) (assignments (length vs))
 ends_chosen vs f rest bits over chosen size =
     let whole : length bits + 0 ≡ length vs = omega arith in
     sym (chosen.least 0 whole

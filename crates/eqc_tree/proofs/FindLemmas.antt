@@ -19,7 +19,8 @@ find_same p q same [] = refl
 find_same p q same (x ∷ xs) = rw (same x, find_same p q same xs) refl
 
 -- the first assignment begins with false where one with false passes, and else with true
-pub find_first : (p : List Bool → Bool) (n : ℕ) → find p (assignments (suc n)) ≡ option_or (option_map (λ t. false ∷ t) (find (λ t. p (false ∷ t)) (assignments n))) (option_map (λ t. true ∷ t) (find (λ t. p (true ∷ t)) (assignments n)))
+pub find_first : (p : List Bool → Bool) (n : ℕ) →
+    find p (assignments (suc n)) ≡ option_or (option_map (λ t. false ∷ t) (find (λ t. p (false ∷ t)) (assignments n))) (option_map (λ t. true ∷ t) (find (λ t. p (true ∷ t)) (assignments n)))
 unfolding assignments
 find_first p n =
     find-append p (map (λ t. false ∷ t) (assignments n)) (map (λ t. true ∷ t) (assignments n))
@@ -57,7 +58,9 @@ none_found zero p none [] h = test_fails (p []) [] (sym (find_empty p) ∙ none)
 none_found zero p none (b ∷ t) h = absurd (omega arith)
 none_found (suc n) p none [] h = absurd (omega arith)
 none_found (suc n) p none (b ∷ t) h =
-    let both = option_or_none (option_map (λ u. false ∷ u) (find (λ u. p (false ∷ u)) (assignments n))) (option_map (λ u. true ∷ u) (find (λ u. p (true ∷ u)) (assignments n))) (sym (find_first p n) ∙ none) in
+    let both =
+    option_or_none (option_map (λ u. false ∷ u) (find (λ u. p (false ∷ u)) (assignments n)))
+    (option_map (λ u. true ∷ u) (find (λ u. p (true ∷ u)) (assignments n))) (sym (find_first p n) ∙ none) in
     let same : length t ≡ n = omega arith in
     elim b as (λ c. p (c ∷ t) ≡ false) [
       | true ↦ none_found n (λ u. p (true ∷ u)) (option_map_none (λ u. true ∷ u) (find (λ u. p (true ∷ u)) (assignments n)) both.1) t same

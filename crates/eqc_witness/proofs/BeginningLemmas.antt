@@ -34,7 +34,8 @@ first_there None u there = absurd (there refl)
 first_there (Some t) u there = refl
 
 -- with false more, where a list passes that begins so
-pub begun_false : (n : ℕ) (test : List Bool → Bool) (bits rest : List Bool) → IsBegun n test bits → length (bits ++ false ∷ rest) ≡ n → test (bits ++ false ∷ rest) ≡ true → IsBegun n test (bits ++ false ∷ [])
+pub begun_false : (n : ℕ) (test : List Bool → Bool) (bits rest : List Bool) → IsBegun n test bits → length (bits ++ false ∷ rest) ≡ n →
+    test (bits ++ false ∷ rest) ≡ true → IsBegun n test (bits ++ false ∷ [])
 begun_false n test bits rest begun long passes = record {
   first = λ m size.
       let more : length bits + suc m ≡ n = omega (arith, length-append bits (false ∷ [])) in
@@ -50,7 +51,9 @@ begun_false n test bits rest begun long passes = record {
 }
 
 -- with true more, where none passes that begins with false more
-pub begun_true : (n : ℕ) (test : List Bool → Bool) (bits : List Bool) → IsBegun n test bits → ((rest : List Bool) → length ((bits ++ false ∷ []) ++ rest) ≡ n → test ((bits ++ false ∷ []) ++ rest) ≡ false) → IsBegun n test (bits ++ true ∷ [])
+pub begun_true : (n : ℕ) (test : List Bool → Bool) (bits : List Bool) → IsBegun n test bits →
+    ((rest : List Bool) → length ((bits ++ false ∷ []) ++ rest) ≡ n → test ((bits ++ false ∷ []) ++ rest) ≡ false) →
+    IsBegun n test (bits ++ true ∷ [])
 begun_true n test bits begun fails = record {
   first = λ m size.
       let more : length bits + suc m ≡ n = omega (arith, length-append bits (true ∷ [])) in
@@ -77,7 +80,8 @@ begun_all n test bits begun long passes =
 -- ---- the values of a list that passes, one after the other
 
 -- a value that is false
-pub next_false : (n k : ℕ) (test : List Bool → Bool) (values : List Bool) → k < length values → length values ≡ n → test values ≡ true → get_or values k false ≡ false → IsBegun n test (take k values) → IsBegun n test (take (k + 1) values)
+pub next_false : (n k : ℕ) (test : List Bool → Bool) (values : List Bool) → k < length values → length values ≡ n → test values ≡ true →
+    get_or values k false ≡ false → IsBegun n test (take k values) → IsBegun n test (take (k + 1) values)
 next_false n k test values inside long passes is begun =
     let more : take (k + 1) values ≡ take k values ++ false ∷ [] = take_more values k false inside ∙ ap (λ b. take k values ++ b ∷ []) is in
     let whole : take k values ++ false ∷ drop (k + 1) values ≡ values =
@@ -85,13 +89,16 @@ next_false n k test values inside long passes is begun =
     subst (IsBegun n test) (sym more) (begun_false n test (take k values) (drop (k + 1) values) begun (ap length whole ∙ long) (ap test whole ∙ passes))
 
 -- a value that is true, where none passes that is false there and has those before it
-pub next_true : (n k : ℕ) (test : List Bool → Bool) (values : List Bool) → k < length values → get_or values k false ≡ true → ((rest : List Bool) → length ((take k values ++ false ∷ []) ++ rest) ≡ n → test ((take k values ++ false ∷ []) ++ rest) ≡ false) → IsBegun n test (take k values) → IsBegun n test (take (k + 1) values)
+pub next_true : (n k : ℕ) (test : List Bool → Bool) (values : List Bool) → k < length values → get_or values k false ≡ true →
+    ((rest : List Bool) → length ((take k values ++ false ∷ []) ++ rest) ≡ n → test ((take k values ++ false ∷ []) ++ rest) ≡ false) →
+    IsBegun n test (take k values) → IsBegun n test (take (k + 1) values)
 next_true n k test values inside is fails begun =
     let more : take (k + 1) values ≡ take k values ++ true ∷ [] = take_more values k false inside ∙ ap (λ b. take k values ++ b ∷ []) is in
     subst (IsBegun n test) (sym more) (begun_true n test (take k values) begun fails)
 
 -- another list that passes, with the values before and false there
-pub next_lower : (n k : ℕ) (test : List Bool → Bool) (values first lower : List Bool) → k < length values → first ≡ take k values ++ false ∷ [] → Completes n test first lower → IsBegun n test (take k values) → IsBegun n test (take (k + 1) lower)
+pub next_lower : (n k : ℕ) (test : List Bool → Bool) (values first lower : List Bool) → k < length values → first ≡ take k values ++ false ∷ [] →
+    Completes n test first lower → IsBegun n test (take k values) → IsBegun n test (take (k + 1) lower)
 next_lower n k test values first lower inside is completes begun =
     let size : length first ≡ k + 1 = ap length is ∙ omega (arith, length-append (take k values) (false ∷ []), length-take-le k values (omega arith)) in
     let more : take (k + 1) lower ≡ take k values ++ false ∷ [] = ap (λ m. take m lower) (sym size) ∙ (completes.begins ∙ is) in

@@ -25,8 +25,10 @@ differ_itself true = refl
 differ_itself false = refl
 
 -- that of one position more
-pub assumed_more : (nodes : List Node) (root n : ℕ) (first : List Bool) (k l : ℕ) (value : Bool) (literals : List ℕ) → IsCone nodes root n → length first ≤ n → k < length first → value ≡ get_or first k false
-    → ((a : ℕ → Bool) → literal_value nodes a l ≡ differ (not value) (literal_value nodes a (2 * k + 2))) → AreAssumed nodes root first k literals → AreAssumed nodes root first (k + 1) (literals ++ l ∷ [])
+pub assumed_more : (nodes : List Node) (root n : ℕ) (first : List Bool) (k l : ℕ) (value : Bool) (literals : List ℕ) → IsCone nodes root n →
+    length first ≤ n → k < length first → value ≡ get_or first k false
+    → ((a : ℕ → Bool) → literal_value nodes a l ≡ differ (not value) (literal_value nodes a (2 * k + 2))) →
+    AreAssumed nodes root first k literals → AreAssumed nodes root first (k + 1) (literals ++ l ∷ [])
 assumed_more nodes root n first k l value literals cone few inside is by so_far = record {
   all = record {
     each = λ rest.
@@ -45,6 +47,7 @@ not_true true e = sym e
 not_true false e = refl
 
 -- where the assumptions are refuted, the root is false under all values that begin so
-pub refuted_root : (nodes : List Node) (root : ℕ) (first : List Bool) (literals : List ℕ) → AreAssumptions nodes root first literals → IsRefuted nodes literals → (rest : List Bool) → holds_under nodes root (first ++ rest) ≡ false
+pub refuted_root : (nodes : List Node) (root : ℕ) (first : List Bool) (literals : List ℕ) → AreAssumptions nodes root first literals →
+    IsRefuted nodes literals → (rest : List Bool) → holds_under nodes root (first ++ rest) ≡ false
 refuted_root nodes root first literals are refuted rest =
     not_true (holds_under nodes root (first ++ rest)) (sym (are.each rest) ∙ refuted.one_is_false (values_at (first ++ rest)))

@@ -31,7 +31,9 @@ pub values_none : (nodes : List Node) (a : ℕ → Bool) → AreValues nodes a [
 values_none nodes a = record { size = refl; each = λ l below. absurd (omega arith) }
 
 -- one node more
-pub values_more : (nodes : List Node) (a : ℕ → Bool) (known : List Bool) (k : ℕ) (node : Node) (value : Bool) → AreValues nodes a known k → IsBelow k node → literal_value nodes a (2 * k) ≡ node_value a (literal_value nodes a) node → value ≡ node_value a (value_among known) node → AreValues nodes a (known ++ value ∷ []) (k + 1)
+pub values_more : (nodes : List Node) (a : ℕ → Bool) (known : List Bool) (k : ℕ) (node : Node) (value : Bool) → AreValues nodes a known k →
+    IsBelow k node → literal_value nodes a (2 * k) ≡ node_value a (literal_value nodes a) node → value ≡ node_value a (value_among known) node →
+    AreValues nodes a (known ++ value ∷ []) (k + 1)
 values_more nodes a known k node value before below is by = record {
   size = length-append known (value ∷ []) ∙ omega (arith, before.size);
   each = λ l less. elim (cases_lt (l / 2) k) [

@@ -14,7 +14,8 @@ found_as n p q (Unknown None) same is = tt
 found_as n p q (Unknown (Some values)) same is = (is.0, sym (same values.items is.0) ∙ is.1)
 
 -- what is found of a copy over positions is found of the literal over their variables
-pub found_by_copy : {E : Type 0} (nodes cone : List Node) (l root n : ℕ) (variables : List ℕ) (found : Result Witness E) → n ≡ length variables → IsCopy nodes cone variables l root → IfOk found (IsFoundOf n (holds_under cone root)) → IfOk found (IsWitness nodes l variables)
+pub found_by_copy : {E : Type 0} (nodes cone : List Node) (l root n : ℕ) (variables : List ℕ) (found : Result Witness E) → n ≡ length variables →
+    IsCopy nodes cone variables l root → IfOk found (IsFoundOf n (holds_under cone root)) → IfOk found (IsWitness nodes l variables)
 found_by_copy nodes cone l root n variables (Err e) count copy is = tt
 found_by_copy nodes cone l root n variables (Ok found) count copy is =
     found_as (length variables) (holds_under cone root) (is_true_under nodes l variables) found copy.value (rw count at is)

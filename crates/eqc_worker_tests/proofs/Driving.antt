@@ -82,7 +82,8 @@ went x y held there (yes e) =
     omega (arith, w, times-cons y x [], times-nil y, times-same y x [] e)
 went x y held there (no n) = omega (arith, times-without_other y x held n, times-cons y x [], times-nil y, times-other y x [] n)
 
-pub left : (refs rest : List Ref) (held : List ℕ) (i : ℕ) (r : Ref) → AreCovered refs held → i < length refs → r ≡ get_or refs i r → rest ≡ swap_remove refs i r → 0 < times r.number held → AreCovered rest (without r.number held)
+pub left : (refs rest : List Ref) (held : List ℕ) (i : ℕ) (r : Ref) → AreCovered refs held → i < length refs → r ≡ get_or refs i r →
+    rest ≡ swap_remove refs i r → 0 < times r.number held → AreCovered rest (without r.number held)
 left refs rest held i r covered lt e is there = subst (λ (l : List Ref). AreCovered l (without r.number held)) (sym is) (λ y two.
     let f : hit r.number y ≡ hit (get_or refs i r).number y = ap {B = ℕ} (λ (q : Ref). cond (eqb q.number y) 1 0) e in
     omega (arith, covered y two, sum_by-swap_remove (one y) refs i r lt, f, went r.number y held there (ℕ_discrete r.number y)))
@@ -109,29 +110,36 @@ phase_is p i v at = ap (λ (l : List Phase). get_or l 0 Idle) at.phases
 
 pub turns : (p q : Phase) (i : ℕ) (refs : List Ref) (old new : Standing) → IsDriven p i refs old → Steps old (with_phase old.known.core 0 q) new → IsDriven q i refs new
 turns p q i refs old new d s = record {
-  stands = subst (λ (v : View). IsAt q i v) (sym s.known.core) (stands_as p q i i old.known.core (with_phase old.known.core 0 q) d.stands refl (phases_set p q i old.known.core d.stands) d.stands.place refl refl);
+  stands =
+      subst (λ (v : View). IsAt q i v) (sym s.known.core)
+      (stands_as p q i i old.known.core (with_phase old.known.core 0 q) d.stands refl (phases_set p q i old.known.core d.stands) d.stands.place refl refl);
   covered = subst (λ (v : View). AreCovered refs v.held) (sym s.known.core) d.covered;
 }
 
-pub finds_again : (c word i x found : ℕ) (refs : List Ref) (old new : Standing) → IsDriven (Announced c word) i refs old → Steps old (rechecked old.known.core 0 found) new → found ≡ word → x ≡ result_of word → IsDriven (Confirmed x) i refs new
+pub finds_again : (c word i x found : ℕ) (refs : List Ref) (old new : Standing) → IsDriven (Announced c word) i refs old →
+    Steps old (rechecked old.known.core 0 found) new → found ≡ word → x ≡ result_of word → IsDriven (Confirmed x) i refs new
 finds_again c word i x found refs old new d s same is =
     turns (Announced c word) (Confirmed x) i refs old new d (subst (λ (p : Phase). Steps old (with_phase old.known.core 0 p) new)
     (ap (λ (p : Phase). rechecked_phase p found) (phase_is (Announced c word) i old.known.core d.stands)
     ∙ (ap (λ (b : Bool). if b then Confirmed (result_of word) else Missed (result_of word)) (eq-eqb found word same) ∙ ap (λ (n : ℕ). Confirmed n) (sym is))) s)
 
-pub finds_another : (c word i x found : ℕ) (refs : List Ref) (old new : Standing) → IsDriven (Announced c word) i refs old → Steps old (rechecked old.known.core 0 found) new → found ≢ word → x ≡ result_of word → IsDriven (Missed x) i refs new
+pub finds_another : (c word i x found : ℕ) (refs : List Ref) (old new : Standing) → IsDriven (Announced c word) i refs old →
+    Steps old (rechecked old.known.core 0 found) new → found ≢ word → x ≡ result_of word → IsDriven (Missed x) i refs new
 finds_another c word i x found refs old new d s same is =
     turns (Announced c word) (Missed x) i refs old new d (subst (λ (p : Phase). Steps old (with_phase old.known.core 0 p) new)
     (ap (λ (p : Phase). rechecked_phase p found) (phase_is (Announced c word) i old.known.core d.stands)
     ∙ (ap (λ (b : Bool). if b then Confirmed (result_of word) else Missed (result_of word)) (ne_eqb found word same) ∙ ap (λ (n : ℕ). Missed n) (sym is))) s)
 
-pub ups : (p : Phase) (i x : ℕ) (r : Ref) (refs more : List Ref) (old new : Standing) → IsDriven p i refs old → r.number ≡ x → more ≡ refs ++ r ∷ [] → Steps old (upped old.known.core x) new → IsDriven p i more new
+pub ups : (p : Phase) (i x : ℕ) (r : Ref) (refs more : List Ref) (old new : Standing) → IsDriven p i refs old → r.number ≡ x →
+    more ≡ refs ++ r ∷ [] → Steps old (upped old.known.core x) new → IsDriven p i more new
 ups p i x r refs more old new d e is s = record {
   stands = subst (λ (v : View). IsAt p i v) (sym s.known.core) (stands_as p p i i old.known.core (upped old.known.core x) d.stands refl d.stands.phases d.stands.place refl refl);
   covered = subst (λ (v : View). AreCovered more v.held) (sym s.known.core) (came x r refs more old.known.core.held e is d.covered);
 }
 
-pub downs : (p : Phase) (j i : ℕ) (r : Ref) (refs rest : List Ref) (old new : Standing) → IsDriven p j refs old → i < length refs → r ≡ get_or refs i r → rest ≡ swap_remove refs i r → (r.number < 2 → new ≡ old) → (2 ≤ r.number → Steps old (downed old.known.core r.number) new) → IsDriven p j rest new
+pub downs : (p : Phase) (j i : ℕ) (r : Ref) (refs rest : List Ref) (old new : Standing) → IsDriven p j refs old → i < length refs →
+    r ≡ get_or refs i r → rest ≡ swap_remove refs i r → (r.number < 2 → new ≡ old) → (2 ≤ r.number → Steps old (downed old.known.core r.number) new) →
+    IsDriven p j rest new
 downs p j i r refs rest old new d lt e is same step = go (dec_le 2 r.number) (is_held refs old.known.core i r d.covered lt e)
   where
     go : Dec (2 ≤ r.number) → IsHeld old.known.core r.number → IsDriven p j rest new
@@ -202,7 +210,8 @@ module _ (x : ℕ) (e : Filled) (p : Phase) (i : ℕ) (refs : List Ref) (old mid
   right = subst (λ (o : Op). IsRight mid.known o e.f.number e.g.number e.r.number) (sym t.operation)
       (right_of mid.known And e.f.number e.g.number e.r.number x x x t.first t.second t.result (λ a. both (value (tree_of mid.known x) a)))
 
-  pub may_fill : (c : ℕ) → i ≡ 0 → IsQuiet p → c < old.known.core.sizes.cells → length old.known.core.held ≤ 2 ^ 30 → length old.known.core.retired < 2 * announced_words old.known.core.sizes → MaySwap mid.known c (Some e)
+  pub may_fill : (c : ℕ) → i ≡ 0 → IsQuiet p → c < old.known.core.sizes.cells → length old.known.core.held ≤ 2 ^ 30 →
+      length old.known.core.retired < 2 * announced_words old.known.core.sizes → MaySwap mid.known c (Some e)
   may_fill c rest quiet there room few = record {
     ready = stands_still.place ∙ rest;
     there = subst (λ (v : View). c < v.sizes.cells) (sym t.core) there;
@@ -213,15 +222,19 @@ module _ (x : ℕ) (e : Filled) (p : Phase) (i : ℕ) (refs : List Ref) (old mid
   }
 
 -- a swap leaves the references covered where those that came are of the names that came
-pub swap_driven : (p : Phase) (i found : ℕ) (filled : Option Filled) (came : List ℕ) (more : List Ref) (mid new : Standing) → IsAt p i mid.known.core → Steps mid (swapped mid.known.core found (word_of filled)) new → Trades (entry_names filled) came mid new
+pub swap_driven : (p : Phase) (i found : ℕ) (filled : Option Filled) (came : List ℕ) (more : List Ref) (mid new : Standing) →
+    IsAt p i mid.known.core → Steps mid (swapped mid.known.core found (word_of filled)) new → Trades (entry_names filled) came mid new
     → ((y : ℕ) → 2 ≤ y → references_of y more + times y (entry_names filled) ≤ times y mid.known.core.held + times y came) → IsDriven Idle i more new
 swap_driven p i found filled came more mid new at s t balance = record {
-  stands = subst (λ (v : View). IsAt Idle i v) (sym s.known.core) (stands_as p Idle i i mid.known.core (swapped mid.known.core found (word_of filled)) at refl (phases_set p Idle i mid.known.core at) at.place refl refl);
+  stands =
+      subst (λ (v : View). IsAt Idle i v) (sym s.known.core)
+      (stands_as p Idle i i mid.known.core (swapped mid.known.core found (word_of filled)) at refl (phases_set p Idle i mid.known.core at) at.place refl refl);
   covered = λ y two. omega (arith, balance y two, names_now (entry_names filled) came mid new t y);
 }
 
 -- two references came
-pub two_more : (f g : Ref) (refs mid more : List Ref) (y : ℕ) → 2 ≤ y → mid ≡ refs ++ f ∷ [] → more ≡ mid ++ g ∷ [] → references_of y more ≡ references_of y refs + times y (slots_of (f.number ∷ g.number ∷ []))
+pub two_more : (f g : Ref) (refs mid more : List Ref) (y : ℕ) → 2 ≤ y → mid ≡ refs ++ f ∷ [] → more ≡ mid ++ g ∷ [] →
+    references_of y more ≡ references_of y refs + times y (slots_of (f.number ∷ g.number ∷ []))
 two_more f g refs mid more y two e is =
     let a : references_of y more ≡ references_of y (mid ++ g ∷ []) = ap {B = ℕ} (references_of y) is in
     let b : references_of y mid ≡ references_of y (refs ++ f ∷ []) = ap {B = ℕ} (references_of y) e in
@@ -232,7 +245,8 @@ pub entry_slots : (e : Filled) (y : ℕ) → 2 ≤ y → times y (entry_names (S
 entry_slots e y two = times-slots_of y (e.r.number ∷ e.f.number ∷ e.g.number ∷ []) two
 
 -- a lookup found a result, and a look came after it
-pub hit_driven : (p : Phase) (i : ℕ) (op : Op) (f g w : ℕ) (r : Ref) (refs more : List Ref) (old mid new : Standing) → IsDriven p i refs old → IsHit op f g r.number old mid → Steps mid (looked mid.known.core 0 0 w) new → more ≡ refs ++ r ∷ [] → IsDriven (Seen 0 w) i more new
+pub hit_driven : (p : Phase) (i : ℕ) (op : Op) (f g w : ℕ) (r : Ref) (refs more : List Ref) (old mid new : Standing) → IsDriven p i refs old →
+    IsHit op f g r.number old mid → Steps mid (looked mid.known.core 0 0 w) new → more ≡ refs ++ r ∷ [] → IsDriven (Seen 0 w) i more new
 hit_driven p i op f g w r refs more old mid new d h s is = record {
   stands = subst (λ (v : View). IsAt (Seen 0 w) i v) (sym (s.known.core ∙ ap (λ (v : View). looked v 0 0 w) h.core))
       (stands_as p (Seen 0 w) i i old.known.core (looked (record old.known.core { held = old.known.core.held ++ slots_of (r.number ∷ []); phases = set old.known.core.phases 0 h.phase }) 0 0 w)
@@ -270,7 +284,9 @@ pub nothing_came : (y : ℕ) → times y [] ≡ 0
 nothing_came y = times-nil y
 
 -- a cell may be emptied
-pub may_empty : (p : Phase) (i : ℕ) (refs : List Ref) (s : Standing) → IsDriven p i refs s → (c : ℕ) → i ≡ 0 → IsQuiet p → c < s.known.core.sizes.cells → length s.known.core.held ≤ 2 ^ 30 → length s.known.core.retired < 2 * announced_words s.known.core.sizes → MaySwap s.known c None
+pub may_empty : (p : Phase) (i : ℕ) (refs : List Ref) (s : Standing) → IsDriven p i refs s → (c : ℕ) → i ≡ 0 → IsQuiet p →
+    c < s.known.core.sizes.cells → length s.known.core.held ≤ 2 ^ 30 → length s.known.core.retired < 2 * announced_words s.known.core.sizes →
+    MaySwap s.known c None
 may_empty p i refs s d c rest quiet there room few = record {
   ready = d.stands.place ∙ rest;
   there = there;

@@ -6,7 +6,8 @@ use Rattle.eqc_apply.proofs.boxes.take_out.Goals as goal
 pub returns-in-Done-clause-done : goal.returns-in-Done-clause-done
 returns-in-Done-clause-done g c =
     let e = c.in-Done.ensures in
-    own_comes c.args.op c.args.f c.args.g c.in-Done.filled c.args.worker.now c.wait_for.new.worker c.own_result.new.worker c.own_result.result e.came e.right c.requires.f c.requires.g c.own_result.ensures.some
+    own_comes c.args.op c.args.f c.args.g c.in-Done.filled c.args.worker.now c.wait_for.new.worker c.own_result.new.worker c.own_result.result
+    e.came e.right c.requires.f c.requires.g c.own_result.ensures.some
 
 pub returns-in-Done-clause-undone : goal.returns-in-Done-clause-undone
 returns-in-Done-clause-undone g c = λ e. let none : c.own_result.result ≡ None = cc in came_went c.in-Done.ensures.came (c.own_result.ensures.none none)

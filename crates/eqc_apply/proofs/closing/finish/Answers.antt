@@ -8,7 +8,8 @@ pub collect-requires-clause-rest : goal.collect-requires-clause-rest
 collect-requires-clause-rest g c =
     let w = c.args.worker in
     let p : IsCopied w c.alone-alone.new.self = c.alone-alone.ensures.copy (c.alone-alone.ensures.answer.1 c.requires.alone) in
-    rest_begins (unboxed_rest w c.alone-alone.new.self c.requires.alone c.requires.rest c.requires.cells c.requires.room p c.empty_boxes.new.worker c.empty_boxes.ensures.changes c.empty_boxes.ensures.empty)
+    rest_begins
+    (unboxed_rest w c.alone-alone.new.self c.requires.alone c.requires.rest c.requires.cells c.requires.room p c.empty_boxes.new.worker c.empty_boxes.ensures.changes c.empty_boxes.ensures.empty)
 
 pub returns : goal.returns
 returns g c =

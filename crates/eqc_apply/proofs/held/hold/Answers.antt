@@ -9,17 +9,20 @@ returns-in_err-name-clause-only c = absurd (let few = few_held c.requires.has.1 
 pub returns-clause-has : goal.returns-clause-has
 returns-clause-has c = λ n h.
     let none : get_or c.args.counts.now.items c.args.x 0 ≡ 0 = subst (λ (l : List ℕ). get_or l c.args.x 0 ≡ 0) c.as_slice.ensures.value (c.if-is_counted.ensures.no refl) in
-    more_has c.args.x n c.args.counts.now.items c.grow_counts.new.counts.items c.args.worker.now c.up.new.self c.if-x-lt2.false none c.grow_counts.ensures.same c.in_ok-grow_counts.ensures.room c.in_ok-name.ensures.step h
+    more_has c.args.x n c.args.counts.now.items c.grow_counts.new.counts.items c.args.worker.now c.up.new.self c.if-x-lt2.false none
+    c.grow_counts.ensures.same c.in_ok-grow_counts.ensures.room c.in_ok-name.ensures.step h
 
 pub returns-clause-settles : goal.returns-clause-settles
 returns-clause-settles c =
     let none : get_or c.args.counts.now.items c.args.x 0 ≡ 0 = subst (λ (l : List ℕ). get_or l c.args.x 0 ≡ 0) c.as_slice.ensures.value (c.if-is_counted.ensures.no refl) in
-    more_settles c.args.x c.requires.has.0 c.args.counts.now.items c.grow_counts.new.counts.items c.args.worker.now c.up.new.self c.if-x-lt2.false none c.grow_counts.ensures.same c.in_ok-grow_counts.ensures.room c.in_ok-name.ensures.step c.requires.has.1
+    more_settles c.args.x c.requires.has.0 c.args.counts.now.items c.grow_counts.new.counts.items c.args.worker.now c.up.new.self c.if-x-lt2.false
+    none c.grow_counts.ensures.same c.in_ok-grow_counts.ensures.room c.in_ok-name.ensures.step c.requires.has.1
 
 pub returns-clause-there : goal.returns-clause-there
 returns-clause-there c =
     let none : get_or c.args.counts.now.items c.args.x 0 ≡ 0 = subst (λ (l : List ℕ). get_or l c.args.x 0 ≡ 0) c.as_slice.ensures.value (c.if-is_counted.ensures.no refl) in (
-      more_held c.args.x c.requires.has.0 c.args.counts.now.items c.grow_counts.new.counts.items c.args.worker.now c.up.new.self c.if-x-lt2.false none c.grow_counts.ensures.same c.in_ok-grow_counts.ensures.room c.in_ok-name.ensures.step,
+      more_held c.args.x c.requires.has.0 c.args.counts.now.items c.grow_counts.new.counts.items c.args.worker.now c.up.new.self c.if-x-lt2.false
+          none c.grow_counts.ensures.same c.in_ok-grow_counts.ensures.room c.in_ok-name.ensures.step,
       trees_stay c.args.x c.args.worker.now c.up.new.self c.recall_laws.ensures c.in_ok-name.ensures.step c.args.x (named_is c.args.worker.now.known.core c.args.x c.requires.may),
     )
 

@@ -20,7 +20,8 @@ returns-in-Ok-clause-lead c = λ n z g h.
         sizes_are = sizes_left l.names.worker.known c.split.new.self.known s.known ∙ h.sizes_are;
         given_is = given_left g l.names.worker.known c.split.new.self.known s.known h.given_is;
       },
-      subst (λ (cs : List ℕ). IsNew n (holding_of l.names.variables c.in-Ok.worker.known cs)) (sym c.new.ensures.items) (new_member n l.names.variables c.in-Ok.worker.known l.names.worker.known l.names.counts.items h.new),
+      subst (λ (cs : List ℕ). IsNew n (holding_of l.names.variables c.in-Ok.worker.known cs)) (sym c.new.ensures.items)
+          (new_member n l.names.variables c.in-Ok.worker.known l.names.worker.known l.names.counts.items h.new),
       number_split g l.names.worker.known c.in-Ok.worker.known s.other_known h.given_is,
       sizes_split l.names.worker.known c.in-Ok.worker.known s.other_known ∙ h.sizes_are,
     )

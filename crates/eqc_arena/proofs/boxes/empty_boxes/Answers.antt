@@ -23,5 +23,7 @@ put-requires c =
 pub loop-b-preserved : goal.loop-b-preserved
 loop-b-preserved c = record {
   changes = still c.loop-b.invariant.changes (here c.loop-b.invariant.changes c.put.ensures.changes);
-  empty = one_unboxed c.loop-b.b c.args.worker.now.known c.loop-b.worker.known c.put.new.worker.known (ap (λ (v : View). v.sizes) c.loop-b.invariant.changes.core) c.loop-b.invariant.empty c.put.ensures.sets;
+  empty =
+      one_unboxed c.loop-b.b c.args.worker.now.known c.loop-b.worker.known c.put.new.worker.known
+      (ap (λ (v : View). v.sizes) c.loop-b.invariant.changes.core) c.loop-b.invariant.empty c.put.ensures.sets;
 }

@@ -22,7 +22,8 @@ loop-i-init g c =
       tries = λ n taken b.
           let same : taken ≡ taken + 0 = omega arith in
           subst (λ (m : ℕ). IsTrying [] n c.args.stripe m c.len-i.result c.lock_stripe-map.result.entries c.lock_stripe-map.new.self.known) same
-          (stripe_begins n c.args.stripe c.args.stripe taken c.len-i.result c.lock_stripe-map.result.entries c.args.worker.now c.lock_stripe-map.new.self b c.lock_stripe-map.ensures.step c.lock_stripe-map.ensures.copies (omega arith));
+          (stripe_begins n c.args.stripe c.args.stripe taken c.len-i.result c.lock_stripe-map.result.entries c.args.worker.now
+          c.lock_stripe-map.new.self b c.lock_stripe-map.ensures.step c.lock_stripe-map.ensures.copies (omega arith));
     }
 
 pub try_entry-requires-clause-home : goal.try_entry-requires-clause-home
@@ -34,7 +35,8 @@ loop-i-preserved-then-try_entry g c = record {
   left = c.try_entry.ensures.left;
   few = let few = c.loop-i.invariant.few in let lt = c.loop-i-test.true in omega arith;
   changes = goes_on c.loop-i.invariant.changes c.try_entry.ensures.changes;
-  tries = λ n taken b. next_try n c.args.stripe (taken + c.loop-i.taken) (taken + (c.loop-i.taken + 1)) 1 c.loop-i.i c.loop-i.map.entries c.try_entry.new.map.entries c.loop-i.worker c.try_entry.new.worker
+  tries = λ n taken b.
+      next_try n c.args.stripe (taken + c.loop-i.taken) (taken + (c.loop-i.taken + 1)) 1 c.loop-i.i c.loop-i.map.entries c.try_entry.new.map.entries c.loop-i.worker c.try_entry.new.worker
       c.loop-i-test.true (omega arith) c.if-try_entry.ensures.tries c.loop-i.invariant.home (c.loop-i.invariant.tries n taken b);
 }
 

@@ -25,13 +25,16 @@ loop-stripe-preserved g c =
     record {
       few = let before = c.loop-stripe.invariant.few in let few = c.take_stripe-taken.ensures.few in let fell = c.take_fallen-taken.ensures.few in omega arith;
       changes = still t (here t c.take_fallen-taken.ensures.changes);
-      tries = λ n b. c.take_fallen-taken.ensures.takes n (c.loop-stripe.stripe + 1) (c.loop-stripe.taken + c.take_stripe-taken.result) (c.take_stripe-taken.ensures.tries n c.loop-stripe.taken (c.loop-stripe.invariant.tries n b));
+      tries = λ n b.
+          c.take_fallen-taken.ensures.takes n (c.loop-stripe.stripe + 1) (c.loop-stripe.taken + c.take_stripe-taken.result)
+          (c.take_stripe-taken.ensures.tries n c.loop-stripe.taken (c.loop-stripe.invariant.tries n b));
     }
 
 pub returns-clause-tries : goal.returns-clause-tries
 returns-clause-tries g c n b =
     let over : c.loop-stripe.stripe ≡ 16 = let le = c.loop-stripe-test.false in let end = c.loop-stripe.auto.stripe-end in omega arith in
-    let done : IsBetween [] n 16 c.loop-stripe.taken c.loop-stripe.worker.known = subst (λ (s : ℕ). IsBetween [] n s c.loop-stripe.taken c.loop-stripe.worker.known) over (c.loop-stripe.invariant.tries n b) in (
+    let done : IsBetween [] n 16 c.loop-stripe.taken c.loop-stripe.worker.known =
+    subst (λ (s : ℕ). IsBetween [] n s c.loop-stripe.taken c.loop-stripe.worker.known) over (c.loop-stripe.invariant.tries n b) in (
       next_turn n c.loop-stripe.taken c.loop-stripe.worker.known done,
       λ zero. took_none n c.loop-stripe.worker.known (subst (λ (m : ℕ). IsBetween [] n 16 m c.loop-stripe.worker.known) zero done),
     )

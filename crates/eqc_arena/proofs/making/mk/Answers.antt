@@ -6,7 +6,8 @@ use Rattle.eqc_arena.proofs.making.mk.Goals as goal
 
 pub returns-then-number : goal.returns-then-number
 returns-then-number g c =
-    copy_given c.args.var c.args.low.now.number c.args.high.now.number c.args.worker.now c.copy.new.worker c.copy.result c.recall_laws.ensures (sym c.number.ensures ∙ (c.if-number.true ∙ c.number-2.ensures)) c.requires.low_held
+    copy_given c.args.var c.args.low.now.number c.args.high.now.number c.args.worker.now c.copy.new.worker c.copy.result c.recall_laws.ensures
+    (sym c.number.ensures ∙ (c.if-number.true ∙ c.number-2.ensures)) c.requires.low_held
     c.copy.ensures.name c.copy.ensures.copied c.copy.ensures.still c.copy.ensures.full c.copy.ensures.only
 
 pub insist-requires-clause-may : goal.insist-requires-clause-may

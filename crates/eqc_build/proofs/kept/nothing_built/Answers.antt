@@ -5,10 +5,20 @@ use Rattle.eqc_build.proofs.KeptLaws.{none_kept, none_moved}
 use Rattle.eqc_build.proofs.kept.nothing_built.Goals as goal
 
 pub overflow_add-netlists : goal.overflow_add-netlists
-overflow_add-netlists g c = omega (arith, c.first_places.ensures.each.size, c.second_places.ensures.each.size, c.recall_laws.ensures.first_flat.few_signals, c.recall_laws.ensures.second_flat.few_signals)
+overflow_add-netlists g c =
+    omega (arith, c.first_places.ensures.each.size, c.second_places.ensures.each.size, c.recall_laws.ensures.first_flat.few_signals, c.recall_laws.ensures.second_flat.few_signals)
 
 pub overflow_add-count : goal.overflow_add-count
-overflow_add-count g c = omega (arith, c.first_places.ensures.each.size, c.second_places.ensures.each.size, c.assumed_places.ensures.each.size, c.recall_laws.ensures.first_flat.few_signals, c.recall_laws.ensures.second_flat.few_signals, (assumed_flat c.args.pair.now c.recall_laws.ensures).few_signals)
+overflow_add-count g c =
+    omega (
+      arith,
+      c.first_places.ensures.each.size,
+      c.second_places.ensures.each.size,
+      c.assumed_places.ensures.each.size,
+      c.recall_laws.ensures.first_flat.few_signals,
+      c.recall_laws.ensures.second_flat.few_signals,
+      (assumed_flat c.args.pair.now c.recall_laws.ensures).few_signals,
+    )
 
 pub returns : goal.returns
 returns g c =

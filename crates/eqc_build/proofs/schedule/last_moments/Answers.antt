@@ -24,8 +24,11 @@ loop-k-preserved-then-at-gt0 c =
     let same : c.loop-k.k ≡ k + 1 = omega arith in
     let inside : k < steps_in g.pair = omega (arith, c.loop-k.invariant.0) in
     let from : AreMomentsFrom g c.args.marks.now c.loop-k.last.items c.args.outputs (k + 1) = subst (AreMomentsFrom g c.args.marks.now c.loop-k.last.items c.args.outputs) same c.loop-k.invariant.1 in
-    let read : c.index-at.result.now ≡ get_or c.loop-k.last.items k 0 = c.index-at.ensures ∙ get_or_default c.loop-k.last.items k c.index-at.result.now 0 (omega (arith, inside, from.ended.size)) in
-    (omega (arith, c.loop-k.invariant.0), moments_raised g c.args.marks.now c.loop-k.last.items c.raise.new.last.items c.args.outputs k c.start_of.result c.len-k.ensures.lawful inside (λ output late. c.start_of.ensures.start output (omega (arith, late, read))) from (rw c.uses.ensures at c.raise.ensures))
+    let read : c.index-at.result.now ≡ get_or c.loop-k.last.items k 0 = c.index-at.ensures ∙ get_or_default c.loop-k.last.items k c.index-at.result.now 0 (omega (arith, inside, from.ended.size)) in (
+      omega (arith, c.loop-k.invariant.0),
+      moments_raised g c.args.marks.now c.loop-k.last.items c.raise.new.last.items c.args.outputs k c.start_of.result c.len-k.ensures.lawful
+          inside (λ output late. c.start_of.ensures.start output (omega (arith, late, read))) from (rw c.uses.ensures at c.raise.ensures),
+    )
 
 pub loop-k-preserved : goal.loop-k-preserved
 loop-k-preserved c =
@@ -40,4 +43,5 @@ loop-k-preserved c =
 pub returns-clause-last : goal.returns-clause-last
 returns-clause-last c =
     let at_end : c.loop-k.k ≡ 0 = omega (arith, c.loop-k-test.false) in
-    moments_done c.args.steps.now c.args.marks.now c.loop-k.last.items c.args.outputs (subst (AreMomentsFrom c.args.steps.now c.args.marks.now c.loop-k.last.items c.args.outputs) at_end c.loop-k.invariant.1)
+    moments_done c.args.steps.now c.args.marks.now c.loop-k.last.items c.args.outputs
+    (subst (AreMomentsFrom c.args.steps.now c.args.marks.now c.loop-k.last.items c.args.outputs) at_end c.loop-k.invariant.1)

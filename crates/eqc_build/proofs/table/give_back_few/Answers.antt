@@ -8,7 +8,8 @@ use Rattle.eqc_build.proofs.table.give_back_few.Goals as goal
 pub give_back-requires : goal.give_back-requires
 give_back-requires g c =
     let k = c.in-Some.field-0-0 in
-    let was : get nat_eq c.loop-reference.table k ≡ Some c.in-Some.reference = ap (lookup (nat_eq k)) c.in-Some.ensures.entries ∙ lookup_last k c.in-Some.reference c.pop.new.self.entries c.in-Some.ensures.updates.1 in
+    let was : get nat_eq c.loop-reference.table k ≡ Some c.in-Some.reference = ap (lookup (nat_eq k)) c.in-Some.ensures.entries
+    ∙ lookup_last k c.in-Some.reference c.pop.new.self.entries c.in-Some.ensures.updates.1 in
     few_held g.D.References.entry _ c.args.count (get nat_eq c.loop-reference.table) k c.in-Some.reference was (c.loop-reference.invariant.2 k (rw was refl)) c.loop-reference.invariant.1
 
 pub loop-reference-preserved : goal.loop-reference-preserved

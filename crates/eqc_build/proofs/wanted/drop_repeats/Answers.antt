@@ -11,7 +11,10 @@ returns-then-top-step-clause-below c = λ x h. omega (arith, open_below_top (hea
 pub loop-top-preserved : goal.loop-top-preserved
 loop-top-preserved c =
     let some : 0 < heap_len c.loop-top.heap = c.in-Some.ensures.variant.0 refl in
-    let more = drop_more (heap_items c.loop-top.heap) (heap_items c.pop.new.self) c.in-Some.top.now c.args.step c.pop.result (c.pop.ensures.variant.1 some) (omega (arith, some, c.loop-top.heap.data.ok.0)) c.loop-top.invariant.0 c.in-Some.ensures.lookup (omega (arith, c.if-top-step.false)) c.pop.ensures.top c.pop.ensures.permutation c.pop.ensures.heap_order in
+    let more =
+    drop_more (heap_items c.loop-top.heap) (heap_items c.pop.new.self) c.in-Some.top.now c.args.step c.pop.result
+    (c.pop.ensures.variant.1 some) (omega (arith, some, c.loop-top.heap.data.ok.0)) c.loop-top.invariant.0 c.in-Some.ensures.lookup
+    (omega (arith, c.if-top-step.false)) c.pop.ensures.top c.pop.ensures.permutation c.pop.ensures.heap_order in
     (more.0, λ x h. c.loop-top.invariant.1 x (more.1 x h), λ x h. c.loop-top.invariant.2 x (more.1 x h), λ x low h. more.2 x low (c.loop-top.invariant.3 x low h))
 
 pub returns-clause-below : goal.returns-clause-below

@@ -32,13 +32,15 @@ returns-then-found-lt2-clause-hit c =
     let found : c.in_ok-found.found ≡ result_of c.look-word.result = c.in_ok-found.ensures.entry.1 in
     let small : result_of c.look-word.result < 2 = subst (λ (n : ℕ). n < 2) found c.if-found-lt2.true in
     let r : c.constant.result.number ≡ result_of c.look-word.result = c.constant.ensures ∙ (constant_number c.in_ok-found.found c.if-found-lt2.true ∙ found) in
-    finds_constant c.args.op c.args.first c.args.second 0 cell word old s1 at tag first second c.requires.first_held c.requires.second_held c.constant.result.number r small (c.look-word.ensures.tells (some_word c.args.op c.look-word.result tag))
+    finds_constant c.args.op c.args.first c.args.second 0 cell word old s1 at tag first second c.requires.first_held c.requires.second_held
+    c.constant.result.number r small (c.look-word.ensures.tells (some_word c.args.op c.look-word.result tag))
 
 pub take-requires-clause-may : goal.take-requires-clause-may
 unfolding result_of
 take-requires-clause-may c =
     let at = starts c.args.worker.now c.look-word.new.self (Seen c.args.cell c.look-word.result) c.look-word.ensures.step in
-    may_announce c.args.worker.now c.look-word.new.self c.args.cell c.look-word.result c.in_ok-found.found at c.requires.may.0 c.requires.may.1 (let n = c.if-found-lt2.false in omega arith) c.in_ok-found.ensures.entry.1
+    may_announce c.args.worker.now c.look-word.new.self c.args.cell c.look-word.result c.in_ok-found.found at c.requires.may.0 c.requires.may.1
+    (let n = c.if-found-lt2.false in omega arith) c.in_ok-found.ensures.entry.1
 
 pub returns-clause-hit : goal.returns-clause-hit
 unfolding result_of
@@ -53,7 +55,8 @@ returns-clause-hit c =
     let first : first_of c.look-word.result ≡ c.args.first = is.1 in
     let second : second_of c.look-word.result ≡ c.args.second = is.2 in
     let found : c.in_ok-found.found ≡ result_of c.look-word.result = c.in_ok-found.ensures.entry.1 in
-    hits c.args.op c.args.first c.args.second c.in_ok-found.found cell word old s1 at tag first second c.requires.first_held c.requires.second_held c.take.new.worker (let n = c.if-found-lt2.false in omega arith) c.take.result c.take.ensures.name c.take.ensures.hit
+    hits c.args.op c.args.first c.args.second c.in_ok-found.found cell word old s1 at tag first second c.requires.first_held
+    c.requires.second_held c.take.new.worker (let n = c.if-found-lt2.false in omega arith) c.take.result c.take.ensures.name c.take.ensures.hit
 
 pub returns-clause-miss : goal.returns-clause-miss
 returns-clause-miss c = λ e.
@@ -74,7 +77,8 @@ returns-clause-cells c =
 
 -- a word that is no entry is what the copy has
 pub returns-in_err-found-clause-missed : goal.returns-in_err-found-clause-missed
-returns-in_err-found-clause-missed c = λ e. inr (λ ws has entry. c.in_err-found.ensures.other refl (subst (λ (w : ℕ). IsEntry c.args.op (c.args.first, c.args.second) w) (c.look-word.ensures.copies.seen ws has) entry))
+returns-in_err-found-clause-missed c =
+    λ e. inr (λ ws has entry. c.in_err-found.ensures.other refl (subst (λ (w : ℕ). IsEntry c.args.op (c.args.first, c.args.second) w) (c.look-word.ensures.copies.seen ws has) entry))
 
 pub returns-then-found-lt2-clause-found : goal.returns-then-found-lt2-clause-found
 unfolding result_of
@@ -97,7 +101,8 @@ returns-clause-found c = found_taken c.args.op (c.args.first, c.args.second) c.a
 -- a count that was refused was at the limit, and a second look by a worker that is alone finds what the first one found
 pub returns-clause-missed : goal.returns-clause-missed
 returns-clause-missed c = λ none. ⊎_elim
-    (λ limit. let held : length c.look-word.new.self.known.core.held ≡ length c.args.worker.now.known.core.held = ap {B = ℕ} (λ (v : View). length v.held) c.look-word.ensures.step.known.core in inl (omega arith))
+    (λ limit. let held : length c.look-word.new.self.known.core.held ≡ length c.args.worker.now.known.core.held = ap {B = ℕ} (λ (v : View). length v.held) c.look-word.ensures.step.known.core in
+    inl (omega arith))
     (λ other. inr (λ ws has entry.
     let at = starts c.args.worker.now c.look-word.new.self (Seen c.args.cell c.look-word.result) c.look-word.ensures.step in
     let read = read_stays c.args.worker.now.known c.look-word.new.self.known _ c.look-word.result ws c.look-word.ensures.copies has in

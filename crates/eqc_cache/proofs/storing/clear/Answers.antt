@@ -18,7 +18,9 @@ replace-requires c =
 pub loop-cell-preserved : goal.loop-cell-preserved
 loop-cell-preserved c = record {
   trades = after_room [] c.args.worker.now c.loop-cell.worker c.replace.new.worker c.cells-cell-end.ensures.known c.loop-cell.invariant.trades c.replace.ensures.trades;
-  empty = one_empty c.loop-cell.cell c.args.worker.now.known c.loop-cell.worker.known c.replace.new.worker.known (ap (λ (v : View). v.sizes) c.loop-cell.invariant.trades.core) c.loop-cell.invariant.empty c.replace.ensures.sets;
+  empty =
+      one_empty c.loop-cell.cell c.args.worker.now.known c.loop-cell.worker.known c.replace.new.worker.known
+      (ap (λ (v : View). v.sizes) c.loop-cell.invariant.trades.core) c.loop-cell.invariant.empty c.replace.ensures.sets;
 }
 
 pub returns-clause-before : goal.returns-clause-before

@@ -19,7 +19,8 @@ pub returns-in-Ok-clause-copied : goal.returns-in-Ok-clause-copied
 returns-in-Ok-clause-copied c =
     let is = sym c.in-Ok.ensures.name in
     let two = subst (λ (n : ℕ). 2 ≤ n) is (let n = c.if-x-lt2.false in omega arith) in
-    copies_name c.in-Ok.reference.number c.args.worker.now c.up.new.self two c.requires.known c.requires.quiet (subst (λ (n : ℕ). Steps c.args.worker.now (upped c.args.worker.now.known.core n) c.up.new.self) is c.in-Ok.ensures.step)
+    copies_name c.in-Ok.reference.number c.args.worker.now c.up.new.self two c.requires.known c.requires.quiet
+    (subst (λ (n : ℕ). Steps c.args.worker.now (upped c.args.worker.now.known.core n) c.up.new.self) is c.in-Ok.ensures.step)
 
 pub returns-then-x-lt2-clause-cells : goal.returns-then-x-lt2-clause-cells
 returns-then-x-lt2-clause-cells c = cells_stay c.args.worker.now.known

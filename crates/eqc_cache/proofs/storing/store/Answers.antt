@@ -17,7 +17,10 @@ returns-in_default-clause-before c = as_before c.args.worker.now c.entry.new.wor
 pub returns-in-Some-clause-stored : goal.returns-in-Some-clause-stored
 returns-in-Some-clause-stored c =
     let sizes = ap (λ (v : View). v.sizes) c.in-Some.ensures.some.core in
-    inl (stores c.args.op c.args.f.now.number c.args.g.now.number c.args.r.now.number c.number.result c.number-2.result c.number-3.result c.cells.result c.place-cell.result (word_of (Some c.in-Some.filled)) c.ordered-first.result c.args.worker.now.known c.replace.new.worker.known
+    inl
+    (stores c.args.op c.args.f.now.number c.args.g.now.number c.args.r.now.number c.number.result c.number-2.result c.number-3.result
+    c.cells.result c.place-cell.result (word_of (Some c.in-Some.filled)) c.ordered-first.result c.args.worker.now.known
+    c.replace.new.worker.known
     c.number.ensures c.number-2.ensures c.number-3.ensures c.cells.ensures.cells c.ordered-first.ensures.order c.place-cell.ensures.place c.in-Some.ensures.word
     (sets_after c.args.worker.now.known c.entry.new.worker.known c.replace.new.worker.known c.place-cell.result (word_of (Some c.in-Some.filled)) sizes c.in-Some.ensures.cells c.replace.ensures.sets))
 

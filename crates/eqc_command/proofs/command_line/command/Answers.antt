@@ -7,7 +7,8 @@ use Rattle.eqc_command.proofs.command_line.command.Goals as goal
 
 pub returns : goal.returns
 returns c =
-    let none = ap app_of_fields c.after_help.ensures ∙ (ap app_of_fields c.override_usage.ensures ∙ (ap app_of_fields c.about.ensures ∙ (ap app_of_fields c.version.ensures ∙ ap with_version c.new.ensures.app))) in
+    let none = ap app_of_fields c.after_help.ensures
+    ∙ (ap app_of_fields c.override_usage.ensures ∙ (ap app_of_fields c.about.ensures ∙ (ap app_of_fields c.version.ensures ∙ ap with_version c.new.ensures.app))) in
     let workers = arg_added _ _ _ _ _ c.in_ok-arg.ensures c.number.ensures.own none c.number.ensures.rule in
     let nodes = arg_added _ _ _ _ _ c.in_ok-arg-2.ensures c.number-2.ensures.own workers c.number-2.ensures.rule in
     let cells = arg_added _ _ _ _ _ c.in_ok-arg-3.ensures c.number-3.ensures.own nodes c.number-3.ensures.rule in

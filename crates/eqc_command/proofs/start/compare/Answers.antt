@@ -19,5 +19,8 @@ returns-in-Ok-finished g c = record {
 
 pub returns : goal.returns
 returns g c =
-    run_failed g.R.Read.remaining g.RT.File.Read.remaining c.args.request.now c.args.input (g.W.Write.contents c.args.out.now) (g.W.Write.contents c.run_asked-finished.new.out) (g.E.Write.contents c.args.err.now) (g.E.Write.contents c.explain-in-Err-finished.new.err) c.in-Err-finished.fault c.in-Ok.sources c.in-Ok.ensures
-    (λ e. rw c.given_by-given.ensures at (c.in-Err-finished.ensures.write (ap Err e))) (λ e. c.in-Err-finished.ensures.read (ap Err e)) c.in-Err-finished.ensures.memory c.explain-in-Err-finished.ensures
+    run_failed g.R.Read.remaining g.RT.File.Read.remaining c.args.request.now c.args.input (g.W.Write.contents c.args.out.now)
+    (g.W.Write.contents c.run_asked-finished.new.out) (g.E.Write.contents c.args.err.now) (g.E.Write.contents c.explain-in-Err-finished.new.err)
+    c.in-Err-finished.fault c.in-Ok.sources c.in-Ok.ensures
+    (λ e. rw c.given_by-given.ensures at (c.in-Err-finished.ensures.write (ap Err e))) (λ e. c.in-Err-finished.ensures.read (ap Err e))
+    c.in-Err-finished.ensures.memory c.explain-in-Err-finished.ensures

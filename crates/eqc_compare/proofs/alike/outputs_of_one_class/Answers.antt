@@ -8,7 +8,8 @@ pub bounds-signals-output : goal.bounds-signals-output
 bounds-signals-output c =
     let p = c.args.pair.now in
     let h = c.recall_laws.ensures in
-    let less : c.loop-output.output < length p.first.output_signals = omega (arith, c.loop-output-test.true, ap length c.second_signals-others.ensures.each, (pair_matched p h).size, h.first_flat.each_output) in
+    let less : c.loop-output.output < length p.first.output_signals =
+    omega (arith, c.loop-output-test.true, ap length c.second_signals-others.ensures.each, (pair_matched p h).size, h.first_flat.each_output) in
     rw (c.output_signals-signals.ensures.signals, c.first.ensures) less
 
 pub bounds-first-signals : goal.bounds-first-signals

@@ -3,7 +3,9 @@ use Rattle.eqc_compare.proofs.AlikeLaws.{settled_more, settled_all}
 use Rattle.eqc_compare.proofs.alike.settled_outputs.Goals as goal
 
 pub loop-output-preserved : goal.loop-output-preserved
-loop-output-preserved c = rw c.in_ok-push.ensures.items (settled_more c.args.pair.now c.loop-output.marks.items c.is_settled.result c.loop-output.output c.loop-output.invariant c.is_settled.ensures.none c.is_settled.ensures.chosen)
+loop-output-preserved c =
+    rw c.in_ok-push.ensures.items
+    (settled_more c.args.pair.now c.loop-output.marks.items c.is_settled.result c.loop-output.output c.loop-output.invariant c.is_settled.ensures.none c.is_settled.ensures.chosen)
 
 pub returns : goal.returns
 returns c =

@@ -10,4 +10,7 @@ give_back_kept-requires g c =
     (moved_kept g.D.References.entry c.args.schedule.now.plan.steps.pair _ _ c.in-Ok.kept.table _ kept c.compare_in_turn-found.ensures.moves).owned
 
 pub returns-clause-kept : goal.returns-clause-kept
-returns-clause-kept g c = nothing_moved g.D.References.entry _ _ _ c.in-Ok.kept.table _ (c.in-Ok.ensures (g.D.References.holding c.args.d.now) (rw c.pair.ensures c.requires.variables)).1 c.compare_in_turn-found.ensures.moves.moves c.give_back_kept.ensures
+returns-clause-kept g c =
+    nothing_moved g.D.References.entry _ _ _ c.in-Ok.kept.table _
+    (c.in-Ok.ensures (g.D.References.holding c.args.d.now) (rw c.pair.ensures c.requires.variables)).1 c.compare_in_turn-found.ensures.moves.moves
+    c.give_back_kept.ensures

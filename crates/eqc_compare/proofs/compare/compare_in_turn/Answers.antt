@@ -19,7 +19,9 @@ loop-output-preserved-then-is_marked g c =
     let n = c.loop-output.output in
     let inside : n < length p.first.outputs = omega (arith, ap length outputs) in
     record {
-      told = told_skip p c.args.schedule.now.every c.loop-output.found.items n c.loop-output.invariant.told inside (c.requires.settled.none n inside (rw c.deref.ensures.value at (sym c.is_marked.ensures ∙ c.if-is_marked.true)));
+      told =
+          told_skip p c.args.schedule.now.every c.loop-output.found.items n c.loop-output.invariant.told inside
+          (c.requires.settled.none n inside (rw c.deref.ensures.value at (sym c.is_marked.ensures ∙ c.if-is_marked.true)));
       moves = c.loop-output.invariant.moves;
     }
 
@@ -29,7 +31,9 @@ compare_kept-requires g c =
     let outputs = rw (c.first.ensures, c.pair.ensures) at c.outputs-output-end.ensures in
     let n = c.loop-output.output in
     let inside : n < length p.first.outputs = omega (arith, ap length outputs) in
-    comparable_next g.D.References.entry c.args.schedule.now.plan c.args.schedule.now.settled.items _ _ n inside (rw c.deref.ensures.value at (sym c.is_marked.ensures ∙ c.if-is_marked.false)) c.requires.turns (moved_kept g.D.References.entry p _ _ _ _ c.requires.kept c.loop-output.invariant.moves)
+    comparable_next g.D.References.entry c.args.schedule.now.plan c.args.schedule.now.settled.items _ _ n inside
+    (rw c.deref.ensures.value at (sym c.is_marked.ensures ∙ c.if-is_marked.false)) c.requires.turns
+    (moved_kept g.D.References.entry p _ _ _ _ c.requires.kept c.loop-output.invariant.moves)
 
 pub loop-output-preserved-in-None : goal.loop-output-preserved-in-None
 loop-output-preserved-in-None g c =
@@ -39,7 +43,9 @@ loop-output-preserved-in-None g c =
     let inside : n < length p.first.outputs = omega (arith, ap length outputs) in
     let chosen = c.requires.settled.chosen n inside (rw c.deref.ensures.value at (sym c.is_marked.ensures ∙ c.if-is_marked.false)) in
     record {
-      told = told_skip p c.args.schedule.now.every c.loop-output.found.items n c.loop-output.invariant.told inside (told_chosen p n chosen ∙ (sym c.in_ok-compare_kept.ensures.found ∙ ap (option_map (λ (v : Vec Bool Global). v.items)) c.in-None.is));
+      told =
+          told_skip p c.args.schedule.now.every c.loop-output.found.items n c.loop-output.invariant.told inside
+          (told_chosen p n chosen ∙ (sym c.in_ok-compare_kept.ensures.found ∙ ap (option_map (λ (v : Vec Bool Global). v.items)) c.in-None.is));
       moves = kept_twice g.D.References.entry p _ _ _ _ _ _ c.loop-output.invariant.moves c.compare_kept.ensures.moves;
     }
 

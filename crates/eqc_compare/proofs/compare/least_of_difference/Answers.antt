@@ -7,7 +7,8 @@ use Rattle.eqc_cover.proofs.HeldLaws.{kept_held}
 use Rattle.eqc_compare.proofs.compare.least_of_difference.Goals as goal
 
 pub returns-then-is_false-clause-found : goal.returns-then-is_false-clause-found
-returns-then-is_false-clause-found g c = sym (none_is c.args.pair.now c.args.output (says (g.D.References.entry c.args.difference)) c.recall_laws.ensures c.requires.output c.requires.function (c.is_false.ensures.0 c.if-is_false.true))
+returns-then-is_false-clause-found g c =
+    sym (none_is c.args.pair.now c.args.output (says (g.D.References.entry c.args.difference)) c.recall_laws.ensures c.requires.output c.requires.function (c.is_false.ensures.0 c.if-is_false.true))
 
 pub least_over-least-requires-clause-within : goal.least_over-least-requires-clause-within
 least_over-least-requires-clause-within g c = rw c.variables.ensures.each (variables_below c.args.pair.now _ c.recall_laws.ensures c.requires.variables)
@@ -16,10 +17,13 @@ pub least_over-least-requires-clause-distinct : goal.least_over-least-requires-c
 least_over-least-requires-clause-distinct g c = rw c.variables.ensures.each (variables_distinct c.args.pair.now c.recall_laws.ensures)
 
 pub least_over-least-requires-clause-depends : goal.least_over-least-requires-clause-depends
-least_over-least-requires-clause-depends g c = rw c.variables.ensures.each (differs_depends c.args.pair.now c.args.output (says (g.D.References.entry c.args.difference)) c.recall_laws.ensures c.requires.output c.requires.function)
+least_over-least-requires-clause-depends g c =
+    rw c.variables.ensures.each (differs_depends c.args.pair.now c.args.output (says (g.D.References.entry c.args.difference)) c.recall_laws.ensures c.requires.output c.requires.function)
 
 pub returns-clause-found : goal.returns-clause-found
-returns-clause-found g c = (rw c.variables.ensures.each at c.in_ok-least.ensures.least) ∙ least_is c.args.pair.now c.args.output (says (g.D.References.entry c.args.difference)) c.recall_laws.ensures c.requires.output c.requires.function
+returns-clause-found g c =
+    (rw c.variables.ensures.each at c.in_ok-least.ensures.least)
+    ∙ least_is c.args.pair.now c.args.output (says (g.D.References.entry c.args.difference)) c.recall_laws.ensures c.requires.output c.requires.function
 
 pub give_back-requires-2 : goal.give_back-requires-2
 give_back-requires-2 g c = kept_held _ _ _ c.least_over-least.ensures.kept c.requires.held

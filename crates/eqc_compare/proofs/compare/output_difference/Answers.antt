@@ -20,5 +20,7 @@ pub returns-clause-ok : goal.returns-clause-ok
 returns-clause-ok g c =
     let made = c.in_ok-difference.ensures.ok in
     gained_behind g.D.References.entry _ _ _ _ _ c.apply-allowed.result _ _ (differs_at c.args.steps.now.pair c.args.output)
-    (λ a. differs_with c.args.steps.now c.args.output c.in-Some.root a _ _ c.len-count.ensures.lawful c.in-Some.ensures (c.requires.kept.built.values c.in-Some.root c.reference_at.result.now c.reference_at.ensures a) (made.function a))
+    (λ a.
+    differs_with c.args.steps.now c.args.output c.in-Some.root a _ _ c.len-count.ensures.lawful c.in-Some.ensures
+    (c.requires.kept.built.values c.in-Some.root c.reference_at.result.now c.reference_at.ensures a) (made.function a))
     made c.apply-allowed.ensures.ok c.give_back.ensures

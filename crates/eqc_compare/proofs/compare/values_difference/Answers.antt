@@ -19,6 +19,10 @@ returns-clause-ok g c =
     let s = c.args.steps.now in
     let o = c.args.output in
     let table = c.args.table.now in
-    let first : reference_of table (first_root s o) ≡ Some c.reference_at-first.result.now = ap (reference_of table) (sym (ap (λ rs. get_or rs 0 0) c.roots-roots.ensures ∙ root_first s o)) ∙ c.reference_at-first.ensures in
-    let second : reference_of table (second_root s o) ≡ Some c.reference_at.result.now = ap (reference_of table) (sym (ap (λ rs. get_or rs 1 0) c.roots-roots.ensures ∙ root_second s o)) ∙ c.reference_at.ensures in
-    gains_as g.D.References.entry _ _ c.apply.result _ (values_differ_at s.pair o) (λ a. xor_says g.D.References.entry s o table c.reference_at-first.result.now c.reference_at.result.now a c.len-count.ensures.lawful c.requires.output c.requires.kept.built first second) c.apply.ensures.ok
+    let first : reference_of table (first_root s o) ≡ Some c.reference_at-first.result.now = ap (reference_of table) (sym (ap (λ rs. get_or rs 0 0) c.roots-roots.ensures ∙ root_first s o))
+    ∙ c.reference_at-first.ensures in
+    let second : reference_of table (second_root s o) ≡ Some c.reference_at.result.now = ap (reference_of table) (sym (ap (λ rs. get_or rs 1 0) c.roots-roots.ensures ∙ root_second s o))
+    ∙ c.reference_at.ensures in
+    gains_as g.D.References.entry _ _ c.apply.result _ (values_differ_at s.pair o)
+    (λ a. xor_says g.D.References.entry s o table c.reference_at-first.result.now c.reference_at.result.now a c.len-count.ensures.lawful c.requires.output c.requires.kept.built first second)
+    c.apply.ensures.ok

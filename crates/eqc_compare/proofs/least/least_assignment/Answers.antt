@@ -13,4 +13,6 @@ pub least_over-requires-clause-depends : goal.least_over-requires-clause-depends
 least_over-requires-clause-depends g c = rw c.variables.ensures.each (depends_on c.args.pair.now (says (g.D.References.entry c.args.f.now)) c.variables.ensures.lawful c.requires.depends)
 
 pub returns-clause-least : goal.returns-clause-least
-returns-clause-least g c = least_found c.args.pair.now (says (g.D.References.entry c.args.f.now)) c.variables.result.now c.least_over.result c.variables.ensures.lawful c.variables.ensures.each c.requires.depends c.least_over.ensures.least
+returns-clause-least g c =
+    least_found c.args.pair.now (says (g.D.References.entry c.args.f.now)) c.variables.result.now c.least_over.result c.variables.ensures.lawful
+    c.variables.ensures.each c.requires.depends c.least_over.ensures.least

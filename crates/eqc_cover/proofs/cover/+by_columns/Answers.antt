@@ -52,10 +52,13 @@ pub returns-then-columns-le-MOST_COLUMNS : goal.returns-then-columns-le-MOST_COL
 returns-then-columns-le-MOST_COLUMNS g t c =
     makes_as g.D.References.entry _ _ c.by_table.result _ _
     (λ a. elim c.if-on.branch [
-      | then-on w ↦ ap (λ u. table_value u (said g.D.References.entry c.args.columns.now a)) w.table-is ∙ on_said c.matching_table-matched.result (length c.args.columns.now) c.args.on (map (λ r. r.now) c.args.rows.now)
+      | then-on w ↦ ap (λ u. table_value u (said g.D.References.entry c.args.columns.now a)) w.table-is
+          ∙ on_said c.matching_table-matched.result (length c.args.columns.now) c.args.on (map (λ r. r.now) c.args.rows.now)
           (said g.D.References.entry c.args.columns.now a) (length_said g.D.References.entry c.args.columns.now a) c.matching_table-matched.ensures w.if-on.true
-      | else-on w ↦ ap (λ u. table_value u (said g.D.References.entry c.args.columns.now a)) w.table-is ∙ off_said c.matching_table-matched.result (length c.args.columns.now) c.args.on (map (λ r. r.now) c.args.rows.now)
-          (said g.D.References.entry c.args.columns.now a) (length_said g.D.References.entry c.args.columns.now a) c.if-columns-le-MOST_COLUMNS.true (omega arith) c.matching_table-matched.ensures w.if-on.false
+      | else-on w ↦ ap (λ u. table_value u (said g.D.References.entry c.args.columns.now a)) w.table-is
+          ∙ off_said c.matching_table-matched.result (length c.args.columns.now) c.args.on (map (λ r. r.now) c.args.rows.now)
+          (said g.D.References.entry c.args.columns.now a) (length_said g.D.References.entry c.args.columns.now a)
+          c.if-columns-le-MOST_COLUMNS.true (omega arith) c.matching_table-matched.ensures w.if-on.false
     ]) c.by_table.ensures
 
 pub by_columns-low-requires : goal.by_columns-low-requires

@@ -14,4 +14,6 @@ loop-k-preserved c =
     c.requires c.loop-k.invariant c.in_ok-row.ensures.extends (rw c.get.ensures at c.in_ok-row.ensures.value) c.negated.ensures.node c.negated.ensures.value c.in_ok-push.ensures.items (omega arith)
 
 pub returns-clause-value : goal.returns-clause-value
-returns-clause-value c = unmatched_made c.args.sweep.now c.loop-k.sweep c.all_of.new.sweep c.args.columns.now c.args.rows.now c.loop-k.none.items c.loop-k.k c.all_of.result (omega arith) c.loop-k.invariant c.all_of.ensures.value
+returns-clause-value c =
+    unmatched_made c.args.sweep.now c.loop-k.sweep c.all_of.new.sweep c.args.columns.now c.args.rows.now c.loop-k.none.items c.loop-k.k
+    c.all_of.result (omega arith) c.loop-k.invariant c.all_of.ensures.value

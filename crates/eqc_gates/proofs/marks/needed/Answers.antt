@@ -7,15 +7,30 @@ use Rattle.eqc_gates.proofs.marks.needed.Goals.{then-outputs-output, else-output
 
 pub mark_both-requires-clause-first : goal.mark_both-requires-clause-first
 mark_both-requires-clause-first c =
-    omega (arith, ap (λ rs. get_or rs 0 0) c.roots.ensures, root_first c.args.steps.now c.loop-output.output, first_root_within c.args.steps.now c.loop-output.output c.len-count.ensures.lawful (omega (arith, c.loop-output-test.true, c.requires)), c.loop-output.invariant.size)
+    omega (
+      arith,
+      ap (λ rs. get_or rs 0 0) c.roots.ensures,
+      root_first c.args.steps.now c.loop-output.output,
+      first_root_within c.args.steps.now c.loop-output.output c.len-count.ensures.lawful (omega (arith, c.loop-output-test.true, c.requires)),
+      c.loop-output.invariant.size,
+    )
 
 pub mark_both-requires-clause-second : goal.mark_both-requires-clause-second
 mark_both-requires-clause-second c =
-    omega (arith, ap (λ rs. get_or rs 1 0) c.roots.ensures, root_second c.args.steps.now c.loop-output.output, second_root_within c.args.steps.now c.loop-output.output c.len-count.ensures.lawful (omega (arith, c.loop-output-test.true, c.requires)), c.loop-output.invariant.size)
+    omega (
+      arith,
+      ap (λ rs. get_or rs 1 0) c.roots.ensures,
+      root_second c.args.steps.now c.loop-output.output,
+      second_root_within c.args.steps.now c.loop-output.output c.len-count.ensures.lawful (omega (arith, c.loop-output-test.true, c.requires)),
+      c.loop-output.invariant.size,
+    )
 
 pub loop-output-preserved : goal.loop-output-preserved
 loop-output-preserved c = elim c.if-outputs-output.branch [
-  | then-outputs-output w ↦ rw w.marks-is (roots_more c.args.steps.now c.args.outputs.now c.loop-output.marks.items w.mark_both.new.marks.items c.loop-output.output w.roots.result c.loop-output.invariant w.roots.ensures w.mark_both.ensures)
+  | then-outputs-output w ↦
+      rw w.marks-is
+      (roots_more c.args.steps.now c.args.outputs.now c.loop-output.marks.items w.mark_both.new.marks.items c.loop-output.output
+      w.roots.result c.loop-output.invariant w.roots.ensures w.mark_both.ensures)
   | else-outputs-output w ↦ rw w.marks-is (roots_same c.args.steps.now c.args.outputs.now c.loop-output.marks.items c.loop-output.output c.loop-output.invariant w.if-outputs-output.false)
 ]
 

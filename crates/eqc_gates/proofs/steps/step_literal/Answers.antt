@@ -7,12 +7,23 @@ use Rattle.eqc_gates.proofs.EnteringLaws.{found_within, found_values}
 use Rattle.eqc_gates.proofs.steps.step_literal.Goals as goal
 
 pub returns-in-Copy-clause-value : goal.returns-in-Copy-clause-value
-returns-in-Copy-clause-value c = value_as c.args.sweep.now c.literal_at.result (λ a. value_at c.args.steps.now.pair a c.in-Copy.other) (λ a. value_at c.args.steps.now.pair a c.args.step) c.in-Copy.ensures.1 (c.requires.literals.each c.in-Copy.other c.literal_at.result c.literal_at.ensures)
+returns-in-Copy-clause-value c =
+    value_as c.args.sweep.now c.literal_at.result (λ a. value_at c.args.steps.now.pair a c.in-Copy.other)
+    (λ a. value_at c.args.steps.now.pair a c.args.step) c.in-Copy.ensures.1
+    (c.requires.literals.each c.in-Copy.other c.literal_at.result c.literal_at.ensures)
 
 pub cover_literal-requires : goal.cover_literal-requires
-cover_literal-requires c = found_within c.args.steps.now.pair c.args.sweep.now c.args.table.now c.in-Cover.columns c.deref.result.now c.requires.literals (rw c.deref.ensures.value c.in_ok-columns-in-Cover.ensures)
+cover_literal-requires c =
+    found_within c.args.steps.now.pair c.args.sweep.now c.args.table.now c.in-Cover.columns c.deref.result.now c.requires.literals (rw c.deref.ensures.value c.in_ok-columns-in-Cover.ensures)
 
 pub returns-in_ok-columns-in-Cover-clause-value : goal.returns-in_ok-columns-in-Cover-clause-value
 returns-in_ok-columns-in-Cover-clause-value c =
-    made_as c.cover_literal.new.sweep c.cover_literal.result (λ a. cover_value c.in-Cover.rows.now (map (literal_value c.args.sweep.now a) c.deref.result.now)) (λ a. value_at c.args.steps.now.pair a c.args.step)
-    (λ a. ap (cover_value c.in-Cover.rows.now) (found_values c.args.steps.now.pair c.args.sweep.now c.args.table.now c.in-Cover.columns c.deref.result.now a c.requires.literals (rw c.deref.ensures.value c.in_ok-columns-in-Cover.ensures)) ∙ c.in-Cover.ensures.1 a) c.cover_literal.ensures.value
+    made_as c.cover_literal.new.sweep c.cover_literal.result
+    (λ a. cover_value c.in-Cover.rows.now (map (literal_value c.args.sweep.now a) c.deref.result.now))
+    (λ a. value_at c.args.steps.now.pair a c.args.step)
+    (λ a.
+    ap (cover_value c.in-Cover.rows.now)
+    (found_values c.args.steps.now.pair c.args.sweep.now c.args.table.now c.in-Cover.columns c.deref.result.now a c.requires.literals
+    (rw c.deref.ensures.value c.in_ok-columns-in-Cover.ensures))
+    ∙ c.in-Cover.ensures.1 a)
+    c.cover_literal.ensures.value

@@ -7,4 +7,7 @@ pub loop-output-preserved : goal.loop-output-preserved
 loop-output-preserved c =
     let p = c.args.steps.now.pair in
     let i = c.loop-output.invariant in
-    rw c.in_ok-push.ensures.items (omega (arith, i.0, length-append c.loop-output.more.items (c.is_known_equal.result ∷ [])), equal_more p c.loop-output.more.items c.is_known_equal.result c.loop-output.output i.0 i.1 c.is_known_equal.ensures)
+    rw c.in_ok-push.ensures.items (
+      omega (arith, i.0, length-append c.loop-output.more.items (c.is_known_equal.result ∷ [])),
+      equal_more p c.loop-output.more.items c.is_known_equal.result c.loop-output.output i.0 i.1 c.is_known_equal.ensures,
+    )

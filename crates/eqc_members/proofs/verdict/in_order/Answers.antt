@@ -11,7 +11,8 @@ pub unreachable-requires : goal.unreachable-requires
 unreachable-requires c =
     let i = c.loop-output.invariant in
     let m = length c.args.pair.now.first.outputs in
-    let few : (x : ℕ) → times x (named (c.pop.new.self.items ++ c.in-Some.field-0 ∷ [])) ≤ once_below x m = subst (λ (l : List Verdict). (x : ℕ) → times x (named l) ≤ once_below x m) c.in-Some.ensures.items i.1 in
+    let few : (x : ℕ) →
+    times x (named (c.pop.new.self.items ++ c.in-Some.field-0 ∷ [])) ≤ once_below x m = subst (λ (l : List Verdict). (x : ℕ) → times x (named l) ≤ once_below x m) c.in-Some.ensures.items i.1 in
     let lt = is_output (asked c.args.pair.now c.args.every) m c.pop.new.self.items c.in-Some.field-0 few in
     omega (arith, i.0, c.len.ensures, c.if-place-len.true)
 
@@ -20,7 +21,8 @@ unreachable-requires-then-is_some c =
     let i = c.loop-output.invariant in
     let m = length c.args.pair.now.first.outputs in
     let o = c.in-Some.field-0.output in
-    let few : (x : ℕ) → times x (named (c.pop.new.self.items ++ c.in-Some.field-0 ∷ [])) ≤ once_below x m = subst (λ (l : List Verdict). (x : ℕ) → times x (named l) ≤ once_below x m) c.in-Some.ensures.items i.1 in
+    let few : (x : ℕ) →
+    times x (named (c.pop.new.self.items ++ c.in-Some.field-0 ∷ [])) ≤ once_below x m = subst (λ (l : List Verdict). (x : ℕ) → times x (named l) ≤ once_below x m) c.in-Some.ensures.items i.1 in
     let lt = is_output (asked c.args.pair.now c.args.every) m c.pop.new.self.items c.in-Some.field-0 few in
     let size : length c.loop-output.row.items ≡ vec_len c.loop-output.row = search rules in
     let here : get_or c.loop-output.row.items o None ≡ c.index.result.now = get_or_default c.loop-output.row.items o None c.index.result.now (omega (arith, lt, i.0, size)) ∙ sym c.index.ensures in
@@ -32,7 +34,8 @@ pub loop-output-preserved : goal.loop-output-preserved
 loop-output-preserved c =
     let i = c.loop-output.invariant in
     let m = length c.args.pair.now.first.outputs in
-    let few : (x : ℕ) → times x (named (c.pop.new.self.items ++ c.in-Some.field-0 ∷ [])) ≤ once_below x m = subst (λ (l : List Verdict). (x : ℕ) → times x (named l) ≤ once_below x m) c.in-Some.ensures.items i.1 in
+    let few : (x : ℕ) →
+    times x (named (c.pop.new.self.items ++ c.in-Some.field-0 ∷ [])) ≤ once_below x m = subst (λ (l : List Verdict). (x : ℕ) → times x (named l) ≤ once_below x m) c.in-Some.ensures.items i.1 in
     let size : length c.loop-output.row.items ≡ vec_len c.loop-output.row = search rules in
     let popped = All-pop (IsRight (asked c.args.pair.now c.args.every)) c.loop-output.rest.items c.pop.new.self.items (Some c.in-Some.field-0) c.in-Some.ensures.items i.2 in (
       i.0,

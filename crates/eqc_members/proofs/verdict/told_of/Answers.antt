@@ -22,7 +22,9 @@ loop-next-preserved-in-Some-Equal c =
     let inside : o < vec_len c.loop-next.row = omega (arith, c.loop-next-test.true, c.len.ensures) in
     let size : length c.loop-next.row.items ≡ vec_len c.loop-next.row = search rules in
     let here : get_or c.args.row.items o None ≡ Some Equal =
-    sym (i.rest o (omega arith) inside) ∙ (get_or_default c.loop-next.row.items o None c.index_mut.result.now (omega (arith, inside, size)) ∙ (sym c.index_mut.ensures.value ∙ (sym c.take.ensures.value ∙ (c.in-Some-Equal.is ∙ ap Some c.in-Some-Equal.field-0-is)))) in
+    sym (i.rest o (omega arith) inside)
+    ∙ (get_or_default c.loop-next.row.items o None c.index_mut.result.now (omega (arith, inside, size))
+    ∙ (sym c.index_mut.ensures.value ∙ (sym c.take.ensures.value ∙ (c.in-Some-Equal.is ∙ ap Some c.in-Some-Equal.field-0-is)))) in
     let found = stood (asked p c.args.every) o (get_or c.args.row.items o None) Equal here (c.requires.each o (omega (arith, inside, i.size))) in
     let within : o < length p.first.outputs = omega (arith, inside, i.size, c.requires.size) in
     record {
@@ -39,7 +41,9 @@ returns-then-not-every c =
     let inside : o < vec_len c.loop-next.row = omega (arith, c.loop-next-test.true, c.len.ensures) in
     let size : length c.loop-next.row.items ≡ vec_len c.loop-next.row = search rules in
     let here : get_or c.args.row.items o None ≡ Some (Differs c.in-Some-Differs.values) =
-    sym (i.rest o (omega arith) inside) ∙ (get_or_default c.loop-next.row.items o None c.index_mut.result.now (omega (arith, inside, size)) ∙ (sym c.index_mut.ensures.value ∙ (sym c.take.ensures.value ∙ (c.in-Some-Differs.is ∙ ap Some c.in-Some-Differs.field-0-is)))) in
+    sym (i.rest o (omega arith) inside)
+    ∙ (get_or_default c.loop-next.row.items o None c.index_mut.result.now (omega (arith, inside, size))
+    ∙ (sym c.index_mut.ensures.value ∙ (sym c.take.ensures.value ∙ (c.in-Some-Differs.is ∙ ap Some c.in-Some-Differs.field-0-is)))) in
     let found = stood (asked p c.args.every) o (get_or c.args.row.items o None) (Differs c.in-Some-Differs.values) here (c.requires.each o (omega (arith, inside, i.size))) in
     let within : o < length p.first.outputs = omega (arith, inside, i.size, c.requires.size) in
     let d : Difference = record { output = o; values = c.in-Some-Differs.values } in
@@ -53,7 +57,9 @@ loop-next-preserved c =
     let inside : o < vec_len c.loop-next.row = omega (arith, c.loop-next-test.true, c.len.ensures) in
     let size : length c.loop-next.row.items ≡ vec_len c.loop-next.row = search rules in
     let here : get_or c.args.row.items o None ≡ Some (Differs c.in-Some-Differs.values) =
-    sym (i.rest o (omega arith) inside) ∙ (get_or_default c.loop-next.row.items o None c.index_mut.result.now (omega (arith, inside, size)) ∙ (sym c.index_mut.ensures.value ∙ (sym c.take.ensures.value ∙ (c.in-Some-Differs.is ∙ ap Some c.in-Some-Differs.field-0-is)))) in
+    sym (i.rest o (omega arith) inside)
+    ∙ (get_or_default c.loop-next.row.items o None c.index_mut.result.now (omega (arith, inside, size))
+    ∙ (sym c.index_mut.ensures.value ∙ (sym c.take.ensures.value ∙ (c.in-Some-Differs.is ∙ ap Some c.in-Some-Differs.field-0-is)))) in
     let found = stood (asked p c.args.every) o (get_or c.args.row.items o None) (Differs c.in-Some-Differs.values) here (c.requires.each o (omega (arith, inside, i.size))) in
     let within : o < length p.first.outputs = omega (arith, inside, i.size, c.requires.size) in
     let d : Difference = record { output = o; values = c.in-Some-Differs.values } in
@@ -64,4 +70,6 @@ loop-next-preserved c =
     }
 
 pub returns : goal.returns
-returns c = told_all c.args.pair.now c.args.every c.loop-next.found.items c.loop-next.next c.loop-next.invariant.told (omega (arith, c.loop-next-test.false, c.len.ensures, c.loop-next.invariant.size, c.requires.size))
+returns c =
+    told_all c.args.pair.now c.args.every c.loop-next.found.items c.loop-next.next c.loop-next.invariant.told
+    (omega (arith, c.loop-next-test.false, c.len.ensures, c.loop-next.invariant.size, c.requires.size))

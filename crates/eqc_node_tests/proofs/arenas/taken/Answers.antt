@@ -15,4 +15,5 @@ pub release-requires : goal.release-requires
 release-requires g c = may_release_after c.args.worker.now c.confirm.new.self c.args.x c.requires.may c.requires.slot (c.if-not-confirm.ensures.yes refl) c.up.new.self c.in-Ok.ensures.step
 
 pub returns-clause-taken : goal.returns-clause-taken
-returns-clause-taken g c = taken c.args.worker.now c.confirm.new.self c.args.x c.requires.may c.requires.slot (c.if-not-confirm.ensures.yes refl) c.up.new.self c.in-Ok.ensures.step c.release.new.self c.release.ensures.step
+returns-clause-taken g c =
+    taken c.args.worker.now c.confirm.new.self c.args.x c.requires.may c.requires.slot (c.if-not-confirm.ensures.yes refl) c.up.new.self c.in-Ok.ensures.step c.release.new.self c.release.ensures.step

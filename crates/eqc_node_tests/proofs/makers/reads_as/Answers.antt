@@ -9,7 +9,11 @@ pub returns-then-root-var-clause-changes : goal.returns-then-root-var-clause-cha
 returns-then-root-var-clause-changes c = reads c.args.node.now.number c.read_node.result c.args.worker.now c.read_node.new.self c.read_node.ensures.step
 
 pub returns-clause-tree : goal.returns-clause-tree
-returns-clause-tree c = λ yes. reads_node c.args.node.now.number c.read_node.result c.args.var c.args.low c.args.high c.unpack_node-root.result c.args.worker.now c.read_node.new.self c.read_node.ensures.tells c.unpack_node-root.ensures.fields c.if-root-var.false c.if-first-low.false c.if-second-high.false
+returns-clause-tree c =
+    λ yes.
+    reads_node c.args.node.now.number c.read_node.result c.args.var c.args.low c.args.high c.unpack_node-root.result c.args.worker.now
+    c.read_node.new.self c.read_node.ensures.tells c.unpack_node-root.ensures.fields c.if-root-var.false c.if-first-low.false
+    c.if-second-high.false
 
 pub returns-clause-changes : goal.returns-clause-changes
 returns-clause-changes c = reads c.args.node.now.number c.read_node.result c.args.worker.now c.read_node.new.self c.read_node.ensures.step

@@ -14,7 +14,8 @@ returns c =
       | else-count-eq0-via-then-count-eq0+else-count-eq0-2 w ↦ λ _ none. w.if-count-eq0-2.false (w.count-then-count-eq0.ensures ∙ none)
       | else-count-eq0-via-else-count-eq0 w ↦ λ none _. w.if-count-eq0.false (c.count.ensures ∙ none)
     ] in (
-      not_the_same c.args.names.now c.args.others.now c.in_ok-first.first.1 c.in_ok-second.second.1 (rw (others, names) at c.in_ok-first.ensures.none) (rw (names_again, others_again) at c.in_ok-second.ensures.none) some,
+      not_the_same c.args.names.now c.args.others.now c.in_ok-first.first.1 c.in_ok-second.second.1
+          (rw (others, names) at c.in_ok-first.ensures.none) (rw (names_again, others_again) at c.in_ok-second.ensures.none) some,
       rw (others, names) at c.in_ok-first.ensures.names,
       rw (names_again, others_again) at c.in_ok-second.ensures.names,
     )

@@ -9,5 +9,8 @@ returns-then-not-branch c = (
 
 pub names-preserved : goal.names-preserved
 names-preserved c =
-    let more = seen_more c.names.set c.insert_bytes.new.self c.args.names.now c.names.name-index _ c.in_ok-insert_bytes.field-0 c.names-test.true c.names.invariant.added c.names.invariant.once c.in_ok-insert_bytes.ensures.fresh c.if-not-branch.false c.in_ok-insert_bytes.ensures.names in
+    let more =
+    seen_more c.names.set c.insert_bytes.new.self c.args.names.now c.names.name-index _ c.in_ok-insert_bytes.field-0 c.names-test.true
+    c.names.invariant.added c.names.invariant.once c.in_ok-insert_bytes.ensures.fresh c.if-not-branch.false
+    c.in_ok-insert_bytes.ensures.names in
     record { added = more.0; once = more.1 }

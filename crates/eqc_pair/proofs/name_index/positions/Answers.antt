@@ -7,7 +7,10 @@ returns-in-None c = place_missing c.args.set.now c.args.names.now c.names.name-i
 
 pub names-preserved : goal.names-preserved
 names-preserved c =
-    let more = place_more c.args.set.now c.args.names.now c.names.name-index _ c.names.all.items c.push.new.self.items c.in-Some.position c.names-test.true c.names.invariant.each c.names.invariant.found (sym c.position.ensures ∙ c.in-Some.is) c.in_ok-push-in-Some.ensures.items in
+    let more =
+    place_more c.args.set.now c.args.names.now c.names.name-index _ c.names.all.items c.push.new.self.items c.in-Some.position
+    c.names-test.true c.names.invariant.each c.names.invariant.found (sym c.position.ensures ∙ c.in-Some.is)
+    c.in_ok-push-in-Some.ensures.items in
     record { each = more.0; found = more.1 }
 
 pub returns : goal.returns

@@ -12,7 +12,11 @@ pub narrow-requires-2 : goal.narrow-requires-2
 narrow-requires-2 c = range_small c.numbers.number c.numbers.numbers.items c.deref-2.result.now (omega arith) c.numbers.invariant c.deref-2.ensures.value
 
 pub returns-clause-variables : goal.returns-clause-variables
-returns-clause-variables c = range_variables c.args.inputs c.numbers.number c.numbers.numbers.items c.deref.result.now c.deref-2.result.now c.in_ok-narrow.field-0.items c.in_ok-narrow-2.field-0.items (omega arith) c.numbers.invariant c.deref.ensures.value c.in_ok-narrow.ensures c.deref-2.ensures.value c.in_ok-narrow-2.ensures
+returns-clause-variables c =
+    range_variables c.args.inputs c.numbers.number c.numbers.numbers.items c.deref.result.now c.deref-2.result.now c.in_ok-narrow.field-0.items
+    c.in_ok-narrow-2.field-0.items (omega arith) c.numbers.invariant c.deref.ensures.value c.in_ok-narrow.ensures c.deref-2.ensures.value
+    c.in_ok-narrow-2.ensures
 
 pub returns-clause-lawful : goal.returns-clause-lawful
-returns-clause-lawful c = range_order c.args.inputs c.numbers.number c.numbers.numbers.items c.deref.result.now c.in_ok-narrow.field-0.items (omega arith) c.numbers.invariant c.deref.ensures.value c.in_ok-narrow.ensures
+returns-clause-lawful c =
+    range_order c.args.inputs c.numbers.number c.numbers.numbers.items c.deref.result.now c.in_ok-narrow.field-0.items (omega arith) c.numbers.invariant c.deref.ensures.value c.in_ok-narrow.ensures

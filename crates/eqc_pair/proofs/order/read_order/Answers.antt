@@ -11,19 +11,24 @@ pub returns-in_err-positions-clause-refused : goal.returns-in_err-positions-clau
 returns-in_err-positions-clause-refused c =
     let names : bytes_in c.deref.result.now ≡ c.args.inputs.now = ap bytes_in c.deref.ensures.value ∙ c.in_ok-names.ensures in
     let back = err_from_is_err_and c.from_residual-in_err-positions.result c.from_residual-in_err-positions.ensures.1 in
-    rw (back.1, back.2) (subst (λ (l : List (List ℕ)). (c.in_err-positions.field-0.0 ≡ no_memory) ⊎ (option_map order_refused (order_code l c.args.text.now) ≡ Some c.in_err-positions.field-0.0)) names c.in_err-positions.ensures.refused)
+    rw (back.1, back.2)
+    (subst
+    (λ (l : List (List ℕ)). (c.in_err-positions.field-0.0 ≡ no_memory) ⊎ (option_map order_refused (order_code l c.args.text.now) ≡ Some c.in_err-positions.field-0.0))
+    names c.in_err-positions.ensures.refused)
 
 pub narrow-requires : goal.narrow-requires
 narrow-requires c =
     let names : bytes_in c.deref.result.now ≡ c.args.inputs.now = ap bytes_in c.deref.ensures.value ∙ c.in_ok-names.ensures in
     let taken : order_code c.args.inputs.now c.args.text.now ≡ None = ap (λ l. order_code l c.args.text.now) (sym names) ∙ c.in_ok-positions.ensures.taken in
-    positions_small c.args.inputs.now c.args.text.now c.requires.once c.requires.few taken c.deref-2.result.now c.in_ok-positions.positions.items c.deref-2.ensures.value (c.in_ok-positions.ensures.positions ∙ ap (λ l. map (position_of l) (order_words c.args.text.now)) names)
+    positions_small c.args.inputs.now c.args.text.now c.requires.once c.requires.few taken c.deref-2.result.now c.in_ok-positions.positions.items
+    c.deref-2.ensures.value (c.in_ok-positions.ensures.positions ∙ ap (λ l. map (position_of l) (order_words c.args.text.now)) names)
 
 pub narrow-requires-2 : goal.narrow-requires-2
 narrow-requires-2 c =
     let names : bytes_in c.deref.result.now ≡ c.args.inputs.now = ap bytes_in c.deref.ensures.value ∙ c.in_ok-names.ensures in
     let taken : order_code c.args.inputs.now c.args.text.now ≡ None = ap (λ l. order_code l c.args.text.now) (sym names) ∙ c.in_ok-positions.ensures.taken in
-    variables_small c.args.inputs.now c.args.text.now c.requires.once c.requires.few taken c.deref-3.result.now c.in_ok-positions.variables.items c.deref-3.ensures.value (c.in_ok-positions.ensures.variables ∙ ap (map (position_of (order_words c.args.text.now))) names)
+    variables_small c.args.inputs.now c.args.text.now c.requires.once c.requires.few taken c.deref-3.result.now c.in_ok-positions.variables.items
+    c.deref-3.ensures.value (c.in_ok-positions.ensures.variables ∙ ap (map (position_of (order_words c.args.text.now))) names)
 
 pub returns-clause-variables : goal.returns-clause-variables
 returns-clause-variables c =

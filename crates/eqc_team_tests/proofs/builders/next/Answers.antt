@@ -14,5 +14,6 @@ invariant_of-result g c =
     let v = c.args.first.now.variables in
     let a = c.args.first.now.member in
     let b = c.in-Some.member in
-    let p : IsBeside v a b = subst (λ (r : Option Applier). IfSome r (IsBeside v a)) c.in-Some.is (All-pop (IsBeside v a) c.args.waiting.now.items c.pop.new.self.items c.pop.result c.pop.ensures.items c.requires).1 in
+    let p : IsBeside v a b =
+    subst (λ (r : Option Applier). IfSome r (IsBeside v a)) c.in-Some.is (All-pop (IsBeside v a) c.args.waiting.now.items c.pop.new.self.items c.pop.result c.pop.ensures.items c.requires).1 in
     record { building = subst (λ (l : List Ref). IsBuilding v false l b) (sym c.new.ensures.items) (next_builds v a b p) }

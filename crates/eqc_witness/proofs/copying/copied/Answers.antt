@@ -7,8 +7,10 @@ returns-in-Constant-clause-copy c = copy_constant c.args.graph.now c.args.copy.n
 
 pub returns-then-position-variables-clause-copy : goal.returns-then-position-variables-clause-copy
 returns-then-position-variables-clause-copy c =
-    copy_input c.args.graph.now c.args.copy.now c.args.variables.now (2 * c.args.node) c.in-Input.variable c.position_of-position.result c.requires.inputs c.position_of-position.ensures (omega arith) c.in-Input.ensures.value
+    copy_input c.args.graph.now c.args.copy.now c.args.variables.now (2 * c.args.node) c.in-Input.variable c.position_of-position.result
+    c.requires.inputs c.position_of-position.ensures (omega arith) c.in-Input.ensures.value
 
 pub returns-else-position-variables-clause-copy : goal.returns-else-position-variables-clause-copy
 returns-else-position-variables-clause-copy c =
-    copy_unlisted c.args.graph.now c.args.copy.now c.args.variables.now (2 * c.args.node) c.in-Input.variable c.position_of-position.result c.len.ensures.graph c.position_of-position.ensures (omega arith) c.in-Input.ensures.value
+    copy_unlisted c.args.graph.now c.args.copy.now c.args.variables.now (2 * c.args.node) c.in-Input.variable c.position_of-position.result
+    c.len.ensures.graph c.position_of-position.ensures (omega arith) c.in-Input.ensures.value

@@ -33,7 +33,8 @@ loop-position-preserved c =
     c.deref-in-loop-position.ensures.value ∙ (c.in_ok-first.ensures ∙ ap (λ vs. take k vs ++ false ∷ []) c.deref.ensures.value) in
     elim c.match-branch-3.branch [
       | in-Found w ↦
-          let lower : Completes c.args.cone.now.positions (holds_under c.args.cone.now.graph c.args.cone.now.root) c.deref-in-loop-position.result.now w.in-Found.lower.items = rw w.in-Found.is at c.in_ok-lower.ensures.found in
+          let lower : Completes c.args.cone.now.positions (holds_under c.args.cone.now.graph c.args.cone.now.root) c.deref-in-loop-position.result.now w.in-Found.lower.items =
+          rw w.in-Found.is at c.in_ok-lower.ensures.found in
           rw w.values-is
           (record {
             long = lower.long;
@@ -55,4 +56,5 @@ loop-position-preserved c =
 pub returns : goal.returns
 returns c =
     let cone = c.args.cone.now in
-    begun_whole cone.positions c.loop-position.position (holds_under cone.graph cone.root) c.loop-position.values.items c.loop-position.invariant.long (omega arith) c.loop-position.invariant.holds c.loop-position.invariant.begun
+    begun_whole cone.positions c.loop-position.position (holds_under cone.graph cone.root) c.loop-position.values.items
+    c.loop-position.invariant.long (omega arith) c.loop-position.invariant.holds c.loop-position.invariant.begun

@@ -5,7 +5,13 @@ use Rattle.eqc_worker_tests.proofs.drivers.keep_ejected.Goals as goal
 pub reference-requires : goal.reference-requires
 reference-requires g c =
     let x = get_or c.args.ejected.now c.loop-x.x-index 0 in
-    inr (omega (arith, c.loop-x.invariant x (c.requires.slots x (there_is c.args.ejected.now c.loop-x.x-index c.loop-x-test.true)), dropped x c.args.ejected.now c.loop-x.x-index c.loop-x-test.true, counts_self x))
+    inr
+    (omega (
+      arith,
+      c.loop-x.invariant x (c.requires.slots x (there_is c.args.ejected.now c.loop-x.x-index c.loop-x-test.true)),
+      dropped x c.args.ejected.now c.loop-x.x-index c.loop-x-test.true,
+      counts_self x,
+    ))
 
 pub loop-x-preserved : goal.loop-x-preserved
 loop-x-preserved g c = λ y two.

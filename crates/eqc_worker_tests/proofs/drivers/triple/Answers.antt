@@ -15,13 +15,15 @@ pub counted-f-requires-clause-there : goal.counted-f-requires-clause-there
 counted-f-requires-clause-there g c = below c.args.worker.now c.args.x c.cells-cells.ensures.known c.requires.slot c.requires.held
 
 pub counted-g-requires-clause-there : goal.counted-g-requires-clause-there
-counted-g-requires-clause-there g c = below c.counted-f.new.worker c.args.x c.counted-f.ensures.step.known.known c.requires.slot (inr (now_held c.args.x c.args.worker.now c.counted-f.new.worker c.counted-f.ensures.step))
+counted-g-requires-clause-there g c =
+    below c.counted-f.new.worker c.args.x c.counted-f.ensures.step.known.known c.requires.slot (inr (now_held c.args.x c.args.worker.now c.counted-f.new.worker c.counted-f.ensures.step))
 
 pub counted-g-requires-clause-known : goal.counted-g-requires-clause-known
 counted-g-requires-clause-known g c = inl (now_held c.args.x c.args.worker.now c.counted-f.new.worker c.counted-f.ensures.step)
 
 pub counted-r-requires-clause-there : goal.counted-r-requires-clause-there
-counted-r-requires-clause-there g c = below c.counted-g.new.worker c.args.x c.counted-g.ensures.step.known.known c.requires.slot (inr (now_held c.args.x c.counted-f.new.worker c.counted-g.new.worker c.counted-g.ensures.step))
+counted-r-requires-clause-there g c =
+    below c.counted-g.new.worker c.args.x c.counted-g.ensures.step.known.known c.requires.slot (inr (now_held c.args.x c.counted-f.new.worker c.counted-g.new.worker c.counted-g.ensures.step))
 
 pub counted-r-requires-clause-known : goal.counted-r-requires-clause-known
 counted-r-requires-clause-known g c = inl (now_held c.args.x c.counted-f.new.worker c.counted-g.new.worker c.counted-g.ensures.step)

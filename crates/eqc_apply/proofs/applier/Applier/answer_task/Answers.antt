@@ -17,7 +17,9 @@ pub put_done-requires-clause-right : goal.put_done-requires-clause-right
 put_done-requires-clause-right g c =
     let r = entry_of c.in-Ok.r in
     let e = c.in-Ok.ensures.ok in
-    says_right c.apply_forked.new.self.names c.args.op c.args.f.now c.args.g.now c.in-Ok.r (gained_still r (entry_of c.args.f.now) _ e c.requires.f) (gained_still r (entry_of c.args.g.now) _ e c.requires.g) (gained_held r _ e) e.function
+    says_right c.apply_forked.new.self.names c.args.op c.args.f.now c.args.g.now c.in-Ok.r
+    (gained_still r (entry_of c.args.f.now) _ e c.requires.f) (gained_still r (entry_of c.args.g.now) _ e c.requires.g) (gained_held r _ e)
+    e.function
 
 pub invariant_of-self : goal.invariant_of-self
 invariant_of-self g c = let s = c.apply_forked.new.self in record { cached = cells_stay s.names c.put_done.new.self s.cells.cells.items c.put_done.ensures s.cached }

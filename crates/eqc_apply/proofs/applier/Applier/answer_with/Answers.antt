@@ -23,10 +23,15 @@ put_stop-requires-clause-f g c = subst (λ (n : Held). IsHeld n.worker.known.cor
 pub invariant_of-self-in-Err : goal.invariant_of-self-in-Err
 invariant_of-self-in-Err g c =
     let s = c.args.self.now in
-    record { cached = cells_stay c.refer.new.self c.put_stop.new.self s.cells.cells.items c.put_stop.ensures (subst (λ (n : Held). IsCache (kept_of n.variables n.worker.known) s.cells.cells.items) (sym c.in-Err.ensures.still) s.cached) }
+    record {
+      cached =
+          cells_stay c.refer.new.self c.put_stop.new.self s.cells.cells.items c.put_stop.ensures
+          (subst (λ (n : Held). IsCache (kept_of n.variables n.worker.known) s.cells.cells.items) (sym c.in-Err.ensures.still) s.cached);
+    }
 
 pub returns-in-Err-clause-kept : goal.returns-in-Err-clause-kept
-returns-in-Err-clause-kept g c = subst (λ (n : Held). Keeps (holding_in n) (holding_in c.put_stop.new.self)) c.in-Err.ensures.still (extends_keeps c.refer.new.self c.put_stop.new.self c.put_stop.ensures)
+returns-in-Err-clause-kept g c =
+    subst (λ (n : Held). Keeps (holding_in n) (holding_in c.put_stop.new.self)) c.in-Err.ensures.still (extends_keeps c.refer.new.self c.put_stop.new.self c.put_stop.ensures)
 
 pub returns-in-Ok-clause-turns : goal.returns-in-Ok-clause-turns
 returns-in-Ok-clause-turns g c = spends_trans (spends_as c.args.self.now.names.turns c.refer.new.self.turns c.refer.ensures.turns) (spends_trans c.answer_task.ensures.turns c.give_back.ensures.turns)

@@ -23,5 +23,8 @@ returns-in-Ok-clause-steps c =
     let e = c.in_ok-e.e in
     let x = c.in_ok-e.ensures.ok in
     let items : c.push.new.self.items ≡ c.args.self.now.tasks.items ++ Low c.args.f c.args.g c.in_ok-e.e.variable c.in_ok-e.e.f.1 c.in_ok-e.e.g.1 ∷ [] = search rules in
-    step_stays (meaning_in c.args.self.now.names) (meaning_in c.expand.new.names) (meaning_in c.offer.new.self.names) c.args.self.now.tasks.items c.push.new.self.items c.args.f c.args.g e.variable e.f.0 e.f.1 e.g.0 e.g.1 items
-    (names_stay c.args.self.now.names c.expand.new.names c.expand.ensures.names) (names_stay c.expand.new.names c.offer.new.self.names c.offer.ensures.names) c.requires.f c.requires.g x.top x.below x.cofactors_f x.cofactors_g
+    step_stays (meaning_in c.args.self.now.names) (meaning_in c.expand.new.names) (meaning_in c.offer.new.self.names) c.args.self.now.tasks.items
+    c.push.new.self.items c.args.f c.args.g e.variable e.f.0 e.f.1 e.g.0 e.g.1 items
+    (names_stay c.args.self.now.names c.expand.new.names c.expand.ensures.names)
+    (names_stay c.expand.new.names c.offer.new.self.names c.offer.ensures.names) c.requires.f c.requires.g x.top x.below x.cofactors_f
+    x.cofactors_g

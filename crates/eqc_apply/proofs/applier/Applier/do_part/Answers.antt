@@ -7,12 +7,16 @@ returns-then-is_some-clause-names g c = extends_trans c.args.self.now.names c.lo
 pub returns-in_err-next-clause-names : goal.returns-in_err-next-clause-names
 returns-in_err-next-clause-names g c =
     let n = c.args.self.now.names in
-    extends_trans n c.known.new.self.names c.half.new.self.names (extends_trans n c.loop-level.self.names c.known.new.self.names c.loop-level.invariant.names c.known.ensures.names) c.half.ensures.names
+    extends_trans n c.known.new.self.names c.half.new.self.names
+    (extends_trans n c.loop-level.self.names c.known.new.self.names c.loop-level.invariant.names c.known.ensures.names) c.half.ensures.names
 
 pub loop-level-preserved : goal.loop-level-preserved
 loop-level-preserved g c =
     let n = c.args.self.now.names in
-    let x = extends_trans n c.known.new.self.names c.half.new.self.names (extends_trans n c.loop-level.self.names c.known.new.self.names c.loop-level.invariant.names c.known.ensures.names) c.half.ensures.names in
+    let x =
+    extends_trans n c.known.new.self.names c.half.new.self.names
+    (extends_trans n c.loop-level.self.names c.known.new.self.names c.loop-level.invariant.names c.known.ensures.names)
+    c.half.ensures.names in
     record {
       names = record { forest = x.forest; seat = x.seat; variables = x.variables; references = x.references; before = x.before; turns = x.turns };
       first = c.in_ok-next.ensures.held.0;

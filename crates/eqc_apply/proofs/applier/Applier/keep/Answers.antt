@@ -14,4 +14,8 @@ keep-requires-clause-r c = held_small c.args.self.now.names.worker.known c.args.
 pub invariant_of-self : goal.invariant_of-self
 invariant_of-self c =
     let n = c.args.self.now.names in
-    record { cached = kept n.variables n.worker.known c.args.self.now.cells.cells.items c.grow.new.self.cells.items c.keep.new.self.cells.items c.args.op c.args.f c.args.g c.args.x c.grow.ensures c.keep.ensures c.requires c.args.self.now.cached }
+    record {
+      cached =
+          kept n.variables n.worker.known c.args.self.now.cells.cells.items c.grow.new.self.cells.items c.keep.new.self.cells.items c.args.op
+          c.args.f c.args.g c.args.x c.grow.ensures c.keep.ensures c.requires c.args.self.now.cached;
+    }

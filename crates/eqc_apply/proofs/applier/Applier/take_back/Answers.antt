@@ -7,7 +7,12 @@ pub invariant_of-self-then-is_taken : goal.invariant_of-self-then-is_taken
 invariant_of-self-then-is_taken g c = record { cached = cells_stay c.args.self.now.names c.is_taken.new.self c.args.self.now.cells.cells.items c.is_taken.ensures c.args.self.now.cached }
 
 pub invariant_of-self-2 : goal.invariant_of-self-2
-invariant_of-self-2 g c = record { cached = cells_stay c.is_taken.new.self c.take_back.new.self c.args.self.now.cells.cells.items c.take_back.ensures.names (cells_stay c.args.self.now.names c.is_taken.new.self c.args.self.now.cells.cells.items c.is_taken.ensures c.args.self.now.cached) }
+invariant_of-self-2 g c =
+    record {
+      cached =
+          cells_stay c.is_taken.new.self c.take_back.new.self c.args.self.now.cells.cells.items c.take_back.ensures.names
+          (cells_stay c.args.self.now.names c.is_taken.new.self c.args.self.now.cells.cells.items c.is_taken.ensures c.args.self.now.cached);
+    }
 
 pub returns-in_err-x-clause-names : goal.returns-in_err-x-clause-names
 returns-in_err-x-clause-names g c = extends_trans c.args.self.now.names c.is_taken.new.self c.take_back.new.self c.is_taken.ensures c.take_back.ensures.names

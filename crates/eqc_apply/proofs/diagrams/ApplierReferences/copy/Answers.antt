@@ -13,12 +13,14 @@ refer-requires c = let n = c.args.self.now.names in referenced_held n c.args.f.n
 pub returns-clause-ok : goal.returns-clause-ok
 returns-clause-ok c =
     let n = c.args.self.now.names in
-    subst (λ (t : Tree). IfOk c.refer.result (λ r. Gains (holding_in n) (holding_in c.refer.new.self) (entry_of r) (λ a. value t a))) (sym (referred_tree n c.args.f.now.at.value c.args.f.now.name c.requires)) c.refer.ensures.ok
+    subst (λ (t : Tree). IfOk c.refer.result (λ r. Gains (holding_in n) (holding_in c.refer.new.self) (entry_of r) (λ a. value t a)))
+    (sym (referred_tree n c.args.f.now.at.value c.args.f.now.name c.requires)) c.refer.ensures.ok
 
 pub returns-clause-full : goal.returns-clause-full
 returns-clause-full c =
     let n = c.args.self.now.names in
-    subst (λ (t : Tree). OnErr c.refer.result (2 ^ 32 - 1 ≤ copies (holding_in n) (record { number = c.args.f.now.name; tree = t }))) (sym (referred_tree n c.args.f.now.at.value c.args.f.now.name c.requires)) c.refer.ensures.full
+    subst (λ (t : Tree). OnErr c.refer.result (2 ^ 32 - 1 ≤ copies (holding_in n) (record { number = c.args.f.now.name; tree = t })))
+    (sym (referred_tree n c.args.f.now.at.value c.args.f.now.name c.requires)) c.refer.ensures.full
 
 pub returns-clause-worker : goal.returns-clause-worker
 returns-clause-worker c = same_worker c.args.self.now.names.worker c.refer.new.self.worker c.refer.ensures.worker

@@ -23,7 +23,9 @@ least-requires-clause-depends c =
     let n = c.args.self.now in
     let m = c.copy.new.names in
     let s = c.copy.new.self.store in
-    copy_depends n s c.args.f c.in_ok-number.number (copy_was n m s c.args.f c.in_ok-number.number c.copy.ensures.names c.requires.held c.in_ok-number.ensures.ok) c.args.variables.now c.requires.depends
+    copy_depends n s c.args.f c.in_ok-number.number
+    (copy_was n m s c.args.f c.in_ok-number.number c.copy.ensures.names c.requires.held c.in_ok-number.ensures.ok) c.args.variables.now
+    c.requires.depends
 
 pub returns-in-Ok-clause-least : goal.returns-in-Ok-clause-least
 returns-in-Ok-clause-least c =

@@ -49,7 +49,8 @@ put-requires c =
     let came_r = as_named c.args.x r.number c.another-r.ensures.name c.another-r.ensures.came in
     let t = three_come r.number f.number g.number came_f came_g came_r in
     let few = few_held c.args.self.now.once c.recall_laws.ensures in
-    let right = done_right c.args.op c.args.f c.args.g c.args.x f.number g.number r.number c.args.self.now.worker.known c.another-r.new.worker.known (same_tree t) c.requires.f c.requires.g c.requires.x
+    let right =
+    done_right c.args.op c.args.f c.args.g c.args.x f.number g.number r.number c.args.self.now.worker.known c.another-r.new.worker.known (same_tree t) c.requires.f c.requires.g c.requires.x
     c.another-first.ensures.name c.another-second.ensures.name c.another-r.ensures.name c.requires.right in
     come_may (r.number ∷ f.number ∷ g.number ∷ []) t c.args.b (Done (record { op = c.args.op; f = f; g = g; r = r }))
     c.args.self.now.once.rest.ready c.requires.there (omega arith) (omega arith) (come_held (r.number ∷ f.number ∷ g.number ∷ []) t, right)

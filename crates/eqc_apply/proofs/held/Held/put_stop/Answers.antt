@@ -20,20 +20,31 @@ pub put-requires : goal.put-requires
 put-requires c =
     let f = c.another-first.result in
     let g = c.another-second.result in
-    let t = pair_comes f.number g.number (as_named c.args.f f.number c.another-first.ensures.name c.another-first.ensures.came) (as_named c.args.g g.number c.another-second.ensures.name c.another-second.ensures.came) in
+    let t =
+    pair_comes f.number g.number (as_named c.args.f f.number c.another-first.ensures.name c.another-first.ensures.came)
+    (as_named c.args.g g.number c.another-second.ensures.name c.another-second.ensures.came) in
     let few = few_held c.args.self.now.once c.recall_laws.ensures in
-    come_may (f.number ∷ g.number ∷ []) t c.args.b (Stopped c.args.stop f g) c.args.self.now.once.rest.ready c.requires.there (omega arith) (omega arith) (come_held (f.number ∷ g.number ∷ []) t, c.requires.stop)
+    come_may (f.number ∷ g.number ∷ []) t c.args.b (Stopped c.args.stop f g) c.args.self.now.once.rest.ready c.requires.there (omega arith)
+    (omega arith) (come_held (f.number ∷ g.number ∷ []) t, c.requires.stop)
 
 pub invariant_of-self : goal.invariant_of-self
 invariant_of-self c =
     let f = c.another-first.result in
     let g = c.another-second.result in
-    let t = came_went (pair_comes f.number g.number (as_named c.args.f f.number c.another-first.ensures.name c.another-first.ensures.came) (as_named c.args.g g.number c.another-second.ensures.name c.another-second.ensures.came)) c.put.ensures.changes in
+    let t =
+    came_went
+    (pair_comes f.number g.number (as_named c.args.f f.number c.another-first.ensures.name c.another-first.ensures.came)
+    (as_named c.args.g g.number c.another-second.ensures.name c.another-second.ensures.came))
+    c.put.ensures.changes in
     record { once = has_after t [] [] c.args.self.now.variables c.args.self.now.counts.items (λ y. omega arith) c.args.self.now.once }
 
 pub returns : goal.returns
 returns c =
     let f = c.another-first.result in
     let g = c.another-second.result in
-    let t = came_went (pair_comes f.number g.number (as_named c.args.f f.number c.another-first.ensures.name c.another-first.ensures.came) (as_named c.args.g g.number c.another-second.ensures.name c.another-second.ensures.came)) c.put.ensures.changes in
+    let t =
+    came_went
+    (pair_comes f.number g.number (as_named c.args.f f.number c.another-first.ensures.name c.another-first.ensures.came)
+    (as_named c.args.g g.number c.another-second.ensures.name c.another-second.ensures.came))
+    c.put.ensures.changes in
     record { forest = t.forest; seat = seat_of t; variables = refl; references = λ y. refl; before = changes_before t; turns = spends_refl c.args.self.now.turns }

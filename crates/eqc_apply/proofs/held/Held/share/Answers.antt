@@ -12,4 +12,8 @@ pub store-requires-clause-room : goal.store-requires-clause-room
 store-requires-clause-room c = let f = few_held c.args.self.now.once c.recall_laws.ensures in omega arith
 
 pub invariant_of-self : goal.invariant_of-self
-invariant_of-self c = record { once = has_after (empties c.args.self.now.worker c.store.new.worker c.store.ensures.before) [] [] c.args.self.now.variables c.args.self.now.counts.items (λ y. omega arith) c.args.self.now.once }
+invariant_of-self c =
+    record {
+      once =
+          has_after (empties c.args.self.now.worker c.store.new.worker c.store.ensures.before) [] [] c.args.self.now.variables c.args.self.now.counts.items (λ y. omega arith) c.args.self.now.once;
+    }

@@ -22,39 +22,65 @@ returns-in_default-2-clause-names g c =
 
 pub invariant_of-self-2 : goal.invariant_of-self-2
 invariant_of-self-2 g c =
-    let come : HasCome c.args.op c.args.f c.args.g c.in-Some-2.name.number c.args.self.now.worker c.take_out.new.worker = subst (λ (o : Option Ref). IfSome o (λ r. HasCome c.args.op c.args.f c.args.g r.number c.args.self.now.worker c.take_out.new.worker)) c.in-Some-2.is c.in_ok-name.ensures.done in
-    record { once = c.settle.ensures.has c.args.self.now.variables (came_has 0 c.args.f c.args.g c.args.self.now.variables c.args.self.now.counts.items c.args.self.now.worker c.take_out.new.worker c.args.self.now.once c.recall_laws.ensures c.requires.f c.requires.g c.in-Some-2.name.number come.came) }
+    let come : HasCome c.args.op c.args.f c.args.g c.in-Some-2.name.number c.args.self.now.worker c.take_out.new.worker =
+    subst (λ (o : Option Ref). IfSome o (λ r. HasCome c.args.op c.args.f c.args.g r.number c.args.self.now.worker c.take_out.new.worker)) c.in-Some-2.is c.in_ok-name.ensures.done in
+    record {
+      once =
+          c.settle.ensures.has c.args.self.now.variables
+          (came_has 0 c.args.f c.args.g c.args.self.now.variables c.args.self.now.counts.items c.args.self.now.worker c.take_out.new.worker
+          c.args.self.now.once c.recall_laws.ensures c.requires.f c.requires.g c.in-Some-2.name.number come.came);
+    }
 
 pub returns-in_err-x-clause-names : goal.returns-in_err-x-clause-names
 returns-in_err-x-clause-names g c =
-    let come : HasCome c.args.op c.args.f c.args.g c.in-Some-2.name.number c.args.self.now.worker c.take_out.new.worker = subst (λ (o : Option Ref). IfSome o (λ r. HasCome c.args.op c.args.f c.args.g r.number c.args.self.now.worker c.take_out.new.worker)) c.in-Some-2.is c.in_ok-name.ensures.done in
+    let come : HasCome c.args.op c.args.f c.args.g c.in-Some-2.name.number c.args.self.now.worker c.take_out.new.worker =
+    subst (λ (o : Option Ref). IfSome o (λ r. HasCome c.args.op c.args.f c.args.g r.number c.args.self.now.worker c.take_out.new.worker)) c.in-Some-2.is c.in_ok-name.ensures.done in
     record {
       forest = c.settle.ensures.settles.forest ∙ come.came.forest;
-      seat = came_seat 0 c.args.f c.args.g c.args.self.now.variables c.args.self.now.counts.items c.args.self.now.worker c.take_out.new.worker c.args.self.now.once c.recall_laws.ensures c.requires.f c.requires.g c.in-Some-2.name.number come.came c.settle.new.worker c.settle.ensures.settles;
+      seat =
+          came_seat 0 c.args.f c.args.g c.args.self.now.variables c.args.self.now.counts.items c.args.self.now.worker c.take_out.new.worker
+          c.args.self.now.once c.recall_laws.ensures c.requires.f c.requires.g c.in-Some-2.name.number come.came c.settle.new.worker
+          c.settle.ensures.settles;
       variables = refl;
       references = c.settle.ensures.references;
-      before = came_before 0 c.args.f c.args.g c.args.self.now.variables c.args.self.now.counts.items c.args.self.now.worker c.take_out.new.worker c.args.self.now.once c.recall_laws.ensures c.requires.f c.requires.g c.in-Some-2.name.number come.came c.settle.new.worker c.settle.ensures.settles;
+      before =
+          came_before 0 c.args.f c.args.g c.args.self.now.variables c.args.self.now.counts.items c.args.self.now.worker c.take_out.new.worker
+          c.args.self.now.once c.recall_laws.ensures c.requires.f c.requires.g c.in-Some-2.name.number come.came c.settle.new.worker
+          c.settle.ensures.settles;
       turns = spends_refl c.args.self.now.turns;
     }
 
 pub returns-clause-names : goal.returns-clause-names
 returns-clause-names g c =
-    let come : HasCome c.args.op c.args.f c.args.g c.in-Some-2.name.number c.args.self.now.worker c.take_out.new.worker = subst (λ (o : Option Ref). IfSome o (λ r. HasCome c.args.op c.args.f c.args.g r.number c.args.self.now.worker c.take_out.new.worker)) c.in-Some-2.is c.in_ok-name.ensures.done in
+    let come : HasCome c.args.op c.args.f c.args.g c.in-Some-2.name.number c.args.self.now.worker c.take_out.new.worker =
+    subst (λ (o : Option Ref). IfSome o (λ r. HasCome c.args.op c.args.f c.args.g r.number c.args.self.now.worker c.take_out.new.worker)) c.in-Some-2.is c.in_ok-name.ensures.done in
     record {
       forest = c.settle.ensures.settles.forest ∙ come.came.forest;
-      seat = came_seat 0 c.args.f c.args.g c.args.self.now.variables c.args.self.now.counts.items c.args.self.now.worker c.take_out.new.worker c.args.self.now.once c.recall_laws.ensures c.requires.f c.requires.g c.in-Some-2.name.number come.came c.settle.new.worker c.settle.ensures.settles;
+      seat =
+          came_seat 0 c.args.f c.args.g c.args.self.now.variables c.args.self.now.counts.items c.args.self.now.worker c.take_out.new.worker
+          c.args.self.now.once c.recall_laws.ensures c.requires.f c.requires.g c.in-Some-2.name.number come.came c.settle.new.worker
+          c.settle.ensures.settles;
       variables = refl;
       references = c.settle.ensures.references;
-      before = came_before 0 c.args.f c.args.g c.args.self.now.variables c.args.self.now.counts.items c.args.self.now.worker c.take_out.new.worker c.args.self.now.once c.recall_laws.ensures c.requires.f c.requires.g c.in-Some-2.name.number come.came c.settle.new.worker c.settle.ensures.settles;
+      before =
+          came_before 0 c.args.f c.args.g c.args.self.now.variables c.args.self.now.counts.items c.args.self.now.worker c.take_out.new.worker
+          c.args.self.now.once c.recall_laws.ensures c.requires.f c.requires.g c.in-Some-2.name.number come.came c.settle.new.worker
+          c.settle.ensures.settles;
       turns = spends_refl c.args.self.now.turns;
     }
 
 pub returns-clause-ok : goal.returns-clause-ok
 returns-clause-ok g c =
-    let come : HasCome c.args.op c.args.f c.args.g c.in-Some-2.name.number c.args.self.now.worker c.take_out.new.worker = subst (λ (o : Option Ref). IfSome o (λ r. HasCome c.args.op c.args.f c.args.g r.number c.args.self.now.worker c.take_out.new.worker)) c.in-Some-2.is c.in_ok-name.ensures.done in
-    let b = came_before 0 c.args.f c.args.g c.args.self.now.variables c.args.self.now.counts.items c.args.self.now.worker c.take_out.new.worker c.args.self.now.once c.recall_laws.ensures c.requires.f c.requires.g c.in-Some-2.name.number come.came c.settle.new.worker c.settle.ensures.settles in
+    let come : HasCome c.args.op c.args.f c.args.g c.in-Some-2.name.number c.args.self.now.worker c.take_out.new.worker =
+    subst (λ (o : Option Ref). IfSome o (λ r. HasCome c.args.op c.args.f c.args.g r.number c.args.self.now.worker c.take_out.new.worker)) c.in-Some-2.is c.in_ok-name.ensures.done in
+    let b =
+    came_before 0 c.args.f c.args.g c.args.self.now.variables c.args.self.now.counts.items c.args.self.now.worker c.take_out.new.worker
+    c.args.self.now.once c.recall_laws.ensures c.requires.f c.requires.g c.in-Some-2.name.number come.came c.settle.new.worker
+    c.settle.ensures.settles in
     let there = c.in_ok-x.ensures.there in
-    found_result c.args.self.now.variables c.args.self.now.counts.items c.args.op c.args.f c.args.g c.in-Some-2.name.number c.in_ok-x.x c.args.self.now.worker c.take_out.new.worker c.settle.new.worker come.function c.requires.f c.requires.g b there.0 there.1 c.settle.ensures.known
+    found_result c.args.self.now.variables c.args.self.now.counts.items c.args.op c.args.f c.args.g c.in-Some-2.name.number c.in_ok-x.x
+    c.args.self.now.worker c.take_out.new.worker c.settle.new.worker come.function c.requires.f c.requires.g b there.0 there.1
+    c.settle.ensures.known
 
 pub invariant_of-self : goal.invariant_of-self
 invariant_of-self g c = record { once = has_after c.in_err-name.ensures.stop.0 [] [] c.args.self.now.variables c.args.self.now.counts.items (λ y. omega arith) c.args.self.now.once }
@@ -66,5 +92,9 @@ invariant_of-self-in_default-2 g c =
 
 pub settle-requires : goal.settle-requires
 settle-requires g c =
-    let come : HasCome c.args.op c.args.f c.args.g c.in-Some-2.name.number c.args.self.now.worker c.take_out.new.worker = subst (λ (o : Option Ref). IfSome o (λ r. HasCome c.args.op c.args.f c.args.g r.number c.args.self.now.worker c.take_out.new.worker)) c.in-Some-2.is c.in_ok-name.ensures.done in
-    (c.args.self.now.variables, came_has 0 c.args.f c.args.g c.args.self.now.variables c.args.self.now.counts.items c.args.self.now.worker c.take_out.new.worker c.args.self.now.once c.recall_laws.ensures c.requires.f c.requires.g c.in-Some-2.name.number come.came)
+    let come : HasCome c.args.op c.args.f c.args.g c.in-Some-2.name.number c.args.self.now.worker c.take_out.new.worker =
+    subst (λ (o : Option Ref). IfSome o (λ r. HasCome c.args.op c.args.f c.args.g r.number c.args.self.now.worker c.take_out.new.worker)) c.in-Some-2.is c.in_ok-name.ensures.done in (
+      c.args.self.now.variables,
+      came_has 0 c.args.f c.args.g c.args.self.now.variables c.args.self.now.counts.items c.args.self.now.worker c.take_out.new.worker
+          c.args.self.now.once c.recall_laws.ensures c.requires.f c.requires.g c.in-Some-2.name.number come.came,
+    )

@@ -51,8 +51,15 @@ count_in-second-requires-clause-has c =
     let f = c.in-Some.f.number in
     let g = c.in-Some.g.number in
     let n = c.args.self.now.variables in
-    let room = c.grow_counts.new.counts.items in
-    (n, ([], second_has f g n c.args.self.now.worker c.task_out.new.worker c.args.self.now.counts.items room c.args.self.now.once t c.grow_counts.ensures.same c.count_in-first.new.worker c.count_in-first.new.counts.items c.count_in-first.ensures.has c.count_in-first.ensures.settles c.count_in-first.ensures.still))
+    let room = c.grow_counts.new.counts.items in (
+      n,
+      (
+        [],
+        second_has f g n c.args.self.now.worker c.task_out.new.worker c.args.self.now.counts.items room c.args.self.now.once t
+            c.grow_counts.ensures.same c.count_in-first.new.worker c.count_in-first.new.counts.items c.count_in-first.ensures.has
+            c.count_in-first.ensures.settles c.count_in-first.ensures.still,
+      ),
+    )
 
 pub invariant_of-self-2 : goal.invariant_of-self-2
 invariant_of-self-2 c =
@@ -61,7 +68,13 @@ invariant_of-self-2 c =
     let g = c.in-Some.g.number in
     let n = c.args.self.now.variables in
     let room = c.grow_counts.new.counts.items in
-    record { once = c.count_in-second.ensures.has n [] (second_has f g n c.args.self.now.worker c.task_out.new.worker c.args.self.now.counts.items room c.args.self.now.once t c.grow_counts.ensures.same c.count_in-first.new.worker c.count_in-first.new.counts.items c.count_in-first.ensures.has c.count_in-first.ensures.settles c.count_in-first.ensures.still) }
+    record {
+      once =
+          c.count_in-second.ensures.has n []
+          (second_has f g n c.args.self.now.worker c.task_out.new.worker c.args.self.now.counts.items room c.args.self.now.once t
+          c.grow_counts.ensures.same c.count_in-first.new.worker c.count_in-first.new.counts.items c.count_in-first.ensures.has
+          c.count_in-first.ensures.settles c.count_in-first.ensures.still);
+    }
 
 pub returns-clause-names : goal.returns-clause-names
 returns-clause-names c =
@@ -72,10 +85,16 @@ returns-clause-names c =
     let room = c.grow_counts.new.counts.items in
     record {
       forest = c.count_in-second.ensures.settles.forest ∙ (c.count_in-first.ensures.settles.forest ∙ t.forest);
-      seat = both_seat f g n c.args.self.now.worker c.task_out.new.worker c.args.self.now.counts.items room c.args.self.now.once t c.grow_counts.ensures.same c.count_in-first.new.worker c.count_in-first.new.counts.items c.count_in-first.ensures.has c.count_in-first.ensures.settles c.count_in-first.ensures.still c.count_in-second.new.worker c.count_in-second.ensures.settles;
+      seat =
+          both_seat f g n c.args.self.now.worker c.task_out.new.worker c.args.self.now.counts.items room c.args.self.now.once t
+          c.grow_counts.ensures.same c.count_in-first.new.worker c.count_in-first.new.counts.items c.count_in-first.ensures.has
+          c.count_in-first.ensures.settles c.count_in-first.ensures.still c.count_in-second.new.worker c.count_in-second.ensures.settles;
       variables = refl;
       references = λ y. c.count_in-second.ensures.references y ∙ (c.count_in-first.ensures.references y ∙ same_as c.args.self.now.counts.items room c.grow_counts.ensures.same y);
-      before = both_before f g n c.args.self.now.worker c.task_out.new.worker c.args.self.now.counts.items room c.args.self.now.once t c.grow_counts.ensures.same c.count_in-first.new.worker c.count_in-first.new.counts.items c.count_in-first.ensures.has c.count_in-first.ensures.settles c.count_in-first.ensures.still c.count_in-second.new.worker c.count_in-second.ensures.settles;
+      before =
+          both_before f g n c.args.self.now.worker c.task_out.new.worker c.args.self.now.counts.items room c.args.self.now.once t
+          c.grow_counts.ensures.same c.count_in-first.new.worker c.count_in-first.new.counts.items c.count_in-first.ensures.has
+          c.count_in-first.ensures.settles c.count_in-first.ensures.still c.count_in-second.new.worker c.count_in-second.ensures.settles;
       turns = spends_refl c.args.self.now.turns;
     }
 
@@ -88,4 +107,9 @@ invariant_of-self c = record { once = has_after (c.task_out.ensures.none c.in_de
 pub invariant_of-self-in_default-grow_counts : goal.invariant_of-self-in_default-grow_counts
 invariant_of-self-in_default-grow_counts c =
     let t = came_went c.in-Some.ensures.some c.put.ensures.changes in
-    record { once = has_same [] c.args.self.now.variables c.put.new.worker c.args.self.now.counts.items c.grow_counts.new.counts.items c.grow_counts.ensures.same (has_after t [] [] c.args.self.now.variables c.args.self.now.counts.items (λ y. omega arith) c.args.self.now.once) }
+    record {
+      once =
+          has_same [] c.args.self.now.variables c.put.new.worker c.args.self.now.counts.items c.grow_counts.new.counts.items
+          c.grow_counts.ensures.same
+          (has_after t [] [] c.args.self.now.variables c.args.self.now.counts.items (λ y. omega arith) c.args.self.now.once);
+    }

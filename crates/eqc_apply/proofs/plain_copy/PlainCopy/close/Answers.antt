@@ -52,7 +52,15 @@ returns-in-Err-clause-only c =
     let over = last_over c.args.names.now c.args.self.now c.args.self.now.visits.items c.args.name c.args.variable c.args.low c.args.high c.requires.way in
     let within = within_places c.args.names.now c.args.self.now c.args.name c.recall_laws.ensures c.requires.way.faithful over.held in
     elim c.in-Err.ensures.only [
-      | inl full ↦ absurd (omega (arith, has_room c.args.names.now c.args.self.now c.args.name c.requires.way.faithful c.requires.new within, c.in-Err.ensures.full (ap Err full), ap length c.in-Err.ensures.still, c.in-Err.ensures.store.limit))
+      | inl full ↦
+          absurd
+          (omega (
+            arith,
+            has_room c.args.names.now c.args.self.now c.args.name c.requires.way.faithful c.requires.new within,
+            c.in-Err.ensures.full (ap Err full),
+            ap length c.in-Err.ensures.still,
+            c.in-Err.ensures.store.limit,
+          ))
       | inr memory ↦ memory
     ]
 
@@ -62,5 +70,6 @@ returns-in-Ok-clause-advance c =
     let s = c.args.self.now in
     let over = last_over n s s.visits.items c.args.name c.args.variable c.args.low c.args.high c.requires.way in
     let within = within_places n s c.args.name c.recall_laws.ensures c.requires.way.faithful over.held in
-    closed n s _ c.args.name c.args.variable c.args.low c.args.high c.in-Some.low c.in-Some-place.high c.in-Ok.number c.requires.way c.requires.new (sym c.place.ensures ∙ c.in-Some.is) (sym c.place-2.ensures ∙ c.in-Some-place.is) within
+    closed n s _ c.args.name c.args.variable c.args.low c.args.high c.in-Some.low c.in-Some-place.high c.in-Ok.number c.requires.way
+    c.requires.new (sym c.place.ensures ∙ c.in-Some.is) (sym c.place-2.ensures ∙ c.in-Some-place.is) within
     c.in-Ok.ensures.store c.in-Ok.ensures.one c.in-Ok.ensures.ok refl refl

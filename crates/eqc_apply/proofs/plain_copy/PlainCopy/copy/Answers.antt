@@ -13,7 +13,8 @@ visits-init c =
 pub visit-requires : goal.visit-requires
 visit-requires c =
     let was : c.visits.self.visits.items ≡ c.pop.new.self.items ++ c.in-Some.visit ∷ [] = search rules in
-    way_as c.visits.names c.visits.self (record c.visits.self { visits = c.pop.new.self }) c.visits.self.visits.items (c.pop.new.self.items ++ c.in-Some.visit ∷ []) refl refl was c.visits.invariant.way
+    way_as c.visits.names c.visits.self (record c.visits.self { visits = c.pop.new.self }) c.visits.self.visits.items
+    (c.pop.new.self.items ++ c.in-Some.visit ∷ []) refl refl was c.visits.invariant.way
 
 pub visits-preserved : goal.visits-preserved
 visits-preserved c =

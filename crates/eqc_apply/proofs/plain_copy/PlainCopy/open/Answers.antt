@@ -25,5 +25,13 @@ returns-clause-advance c =
     let r = c.root-variable.new.self in
     let m = c.cofactors.new.self in
     let two = last_inner n s s.visits.items (Reached c.args.x) c.requires.way c.requires.new in
-    let over = over_of n r m c.args.x c.root-variable.result c.in_ok-low.low c.in_ok-low.high c.root-variable.ensures.names c.cofactors.ensures.names (last_held n s s.visits.items (Reached c.args.x) c.requires.way) c.root-variable.ensures.root (c.root-variable.ensures.inner two) c.in_ok-low.ensures.ok in
-    on_ok c.put.result (λ is. opened n m s c.put.new.self s.visits.items c.args.x c.root-variable.result c.in_ok-low.low c.in_ok-low.high (extends_trans n r m c.root-variable.ensures.names c.cofactors.ensures.names) c.requires.way c.put.ensures.store c.put.ensures.places is over) c.put.ensures.visits
+    let over =
+    over_of n r m c.args.x c.root-variable.result c.in_ok-low.low c.in_ok-low.high c.root-variable.ensures.names c.cofactors.ensures.names
+    (last_held n s s.visits.items (Reached c.args.x) c.requires.way) c.root-variable.ensures.root (c.root-variable.ensures.inner two)
+    c.in_ok-low.ensures.ok in
+    on_ok c.put.result
+    (λ is.
+    opened n m s c.put.new.self s.visits.items c.args.x c.root-variable.result c.in_ok-low.low c.in_ok-low.high
+    (extends_trans n r m c.root-variable.ensures.names c.cofactors.ensures.names) c.requires.way c.put.ensures.store
+    c.put.ensures.places is over)
+    c.put.ensures.visits

@@ -11,7 +11,8 @@ returns-in-Ok-clause-report g c =
     let p = c.in-Ok.pair in
     let is = c.in-Ok.ensures.pair in
     reported c.compare.result _ _ c.compare.ensures
-    (pair_compared given p c.args.pair.first c.args.pair.second (Some c.args.assumed.now) (ap (λ (x : PairOf). x.first) is) (ap (λ (x : PairOf). x.second) is) (ap (λ (x : PairOf). x.assumes) is) (ap (λ (x : PairOf). x.chosen) is ∙ c.requires.outputs)
+    (pair_compared given p c.args.pair.first c.args.pair.second (Some c.args.assumed.now) (ap (λ (x : PairOf). x.first) is)
+    (ap (λ (x : PairOf). x.second) is) (ap (λ (x : PairOf). x.assumes) is) (ap (λ (x : PairOf). x.chosen) is ∙ c.requires.outputs)
     ∙ assumption_taken given c.args.pair.first c.args.pair.second c.args.assumed.now c.in-Ok.ensures.taken)
 
 pub returns-in-Ok-clause-stop : goal.returns-in-Ok-clause-stop

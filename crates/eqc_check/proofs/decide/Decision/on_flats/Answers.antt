@@ -18,9 +18,11 @@ returns-in-None-clause-report g c =
     let order = c.bytes_of-order.ensures ∙ ap (λ (x : Case). items_of x.order) c.case.view_is in
     let asks = ap (λ (x : Case). x.assume) c.case.view_is in
     let taken : pair_refusal f k given.outputs given.order ≡ None = sym (ap₂ (pair_refusal f k) outputs order) ∙ c.in-Ok.ensures.taken in
-    let unasked : assumed_answer given (netlist_of f) (netlist_of k) given.assume ≡ compared given (netlist_of f) (netlist_of k) None = ap (λ a. assumed_answer given (netlist_of f) (netlist_of k) (items_of a)) (sym asks ∙ c.in-None.is) in
+    let unasked : assumed_answer given (netlist_of f) (netlist_of k) given.assume ≡ compared given (netlist_of f) (netlist_of k) None =
+    ap (λ a. assumed_answer given (netlist_of f) (netlist_of k) (items_of a)) (sym asks ∙ c.in-None.is) in
     reported c.compare.result _ _ c.compare.ensures
-    (pair_compared given c.in-Ok.pair f k None c.in-Ok.ensures.netlists.0 c.in-Ok.ensures.netlists.1 c.in-Ok.ensures.chosen.0 (c.in-Ok.ensures.chosen.1 ∙ outputs) ∙ (sym unasked ∙ behind_pair f k given taken))
+    (pair_compared given c.in-Ok.pair f k None c.in-Ok.ensures.netlists.0 c.in-Ok.ensures.netlists.1 c.in-Ok.ensures.chosen.0 (c.in-Ok.ensures.chosen.1 ∙ outputs)
+    ∙ (sym unasked ∙ behind_pair f k given taken))
 
 pub returns-in-None-clause-stop : goal.returns-in-None-clause-stop
 returns-in-None-clause-stop g c =
@@ -32,7 +34,8 @@ returns-in-None-clause-stop g c =
     let order = c.bytes_of-order.ensures ∙ ap (λ (x : Case). items_of x.order) c.case.view_is in
     let asks = ap (λ (x : Case). x.assume) c.case.view_is in
     let taken : pair_refusal f k given.outputs given.order ≡ None = sym (ap₂ (pair_refusal f k) outputs order) ∙ c.in-Ok.ensures.taken in
-    let unasked : assumed_answer given (netlist_of f) (netlist_of k) given.assume ≡ compared given (netlist_of f) (netlist_of k) None = ap (λ a. assumed_answer given (netlist_of f) (netlist_of k) (items_of a)) (sym asks ∙ c.in-None.is) in
+    let unasked : assumed_answer given (netlist_of f) (netlist_of k) given.assume ≡ compared given (netlist_of f) (netlist_of k) None =
+    ap (λ a. assumed_answer given (netlist_of f) (netlist_of k) (items_of a)) (sym asks ∙ c.in-None.is) in
     stop_alike c.compare.result _ _ (compared_stop given (netlist_of f) (netlist_of k) None c.compare.result) (sym unasked ∙ behind_pair f k given taken)
 
 pub returns-in-Some-clause-stop : goal.returns-in-Some-clause-stop
@@ -46,7 +49,8 @@ returns-in-Some-clause-stop g c =
     let asks = ap (λ (x : Case). x.assume) c.case.view_is in
     let taken : pair_refusal f k given.outputs given.order ≡ None = sym (ap₂ (pair_refusal f k) outputs order) ∙ c.in-Ok.ensures.taken in
     let text = c.in-Some.text.items in
-    let asked : assumed_answer given (netlist_of f) (netlist_of k) given.assume ≡ assumption_answer given (netlist_of f) (netlist_of k) (assumption_found text) = ap (λ a. assumed_answer given (netlist_of f) (netlist_of k) (items_of a)) (sym asks ∙ c.in-Some.is) in
+    let asked : assumed_answer given (netlist_of f) (netlist_of k) given.assume ≡ assumption_answer given (netlist_of f) (netlist_of k) (assumption_found text) =
+    ap (λ a. assumed_answer given (netlist_of f) (netlist_of k) (items_of a)) (sym asks ∙ c.in-Some.is) in
     stop_alike c.on_assumption.result _ _ c.on_assumption.ensures.stop
     (ap₂ (λ (x y : FlatOf). assumption_answer given (netlist_of x) (netlist_of y) (assumption_found c.deref.result.now)) c.in-Ok.ensures.netlists.0 c.in-Ok.ensures.netlists.1
     ∙ (ap (λ t. assumption_answer given (netlist_of f) (netlist_of k) (assumption_found t)) c.deref.ensures.value ∙ (sym asked ∙ behind_pair f k given taken)))

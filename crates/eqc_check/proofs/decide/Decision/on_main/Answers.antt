@@ -21,7 +21,8 @@ returns-in-Ok-clause-stop g c =
 pub returns-in-Err-clause-report : goal.returns-in-Err-clause-report
 returns-in-Err-clause-report g c =
     let k : MainOf = (c.args.assumption.now.library, c.args.assumption.now.model) in
-    assumption_hierarchy (given_of c.args.self.now.case.now) (netlist_of c.args.pair.first) (netlist_of c.args.pair.second) (Ok k) k c.in-Err.field-0.code c.refused.result refl c.refused.ensures c.in-Err.ensures.refused
+    assumption_hierarchy (given_of c.args.self.now.case.now) (netlist_of c.args.pair.first) (netlist_of c.args.pair.second) (Ok k) k
+    c.in-Err.field-0.code c.refused.result refl c.refused.ensures c.in-Err.ensures.refused
 
 pub returns-in-Err-clause-stop : goal.returns-in-Err-clause-stop
 returns-in-Err-clause-stop g c = refused_stop side.Assume (record { line = 0; code = c.in-Err.field-0.code }) c.refused.result _ c.refused.ensures

@@ -11,7 +11,8 @@ returns-in-Ok-clause-stop g c = c.on_second.ensures.stop (c.args.first.0.now, c.
 
 pub returns-in-Err-clause-report : goal.returns-in-Err-clause-report
 returns-in-Err-clause-report g c =
-    first_fault (c.args.first.0.now, c.args.first.1) (c.args.second.0.now, c.args.second.1) (given_of c.args.self.now.case.now) c.in-Err.field-0.code c.refused.result c.refused.ensures c.in-Err.ensures.refused
+    first_fault (c.args.first.0.now, c.args.first.1) (c.args.second.0.now, c.args.second.1) (given_of c.args.self.now.case.now)
+    c.in-Err.field-0.code c.refused.result c.refused.ensures c.in-Err.ensures.refused
 
 pub returns-in-Err-clause-stop : goal.returns-in-Err-clause-stop
 returns-in-Err-clause-stop g c = refused_stop side.First (record { line = 0; code = c.in-Err.field-0.code }) c.refused.result _ c.refused.ensures

@@ -13,9 +13,11 @@ returns-in-Err-clause-stop g c m accepted flat = refused_stop side.Second (recor
 pub returns-in-Ok-clause-report : goal.returns-in-Ok-clause-report
 returns-in-Ok-clause-report g c m accepted flat =
     reported c.on_flats.result _ _ c.on_flats.ensures.report
-    (flat_models c.args.first.now c.in-Ok.g m (c.args.second.0.now, c.args.second.1) (given_of c.args.self.now.case.now) c.recall_laws.ensures.lawful c.recall_laws-in-Ok.ensures.lawful accepted c.in-Ok.ensures.accepted flat c.in-Ok.ensures.flat)
+    (flat_models c.args.first.now c.in-Ok.g m (c.args.second.0.now, c.args.second.1) (given_of c.args.self.now.case.now)
+    c.recall_laws.ensures.lawful c.recall_laws-in-Ok.ensures.lawful accepted c.in-Ok.ensures.accepted flat c.in-Ok.ensures.flat)
 
 pub returns-in-Ok-clause-stop : goal.returns-in-Ok-clause-stop
 returns-in-Ok-clause-stop g c m accepted flat =
     stop_alike c.on_flats.result _ _ c.on_flats.ensures.stop
-    (flat_models c.args.first.now c.in-Ok.g m (c.args.second.0.now, c.args.second.1) (given_of c.args.self.now.case.now) c.recall_laws.ensures.lawful c.recall_laws-in-Ok.ensures.lawful accepted c.in-Ok.ensures.accepted flat c.in-Ok.ensures.flat)
+    (flat_models c.args.first.now c.in-Ok.g m (c.args.second.0.now, c.args.second.1) (given_of c.args.self.now.case.now)
+    c.recall_laws.ensures.lawful c.recall_laws-in-Ok.ensures.lawful accepted c.in-Ok.ensures.accepted flat c.in-Ok.ensures.flat)

@@ -15,10 +15,21 @@ agrees-requires t c =
     let lt : v < 2 ^ 16 = let h = c.if-v-ge-NO_VARIABLE.false in omega arith in
     let is : v ≡ min (min (variable_at m.nodes.items c.args.f) (variable_at m.nodes.items c.args.g)) (variable_at m.nodes.items c.args.r) =
     (let a = c.variable.ensures in let b = c.variable-2.ensures in let d = c.variable-3.ensures in let e = c.min.ensures in let f = c.min-v.ensures in cc) in
-    let fall = cofactors_fall s.sizes s.words s.homes s.views law v false c.args.f c.args.g c.args.r c.cofactor-f_low.result c.cofactor-g_low.result c.cofactor-r_low.result lt is c.requires.f c.requires.g c.requires.r c.cofactor-f_low.ensures c.cofactor-g_low.ensures c.cofactor-r_low.ensures in
+    let fall =
+    cofactors_fall s.sizes s.words s.homes s.views law v false c.args.f c.args.g c.args.r c.cofactor-f_low.result c.cofactor-g_low.result
+    c.cofactor-r_low.result lt is c.requires.f c.requires.g c.requires.r c.cofactor-f_low.ensures c.cofactor-g_low.ensures
+    c.cofactor-r_low.ensures in
     let name : (x y : ℕ) → IsName s.homes s.views x → y ≡ cofactor m.nodes.items v false x → IsName s.homes s.views y =
-    λ x y n e. subst (λ (k : ℕ). IsName s.homes s.views k) (sym e) (cofactor_named s.sizes s.words s.homes s.views law v false x lt n) in
-    (omega arith, (c.requires.kept, (name c.args.f c.cofactor-f_low.result c.requires.f c.cofactor-f_low.ensures, (name c.args.g c.cofactor-g_low.result c.requires.g c.cofactor-g_low.ensures, name c.args.r c.cofactor-r_low.result c.requires.r c.cofactor-r_low.ensures))))
+    λ x y n e. subst (λ (k : ℕ). IsName s.homes s.views k) (sym e) (cofactor_named s.sizes s.words s.homes s.views law v false x lt n) in (
+      omega arith,
+      (
+        c.requires.kept,
+        (
+          name c.args.f c.cofactor-f_low.result c.requires.f c.cofactor-f_low.ensures,
+          (name c.args.g c.cofactor-g_low.result c.requires.g c.cofactor-g_low.ensures, name c.args.r c.cofactor-r_low.result c.requires.r c.cofactor-r_low.ensures),
+        ),
+      ),
+    )
 
 pub agrees-requires-2 : goal.agrees-requires-2
 agrees-requires-2 t c =
@@ -29,10 +40,21 @@ agrees-requires-2 t c =
     let lt : v < 2 ^ 16 = let h = c.if-v-ge-NO_VARIABLE.false in omega arith in
     let is : v ≡ min (min (variable_at m.nodes.items c.args.f) (variable_at m.nodes.items c.args.g)) (variable_at m.nodes.items c.args.r) =
     (let a = c.variable.ensures in let b = c.variable-2.ensures in let d = c.variable-3.ensures in let e = c.min.ensures in let f = c.min-v.ensures in cc) in
-    let fall = cofactors_fall s.sizes s.words s.homes s.views law v true c.args.f c.args.g c.args.r c.cofactor-f_high.result c.cofactor-g_high.result c.cofactor-r_high.result lt is c.requires.f c.requires.g c.requires.r c.cofactor-f_high.ensures c.cofactor-g_high.ensures c.cofactor-r_high.ensures in
+    let fall =
+    cofactors_fall s.sizes s.words s.homes s.views law v true c.args.f c.args.g c.args.r c.cofactor-f_high.result c.cofactor-g_high.result
+    c.cofactor-r_high.result lt is c.requires.f c.requires.g c.requires.r c.cofactor-f_high.ensures c.cofactor-g_high.ensures
+    c.cofactor-r_high.ensures in
     let name : (x y : ℕ) → IsName s.homes s.views x → y ≡ cofactor m.nodes.items v true x → IsName s.homes s.views y =
-    λ x y n e. subst (λ (k : ℕ). IsName s.homes s.views k) (sym e) (cofactor_named s.sizes s.words s.homes s.views law v true x lt n) in
-    (omega arith, (c.requires.kept, (name c.args.f c.cofactor-f_high.result c.requires.f c.cofactor-f_high.ensures, (name c.args.g c.cofactor-g_high.result c.requires.g c.cofactor-g_high.ensures, name c.args.r c.cofactor-r_high.result c.requires.r c.cofactor-r_high.ensures))))
+    λ x y n e. subst (λ (k : ℕ). IsName s.homes s.views k) (sym e) (cofactor_named s.sizes s.words s.homes s.views law v true x lt n) in (
+      omega arith,
+      (
+        c.requires.kept,
+        (
+          name c.args.f c.cofactor-f_high.result c.requires.f c.cofactor-f_high.ensures,
+          (name c.args.g c.cofactor-g_high.result c.requires.g c.cofactor-g_high.ensures, name c.args.r c.cofactor-r_high.result c.requires.r c.cofactor-r_high.ensures),
+        ),
+      ),
+    )
 
 pub returns-then-v-ge-NO_VARIABLE : goal.returns-then-v-ge-NO_VARIABLE
 returns-then-v-ge-NO_VARIABLE t c =
@@ -51,7 +73,8 @@ returns-then-v-ge-NO_VARIABLE t c =
     let g_small = small c.args.g c.requires.g (omega arith) in
     let r_small = small c.args.r c.requires.r (omega arith) in (
       (λ h. constants_agree s.sizes s.words s.homes s.views law c.args.op c.args.f c.args.g c.args.r f_small g_small r_small (sym c.compute.ensures ∙ beq_same c.compute.result (eqb c.args.r 1) h)),
-      (λ agrees. same_beq c.compute.result (eqb c.args.r 1) (c.compute.ensures ∙ agree_constants s.sizes s.words s.homes s.views law c.args.op c.args.f c.args.g c.args.r f_small g_small r_small agrees)),
+      (λ agrees.
+          same_beq c.compute.result (eqb c.args.r 1) (c.compute.ensures ∙ agree_constants s.sizes s.words s.homes s.views law c.args.op c.args.f c.args.g c.args.r f_small g_small r_small agrees)),
     )
 
 pub returns-then-not-agrees : goal.returns-then-not-agrees
@@ -100,6 +123,8 @@ returns t c =
     λ b h. agrees_cofactors s.sizes s.words s.homes s.views law c.args.op v b c.args.f c.args.g c.args.r lt le_f le_g le_r c.requires.f c.requires.g c.requires.r h in
     let low : Agrees nodes c.args.op (cofactor nodes v false c.args.f) (cofactor nodes v false c.args.g) (cofactor nodes v false c.args.r) =
     same _ _ _ _ _ _ c.cofactor-f_low.ensures c.cofactor-g_low.ensures c.cofactor-r_low.ensures (c.if-not-agrees.ensures.0 refl) in (
-      (λ h. agrees_both s.sizes s.words s.homes s.views law c.args.op v c.args.f c.args.g c.args.r lt low (same _ _ _ _ _ _ c.cofactor-f_high.ensures c.cofactor-g_high.ensures c.cofactor-r_high.ensures (c.agrees-2.ensures.0 h))),
+      (λ h.
+          agrees_both s.sizes s.words s.homes s.views law c.args.op v c.args.f c.args.g c.args.r lt low
+          (same _ _ _ _ _ _ c.cofactor-f_high.ensures c.cofactor-g_high.ensures c.cofactor-r_high.ensures (c.agrees-2.ensures.0 h))),
       (λ h. c.agrees-2.ensures.1 (same _ _ _ _ _ _ (sym c.cofactor-f_high.ensures) (sym c.cofactor-g_high.ensures) (sym c.cofactor-r_high.ensures) (cofactors true h))),
     )

@@ -58,5 +58,8 @@ returns c =
     let some_word : c.args.word ≢ 0 = λ e. (let nz = c.if-word-eq0.false in absurd (omega arith)) in
     let stops : operation_of c.args.word < 16 = few c.args.word (c.ranges.word.fits) in (
       (λ t. inr (inr (record { from = (let l = leb-true 13 c.unpack_cell-tag.result.0 t in omega arith); upto = stops; no_result = sym is.found ∙ c.if-r-ne0.false }))),
-      (λ b. le-leb 13 c.unpack_cell-tag.result.0 (⊎_elim (λ (l : operation_of c.args.word < 9). absurd (omega arith)) (λ (l : 12 < operation_of c.args.word). omega arith) (high_box c.args.self.now.nodes.items c.args.word some_word (omega arith) b).1)),
+      (λ b.
+          le-leb 13 c.unpack_cell-tag.result.0
+          (⊎_elim (λ (l : operation_of c.args.word < 9). absurd (omega arith)) (λ (l : 12 < operation_of c.args.word). omega arith)
+          (high_box c.args.self.now.nodes.items c.args.word some_word (omega arith) b).1)),
     )

@@ -14,5 +14,8 @@ returns c =
     (let a = c.replace-other.ensures.value in let b = c.index_mut.ensures.value in subst (λ (w : Worker). w ≡ get_or m.workers.items c.args.from w) (sym a) b) in
     let off = ap (λ (w : Worker). w.active) c.replace-other.ensures.after ∙ c.absent.ensures.active in
     let over = ap (λ (w : Worker). w.over) c.replace-other.ensures.after ∙ c.absent.ensures.over in
-    let t = join_views m.sizes m.workers.items c.args.id c.args.from c.index_mut-worker.result.now c.replace-other.result c.replace-other.new.dest c.join.new.self c.requires.turn.there there n o c.index_mut-worker.ensures.value off over c.requires.turn.active (c.in_ok-join.ensures m.sizes) in
+    let t =
+    join_views m.sizes m.workers.items c.args.id c.args.from c.index_mut-worker.result.now c.replace-other.result c.replace-other.new.dest
+    c.join.new.self c.requires.turn.there there n o c.index_mut-worker.ensures.value off over c.requires.turn.active
+    (c.in_ok-join.ensures m.sizes) in
     stepped (state_of m) (words_of m) (words_of m) _ _ refl t

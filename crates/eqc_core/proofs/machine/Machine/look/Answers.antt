@@ -14,6 +14,8 @@ returns c =
     let m = c.args.self.now in
     let vs = (state_of m).views in
     let v = view_at vs c.args.id in
-    let t = turned m.sizes m.workers.items c.args.id c.index_mut-worker.result.now c.look.new.self (λ v. looked v 0 c.args.c c.index-found.result.now) c.requires.turn.there c.index_mut-worker.ensures.value c.requires.turn.active c.look.ensures in
+    let t =
+    turned m.sizes m.workers.items c.args.id c.index_mut-worker.result.now c.look.new.self (λ v. looked v 0 c.args.c c.index-found.result.now)
+    c.requires.turn.there c.index_mut-worker.ensures.value c.requires.turn.active c.look.ensures in
     let found = get_or_read m.cells.items c.args.c c.index-found.result.now (cell_there m c.args.id c.args.c c.requires.turn c.requires.may.2) c.index-found.ensures 0 in
     stepped (state_of m) (words_of m) (words_of m) _ _ refl (t ∙ ap (λ n. set vs c.args.id (looked v 0 c.args.c n)) found)

@@ -15,6 +15,11 @@ returns c =
     let z = c.args.self.now.sizes in
     let l = c.if-low-self.false in
     let h = c.if-high-self.false in (
-      (λ t. let p = (c.may_write.ensures z).0 t in record { low_there = omega arith; high_there = omega arith; word = record { ready = p.0; draft = p.1; hand = p.2; stripe = p.3.0; new = p.3.1; shaped = c.if-not-is_shaped.ensures.0 refl; held = p.4 } }),
+      (λ t. let p = (c.may_write.ensures z).0 t in
+          record {
+            low_there = omega arith;
+            high_there = omega arith;
+            word = record { ready = p.0; draft = p.1; hand = p.2; stripe = p.3.0; new = p.3.1; shaped = c.if-not-is_shaped.ensures.0 refl; held = p.4 };
+          }),
       (λ r. let k = r.word in (c.may_write.ensures z).1 (k.ready, k.draft, k.hand, (k.stripe, k.new), k.held)),
     )

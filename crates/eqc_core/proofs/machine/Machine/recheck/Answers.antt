@@ -13,7 +13,9 @@ pub returns : goal.returns
 returns c =
     let m = c.args.self.now in
     let vs = (state_of m).views in
-    let t = turned m.sizes m.workers.items c.args.id c.index_mut-worker.result.now c.recheck.new.self (λ v. rechecked v 0 c.index-found.result.now) c.requires.turn.there c.index_mut-worker.ensures.value c.requires.turn.active c.recheck.ensures in
+    let t =
+    turned m.sizes m.workers.items c.args.id c.index_mut-worker.result.now c.recheck.new.self (λ v. rechecked v 0 c.index-found.result.now)
+    c.requires.turn.there c.index_mut-worker.ensures.value c.requires.turn.active c.recheck.ensures in
     let n = c.requires.turn.kept.lawful.sized.cells in
     let lt = c.requires.there in
     let found = get_or_read m.cells.items c.args.c c.index-found.result.now (omega arith) c.index-found.ensures 0 in

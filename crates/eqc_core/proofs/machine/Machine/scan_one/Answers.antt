@@ -21,7 +21,9 @@ returns c =
     let m = c.args.self.now in
     let vs = (state_of m).views in
     let v = view_at vs c.args.id in
-    let t = turned_at m.sizes m.workers.items c.args.id c.index_mut-worker.result.now c.scan.new.self (λ v. scanned v c.index-name.result.now) c.requires.there c.index_mut-worker.ensures.value c.requires.active c.in_ok-scan.ensures.active c.in_ok-scan.ensures.view in
+    let t =
+    turned_at m.sizes m.workers.items c.args.id c.index_mut-worker.result.now c.scan.new.self (λ v. scanned v c.index-name.result.now)
+    c.requires.there c.index_mut-worker.ensures.value c.requires.active c.in_ok-scan.ensures.active c.in_ok-scan.ensures.view in
     let b = place_there m c.args.id c.index.result.now c.requires c.index.ensures in
     let n = c.requires.kept.lawful.sized.announced in
     let name = get_or_read m.announced.items c.index.result.now.position c.index-name.result.now (omega arith) c.index-name.ensures 0 in

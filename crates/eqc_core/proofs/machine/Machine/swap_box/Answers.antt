@@ -13,6 +13,9 @@ pub returns : goal.returns
 returns c =
     let m = c.args.self.now in
     let vs = (state_of m).views in
-    let t = turned m.sizes m.workers.items c.args.id c.index_mut-worker.result.now c.swap_box.new.self (λ v. boxed v c.index-old.result.now c.args.word) c.requires.turn.there c.index_mut-worker.ensures.value c.requires.turn.active c.in_ok-swap_box.ensures in
+    let t =
+    turned m.sizes m.workers.items c.args.id c.index_mut-worker.result.now c.swap_box.new.self
+    (λ v. boxed v c.index-old.result.now c.args.word) c.requires.turn.there c.index_mut-worker.ensures.value c.requires.turn.active
+    c.in_ok-swap_box.ensures in
     let old = get_or_read m.boxes.items c.args.b c.index-old.result.now (box_there m c.args.id c.args.b c.requires.turn c.requires.may.1) c.index-old.ensures 0 in
     stepped (state_of m) _ _ _ _ refl (t ∙ ap (λ n. set vs c.args.id (boxed (view_at vs c.args.id) n c.args.word)) old)

@@ -13,6 +13,9 @@ pub returns : goal.returns
 returns c =
     let m = c.args.self.now in
     let vs = (state_of m).views in
-    let t = turned m.sizes m.workers.items c.args.id c.index_mut-worker.result.now c.swap_cell.new.self (λ v. swapped v c.index-old.result.now c.args.word) c.requires.turn.there c.index_mut-worker.ensures.value c.requires.turn.active c.in_ok-swap_cell.ensures in
+    let t =
+    turned m.sizes m.workers.items c.args.id c.index_mut-worker.result.now c.swap_cell.new.self
+    (λ v. swapped v c.index-old.result.now c.args.word) c.requires.turn.there c.index_mut-worker.ensures.value c.requires.turn.active
+    c.in_ok-swap_cell.ensures in
     let old = get_or_read m.cells.items c.args.c c.index-old.result.now (cell_there m c.args.id c.args.c c.requires.turn c.requires.may.1) c.index-old.ensures 0 in
     stepped (state_of m) _ _ _ _ refl (t ∙ ap (λ n. set vs c.args.id (swapped (view_at vs c.args.id) n c.args.word)) old)

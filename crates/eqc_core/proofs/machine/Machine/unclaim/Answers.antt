@@ -21,6 +21,8 @@ index_mut-requires c =
 pub returns : goal.returns
 returns c =
     let m = c.args.self.now in
-    let t = turned m.sizes m.workers.items c.args.id c.index_mut-worker.result.now c.unclaim-d.new.self unclaimed c.requires.turn.there c.index_mut-worker.ensures.value c.requires.turn.active c.unclaim-d.ensures.turns in
+    let t =
+    turned m.sizes m.workers.items c.args.id c.index_mut-worker.result.now c.unclaim-d.new.self unclaimed c.requires.turn.there
+    c.index_mut-worker.ensures.value c.requires.turn.active c.unclaim-d.ensures.turns in
     let is = c.unclaim-d.ensures.draft ∙ ap (λ (u : View). draft_of u.draft) (sym (turn_view m c.args.id c.index_mut-worker.result.now c.requires.turn c.index_mut-worker.ensures.value)) in
     stepped (state_of m) _ _ _ _ (ap (λ k. with_count (words_of m) k 0) is) t

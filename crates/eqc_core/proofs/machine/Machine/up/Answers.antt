@@ -24,5 +24,7 @@ returns c =
     let m = c.args.self.now in
     let there = count_there m c.args.id c.args.x c.requires.turn c.requires.may.2 in
     let was = get_or_read m.counts.items c.args.x c.index_mut.result.now there.1 c.index_mut.ensures.value 0 in
-    let t = turned m.sizes m.workers.items c.args.id c.index_mut-worker.result.now c.up.new.self (λ v. upped v c.args.x) c.requires.turn.there c.index_mut-worker.ensures.value c.requires.turn.active c.in_ok-up.ensures in
+    let t =
+    turned m.sizes m.workers.items c.args.id c.index_mut-worker.result.now c.up.new.self (λ v. upped v c.args.x) c.requires.turn.there
+    c.index_mut-worker.ensures.value c.requires.turn.active c.in_ok-up.ensures in
     stepped (state_of m) _ _ _ _ (ap (λ n. with_count (words_of m) c.args.x (n + 1)) was) t

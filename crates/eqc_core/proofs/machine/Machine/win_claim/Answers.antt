@@ -11,5 +11,7 @@ index_mut-requires c = let h = (count_there c.args.self.now c.args.id c.args.x c
 pub returns : goal.returns
 returns c =
     let m = c.args.self.now in
-    let t = turned m.sizes m.workers.items c.args.id c.index_mut-worker.result.now c.claim.new.self (λ v. claimed v c.args.x) c.requires.turn.there c.index_mut-worker.ensures.value c.requires.turn.active c.claim.ensures in
+    let t =
+    turned m.sizes m.workers.items c.args.id c.index_mut-worker.result.now c.claim.new.self (λ v. claimed v c.args.x) c.requires.turn.there
+    c.index_mut-worker.ensures.value c.requires.turn.active c.claim.ensures in
     stepped (state_of m) _ _ _ _ refl t

@@ -17,5 +17,8 @@ returns c =
     let m = c.args.self.now in
     let vs = (state_of m).views in
     let id = c.args.id in
-    let t = turned m.sizes m.workers.items id c.index_mut-worker.result.now c.lock.new.self (λ v. locked v c.args.i c.take_home-table.result.entries.items) c.requires.turn.there c.index_mut-worker.ensures.value c.requires.turn.active c.lock.ensures in
+    let t =
+    turned m.sizes m.workers.items id c.index_mut-worker.result.now c.lock.new.self
+    (λ v. locked v c.args.i c.take_home-table.result.entries.items) c.requires.turn.there c.index_mut-worker.ensures.value
+    c.requires.turn.active c.lock.ensures in
     stepped_home (state_of m) _ _ _ _ _ _ refl c.take_home-table.ensures.homes (t ∙ ap (λ es. set vs id (locked (view_at vs id) c.args.i es)) c.take_home-table.ensures.table)

@@ -10,7 +10,8 @@ pub returns-clause-view : goal.returns-clause-view
 returns-clause-view c =
     let z = c.args.sizes in
     let v = active_view z c.args.self.now in
-    let last : ltb (c.args.self.now.position + 1) (announced_words z) ≡ false = le-ltb (c.args.self.now.position + 1) (announced_words z) (let a = c.announced_words.ensures in let b = c.if-self-announced_words.false in omega arith) in
+    let last : ltb (c.args.self.now.position + 1) (announced_words z) ≡ false =
+    le-ltb (c.args.self.now.position + 1) (announced_words z) (let a = c.announced_words.ensures in let b = c.if-self-announced_words.false in omega arith) in
     rw last
     (c.forget.ensures.view z
     ∙ (ap (λ (u : View). with_held u u.held) (c.in_ok-sort_out.ensures.view z)

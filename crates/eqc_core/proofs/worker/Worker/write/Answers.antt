@@ -18,5 +18,8 @@ returns-clause-turns c = record {
       c.forget.ensures.view z
       ∙ (ap (λ (u : View). with_held u u.held) (c.in_ok-insert.ensures.view z)
       ∙ (ap (λ (u : View). with_held (with_table u ((hand_of u.hand).entries ++ (c.pack_node.result, c.draft_slot-draft.result) ∷ [])) u.held) (c.in_ok-hand_over.ensures.view z)
-      ∙ (λ i. with_held (record v { draft = None; hand = Some (record (hand_of v.hand) { entries = (hand_of v.hand).entries ++ (c.pack_node.ensures i, c.draft_slot-draft.ensures i) ∷ [] }) }) (without_each (slots_of (names i)) v.held ++ c.draft_slot-draft.ensures i ∷ []))));
+      ∙ (λ i.
+      with_held
+      (record v { draft = None; hand = Some (record (hand_of v.hand) { entries = (hand_of v.hand).entries ++ (c.pack_node.ensures i, c.draft_slot-draft.ensures i) ∷ [] }) })
+      (without_each (slots_of (names i)) v.held ++ c.draft_slot-draft.ensures i ∷ []))));
 }

@@ -12,7 +12,8 @@ use Rattle.eqc_guard.proofs.Acquiring.{starts, phase_is, joins, looked_at}
 use Rattle.eqc_guard.proofs.worker.Worker.acquire.Goals as goal
 
 pub returns-then-found-lt2-clause-none : goal.returns-then-found-lt2-clause-none
-returns-then-found-lt2-clause-none c = λ e. record { phase = Seen c.args.cell c.look-word.result; quiet = tt; stands = starts c.args.self.now c.look-word.new.self (Seen c.args.cell c.look-word.result) c.look-word.ensures.step }
+returns-then-found-lt2-clause-none c =
+    λ e. record { phase = Seen c.args.cell c.look-word.result; quiet = tt; stands = starts c.args.self.now c.look-word.new.self (Seen c.args.cell c.look-word.result) c.look-word.ensures.step }
 
 pub confirm-requires-clause-may : goal.confirm-requires-clause-may
 unfolding result_of

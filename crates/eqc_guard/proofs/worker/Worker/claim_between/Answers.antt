@@ -11,7 +11,9 @@ loop-slot-init c =
     none_seen c.args.first c.args.self.now known
 
 pub loop-slot-preserved : goal.loop-slot-preserved
-loop-slot-preserved c = one_seen c.args.first c.loop-slot.slot c.args.self.now c.loop-slot.self c.loop-slot.invariant c.claim.new.self (let two = c.requires.slot in let from = c.loop-slot.auto.slot in omega arith) (c.if-claim.ensures.lost refl)
+loop-slot-preserved c =
+    one_seen c.args.first c.loop-slot.slot c.args.self.now c.loop-slot.self c.loop-slot.invariant c.claim.new.self
+    (let two = c.requires.slot in let from = c.loop-slot.auto.slot in omega arith) (c.if-claim.ensures.lost refl)
 
 pub returns-then-claim-clause-won : goal.returns-then-claim-clause-won
 returns-then-claim-clause-won c =

@@ -18,7 +18,9 @@ some_won None first last old mid new h d = tt
 some_won (Some slot) first last old mid new h d = then_won first last old mid h slot new d
 
 pub returns-clause-won : goal.returns-clause-won
-returns-clause-won c = some_won c.claim_between-2.result c.clamp-begin.result c.args.self.now.known.core.sizes.names c.args.self.now c.claim_between.new.self c.claim_between-2.new.self (half c) c.claim_between-2.ensures.won
+returns-clause-won c =
+    some_won c.claim_between-2.result c.clamp-begin.result c.args.self.now.known.core.sizes.names c.args.self.now c.claim_between.new.self
+    c.claim_between-2.new.self (half c) c.claim_between-2.ensures.won
 
 pub returns-clause-lost : goal.returns-clause-lost
 returns-clause-lost c = λ none.

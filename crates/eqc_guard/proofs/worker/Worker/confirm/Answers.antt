@@ -33,7 +33,8 @@ pub returns-clause-cells : goal.returns-clause-cells
 returns-clause-cells c =
     let there : IsPlaced c.args.self.now.known.core = subst (λ (s : Standing). IsPlaced s.known.core) c.self.view_is (placed _ _ c.self.inside.seat.me c.self.invariant.worker) in
     let r = c.recheck.ensures in
-    withdrawn_keeps c.args.self.now c.announce.new.self c.recheck.new.self c.args.found r.0 there c.announce.ensures.step c.announce.ensures.copies r.1 _ c.release.new.self r.4 c.release.ensures.copies
+    withdrawn_keeps c.args.self.now c.announce.new.self c.recheck.new.self c.args.found r.0 there c.announce.ensures.step
+    c.announce.ensures.copies r.1 _ c.release.new.self r.4 c.release.ensures.copies
 
 -- where the copy has the word, the second look finds it
 pub returns-clause-alone : goal.returns-clause-alone

@@ -14,5 +14,6 @@ loop-init g c =
 pub returns-in-Some-try_stripe-clause-step : goal.returns-in-Some-try_stripe-clause-step
 returns-in-Some-try_stripe-clause-step g c =
     let map = c.in-Some-try_stripe.map.entries in
-    let won : Steps c.loop.self (locked c.args.self.now.known.core c.args.stripe map) c.try_stripe.new.self = subst (λ (v : View). Steps c.loop.self (locked v c.args.stripe map) c.try_stripe.new.self) c.loop.invariant.0.known.core c.in-Some-try_stripe.ensures.won.0 in
+    let won : Steps c.loop.self (locked c.args.self.now.known.core c.args.stripe map) c.try_stripe.new.self =
+    subst (λ (v : View). Steps c.loop.self (locked v c.args.stripe map) c.try_stripe.new.self) c.loop.invariant.0.known.core c.in-Some-try_stripe.ensures.won.0 in
     steps_on c.args.self.now c.loop.self c.try_stripe.new.self (locked c.args.self.now.known.core c.args.stripe map) c.loop.invariant.0 won

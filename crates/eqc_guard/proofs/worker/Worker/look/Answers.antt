@@ -11,7 +11,8 @@ load-found-requires c =
     let is = c.self.invariant in
     let me = c.self.inside.seat.me in
     let v = sym c.self.view_is in
-    let at : c.cell_word-word.result ≡ cells_from me.0.core.sizes + c.args.cell = subst (λ (s : Standing). c.cell_word-word.result ≡ cells_from s.known.core.sizes + c.args.cell) v c.cell_word-word.ensures in
+    let at : c.cell_word-word.result ≡ cells_from me.0.core.sizes + c.args.cell =
+    subst (λ (s : Standing). c.cell_word-word.result ≡ cells_from s.known.core.sizes + c.args.cell) v c.cell_word-word.ensures in
     let may : MayLook me.0.core 0 c.args.cell = subst (λ (s : Standing). MayLook s.known.core 0 c.args.cell) v c.requires in (
       rw c.deref.ensures is.one_table,
       rw (c.deref.ensures, is.worker.words) (let there = may.2 in let e = ap cells_from is.worker.sizes in let f = ap (λ (z : Sizes). z.cells) is.worker.sizes in omega arith),

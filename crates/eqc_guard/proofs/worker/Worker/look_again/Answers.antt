@@ -13,7 +13,8 @@ load-found-requires c =
     let is = c.self.invariant in
     let me = c.self.inside.seat.me in
     let v = sym c.self.view_is in
-    let at : c.cell_word-word.result ≡ cells_from me.0.core.sizes + c.args.cell = subst (λ (s : Standing). c.cell_word-word.result ≡ cells_from s.known.core.sizes + c.args.cell) v c.cell_word-word.ensures in
+    let at : c.cell_word-word.result ≡ cells_from me.0.core.sizes + c.args.cell =
+    subst (λ (s : Standing). c.cell_word-word.result ≡ cells_from s.known.core.sizes + c.args.cell) v c.cell_word-word.ensures in
     let may : MayRecheck me.0.core 0 = subst (λ (s : Standing). MayRecheck s.known.core 0) v c.requires.may in
     let cell : c.args.cell ≡ announced_cell (phase_at me.0.core 0) = subst (λ (s : Standing). c.args.cell ≡ announced_cell (phase_at s.known.core 0)) v c.requires.cell in
     let there : c.args.cell < me.0.core.sizes.cells = subst (λ (s : Standing). c.args.cell < s.known.core.sizes.cells) v c.requires.there in (

@@ -12,5 +12,8 @@ load_count-requires c =
 
 pub returns-clause-copies : goal.returns-clause-copies
 returns-clause-copies c =
-    let t = c.try_reclaim.ensures.copies in
-    (t.0, t.1, count_on c.args.self.now c.load_count.new.self c.try_reclaim.new.self c.args.x c.load_count.result t.0 (if eqb t.0 1 then 0 else t.0) c.load_count.ensures.step c.load_count.ensures.copies t.2)
+    let t = c.try_reclaim.ensures.copies in (
+      t.0,
+      t.1,
+      count_on c.args.self.now c.load_count.new.self c.try_reclaim.new.self c.args.x c.load_count.result t.0 (if eqb t.0 1 then 0 else t.0) c.load_count.ensures.step c.load_count.ensures.copies t.2,
+    )

@@ -23,4 +23,5 @@ returns-clause-whole c =
 
 pub returns-clause-right : goal.returns-clause-right
 returns-clause-right c =
-    is_genuine c.swap_box_word-old.new.self.known c.parcel_of.result c.parcel_of.ensures.whole (subst (λ (n : ℕ). Receives n c.swap_box_word-old.new.self.known) (sym c.parcel_of.ensures.word) c.swap_box_word-old.ensures.tells)
+    is_genuine c.swap_box_word-old.new.self.known c.parcel_of.result c.parcel_of.ensures.whole
+    (subst (λ (n : ℕ). Receives n c.swap_box_word-old.new.self.known) (sym c.parcel_of.ensures.word) c.swap_box_word-old.ensures.tells)

@@ -15,7 +15,9 @@ pub returns-in-Some : goal.returns-in-Some
 returns-in-Some c =
     let zero = reads_none c.args.self.now c.loop-ejected.self c.scan_one.new.self c.scan_one.ensures.step.0 c.loop-ejected.invariant c.requires.may c.scan_one.ensures.step.2 in
     elim (dec_le (announced_words c.loop-ejected.self.known.core.sizes) (c.loop-ejected.self.known.core.position + 1)) [
-      | yes end ↦ ends c.args.self.now c.loop-ejected.self c.scan_one.new.self c.scan_one.ensures.step.0 c.loop-ejected.invariant c.scan_one.ensures.step.1 c.scan_one.ensures.step.2 zero end c.in-Some.ejected.items c.in-Some.ensures.some
+      | yes end ↦
+          ends c.args.self.now c.loop-ejected.self c.scan_one.new.self c.scan_one.ensures.step.0 c.loop-ejected.invariant
+          c.scan_one.ensures.step.1 c.scan_one.ensures.step.2 zero end c.in-Some.ejected.items c.in-Some.ensures.some
       | no n ↦ absurd (let q = c.in-Some.ensures.goes_on.1 (omega arith) in cc)
     ]
 

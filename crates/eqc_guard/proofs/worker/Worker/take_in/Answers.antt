@@ -17,9 +17,12 @@ join_seat-requires c =
     let w = c.self.inside in
     let o = c.other.inside in
     let same : o.seat.table_id ≡ w.seat.table_id = ap (λ (s : Standing). s.forest) c.other.view_is ∙ (c.requires.forest ∙ sym (ap (λ (s : Standing). s.forest) c.self.view_is)) in
-    let may : MayTake w.seat.me.0.core o.seat.me.0.core = subst (λ (s : Standing). MayTake w.seat.me.0.core s.known.core) (sym c.other.view_is) (subst (λ (s : Standing). MayTake s.known.core c.args.other.known.core) (sym c.self.view_is) c.requires.may) in
+    let may : MayTake w.seat.me.0.core o.seat.me.0.core =
+    subst (λ (s : Standing). MayTake w.seat.me.0.core s.known.core) (sym c.other.view_is)
+    (subst (λ (s : Standing). MayTake s.known.core c.args.other.known.core) (sym c.self.view_is) c.requires.may) in
     let room : length w.seat.me.0.core.held + length o.seat.me.0.core.held ≤ 2 ^ 39 =
-    subst (λ (s : Standing). length w.seat.me.0.core.held + length s.known.core.held ≤ 2 ^ 39) (sym c.other.view_is) (subst (λ (s : Standing). length s.known.core.held + length c.args.other.known.core.held ≤ 2 ^ 39) (sym c.self.view_is) c.requires.room) in (
+    subst (λ (s : Standing). length w.seat.me.0.core.held + length s.known.core.held ≤ 2 ^ 39) (sym c.other.view_is)
+    (subst (λ (s : Standing). length s.known.core.held + length c.args.other.known.core.held ≤ 2 ^ 39) (sym c.self.view_is) c.requires.room) in (
       rw c.deref.ensures is.one_table,
       rw c.deref.ensures (same ∙ is.one_table),
       carries_none o.seat.me c.other.invariant.carries may.3.no_hand,
@@ -43,9 +46,14 @@ returns c =
     let o = c.other.inside.seat.me.0 in
     let after = c.load.new.seat.me.0 in
     let told = c.load.ensures.2 in
-    let core : c.load.new.seat.me.0.core ≡ joined c.self.inside.seat.me.0.core c.other.inside.seat.me.0.core.number c.other.inside.seat.me.0.core = told.0.core ∙ (λ i. (c.join_seat.ensures.2 i).0.core) in
-    let settles : Settles (both c.self.inside.seat.me.0 c.other.inside.seat.me.0) 0 c.load.new.seat.me.0 = subst (λ (t : Known). Settles t 0 c.load.new.seat.me.0) (λ i. (c.join_seat.ensures.2 i).0) told.3 in
-    let whole : IsJoined (record { forest = c.self.inside.seat.table_id; known = c.self.inside.seat.me.0 }) (record { forest = c.other.inside.seat.table_id; known = c.other.inside.seat.me.0 }) (record { forest = c.load.new.seat.table_id; known = c.load.new.seat.me.0 }) = record {
+    let core : c.load.new.seat.me.0.core ≡ joined c.self.inside.seat.me.0.core c.other.inside.seat.me.0.core.number c.other.inside.seat.me.0.core = told.0.core
+    ∙ (λ i. (c.join_seat.ensures.2 i).0.core) in
+    let settles : Settles (both c.self.inside.seat.me.0 c.other.inside.seat.me.0) 0 c.load.new.seat.me.0 =
+    subst (λ (t : Known). Settles t 0 c.load.new.seat.me.0) (λ i. (c.join_seat.ensures.2 i).0) told.3 in
+    let whole : IsJoined (record { forest = c.self.inside.seat.table_id; known = c.self.inside.seat.me.0 })
+    (record { forest = c.other.inside.seat.table_id; known = c.other.inside.seat.me.0 })
+    (record { forest = c.load.new.seat.table_id; known = c.load.new.seat.me.0 }) =
+    record {
       forest = c.load.ensures.0 ∙ c.join_seat.ensures.0;
       core = core;
       mine = my_trees k o after is.worker.known c.other.invariant.worker.known core settles;
@@ -53,4 +61,6 @@ returns c =
       known = told.0.known;
     } in
     subst (λ (s : Standing). IsJoined s c.args.other (record { forest = c.load.new.seat.table_id; known = c.load.new.seat.me.0 })) c.self.view_is
-    (subst (λ (s : Standing). IsJoined (record { forest = c.self.inside.seat.table_id; known = c.self.inside.seat.me.0 }) s (record { forest = c.load.new.seat.table_id; known = c.load.new.seat.me.0 })) c.other.view_is whole)
+    (subst
+    (λ (s : Standing). IsJoined (record { forest = c.self.inside.seat.table_id; known = c.self.inside.seat.me.0 }) s (record { forest = c.load.new.seat.table_id; known = c.load.new.seat.me.0 }))
+    c.other.view_is whole)

@@ -12,19 +12,33 @@ loop-k-preserved c = elim c.if-load_count-gt0.branch [
     few = let e = w.counted-is in let f = c.loop-k.invariant.few in omega arith;
     exact = λ ws has.
         let before = c.loop-k.invariant.exact ws has in
-        let read = read_stays c.loop-k.self.known c.load_count.new.self.known (announced_words c.loop-k.self.known.core.sizes + (c.loop-k.k + 2)) c.load_count.result ws c.load_count.ensures.copies before.0 in
-        let place : announced_words c.loop-k.self.known.core.sizes + (c.loop-k.k + 2) ≡ announced_words c.args.self.now.known.core.sizes + 2 + c.loop-k.k = let e = ap (λ (v : View). announced_words v.sizes) c.loop-k.invariant.core in omega arith in
-        let found : get_or ws (announced_words c.args.self.now.known.core.sizes + 2 + c.loop-k.k) 0 ≡ c.load_count.result = ap (λ (i : ℕ). get_or ws i 0) (sym place) ∙ read.1 in
-        (read.0, counts_one ws (announced_words c.args.self.now.known.core.sizes + 2) c.loop-k.k c.if-load_count-gt0.counted c.loop-k.counted before.1 (let t = w.if-load_count-gt0.true in omega arith) w.counted-is);
+        let read =
+        read_stays c.loop-k.self.known c.load_count.new.self.known (announced_words c.loop-k.self.known.core.sizes + (c.loop-k.k + 2))
+        c.load_count.result ws c.load_count.ensures.copies before.0 in
+        let place : announced_words c.loop-k.self.known.core.sizes + (c.loop-k.k + 2) ≡ announced_words c.args.self.now.known.core.sizes + 2 + c.loop-k.k =
+        let e = ap (λ (v : View). announced_words v.sizes) c.loop-k.invariant.core in
+        omega arith in
+        let found : get_or ws (announced_words c.args.self.now.known.core.sizes + 2 + c.loop-k.k) 0 ≡ c.load_count.result = ap (λ (i : ℕ). get_or ws i 0) (sym place) ∙ read.1 in (
+          read.0,
+          counts_one ws (announced_words c.args.self.now.known.core.sizes + 2) c.loop-k.k c.if-load_count-gt0.counted c.loop-k.counted before.1
+              (let t = w.if-load_count-gt0.true in omega arith) w.counted-is,
+        );
   }
   | else-load_count-gt0 w ↦ record {
     core = c.load_count.ensures.step.known.core ∙ c.loop-k.invariant.core;
     few = let e = w.counted-is in let f = c.loop-k.invariant.few in omega arith;
     exact = λ ws has.
         let before = c.loop-k.invariant.exact ws has in
-        let read = read_stays c.loop-k.self.known c.load_count.new.self.known (announced_words c.loop-k.self.known.core.sizes + (c.loop-k.k + 2)) c.load_count.result ws c.load_count.ensures.copies before.0 in
-        let place : announced_words c.loop-k.self.known.core.sizes + (c.loop-k.k + 2) ≡ announced_words c.args.self.now.known.core.sizes + 2 + c.loop-k.k = let e = ap (λ (v : View). announced_words v.sizes) c.loop-k.invariant.core in omega arith in
-        let found : get_or ws (announced_words c.args.self.now.known.core.sizes + 2 + c.loop-k.k) 0 ≡ c.load_count.result = ap (λ (i : ℕ). get_or ws i 0) (sym place) ∙ read.1 in
-        (read.0, counts_none ws (announced_words c.args.self.now.known.core.sizes + 2) c.loop-k.k c.if-load_count-gt0.counted c.loop-k.counted before.1 (let t = w.if-load_count-gt0.false in omega arith) w.counted-is);
+        let read =
+        read_stays c.loop-k.self.known c.load_count.new.self.known (announced_words c.loop-k.self.known.core.sizes + (c.loop-k.k + 2))
+        c.load_count.result ws c.load_count.ensures.copies before.0 in
+        let place : announced_words c.loop-k.self.known.core.sizes + (c.loop-k.k + 2) ≡ announced_words c.args.self.now.known.core.sizes + 2 + c.loop-k.k =
+        let e = ap (λ (v : View). announced_words v.sizes) c.loop-k.invariant.core in
+        omega arith in
+        let found : get_or ws (announced_words c.args.self.now.known.core.sizes + 2 + c.loop-k.k) 0 ≡ c.load_count.result = ap (λ (i : ℕ). get_or ws i 0) (sym place) ∙ read.1 in (
+          read.0,
+          counts_none ws (announced_words c.args.self.now.known.core.sizes + 2) c.loop-k.k c.if-load_count-gt0.counted c.loop-k.counted before.1
+              (let t = w.if-load_count-gt0.false in omega arith) w.counted-is,
+        );
   }
 ]

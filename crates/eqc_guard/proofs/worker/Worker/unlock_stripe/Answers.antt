@@ -29,11 +29,13 @@ store-requires c =
     let one = carries_one me home.0 is.carries home.2.1 in
     let same : out.0 ≡ me.0 = λ j. (e.3 j).0 in
     let carried : out.1 ≡ (c.args.stripe, c.args.map) ∷ [] = (λ j. (e.3 j).1) ∙ (λ j. (c.args.stripe, c.args.map) ∷ rest (one.1 j)) in
-    let at : c.lock_word-word.result ≡ locks_from me.0.core.sizes + 8 * c.args.stripe = subst (λ (s : Standing). c.lock_word-word.result ≡ locks_from s.known.core.sizes + 8 * c.args.stripe) v c.lock_word-word.ensures in
+    let at : c.lock_word-word.result ≡ locks_from me.0.core.sizes + 8 * c.args.stripe =
+    subst (λ (s : Standing). c.lock_word-word.result ≡ locks_from s.known.core.sizes + 8 * c.args.stripe) v c.lock_word-word.ensures in
     let on : out.0.core.active ≡ true = ap (λ (k : Known). k.core.active) same ∙ is.worker.active in (
       rw c.deref-2.ensures (e.0 ∙ is.one_table),
       rw (c.deref-2.ensures, is.worker.words) (let there = is.worker.known.hand home.0 home.2.1 in let s = home.1 in let z = ap locks_from is.worker.sizes in omega arith),
-      unlock_allows c.deref-2.result.now.shared.key.sizes c.deref-2.result.now.shared.table_id.slots c.exchange-blank.new.seat.id c.lock_word-word.result c.args.stripe out on (at ∙ ap (λ (k : Known). locks_from k.core.sizes + 8 * c.args.stripe) (sym same))
+      unlock_allows c.deref-2.result.now.shared.key.sizes c.deref-2.result.now.shared.table_id.slots c.exchange-blank.new.seat.id
+          c.lock_word-word.result c.args.stripe out on (at ∙ ap (λ (k : Known). locks_from k.core.sizes + 8 * c.args.stripe) (sym same))
           home.0 c.args.map home.1 carried (subst (λ (k : Known). MayUnlock k.core home.0 c.args.map.entries) (sym same) home.2),
     )
 
@@ -49,6 +51,8 @@ invariant_of-self c =
     let same : out.0 ≡ me.0 = λ j. (e.3 j).0 in
     let carried : out.1 ≡ (c.args.stripe, c.args.map) ∷ [] = (λ j. (e.3 j).1) ∙ (λ j. (c.args.stripe, c.args.map) ∷ rest (one.1 j)) in
     let told = c.store.ensures.2 in
-    seated_with w.seat.table_id (arc_value w.table).shared.table_id (arc_value w.table).shared.key.sizes w.sizes me w.number w.held w.phase w.retired.items w.noted.items w.position w.given w.out.items w.draft is
+    seated_with w.seat.table_id (arc_value w.table).shared.table_id (arc_value w.table).shared.key.sizes w.sizes me w.number w.held w.phase
+    w.retired.items w.noted.items w.position w.given w.out.items w.draft is
     c.store.new.seat.table_id c.store.new.seat.me (unlocked me.0.core) w.held w.phase w.retired.items w.noted.items w.position w.given w.out.items w.draft
-    (c.store.ensures.0 ∙ e.0) (told.0.core ∙ ap (λ (k : Known). unlocked k.core) same) told.0.known (ap slots_out (told.1 ∙ ap rest carried)) refl is.worker.active refl is.held_is is.phases_are is.retired_are is.noted_are is.position_is is.given_is is.out_is is.draft_is
+    (c.store.ensures.0 ∙ e.0) (told.0.core ∙ ap (λ (k : Known). unlocked k.core) same) told.0.known (ap slots_out (told.1 ∙ ap rest carried)) refl
+    is.worker.active refl is.held_is is.phases_are is.retired_are is.noted_are is.position_is is.given_is is.out_is is.draft_is

@@ -27,5 +27,6 @@ returns-in-Ok-Equal-clause-equal c found =
     let right : AreEqual c.self.inside.sweep c.literal_of-x.result c.literal_of-y.result = rw c.in-Ok-Equal.field-0-is at c.in-Ok-Equal.ensures.right in
     subst (λ p. difference_at p c.args.output ≡ None) c.self.view_is
     (asked_equal g c.self.inside.sweep c.self.inside.literals.items roots c.args.output c.literal_of-x.result c.literal_of-y.result c.self.invariant inside c.roots-roots.ensures
-    (c.literal_of-x.ensures ∙ ap (λ ls. literal_of ls (get_or roots 0 0)) c.deref.ensures.value) (c.literal_of-y.ensures ∙ ap (λ ls. literal_of ls (get_or roots 1 0)) c.deref-2.ensures.value) c.if-x.false c.if-y.false
+    (c.literal_of-x.ensures ∙ ap (λ ls. literal_of ls (get_or roots 0 0)) c.deref.ensures.value)
+    (c.literal_of-y.ensures ∙ ap (λ ls. literal_of ls (get_or roots 1 0)) c.deref-2.ensures.value) c.if-x.false c.if-y.false
     right.value)

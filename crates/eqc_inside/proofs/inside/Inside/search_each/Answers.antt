@@ -36,7 +36,9 @@ returns-then-not-every-clause-found g c =
     let found : difference_at c.loop-output.self c.loop-output.output ≡ Some c.in-Least.values.items = rw c.in-Least.is at c.in_ok-witness.ensures.found in
     let differs : difference_at c.args.self.now c.loop-output.output ≡ Some c.in-Least.values.items = subst (λ q. difference_at q c.loop-output.output ≡ Some c.in-Least.values.items) i.pair found in
     let d : Difference = record { output = c.loop-output.output; values = c.in-Least.values } in
-    let told : told_at c.args.self.now c.loop-output.output ≡ Some c.in-Least.values.items = told_chosen p o (subst (λ q. is_chosen_at q c.loop-output.output ≡ true) same (c.is_settled.ensures.chosen c.if-is_settled.false)) ∙ differs in
+    let told : told_at c.args.self.now c.loop-output.output ≡ Some c.in-Least.values.items =
+    told_chosen p o (subst (λ q. is_chosen_at q c.loop-output.output ≡ true) same (c.is_settled.ensures.chosen c.if-is_settled.false))
+    ∙ differs in
     compared_outcome p c.args.every false c.push.new.self c.requires.allowed refl
     (rw c.in_ok-push-in-Least.ensures.items (told_first p c.args.every c.loop-output.found.items o i.told inside d refl told c.if-not-every.true))
 
@@ -63,9 +65,12 @@ loop-output-preserved g c =
           }
       | in-Least+in_ok-push-in-Least+else-not-every w ↦
           let found : difference_at c.loop-output.self c.loop-output.output ≡ Some w.in-Least.values.items = rw w.in-Least.is at c.in_ok-witness.ensures.found in
-          let differs : difference_at c.args.self.now c.loop-output.output ≡ Some w.in-Least.values.items = subst (λ q. difference_at q c.loop-output.output ≡ Some w.in-Least.values.items) i.pair found in
+          let differs : difference_at c.args.self.now c.loop-output.output ≡ Some w.in-Least.values.items =
+          subst (λ q. difference_at q c.loop-output.output ≡ Some w.in-Least.values.items) i.pair found in
           let d : Difference = record { output = c.loop-output.output; values = w.in-Least.values } in
-          let told : told_at c.args.self.now c.loop-output.output ≡ Some w.in-Least.values.items = told_chosen p o (subst (λ q. is_chosen_at q c.loop-output.output ≡ true) same (c.is_settled.ensures.chosen c.if-is_settled.false)) ∙ differs in
+          let told : told_at c.args.self.now c.loop-output.output ≡ Some w.in-Least.values.items =
+          told_chosen p o (subst (λ q. is_chosen_at q c.loop-output.output ≡ true) same (c.is_settled.ensures.chosen c.if-is_settled.false))
+          ∙ differs in
           record {
             pair = c.in_ok-witness.ensures.pair ∙ i.pair;
             ahead = subst (λ q. All (IsAnswerOf q) c.next_witness.new.ahead.items) i.pair c.in_ok-witness.ensures.ahead;

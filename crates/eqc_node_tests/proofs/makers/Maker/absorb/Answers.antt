@@ -10,6 +10,7 @@ absorb-requires-clause-other_rest g c = at_rest c.args.other.worker.known.core c
 pub invariant_of-self : goal.invariant_of-self
 invariant_of-self g c = record {
   making =
-      makes_both c.args.self.now.variables c.args.self.now.references.items c.args.other.references.items c.args.self.now.worker c.args.other.worker c.absorb.new.self c.args.self.now.making c.absorb.ensures c.keep_all.new.references.items
+      makes_both c.args.self.now.variables c.args.self.now.references.items c.args.other.references.items c.args.self.now.worker
+      c.args.other.worker c.absorb.new.self c.args.self.now.making c.absorb.ensures c.keep_all.new.references.items
       c.args.other.variables c.args.other.making c.keep_all.ensures;
 }

@@ -11,8 +11,12 @@ add-requires c = omega (arith, c.names.invariant.1, few_lacked c.args.others.now
 
 pub names-preserved : goal.names-preserved
 names-preserved c = elim c.if-is_none.branch [
-  | then-is_none+in_ok-add w ↦ with_lacked c.args.others.now c.args.names.now c.names.name-index _ c.names-test.true c.names.found c.if-is_none.found c.position.result c.position.ensures (c.is_none.ensures ∙ ap not w.if-is_none.true) c.names.invariant (rw w.found-is w.in_ok-add.ensures)
-  | else-is_none w ↦ with_known c.args.others.now c.args.names.now c.names.name-index _ c.names-test.true c.names.found c.if-is_none.found c.position.result c.position.ensures (c.is_none.ensures ∙ ap not w.if-is_none.false) c.names.invariant w.found-is
+  | then-is_none+in_ok-add w ↦
+      with_lacked c.args.others.now c.args.names.now c.names.name-index _ c.names-test.true c.names.found c.if-is_none.found c.position.result
+      c.position.ensures (c.is_none.ensures ∙ ap not w.if-is_none.true) c.names.invariant (rw w.found-is w.in_ok-add.ensures)
+  | else-is_none w ↦
+      with_known c.args.others.now c.args.names.now c.names.name-index _ c.names-test.true c.names.found c.if-is_none.found c.position.result
+      c.position.ensures (c.is_none.ensures ∙ ap not w.if-is_none.false) c.names.invariant w.found-is
 ]
 
 pub returns-clause-names : goal.returns-clause-names

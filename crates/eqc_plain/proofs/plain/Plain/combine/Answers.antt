@@ -11,7 +11,8 @@ turns-smaller c =
     let s = c.turns.self in
     let n = c.resume.new.self in
     let t = rw c.in-Next.is at c.in_ok-x.ensures.turn in
-    turn_less (meaning_of s.store.variables s.store.nodes) (meaning_of n.store.variables n.store.nodes) c.args.op s.tasks.items n.tasks.items _ _ c.turns.next.0 c.turns.next.1 c.in-Next.f c.in-Next.g c.in_ok-x.ensures.store.variables t
+    turn_less (meaning_of s.store.variables s.store.nodes) (meaning_of n.store.variables n.store.nodes) c.args.op s.tasks.items n.tasks.items _ _
+    c.turns.next.0 c.turns.next.1 c.in-Next.f c.in-Next.g c.in_ok-x.ensures.store.variables t
 
 pub returns-in_err-x-clause-store : goal.returns-in_err-x-clause-store
 returns-in_err-x-clause-store c = extends_trans c.args.self.now.store c.turns.self.store c.resume.new.self.store c.turns.invariant.store c.resume.ensures.store

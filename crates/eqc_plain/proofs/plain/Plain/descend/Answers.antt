@@ -23,4 +23,6 @@ returns-in-Ok-clause-steps c =
     let items : c.push.new.self.items ≡ c.args.self.now.tasks.items ++ Low c.args.f c.args.g v c.cofactors-f_low.result.1 c.cofactors-g_low.result.1 ∷ [] = search rules in
     let e : v ≡ min (root s.variables (tree_at s.nodes c.args.f)) (root s.variables (tree_at s.nodes c.args.g)) = omega (arith, c.root.ensures, c.root-2.ensures, c.min-variable.ensures) in
     let below = top_below s.lawful c.args.f c.args.g c.requires.f c.requires.g c.requires.inner in
-    expanded_step m m c.args.self.now.tasks.items c.push.new.self.items c.args.f c.args.g v c.cofactors-f_low.result.0 c.cofactors-f_low.result.1 c.cofactors-g_low.result.0 c.cofactors-g_low.result.1 items (stays m) c.requires.f c.requires.g e (omega arith) (halves_of c.cofactors-f_low.ensures) (halves_of c.cofactors-g_low.ensures)
+    expanded_step m m c.args.self.now.tasks.items c.push.new.self.items c.args.f c.args.g v c.cofactors-f_low.result.0 c.cofactors-f_low.result.1
+    c.cofactors-g_low.result.0 c.cofactors-g_low.result.1 items (stays m) c.requires.f c.requires.g e (omega arith)
+    (halves_of c.cofactors-f_low.ensures) (halves_of c.cofactors-g_low.ensures)

@@ -5,7 +5,8 @@ use Rattle.eqc_plain.proofs.Caching.{found_right}
 use Rattle.eqc_plain.proofs.plain.Plain.known.Goals as goal
 
 pub returns-in-Some-clause-right : goal.returns-in-Some-clause-right
-returns-in-Some-clause-right c = decided (store_constants c.args.self.now.store.variables c.args.self.now.store.nodes) c.args.op c.args.f c.args.g c.in-Some.x c.requires.f c.requires.g c.in-Some.ensures.decided
+returns-in-Some-clause-right c =
+    decided (store_constants c.args.self.now.store.variables c.args.self.now.store.nodes) c.args.op c.args.f c.args.g c.in-Some.x c.requires.f c.requires.g c.in-Some.ensures.decided
 
 pub returns-clause-right : goal.returns-clause-right
 returns-clause-right c =

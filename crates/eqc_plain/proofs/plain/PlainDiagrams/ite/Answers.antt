@@ -28,7 +28,8 @@ pub returns-in-Err-clause-grows : goal.returns-in-Err-clause-grows
 returns-in-Err-clause-grows g c = rw c.give_back.ensures.still.nodes (grows_trans _ _ _ c.apply.ensures.grows c.in-Err.ensures.grows)
 
 pub returns-clause-grows : goal.returns-clause-grows
-returns-clause-grows g c = rw (c.give_back-3.ensures.still.nodes, c.give_back-2.ensures.still.nodes) (grows_trans _ _ _ (grows_trans _ _ _ c.apply.ensures.grows c.in-Ok.ensures.grows) c.apply-either.ensures.grows)
+returns-clause-grows g c =
+    rw (c.give_back-3.ensures.still.nodes, c.give_back-2.ensures.still.nodes) (grows_trans _ _ _ (grows_trans _ _ _ c.apply.ensures.grows c.in-Ok.ensures.grows) c.apply-either.ensures.grows)
 
 pub returns-in-Err-clause-turns : goal.returns-in-Err-clause-turns
 returns-in-Err-clause-turns g c = spends_then (spends_trans c.apply.ensures.turns c.in-Err.ensures.turns) c.give_back.ensures.still.turns

@@ -25,7 +25,11 @@ way-preserved-then-up c =
     record {
       choices = i.choices;
       marks = i.marks;
-      on = subst P c.if-up.true (way_goes_on s.lawful w.choices.items w.marks.items c.args.f c.way.x b.0 b.1 b.2 w.witness.items _ _ _ c.way-test.true c.requires.sized.within c.branch-variable.ensures (rw (i.choices, i.marks) c.requires.marked) c.choice.ensures c.is_marked.ensures c.rises-up.ensures i.on);
+      on =
+          subst P c.if-up.true
+          (way_goes_on s.lawful w.choices.items w.marks.items c.args.f c.way.x b.0 b.1 b.2 w.witness.items _ _ _ c.way-test.true
+          c.requires.sized.within c.branch-variable.ensures (rw (i.choices, i.marks) c.requires.marked) c.choice.ensures c.is_marked.ensures
+          c.rises-up.ensures i.on);
     }
 
 pub way-preserved : goal.way-preserved
@@ -38,7 +42,11 @@ way-preserved c =
     record {
       choices = i.choices;
       marks = i.marks;
-      on = subst P c.if-up.false (way_goes_on s.lawful w.choices.items w.marks.items c.args.f c.way.x b.0 b.1 b.2 w.witness.items _ _ _ c.way-test.true c.requires.sized.within c.branch-variable.ensures (rw (i.choices, i.marks) c.requires.marked) c.choice.ensures c.is_marked.ensures c.rises-up.ensures i.on);
+      on =
+          subst P c.if-up.false
+          (way_goes_on s.lawful w.choices.items w.marks.items c.args.f c.way.x b.0 b.1 b.2 w.witness.items _ _ _ c.way-test.true
+          c.requires.sized.within c.branch-variable.ensures (rw (i.choices, i.marks) c.requires.marked) c.choice.ensures c.is_marked.ensures
+          c.rises-up.ensures i.on);
     }
 
 pub returns-clause-search : goal.returns-clause-search
@@ -50,5 +58,6 @@ returns-clause-search c =
     record {
       sized = record { within = z.within; some = z.some; choices = rw i.choices z.choices; marks = rw i.marks z.marks; witness = i.on.long };
       agrees = i.on.agrees;
-      passes = way_ends s.variables s.nodes w.choices.items w.marks.items w.witness.items (c.args.f + 1) c.args.f c.way.x (omega arith) (rw (i.choices, i.marks) c.requires.marked) i.on.marked i.on.way;
+      passes =
+          way_ends s.variables s.nodes w.choices.items w.marks.items w.witness.items (c.args.f + 1) c.args.f c.way.x (omega arith) (rw (i.choices, i.marks) c.requires.marked) i.on.marked i.on.way;
     }

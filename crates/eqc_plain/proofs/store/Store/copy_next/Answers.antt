@@ -48,8 +48,11 @@ returns-clause-copying c =
     let x : get_or c.as_slice.result.now (length ms) 0 ≡ get_or xs (length ms) 0 = rw c.as_slice.ensures.keys refl in
     let two : 2 ≤ get_or xs (length ms) 0 = omega (arith, x, c.if-x-lt2.false) in
     let branch = rw x at c.branch-variable.ensures in
-    let low_earlier : c.place.result < length ms = stands_before s.nodes xs c.place.result (length ms) c.requires.reached c.place.ensures.within c.requires.more (omega (arith, x, c.place.ensures.at, c.branch-variable.ensures.low_less)) in
-    let high_earlier : c.place-2.result < length ms = stands_before s.nodes xs c.place-2.result (length ms) c.requires.reached c.place-2.ensures.within c.requires.more (omega (arith, x, c.place-2.ensures.at, c.branch-variable.ensures.high_less)) in
+    let low_earlier : c.place.result < length ms =
+    stands_before s.nodes xs c.place.result (length ms) c.requires.reached c.place.ensures.within c.requires.more (omega (arith, x, c.place.ensures.at, c.branch-variable.ensures.low_less)) in
+    let high_earlier : c.place-2.result < length ms =
+    stands_before s.nodes xs c.place-2.result (length ms) c.requires.reached c.place-2.ensures.within c.requires.more
+    (omega (arith, x, c.place-2.ensures.at, c.branch-variable.ensures.high_less)) in
     if_ok c.node.result (λ m node. copies_node s c.args.copy.now c.node.new.self xs ms b.0 b.1 b.2 c.place.result c.place-2.result m c.requires.reached c.requires.copying c.requires.more two branch
     low_earlier c.place.ensures.at high_earlier c.place-2.ensures.at c.node.ensures.store c.node.ensures.one node) c.node.ensures.ok
 

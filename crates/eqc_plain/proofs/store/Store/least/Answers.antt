@@ -15,11 +15,17 @@ positions-preserved c =
     record {
       search = e.search;
       long = omega (arith, i.long, ap length more, length-append c.positions.values.items (c.choose-value.result ∷ []));
-      decided = decides_at c.args.variables.now (value (tree_at s.nodes c.args.f)) (record { distinct = c.requires.distinct; depends = c.requires.depends }) c.positions.search.choices.items c.choose-value.new.self.choices.items c.positions.values.items c.push.new.self.items c.choose-value.result (given c.choose-value.new.self.witness.items) c.positions.k i.long c.positions-test.true i.decided e.choice e.search.passes e.search.agrees e.least more;
+      decided =
+          decides_at c.args.variables.now (value (tree_at s.nodes c.args.f))
+          (record { distinct = c.requires.distinct; depends = c.requires.depends }) c.positions.search.choices.items
+          c.choose-value.new.self.choices.items c.positions.values.items c.push.new.self.items c.choose-value.result
+          (given c.choose-value.new.self.witness.items) c.positions.k i.long c.positions-test.true i.decided e.choice e.search.passes
+          e.search.agrees e.least more;
     }
 
 pub returns : goal.returns
 returns c =
     let s = c.args.self.now in
     let i = c.positions.invariant in
-    ends_chosen c.args.variables.now (value (tree_at s.nodes c.args.f)) _ c.positions.values.items (record { distinct = c.requires.distinct; depends = c.requires.depends }) i.decided.chosen (omega arith)
+    ends_chosen c.args.variables.now (value (tree_at s.nodes c.args.f)) _ c.positions.values.items
+    (record { distinct = c.requires.distinct; depends = c.requires.depends }) i.decided.chosen (omega arith)

@@ -14,5 +14,6 @@ invariant_of-self g c =
     let o = c.args.other in
     record {
       building =
-          takes_in s.variables s.is_first s.references.items o.references.items c.keep_all.new.references.items s.member o.member c.absorb.new.self s.building o.building.held c.absorb.ensures.joins c.absorb.ensures.takes c.keep_all.ensures;
+          takes_in s.variables s.is_first s.references.items o.references.items c.keep_all.new.references.items s.member o.member
+          c.absorb.new.self s.building o.building.held c.absorb.ensures.joins c.absorb.ensures.takes c.keep_all.ensures;
     }
