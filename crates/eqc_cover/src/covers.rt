@@ -6,8 +6,8 @@ use crate::rows::plan_cover;
 use crate::splits::{Split, Splits, expand};
 use crate::table::MOST_COLUMNS;
 use eqc_blif::{Rows, is_on_set};
-use indexmap::IndexMap;
 use std::alloc::{AllocError, Global};
+use std::collections::BTreeMap;
 use std::marker::Model;
 
 /// A cover with fewer rows isn't kept.
@@ -123,11 +123,11 @@ enum Met {
     Split(SplitCover),
 }
 
-/// Covers that were met, each by a number. One that is met again is kept as splits from then on, if it is expanded and there is
-/// room.
+/// Covers that were met, each by a number, in an ordered table: a text may choose the numbers. One that is met again is kept as
+/// splits from then on, if it is expanded and there is room.
 #[derive(Drop)]
 pub struct Covers {
-    met: IndexMap<u64, Met>,
+    met: BTreeMap<u64, Met>,
     /// How many rows and splits there is room for.
     room: usize,
 }
@@ -156,7 +156,7 @@ impl Covers {
     /// None.
     pub fn none(alloc: Global) -> Covers {
         Covers {
-            met: IndexMap::new(alloc),
+            met: BTreeMap::new(alloc),
             room: MOST_KEPT,
         }
     }
@@ -193,8 +193,10 @@ impl Covers {
             Some(Met::Once) => self.split(alloc, rows, columns),
             Some(_) => return Ok(()),
         };
-        self.met.insert(number, met)?;
-        Ok(())
+        match self.met.insert(number, met) {
+            Ok(_) => Ok(()),
+            Err(_) => Err(AllocError),
+        }
     }
 
     /// The cover of these rows over so many columns as splits, if it is kept. It is noted that it is met.

@@ -8,8 +8,8 @@ ghost use Rattle.eqc_cover.specs.Splits.{Grows, IsMadeAt, IsChosenAt, last_colum
 
 use crate::rows::{cofactors, has_free_row};
 use crate::table::{MOST_COLUMNS, matching_table};
-use indexmap::IndexMap;
 use std::alloc::{AllocError, Global};
+use std::collections::BTreeMap;
 
 /// The most splits of a cover.
 const MOST_SPLITS: usize = 65_536;
@@ -34,12 +34,13 @@ pub(crate) struct Choice {
     pub(crate) low: usize,
 }
 
-/// Splits that are being made. Where each stands is noted; what is noted is looked at before it is believed.
+/// Splits that are being made. Where each stands is noted, in ordered tables, since a text may choose the tables; what is noted is
+/// looked at before it is believed.
 #[derive(Drop)]
 pub(crate) struct Splits {
     pub(crate) list: Vec<Split>,
-    tables: IndexMap<u64, usize>,
-    choices: IndexMap<(usize, usize, usize), usize>,
+    tables: BTreeMap<u64, usize>,
+    choices: BTreeMap<(usize, usize, usize), usize>,
 }
 
 /// Whether a split is this table.
@@ -71,8 +72,8 @@ impl Splits {
     {
         Splits {
             list: Vec::new(alloc),
-            tables: IndexMap::new(alloc),
-            choices: IndexMap::new(alloc),
+            tables: BTreeMap::new(alloc),
+            choices: BTreeMap::new(alloc),
         }
     }
 
@@ -110,8 +111,10 @@ impl Splits {
             return Ok(place);
         }
         let place = self.add(Split::Table(table))?;
-        self.tables.insert(table, place)?;
-        Ok(place)
+        match self.tables.insert(table, place) {
+            Ok(_) => Ok(place),
+            Err(_) => Err(AllocError),
+        }
     }
 
     /// The place of a choice that was made.
@@ -141,9 +144,11 @@ impl Splits {
             return Ok(place);
         }
         let place = self.add(Split::Choice(choice))?;
-        self.choices
-            .insert((choice.column, choice.high, choice.low), place)?;
-        Ok(place)
+        let key = (choice.column, choice.high, choice.low);
+        match self.choices.insert(key, place) {
+            Ok(_) => Ok(place),
+            Err(_) => Err(AllocError),
+        }
     }
 }
 
