@@ -26,12 +26,9 @@ pub fn plan_of<'a>(alloc: Global, steps: Steps<'a>, marks: &[bool]) -> Result<Pl
     ensures demand { IfOk result (λ plan. IsDemand plan marks.now) }
     ensures steps { IfOk result (λ plan. plan.steps ≡ steps.entry) }
 {
-    // The names alone of so many outputs would take a hundred gigabytes.
-    let outputs = steps.pair().first().outputs().len();
-    if outputs > 4294967295 {
-        return Err(AllocError);
-    }
-    let outputs = outputs as u32;
+    let pair = steps.pair();
+    pair.recall_laws();
+    let outputs = pair.first().outputs().len() as u32;
     let last = moments_of(alloc, &steps, outputs, marks)?;
     let demand = Demand::of_outputs(alloc, &steps, outputs, marks, &last)?;
     Ok(Plan {

@@ -161,8 +161,8 @@ fn first_allows_none<R, D: Diagrams<R>>(
 /// no later output. One that has drawn its last helps the others, for as long as it has patience.
 /// The call may wait, since it waits for all members, and for the gate.
 ///
-/// The errors are those of the members' diagrams, 71, 72 and 73; 72 also where memory is refused, or where 32 bits don't
-/// number the outputs; and 74 where a thread could not be started. Where several came it is one of them.
+/// The errors are those of the members' diagrams, 71, 72 and 73; 72 also where memory is refused; and 74 where a thread could
+/// not be started. Where several came it is one of them.
 pub fn compare_by_members<
     R: Threads + Wait + Sync,
     D: Diagrams<R> + Send + Drop,
@@ -182,10 +182,8 @@ pub fn compare_by_members<
     requires known { IsKnown pair.now alike }
     ensures found { IfOk result (IsOutcome pair.now every) }
 {
-    // No text has so many outputs, which no law of netlists says.
-    if pair.first().outputs().len() > u32::MAX as usize {
-        return Err(Stop::Memory);
-    }
+    // It has no more outputs than signals, so 32 bits number them.
+    pair.recall_laws();
     let mut members = members;
     members.truncate(u32::MAX as usize);
     if first_allows_none(rt, alloc, pair, &mut members)? {

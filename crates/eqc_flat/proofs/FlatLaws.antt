@@ -2,9 +2,11 @@
 use Rattle.std.proofs.Common.{◌≡◌, ℕ, zero, suc, ◌+◌, ◌-◌, ◌<◌, ◌≤◌, inl, inr, true, false, List, [], ◌∷◌, length, map, get_or, refl, sym, ◌∙◌, ap, subst, arith, Some, None}
 use Rattle.std.specs.Prelude.{slice_index_or}
 use Rattle.std.specs.List.{range_with_len}
+use Rattle.std.proofs.lemmas.Bool.{true≢false, or_parts, cases_lt}
 use Rattle.std.proofs.lemmas.List.{length-map, get_or-map}
+use Rattle.std.proofs.lemmas.List.FromFn.{length-range_with_len}
 use Rattle.eqc_blif.specs.Netlist.{ModelOf}
-use Rattle.eqc_blif.specs.Names.{has_twice}
+use Rattle.eqc_blif.specs.Names.{is_named, has_twice}
 use Rattle.eqc_flat.specs.Graph.{DriverOf, input, tie, cover, dependencies, IsWithinSizes, IsFlat}
 use Rattle.eqc_hierarchy.specs.Dependency.{ends_within}
 use Rattle.eqc_hierarchy.specs.Hierarchy.{model, paths}
@@ -17,10 +19,12 @@ use Rattle.eqc_flat.specs.Flattening.{put_together}
 use Rattle.eqc_flat.specs.Instances.{IsExpanded}
 use Rattle.eqc_flat.proofs.InstanceLaws.{found_signals}
 use Rattle.eqc_hierarchy.specs.Codes.{is_cyclic}
-use Rattle.eqc_hierarchy.proofs.Distinct.{Member, member_get, all_pieces, member_of_map}
+use Rattle.eqc_hierarchy.proofs.Distinct.{Member, Distinct, member_get, member_map, member_of_map, all_pieces, distinct_map}
+use Rattle.eqc_hierarchy.proofs.NamingLaws.{member_named}
 use Rattle.eqc_hierarchy.proofs.Depth.{ordered_ends}
 use Rattle.eqc_flat.proofs.DriverTableLaws.{sourced}
 use Rattle.eqc_flat.proofs.ExpandedLaws.{signals_named}
+use Rattle.eqc_flat.proofs.OrderLaws.{at_most}
 use Rattle.eqc_flat.proofs.HierarchyValues.{IsSourced, not_cyclic, cyclic, output_there}
 
 -- what the parts of a flat netlist keep
@@ -118,6 +122,33 @@ instances_there library top output_signals named places drivers steps h s inside
     subst P h.named_all (member_get named s (0, []) inside)) in
     omega (arith, here, ap length h.placed, length-map places (λ (place : ℕ × ℕ). place.1 ∷ path_at library top place.0))
 
+-- names of which none stands twice are different signals of an instance
+names_differ : (names : List (List ℕ)) → has_twice names ≡ false → Distinct names
+names_differ [] e = tt
+names_differ (name ∷ names) e = let both = or_parts (is_named names name) (has_twice names) e in (λ there. true≢false (sym (member_named name names there) ∙ both.0), names_differ names both.1)
+
+signals_differ : (path : List ℕ) (names : List (List ℕ)) → has_twice names ≡ false → Distinct {X = SignalOf} (map (λ name. record { path = path; name = name }) names)
+signals_differ path names e = distinct_map (λ (name : List ℕ). record { path = path; name = name }) names (λ x z same. ap (λ (s : SignalOf). s.name) same) (names_differ names e)
+
+-- what has different images is different
+distinct_origins : {X Y : Type 0} (f : X → Y) (xs : List X) → Distinct (map f xs) → Distinct xs
+distinct_origins f [] d = tt
+distinct_origins f (x ∷ xs) d = (λ there. d.0 (member_map f x xs there), distinct_origins f xs d.1)
+
+-- different numbers below n are at most n
+in_range_from : (a n y : ℕ) → a ≤ y → y < a + n → Member y (range_with_len a n)
+in_range_from a zero y low high = absurd (omega arith)
+in_range_from a (suc n) y low high = elim (cases_lt a y) [ inl less ↦ inr (in_range_from (a + 1) n y (omega (arith, less)) (omega (arith, high))) | inr same ↦ inl (omega (arith, same, low)) ]
+
+below_few : (n : ℕ) (xs : List ℕ) → Distinct xs → ((o : ℕ) → o < length xs → slice_index_or xs o 0 < n) → length xs ≤ n
+below_few n xs differ below =
+    let there : (y : ℕ) → Member y xs → Member y (range_with_len 0 n) = λ y here.
+    let (k, inside, same) = member_place xs y here in
+    let less : y < n = (let P : ℕ → Type 0 = λ z. z < n in subst P same (below k inside)) in
+    in_range_from 0 n y (omega arith) (omega (arith, less)) in
+    let most = at_most xs (range_with_len 0 n) differ there in
+    omega (arith, most, length-range_with_len 0 n)
+
 -- the parts make a flat netlist
 pub parts_flat : (library : List ModelOf) (top : ℕ) (output_signals : List ℕ) (named : List (ℕ × List ℕ)) (places : List (ℕ × ℕ))
     (drivers : List DriverOf) (steps : List ℕ) → IsParts library top output_signals named places drivers steps
@@ -125,6 +156,10 @@ pub parts_flat : (library : List ModelOf) (top : ℕ) (output_signals : List ℕ
 parts_flat library top output_signals named places drivers steps h = record {
   few_inputs = h.few_inputs;
   few_signals = omega (arith, size, h.few_signals);
+  few_outputs =
+      let differ = distinct_origins (signal_at library top) output_signals (let P : List SignalOf → Type 0 = λ l. Distinct l in subst P (sym h.outputs_of) (signals_differ (path_at library top 0) (model library top).outputs h.outputs_once)) in
+      let few = below_few (length (signals library top)) output_signals differ h.outputs_within in
+      omega (arith, few, outputs, size);
   each_named =
       ap length h.named_all
       ∙ (sym (ap length (signals_named library top)

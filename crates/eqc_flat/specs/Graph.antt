@@ -64,6 +64,7 @@ pub record IsFlat (f : FlatOf) : Type 0 where
   -- its sizes
   pub few_inputs : length f.inputs ≤ 2048
   pub few_signals : length f.drivers ≤ 1048576
+  pub few_outputs : length f.outputs ≤ length f.drivers
   pub each_named : length f.signals ≡ length f.drivers
   pub each_output : length f.output_signals ≡ length f.outputs
   -- no name stands twice among its inputs, nor among its outputs

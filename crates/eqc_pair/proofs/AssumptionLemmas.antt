@@ -11,6 +11,7 @@ none_flat : IsFlat no_netlist
 none_flat = record {
   few_inputs = omega arith;
   few_signals = omega arith;
+  few_outputs = omega arith;
   each_named = refl;
   each_output = refl;
   inputs_differ = refl;
