@@ -50,12 +50,12 @@ module _ {S : Type 0} where
     laid w hs vs law at n = ap (λ (k : ℕ). set (flat w) k n) (lock_here w hs vs law at) ∙ set_lock z w hs vs law.sized s n
 
     lock_at : MayLock me.0.core s → Allows (Held {S = S} z) slots id me i (λ n. either (eqb n 0) 1 n) (λ n after. Locks me i s n after)
-    lock_at may = allows z slots id i me on (λ n. either (eqb n 0) 1 n) (λ n after. Locks me i s n after) (λ w homes vs law at knows small. go w homes vs law at (eqb (get_or (flat w) i 0) 0) refl)
+    lock_at may = allows z slots id i me on (λ steps. steps) (λ n. either (eqb n 0) 1 n) (λ n after. Locks me i s n after) (λ w homes vs law at knows small. go w homes vs law at (eqb (get_or (flat w) i 0) 0) refl)
       where
         go : (w : Words) (homes : List (May.Option (HashMap ℕ ℕ S))) (vs : List View) → Lawful z w (homes_of homes) vs → get_elem? vs id ≡ some me.0.core → (b : Bool) → eqb (get_or (flat w) i 0) 0 ≡ b
             → (v : View) × (a : Act (HashMap ℕ ℕ S)) × (w' : Words) × Pays z id i me (either b 1 (get_or (flat w) i 0)) w homes vs v a w'
-            × ((k : Known) → Stepped me.0 v k → Copies me.0 i (get_or (flat w) i 0) (either b 1 (get_or (flat w) i 0)) k → Knows w'.nodes k
-            → MatchBool b ((m : HashMap ℕ ℕ S) × Stepped me.0 (locked me.0.core s m.entries) k × (carried_after me.1 a ≡ (s, m) ∷ me.1) × Copies me.0 i (get_or (flat w) i 0) 1 k) (Told me i (get_or (flat w) i 0) (get_or (flat w) i 0) me.0.core (k, carried_after me.1 a) (Nothing (get_or (flat w) i 0))))
+            × ((k : Known) → Stepped me.0 v k → Copies me.0 i (get_or (flat w) i 0) (either b 1 (get_or (flat w) i 0)) k → Knows w'.nodes k → k.counted ≡ me.0.counted
+            → MatchBool b ((m : HashMap ℕ ℕ S) × Stepped me.0 (locked me.0.core s m.entries) k × (carried_after me.1 a ≡ (s, m) ∷ me.1) × Copies me.0 i (get_or (flat w) i 0) 1 k × (k.counted ≡ me.0.counted)) (Told me i (get_or (flat w) i 0) (get_or (flat w) i 0) me.0.core (k, carried_after me.1 a) (Nothing (get_or (flat w) i 0))))
         go w homes vs law at true e =
             let wins : eqb (get_or w.locks s 0) 0 ≡ true = ap (λ (n : ℕ). eqb n 0) (sym (found w (homes_of homes) vs law at)) ∙ e in
             let t = table_is_there z w (homes_of homes) vs s law may.1 wins in
@@ -71,7 +71,7 @@ module _ {S : Type 0} where
                 lawful = subst (λ (hs : Homes). Lawful z (with_lock w s 1) hs (set vs id (locked me.0.core s m.0.entries))) (sym (map-set entries_at homes s none))
                     (lock_keeps z w (homes_of homes) vs id me.0.core law at on s m.0.entries may wins (at_map entries_at homes s (some m.0) m.1));
               },
-              λ k stepped copies known. (m.0, stepped, refl, copies),
+              λ k stepped copies known counted. (m.0, stepped, refl, copies, counted),
             )
         go w homes vs law at false e = (
           me.0.core,
@@ -84,7 +84,7 @@ module _ {S : Type 0} where
             trees = λ t y named is. is;
             lawful = lock_lost_keeps z w (homes_of homes) vs id me.0.core law at;
           },
-          λ k stepped copies known. (stepped, refl, copies, tt),
+          λ k stepped copies known counted. (stepped, refl, copies, tt, counted),
         )
 
     pub lock_allows : MayLock me.0.core s → Allows (Held {S = S} z) slots id me i (λ n. either (eqb n 0) 1 n) (λ n after. Locks me i ((i - locks_from me.0.core.sizes) / 8) n after)
@@ -93,7 +93,7 @@ module _ {S : Type 0} where
         subst (λ (y : ℕ). Allows (Held {S = S} z) slots id me i (λ n. either (eqb n 0) 1 n) (λ n after. Locks me i y n after)) back (lock_at may)
 
     pub unlock_allows : (h : Hand) (m : HashMap ℕ ℕ S) → h.stripe ≡ s → me.1 ≡ (s, m) ∷ [] → MayUnlock me.0.core h m.entries → Allows (Held {S = S} z) slots id me i (λ _. 0) (λ _ after. Unlocks me i 0 after)
-    unlock_allows h m stripe carried may = allows z slots id i me on (λ _. 0) (λ _ after. Unlocks me i 0 after) (λ w homes vs law at knows small.
+    unlock_allows h m stripe carried may = allows z slots id i me on (λ steps. steps) (λ _. 0) (λ _ after. Unlocks me i 0 after) (λ w homes vs law at knows small.
         let put : Lawful z (with_lock w s 0) (set (homes_of homes) s (some m.entries)) (set vs id (unlocked me.0.core)) =
         subst (λ (k : ℕ). Lawful z (with_lock w k 0) (set (homes_of homes) k (some m.entries)) (set vs id (unlocked me.0.core))) stripe (unlock_keeps z w (homes_of homes) vs id me.0.core law at on h m.entries may) in (
           unlocked me.0.core,
@@ -107,7 +107,7 @@ module _ {S : Type 0} where
             lawful = subst (λ (c : List (ℕ × HashMap ℕ ℕ S)). Lawful z (with_lock w s 0) (homes_of (put_back homes c)) (set vs id (unlocked me.0.core))) (sym carried)
                 (subst (λ (hs : Homes). Lawful z (with_lock w s 0) hs (set vs id (unlocked me.0.core))) (sym (map-set entries_at homes s (some m))) put);
           },
-          λ k stepped copies known. (stepped, refl, copies.copy),
+          λ k stepped copies known counted. (stepped, refl, copies.copy, counted),
         ))
 
 -- a load leaves the copy
@@ -138,12 +138,12 @@ steps_on old mid new v first then = record {
 
 -- what a try for a lock tells, by what it found
 pub lock_won : {S : Type 0} (me : Known × List (ℕ × HashMap ℕ ℕ S)) (i s n : ℕ) (after : Known × List (ℕ × HashMap ℕ ℕ S)) → i ≡ locks_from me.0.core.sizes + 8 * s → n ≡ 0 → Locks me i ((i - locks_from me.0.core.sizes) / 8) n after
-    → (m : HashMap ℕ ℕ S) × Stepped me.0 (locked me.0.core s m.entries) after.0 × (after.1 ≡ (s, m) ∷ me.1) × Copies me.0 i n 1 after.0
+    → (m : HashMap ℕ ℕ S) × Stepped me.0 (locked me.0.core s m.entries) after.0 × (after.1 ≡ (s, m) ∷ me.1) × Copies me.0 i n 1 after.0 × (after.0.counted ≡ me.0.counted)
 lock_won {S} me i s n after is free c =
     let back : (i - locks_from me.0.core.sizes) / 8 ≡ s = omega arith in
     let l : Locks me i s n after = subst (λ (y : ℕ). Locks me i y n after) back c in
-    subst (λ (b : Bool). MatchBool b ((m : HashMap ℕ ℕ S) × Stepped me.0 (locked me.0.core s m.entries) after.0 × (after.1 ≡ (s, m) ∷ me.1) × Copies me.0 i n 1 after.0) (Told me i n n me.0.core after (Nothing n))) (eq-eqb n 0 free) l
+    subst (λ (b : Bool). MatchBool b ((m : HashMap ℕ ℕ S) × Stepped me.0 (locked me.0.core s m.entries) after.0 × (after.1 ≡ (s, m) ∷ me.1) × Copies me.0 i n 1 after.0 × (after.0.counted ≡ me.0.counted)) (Told me i n n me.0.core after (Nothing n))) (eq-eqb n 0 free) l
 
 pub lock_lost : {S : Type 0} (me : Known × List (ℕ × HashMap ℕ ℕ S)) (i s n : ℕ) (after : Known × List (ℕ × HashMap ℕ ℕ S)) → n ≢ 0 → Locks me i s n after → Told me i n n me.0.core after (Nothing n)
 lock_lost {S} me i s n after taken c =
-    subst (λ (b : Bool). MatchBool b ((m : HashMap ℕ ℕ S) × Stepped me.0 (locked me.0.core s m.entries) after.0 × (after.1 ≡ (s, m) ∷ me.1) × Copies me.0 i n 1 after.0) (Told me i n n me.0.core after (Nothing n))) (ne_eqb n 0 taken) c
+    subst (λ (b : Bool). MatchBool b ((m : HashMap ℕ ℕ S) × Stepped me.0 (locked me.0.core s m.entries) after.0 × (after.1 ≡ (s, m) ∷ me.1) × Copies me.0 i n 1 after.0 × (after.0.counted ≡ me.0.counted)) (Told me i n n me.0.core after (Nothing n))) (ne_eqb n 0 taken) c

@@ -102,11 +102,11 @@ module _ {S : Type 0} (z : Sizes) (slots id i : ℕ) (me : Me (HashMap ℕ ℕ S
     laid w hs vs law at lt n = let h = count_here z slots id i me on w hs vs law at x is lt in ap (λ (k : ℕ). set (flat w) k n) h.0 ∙ set_count z w hs vs law.sized x n h.1
 
     claim_at : MayClaim me.0.core x → Allows (Held {S = S} z) slots id me i (λ n. either (eqb n 0) 2 n) (λ n after. Claims me i x n after)
-    claim_at may = allows z slots id i me on (λ n. either (eqb n 0) 2 n) (λ n after. Claims me i x n after) (λ w homes vs law at knows small. go w homes vs law at (eqb (get_or (flat w) i 0) 0) refl)
+    claim_at may = allows z slots id i me on (λ steps. steps) (λ n. either (eqb n 0) 2 n) (λ n after. Claims me i x n after) (λ w homes vs law at knows small. go w homes vs law at (eqb (get_or (flat w) i 0) 0) refl)
       where
         go : (w : Words) (homes : List (May.Option (HashMap ℕ ℕ S))) (vs : List View) → Lawful z w (homes_of homes) vs → get_elem? vs id ≡ some me.0.core → (b : Bool) → eqb (get_or (flat w) i 0) 0 ≡ b
             → (v : View) × (a : Act (HashMap ℕ ℕ S)) × (w' : Words) × Pays z id i me (either b 2 (get_or (flat w) i 0)) w homes vs v a w'
-            × ((k : Known) → Stepped me.0 v k → Copies me.0 i (get_or (flat w) i 0) (either b 2 (get_or (flat w) i 0)) k → Knows w'.nodes k
+            × ((k : Known) → Stepped me.0 v k → Copies me.0 i (get_or (flat w) i 0) (either b 2 (get_or (flat w) i 0)) k → Knows w'.nodes k → k.counted ≡ me.0.counted
             → MatchBool b (Told me i (get_or (flat w) i 0) 2 (claimed me.0.core x) (k, carried_after me.1 a) (Nothing (get_or (flat w) i 0))) (Told me i (get_or (flat w) i 0) (get_or (flat w) i 0) (found_taken me.0.core x) (k, carried_after me.1 a) (Nothing (get_or (flat w) i 0))))
         go w homes vs law at true e = (
           claimed me.0.core x,
@@ -119,7 +119,7 @@ module _ {S : Type 0} (z : Sizes) (slots id i : ℕ) (me : Me (HashMap ℕ ℕ S
             trees = λ t y named is. is;
             lawful = claim_keeps z w (homes_of homes) vs id me.0.core law at on x may (ap (λ (n : ℕ). eqb n 0) (sym (found w (homes_of homes) vs law at may.2)) ∙ e);
           },
-          λ k stepped copies known. (stepped, refl, copies, tt),
+          λ k stepped copies known counted. (stepped, refl, copies, tt, counted),
         )
         go w homes vs law at false e = (
           found_taken me.0.core x,
@@ -132,7 +132,7 @@ module _ {S : Type 0} (z : Sizes) (slots id i : ℕ) (me : Me (HashMap ℕ ℕ S
             trees = λ t y named is. is;
             lawful = claim_lost_keeps z w (homes_of homes) vs id me.0.core law at on x;
           },
-          λ k stepped copies known. (stepped, refl, copies, tt),
+          λ k stepped copies known counted. (stepped, refl, copies, tt, counted),
         )
 
     pub claim_allows : MayClaim me.0.core x → Allows (Held {S = S} z) slots id me i (λ n. either (eqb n 0) 2 n) (λ n after. Claims me i (i - announced_words me.0.core.sizes) n after)
@@ -196,7 +196,7 @@ module _ {S : Type 0} (z : Sizes) (slots id i : ℕ) (me : Me (HashMap ℕ ℕ S
 
     pub write_allows : (variable low high : ℕ) → IsKnown me.0 → me.0.core.draft ≡ Some x → MayMake me.0 variable low high
         → Allows (Held {S = S} z) slots id me i (λ _. node_word variable low high) (λ _ after. Writes me i (node_word variable low high) after)
-    write_allows variable low high known draft may = allows z slots id i me on (λ _. node_word variable low high) (λ _ after. Writes me i (node_word variable low high) after) (λ w homes vs law at knows small.
+    write_allows variable low high known draft may = allows z slots id i me on (λ steps. steps) (λ _. node_word variable low high) (λ _ after. Writes me i (node_word variable low high) after) (λ w homes vs law at knows small.
         let hs : Homes = homes_of homes in
         let few = may.few in
         let most = law.sized.few_variables in
@@ -219,11 +219,12 @@ module _ {S : Type 0} (z : Sizes) (slots id i : ℕ) (me : Me (HashMap ℕ ℕ S
             lawful = subst (λ (v : View). Lawful z (with_node w x (node_word variable low high)) (homes_of homes) (set vs id v)) view
                 (write_keeps z w (homes_of homes) vs id me.0.core law at on x (node_word variable low high) may.hand.0 write (room may.hand.0));
           },
-          λ k stepped copies after. (
+          λ k stepped copies after counted. (
             stepped,
             refl,
             copies.copy,
             ap (λ o. tree_of k (draft_of o)) draft ∙ tree w (homes_of homes) vs law at knows stays k stepped after (d.0) (let lt = d.1 in omega (arith, law.sized.nodes)) view,
+            counted,
           ),
         ))
       where
@@ -269,14 +270,14 @@ module _ {S : Type 0} (z : Sizes) (slots id i : ℕ) (me : Me (HashMap ℕ ℕ S
     word_is w hs vs law at m e = (law.tables.entries e.0.stripe e.0.entries (inr (id, me.0.core, e.0, at, e.2, refl, refl)) e.1 (m, x) e.3).0
 
     reclaim_at : IsReady me.0.core → length me.0.core.held ≤ 2 ^ 39 → Allows (Held {S = S} z) slots id me i (λ n. either (eqb n 1) 0 n) (λ n after. Reclaims me i x n after)
-    reclaim_at ready few = allows z slots id i me on (λ n. either (eqb n 1) 0 n) (λ n after. Reclaims me i x n after) (λ w homes vs law at knows small. go w homes vs law at (eqb (get_or (flat w) i 0) 1) refl)
+    reclaim_at ready few = allows z slots id i me on (λ steps. steps) (λ n. either (eqb n 1) 0 n) (λ n after. Reclaims me i x n after) (λ w homes vs law at knows small. go w homes vs law at (eqb (get_or (flat w) i 0) 1) refl)
       where
         room : (m : ℕ) → length (reclaimed me.0.core h x m).held ≤ 2 ^ 40
         room m = omega (arith, length-append me.0.core.held (slots_of (children m)), length-slots_of (children m))
 
         go : (w : Words) (homes : List (May.Option (HashMap ℕ ℕ S))) (vs : List View) → Lawful z w (homes_of homes) vs → get_elem? vs id ≡ some me.0.core → (b : Bool) → eqb (get_or (flat w) i 0) 1 ≡ b
             → (v : View) × (a : Act (HashMap ℕ ℕ S)) × (w' : Words) × Pays z id i me (either b 0 (get_or (flat w) i 0)) w homes vs v a w'
-            × ((k : Known) → Stepped me.0 v k → Copies me.0 i (get_or (flat w) i 0) (either b 0 (get_or (flat w) i 0)) k → Knows w'.nodes k
+            × ((k : Known) → Stepped me.0 v k → Copies me.0 i (get_or (flat w) i 0) (either b 0 (get_or (flat w) i 0)) k → Knows w'.nodes k → k.counted ≡ me.0.counted
             → MatchBool b ((m : ℕ) → IsEntry me.0.core m x → Told me i (get_or (flat w) i 0) 0 (taken_back me.0.core x m) (k, carried_after me.1 a) (Nothing (get_or (flat w) i 0))) (Told me i (get_or (flat w) i 0) (get_or (flat w) i 0) me.0.core (k, carried_after me.1 a) (Nothing (get_or (flat w) i 0))))
         go w homes vs law at true e =
             let one : get_or w.counts x 0 ≡ 1 = sym (found x is w (homes_of homes) vs law at there) ∙ eqb-true (get_or (flat w) i 0) 1 e in
@@ -291,9 +292,9 @@ module _ {S : Type 0} (z : Sizes) (slots id i : ℕ) (me : Me (HashMap ℕ ℕ S
                 trees = λ t y named is. is;
                 lawful = reclaim_keeps z w (homes_of homes) vs id me.0.core law at on x h may (room (get_or w.nodes x 0));
               },
-              λ k stepped copies after m e.
+              λ k stepped copies after counted m e.
                   let same : reclaimed me.0.core h x (get_or w.nodes x 0) ≡ taken_back me.0.core x m = λ j. reclaimed me.0.core (hand_of (sym entry.2 j)) x (word_is w (homes_of homes) vs law at m e j) in
-                  (subst (λ (v : View). Stepped me.0 v k) same stepped, refl, copies, tt),
+                  (subst (λ (v : View). Stepped me.0 v k) same stepped, refl, copies, tt, counted),
             )
         go w homes vs law at false e = (
           me.0.core,
@@ -306,7 +307,7 @@ module _ {S : Type 0} (z : Sizes) (slots id i : ℕ) (me : Me (HashMap ℕ ℕ S
             trees = λ t y named is. is;
             lawful = subst (λ (us : List View). Lawful z w (homes_of homes) us) (sym (set_again vs id me.0.core at)) law;
           },
-          λ k stepped copies after. (stepped, refl, copies, tt),
+          λ k stepped copies after counted. (stepped, refl, copies, tt, counted),
         )
 
     pub reclaim_allows : IsReady me.0.core → length me.0.core.held ≤ 2 ^ 39 → Allows (Held {S = S} z) slots id me i (λ n. either (eqb n 1) 0 n) (λ n after. Reclaims me i (i - announced_words me.0.core.sizes) n after)

@@ -1,5 +1,5 @@
 -- Each step of the first pass is allowed by the rule, whatever the table is when its word changes.
-use Rattle.std.proofs.Common.{◌≡◌, ◌≢◌, ◌⊎◌, ℕ, ◌+◌, ◌-◌, ◌%◌, ◌^◌, ◌<◌, ◌≤◌, List, [], ◌∷◌, length, set, get_or, ltb, Bool, true, false, if◌then◌else◌, eq-eqb, refl, sym, ap, subst, ◌∙◌, arith, inl, inr, ⊎_elim, length-append}
+use Rattle.std.proofs.Common.{◌≡◌, ◌≢◌, ◌⊎◌, ℕ, suc, ◌+◌, ◌-◌, ◌%◌, ◌^◌, ◌<◌, ◌≤◌, List, [], ◌∷◌, length, set, get_or, ltb, Bool, true, false, if◌then◌else◌, eq-eqb, refl, sym, ap, subst, ◌∙◌, arith, inl, inr, ⊎_elim, length-append}
 use Rattle.std.specs.HashMap.{HashMap}
 use Rattle.std.proofs.Math.Nat.{mod-eq_of_lt}
 use Rattle.std.proofs.lemmas.List.{set-get_or}
@@ -33,7 +33,7 @@ use Rattle.eqc_core.proofs.Counting.{up_keeps, down_keeps}
 use Rattle.eqc_core.proofs.Caching.{swap_keeps}
 use Rattle.eqc_core.proofs.Scanning.{scan_keeps}
 use Rattle.eqc_guard.specs.Known.{flat, Known, Knows, IsHeld, tree_of}
-use Rattle.eqc_guard.specs.Telling.{Told, Stored, Nothing, IsResult, IsRightHere, Looks, Rechecks, Shown, MayFill}
+use Rattle.eqc_guard.specs.Telling.{Takes, Told, Counts, Stored, Nothing, IsResult, IsRightHere, Looks, Rechecks, Shown, MayFill}
 use Rattle.eqc_guard.specs.Making.{node_tree, IsEntry, Ups}
 use Rattle.eqc_guard.specs.Rule.{Held, homes_of, cells_from}
 use Rattle.eqc_guard.proofs.Laid.{set_announced, get_announced, set_count, get_count, set_cell, get_cell}
@@ -71,12 +71,12 @@ no_result word two e = omega arith
 
 module _ {S : Type 0} (z : Sizes) (slots id i : ℕ) (me : Me (HashMap ℕ ℕ S) Known) (on : me.0.core.active ≡ true) where
   -- a step that moves no table and writes no node, from what it owes
-  pub plain : (f : ℕ → ℕ) (u : ℕ → View) (tells : ℕ → Known → Type 0) → ((n : ℕ) → (u n).active ≡ true)
+  pub plain : (more f : ℕ → ℕ) (u : ℕ → View) (tells : ℕ → Known → Type 0) → ((n : ℕ) → (u n).active ≡ true)
       → ((w : Words) (hs : Homes) (vs : List View) → Lawful z w hs vs → get_elem? vs id ≡ some me.0.core → Knows w.nodes me.0 → get_or (flat w) i 0 < 2 ^ 64
       → (w' : Words) × (set (flat w) i (f (get_or (flat w) i 0)) ≡ flat w') × (w'.nodes ≡ w.nodes) × Lawful z w' hs (set vs id (u (get_or (flat w) i 0)))
       × ((k : Known) → k.core ≡ u (get_or (flat w) i 0) → Knows w.nodes k → tells (get_or (flat w) i 0) k))
-      → Allows (Held {S = S} z) slots id me i f (λ n after. Told me i n (f n) (u n) after (tells n))
-  plain f u tells live owes = allows z slots id i me on f (λ n after. Told me i n (f n) (u n) after (tells n)) (λ w homes vs law at knows small.
+      → Allows (Held {S = S} z) slots id me i f (λ n after. Takes more me i n (f n) (u n) after (tells n))
+  plain more f u tells live owes = allows z slots id i me on more f (λ n after. Takes more me i n (f n) (u n) after (tells n)) (λ w homes vs law at knows small.
       let o = owes w (homes_of homes) vs law at knows small in (
         u (get_or (flat w) i 0),
         keeps,
@@ -88,7 +88,7 @@ module _ {S : Type 0} (z : Sizes) (slots id i : ℕ) (me : Me (HashMap ℕ ℕ S
           trees = λ t x named is. subst (λ (nodes : List ℕ). IsTree nodes t x) (sym o.2) is;
           lawful = o.3;
         },
-        λ k stepped copies known. (stepped, refl, copies, o.4 k stepped.core (subst (λ (nodes : List ℕ). Knows nodes k) o.2 known)),
+        λ k stepped copies known counted. (stepped, refl, copies, o.4 k stepped.core (subst (λ (nodes : List ℕ). Knows nodes k) o.2 known), counted),
       ))
 
   -- a load
@@ -96,16 +96,16 @@ module _ {S : Type 0} (z : Sizes) (slots id i : ℕ) (me : Me (HashMap ℕ ℕ S
       → ((w : Words) (hs : Homes) (vs : List View) → Lawful z w hs vs → get_elem? vs id ≡ some me.0.core → Knows w.nodes me.0
       → Lawful z w hs (set vs id (u (get_or (flat w) i 0))) × ((k : Known) → k.core ≡ u (get_or (flat w) i 0) → Knows w.nodes k → tells (get_or (flat w) i 0) k))
       → Allows (Held {S = S} z) slots id me i (λ n. n) (λ n after. Told me i n n (u n) after (tells n))
-  load u tells live owes = plain (λ n. n) u tells live (λ w hs vs law at knows small. let o = owes w hs vs law at knows in (w, set-get_or (flat w) i 0, refl, o.0, o.1))
+  load u tells live owes = plain (λ steps. steps) (λ n. n) u tells live (λ w hs vs law at knows small. let o = owes w hs vs law at knows in (w, set-get_or (flat w) i 0, refl, o.0, o.1))
 
   -- a store, which does not tell what it found
   pub store : (x : ℕ) (v : View) → v.active ≡ true
       → ((w : Words) (hs : Homes) (vs : List View) → Lawful z w hs vs → get_elem? vs id ≡ some me.0.core → (w' : Words) × (set (flat w) i x ≡ flat w') × (w'.nodes ≡ w.nodes) × Lawful z w' hs (set vs id v))
       → Allows (Held {S = S} z) slots id me i (λ _. x) (λ _ after. Stored me i x v after)
   store x v live owes s h homes seat small =
-      let r = plain (λ _. x) (λ _. v) Nothing (λ _. live) (λ w hs vs law at knows small. let o = owes w hs vs law at in (o.0, o.1, o.2, o.3, λ k e known. tt)) s h homes seat small in
+      let r = plain (λ steps. steps) (λ _. x) (λ _. v) Nothing (λ _. live) (λ w hs vs law at knows small. let o = owes w hs vs law at in (o.0, o.1, o.2, o.3, λ k e known. tt)) s h homes seat small in
       let t = r.4 in
-      (r.0, r.1, r.2, r.3, (t.0, t.1, t.2.copy))
+      (r.0, r.1, r.2, r.3, (t.0, t.1, t.2.copy, t.4))
 
   module _ (w : Words) (hs : Homes) (vs : List View) (law : Lawful z w hs vs) (at : get_elem? vs id ≡ some me.0.core) where
     pub fits : Fits z w vs id me.0.core
@@ -164,8 +164,8 @@ module _ {S : Type 0} (z : Sizes) (slots id i : ℕ) (me : Me (HashMap ℕ ℕ S
     swap_room room old word = omega (arith, length-append (without_each (slots_of (cell_names word)) me.0.core.held) (slots_of (operands old)), length-without_each (slots_of (cell_names word)) me.0.core.held, length-slots_of (operands old))
 
   pub up_allows : (x : ℕ) → i ≡ announced_words me.0.core.sizes + x → MayUp me.0.core x
-      → Allows (Held {S = S} z) slots id me i (λ n. (n + 1) % 2 ^ 64) (λ n after. Told me i n ((n + 1) % 2 ^ 64) (upped me.0.core (i - announced_words me.0.core.sizes)) after (Ups me.0 (i - announced_words me.0.core.sizes)))
-  up_allows x is may = plain (λ n. (n + 1) % 2 ^ 64) (λ n. upped me.0.core (i - announced_words me.0.core.sizes)) (λ n. Ups me.0 (i - announced_words me.0.core.sizes)) (λ n. on) (λ w hs vs law at knows small.
+      → Allows (Held {S = S} z) slots id me i (λ n. (n + 1) % 2 ^ 64) (λ n after. Counts me i n ((n + 1) % 2 ^ 64) (upped me.0.core (i - announced_words me.0.core.sizes)) after (Ups me.0 (i - announced_words me.0.core.sizes)))
+  up_allows x is may = plain suc (λ n. (n + 1) % 2 ^ 64) (λ n. upped me.0.core (i - announced_words me.0.core.sizes)) (λ n. Ups me.0 (i - announced_words me.0.core.sizes)) (λ n. on) (λ w hs vs law at knows small.
       let h = count_here w hs vs law at x is may.2 in
       let back : x ≡ i - announced_words me.0.core.sizes = omega arith in
       let found : get_or (flat w) i 0 ≡ get_or w.counts x 0 = ap (λ (k : ℕ). get_or (flat w) k 0) h.0 ∙ get_count z w hs vs law.sized x h.1 in
@@ -179,8 +179,8 @@ module _ {S : Type 0} (z : Sizes) (slots id i : ℕ) (me : Me (HashMap ℕ ℕ S
       ))
 
   pub down_allows : (x : ℕ) → i ≡ announced_words me.0.core.sizes + x → MayDown me.0.core x
-      → Allows (Held {S = S} z) slots id me i (λ n. (n + (2 ^ 64 - 1)) % 2 ^ 64) (λ n after. Told me i n ((n + (2 ^ 64 - 1)) % 2 ^ 64) (downed me.0.core (i - announced_words me.0.core.sizes)) after (Nothing n))
-  down_allows x is may = plain (λ n. (n + (2 ^ 64 - 1)) % 2 ^ 64) (λ n. downed me.0.core (i - announced_words me.0.core.sizes)) Nothing (λ n. on) (λ w hs vs law at knows small.
+      → Allows (Held {S = S} z) slots id me i (λ n. (n + (2 ^ 64 - 1)) % 2 ^ 64) (λ n after. Counts me i n ((n + (2 ^ 64 - 1)) % 2 ^ 64) (downed me.0.core (i - announced_words me.0.core.sizes)) after (Nothing n))
+  down_allows x is may = plain suc (λ n. (n + (2 ^ 64 - 1)) % 2 ^ 64) (λ n. downed me.0.core (i - announced_words me.0.core.sizes)) Nothing (λ n. on) (λ w hs vs law at knows small.
       let h = count_here w hs vs law at x is may.2 in
       let back : x ≡ i - announced_words me.0.core.sizes = omega arith in
       let found : get_or (flat w) i 0 ≡ get_or w.counts x 0 = ap (λ (k : ℕ). get_or (flat w) k 0) h.0 ∙ get_count z w hs vs law.sized x h.1 in
@@ -247,7 +247,7 @@ module _ {S : Type 0} (z : Sizes) (slots id i : ℕ) (me : Me (HashMap ℕ ℕ S
 
   pub swap_allows : (c word : ℕ) → i ≡ cells_from me.0.core.sizes + c → MayFill me.0 c word
       → Allows (Held {S = S} z) slots id me i (λ _. word) (λ n after. Told me i n word (swapped me.0.core n word) after (Nothing n))
-  swap_allows c word is may = plain (λ _. word) (λ n. swapped me.0.core n word) Nothing (λ n. on) (λ w hs vs law at knows small.
+  swap_allows c word is may = plain (λ steps. steps) (λ _. word) (λ n. swapped me.0.core n word) Nothing (λ n. on) (λ w hs vs law at knows small.
       let h = cell_here w hs vs law at c is may.there in (
         with_cell w c word,
         ap (λ (k : ℕ). set (flat w) k word) h.0 ∙ set_cell z w hs vs law.sized c word h.1,

@@ -80,7 +80,7 @@ boxed_length v n n' old word held is same =
 module _ {S : Type 0} (z : Sizes) (slots id i : ℕ) (me : Me (HashMap ℕ ℕ S) Known) (on : me.0.core.active ≡ true) where
   pub swap_box_allows : (b word : ℕ) → i ≡ boxes_from me.0.core.sizes + b → MayPutWord me.0 b word
       → Allows (Held {S = S} z) slots id me i (λ _. word) (λ n after. Told me i n word (boxed me.0.core n word) after (Receives n))
-  swap_box_allows b word is may = plain z slots id i me on (λ _. word) (λ n. boxed me.0.core n word) Receives (λ n. on) (λ w hs vs law at knows small.
+  swap_box_allows b word is may = plain z slots id i me on (λ steps. steps) (λ _. word) (λ n. boxed me.0.core n word) Receives (λ n. on) (λ w hs vs law at knows small.
       let same = size z slots id i me on w hs vs law at in
       let here : i ≡ boxes_from z + b = is ∙ ap (λ (y : Sizes). boxes_from y + b) same in
       let there : b < 16 * z.workers = subst (λ (y : Sizes). b < 16 * y.workers) same may.there in

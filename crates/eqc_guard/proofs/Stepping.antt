@@ -42,24 +42,25 @@ pub record Pays {S : Type 0} (z : Sizes) (id i : ℕ) (me : Me (HashMap ℕ ℕ 
   pub trees : (t : Tree) (x : ℕ) → IsName (homes_of homes) vs x → IsTree w.nodes t x → IsTree w'.nodes t x
   pub lawful : Lawful z w' (homes_of (homes_after homes me.1 a)) (set vs id v)
 
--- what the worker knows after it, with a copy of the words or none
-pub record Goes {S : Type 0} (z : Sizes) (id i : ℕ) (me : Me (HashMap ℕ ℕ S) Known) (m : ℕ) (s : State (HashMap ℕ ℕ S) Known) (v : View) (a : Act (HashMap ℕ ℕ S)) (w' : Words) (copy : Option (List ℕ)) : Type 0 where
+-- what the worker knows after it, with a copy of the words or none, and so many steps up and down
+pub record Goes {S : Type 0} (z : Sizes) (id i : ℕ) (me : Me (HashMap ℕ ℕ S) Known) (m : ℕ) (s : State (HashMap ℕ ℕ S) Known) (v : View) (a : Act (HashMap ℕ ℕ S)) (w' : Words) (copy : Option (List ℕ)) (count : ℕ) : Type 0 where
   pub after : Known
   pub held : Held {S = S} z (record { words = set s.words i m; homes = homes_after s.homes me.1 a; views = set s.views id after })
   pub stepped : Stepped me.0 v after
   pub copy_is : after.copy ≡ copy
+  pub counted_is : after.counted ≡ count
   pub knows : Knows w'.nodes after
 
 module _ {S : Type 0} (z : Sizes) (slots id i : ℕ) (me : Me (HashMap ℕ ℕ S) Known) (on : me.0.core.active ≡ true) where
   -- whatever a lawful state it finds
-  abbrev pub Owes : (ℕ → ℕ) → (ℕ → Me (HashMap ℕ ℕ S) Known → Type 0) → Type 0
-  Owes f tells = (w : Words) (homes : List (May.Option (HashMap ℕ ℕ S))) (vs : List View) → Lawful z w (homes_of homes) vs → get_elem? vs id ≡ some me.0.core → Knows w.nodes me.0 → get_or (flat w) i 0 < 2 ^ 64
+  abbrev pub Owes : (ℕ → ℕ) → (ℕ → ℕ) → (ℕ → Me (HashMap ℕ ℕ S) Known → Type 0) → Type 0
+  Owes more f tells = (w : Words) (homes : List (May.Option (HashMap ℕ ℕ S))) (vs : List View) → Lawful z w (homes_of homes) vs → get_elem? vs id ≡ some me.0.core → Knows w.nodes me.0 → get_or (flat w) i 0 < 2 ^ 64
       → (v : View) × (a : Act (HashMap ℕ ℕ S)) × (w' : Words) × Pays z id i me (f (get_or (flat w) i 0)) w homes vs v a w'
-      × ((k : Known) → Stepped me.0 v k → Copies me.0 i (get_or (flat w) i 0) (f (get_or (flat w) i 0)) k → Knows w'.nodes k → tells (get_or (flat w) i 0) (k, carried_after me.1 a))
+      × ((k : Known) → Stepped me.0 v k → Copies me.0 i (get_or (flat w) i 0) (f (get_or (flat w) i 0)) k → Knows w'.nodes k → k.counted ≡ more me.0.counted → tells (get_or (flat w) i 0) (k, carried_after me.1 a))
 
   module _ (s : State (HashMap ℕ ℕ S) Known) (h : Held z s) (seat : get_elem? s.views id ≡ some me.0) (m : ℕ) (v : View) (a : Act (HashMap ℕ ℕ S)) (w' : Words) (pays : Pays z id i me m h.words s.homes (cores s.views) v a w') (copy : Option (List ℕ))
       (copy_is : (ws : List ℕ) → copy ≡ Some ws → (ws ≡ set s.words i m) × ((j : ℕ) (u : Known) → (j ≡ id → ⊥) → get_elem? s.views j ≡ some u → u.core.active ≡ false))
-      (copy_stays : (ws : List ℕ) → me.0.copy ≡ Some ws → (left : List ℕ) × (copy ≡ Some left)) where
+      (copy_stays : (ws : List ℕ) → me.0.copy ≡ Some ws → (left : List ℕ) × (copy ≡ Some left)) (count : ℕ) where
     at : get_elem? (cores s.views) id ≡ some me.0.core
     at = at_map (λ (k : Known). k.core) s.views id me.0 seat
 
@@ -71,7 +72,7 @@ module _ {S : Type 0} (z : Sizes) (slots id i : ℕ) (me : Me (HashMap ℕ ℕ S
     learnt = learn z w' (homes_of (homes_after s.homes me.1 a)) (set (cores s.views) id v) id v pays.lawful here pays.live
 
     abbrev after : Known
-    after = record { core = v; trees = learnt.0; copy = copy }
+    after = record { core = v; trees = learnt.0; copy = copy; counted = count }
 
     laid_after : set s.words i m ≡ flat w'
     laid_after = ap (λ (l : List ℕ). set l i m) h.laid ∙ pays.laid
@@ -145,8 +146,8 @@ module _ {S : Type 0} (z : Sizes) (slots id i : ℕ) (me : Me (HashMap ℕ ℕ S
       known = known_after;
     }
 
-    pub goes : Goes z id i me m s v a w' copy
-    goes = record { after = after; held = held_after; stepped = stepped; copy_is = refl; knows = learnt.1 }
+    pub goes : Goes z id i me m s v a w' copy count
+    goes = record { after = after; held = held_after; stepped = stepped; copy_is = refl; counted_is = refl; knows = learnt.1 }
 
   -- a worker's copy after its own step
   own_copy : (s : State (HashMap ℕ ℕ S) Known) (h : Held z s) → get_elem? s.views id ≡ some me.0 → (m : ℕ) (ws : List ℕ) → copied me.0.copy i m ≡ Some ws
@@ -157,13 +158,13 @@ module _ {S : Type 0} (z : Sizes) (slots id i : ℕ) (me : Me (HashMap ℕ ℕ S
       (c.2 ∙ ap (λ (l : List ℕ). set l i m) g.same, g.alone)
 
   -- so a step that pays in every lawful state is allowed by the rule
-  pub allows : (f : ℕ → ℕ) (tells : ℕ → Me (HashMap ℕ ℕ S) Known → Type 0) → Owes f tells → Allows (Held {S = S} z) slots id me i f tells
-  allows f tells owes s h homes seat small =
+  pub allows : (more f : ℕ → ℕ) (tells : ℕ → Me (HashMap ℕ ℕ S) Known → Type 0) → Owes more f tells → Allows (Held {S = S} z) slots id me i f tells
+  allows more f tells owes s h homes seat small =
       let n : ℕ = get_or (flat h.words) i 0 in
       let same : get_or s.words i 0 ≡ get_or (flat h.words) i 0 = ap (λ (l : List ℕ). get_or l i 0) h.laid in
       let o = owes h.words s.homes (cores s.views) h.lawful (at_map (λ (k : Known). k.core) s.views id me.0 seat) (h.knows id me.0 seat on) (subst (λ (n : ℕ). n < 2 ^ 64) same small) in
-      let g = goes s h seat (f (get_or (flat h.words) i 0)) o.0 o.1 o.2 o.3 (copied me.0.copy i (f (get_or (flat h.words) i 0))) (own_copy s h seat (f (get_or (flat h.words) i 0))) (copied_some me.0.copy i (f (get_or (flat h.words) i 0))) in
-      let told = o.4 g.after g.stepped (record { copy = g.copy_is; seen = λ ws has. ap (λ (l : List ℕ). get_or l i 0) ((h.copies id me.0 ws seat has).same ∙ h.laid) }) g.knows in (
+      let g = goes s h seat (f (get_or (flat h.words) i 0)) o.0 o.1 o.2 o.3 (copied me.0.copy i (f (get_or (flat h.words) i 0))) (own_copy s h seat (f (get_or (flat h.words) i 0))) (copied_some me.0.copy i (f (get_or (flat h.words) i 0))) (more me.0.counted) in
+      let told = o.4 g.after g.stepped (record { copy = g.copy_is; seen = λ ws has. ap (λ (l : List ℕ). get_or l i 0) ((h.copies id me.0 ws seat has).same ∙ h.laid) }) g.knows g.counted_is in (
         g.after,
         o.1,
         o.3.valid,
@@ -185,7 +186,7 @@ module _ {S : Type 0} (z : Sizes) (slots id i : ℕ) (me : Me (HashMap ℕ ℕ S
   pub settle_allows : Allows (Held {S = S} z) slots id me i (λ n. n) (λ n after. Told me i n n me.0.core after (Settles me.0 n))
   settle_allows s h homes seat small =
       let n : ℕ = get_or s.words i 0 in
-      let g = goes s h seat (get_or s.words i 0) me.0.core keeps h.words (stays s h seat) (copied me.0.copy i (get_or s.words i 0)) (own_copy s h seat (get_or s.words i 0)) (copied_some me.0.copy i (get_or s.words i 0)) in
+      let g = goes s h seat (get_or s.words i 0) me.0.core keeps h.words (stays s h seat) (copied me.0.copy i (get_or s.words i 0)) (own_copy s h seat (get_or s.words i 0)) (copied_some me.0.copy i (get_or s.words i 0)) me.0.counted in
       let copies : Copies me.0 i (get_or s.words i 0) (get_or s.words i 0) g.after = record { copy = g.copy_is; seen = λ ws has. ap (λ (l : List ℕ). get_or l i 0) (h.copies id me.0 ws seat has).same } in (
         g.after,
         keeps,
@@ -198,12 +199,13 @@ module _ {S : Type 0} (z : Sizes) (slots id i : ℕ) (me : Me (HashMap ℕ ℕ S
           λ j p e.
               let x = h.exact id me.0 seat on j p e in
               is_tree_one h.words.nodes (tree_of g.after p.0) p.1 p.0 (g.knows p.0 x.0 (subst (λ (v : View). 0 < Rattle.eqc_core.specs.Words.times p.0 (names_of v)) (sym g.stepped.core) x.1)) x.2,
+          g.counted_is,
         ),
       )
 
   -- a load that leaves the view
   pub read_allows : Allows (Held {S = S} z) slots id me i (λ n. n) (λ n after. Told me i n n me.0.core after (Nothing n))
-  read_allows s h homes seat small = let r = settle_allows s h homes seat small in let t = r.4 in (r.0, r.1, r.2, r.3, (t.0, t.1, t.2, tt))
+  read_allows s h homes seat small = let r = settle_allows s h homes seat small in let t = r.4 in (r.0, r.1, r.2, r.3, (t.0, t.1, t.2, tt, t.4))
 
   -- a load by worker 0 while no number is out takes a copy of all words
   pub alone_allows : me.0.core.number ≡ 0 → me.0.core.out ≡ [] → Allows (Held {S = S} z) slots id me i (λ n. n) (λ n after. Copied me after)
@@ -212,5 +214,5 @@ module _ {S : Type 0} (z : Sizes) (slots id i : ℕ) (me : Me (HashMap ℕ ℕ S
       let g = goes s h seat (get_or s.words i 0) me.0.core keeps h.words (stays s h seat) (Some s.words) (λ ws e. (
         (let q : s.words ≡ ws = cc in sym q) ∙ sym (set-get_or s.words i 0),
         λ j u apart there. nothing_out_is_alone z h.words (homes_of s.homes) (cores s.views) id me.0.core h.lawful at on j u.core first none (at_map (λ (k : Known). k.core) s.views j u there) apart,
-      )) (λ ws e. (s.words, refl)) in
-      (g.after, keeps, tt, g.held, (g.stepped, refl, (s.words, g.copy_is, λ had e. sym (h.copies id me.0 had seat e).same)))
+      )) (λ ws e. (s.words, refl)) me.0.counted in
+      (g.after, keeps, tt, g.held, (g.stepped, refl, (s.words, g.copy_is, λ had e. sym (h.copies id me.0 had seat e).same), g.counted_is))

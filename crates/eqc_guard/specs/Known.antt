@@ -1,4 +1,4 @@
--- What a worker knows: its view of the machine, the trees of the names that it names, and a copy of the words where nobody else is active.
+-- What a worker knows: its view of the machine, the trees of the names that it names, a copy of the words where nobody else is active, and how many steps up and down it has made.
 use Rattle.std.specs.Prelude.{◌≡◌, ℕ, ◌*◌, ◌^◌, ◌<◌, ◌≤◌, ◌⊎◌, List, [], ◌∷◌, ◌++◌, length, eqb, if◌then◌else◌, Option, Some, None, false}
 use mathlib.Core.Option.{some}
 use lib.ListN.{get_elem?}
@@ -19,12 +19,15 @@ pub record Known : Type 0 where
   pub core : View
   pub trees : List (ℕ × Tree)
   pub copy : Option (List ℕ)
+  -- how many steps up and down the worker has made: what it does without one of them leaves this number
+  pub counted : ℕ
 
 abbrev pub known_coded : Coded Known
-known_coded = coded_via (coded× view_coded (coded× (coded_list (coded× coded_ℕ coded_tree)) (coded_option (coded_list coded_ℕ)))) (λ (k : Known). (k.core, (k.trees, k.copy))) (λ x y e i. record { core = (e i).0; trees = (e i).1.0; copy = (e i).1.1 })
+known_coded = coded_via (coded× view_coded (coded× (coded_list (coded× coded_ℕ coded_tree)) (coded× (coded_option (coded_list coded_ℕ)) coded_ℕ))) (λ (k : Known). (k.core, (k.trees, (k.copy, k.counted))))
+    (λ x y e i. record { core = (e i).0; trees = (e i).1.0; copy = (e i).1.1.0; counted = (e i).1.1.1 })
 
 abbrev pub nobody : Known
-nobody = record { core = spent; trees = []; copy = None }
+nobody = record { core = spent; trees = []; copy = None; counted = 0 }
 
 -- the tree kept beside a name
 abbrev pub kept_tree : List (ℕ × Tree) → ℕ → Tree

@@ -30,7 +30,7 @@ drafted v word = wrote v (draft_of v.draft) (hand_of v.hand) word
 
 -- what a write tells: the tree of the new node
 abbrev pub Writes : {T : Type 0} → Known × List T → ℕ → ℕ → Known × List T → Type 0
-Writes me i word after = Stepped me.0 (drafted me.0.core word) after.0 × (after.1 ≡ me.1) × (after.0.copy ≡ copied me.0.copy i word) × (tree_of after.0 (draft_of me.0.core.draft) ≡ node_tree me.0 word)
+Writes me i word after = Stepped me.0 (drafted me.0.core word) after.0 × (after.1 ≡ me.1) × (after.0.copy ≡ copied me.0.copy i word) × (tree_of after.0 (draft_of me.0.core.draft) ≡ node_tree me.0 word) × (after.0.counted ≡ me.0.counted)
 
 -- a worker may write a node: it has a draft, and the stripe of the word in hand, in whose table the word is not; it holds the children, which differ, and whose variables are greater
 pub record MayMake (k : Known) (variable low high : ℕ) : Type 0 where

@@ -51,9 +51,9 @@ abbrev pub literal_trees : ℕ → ℕ → List (ℕ × Tree)
 literal_trees i zero = []
 literal_trees i (suc n) = (2 + i, Node i False True) ∷ literal_trees (suc i) n
 
--- what worker 0 knows at the beginning: it holds the literals of n variables, each once, and has no copy of the words
+-- what worker 0 knows at the beginning: it holds the literals of n variables, each once, has no copy of the words, and has made no step
 abbrev pub beginner : Sizes → ℕ → Known
-beginner z n = record { core = record (fresh z 0) { held = slots_from 2 n; given = 1 }; trees = literal_trees 0 n; copy = None }
+beginner z n = record { core = record (fresh z 0) { held = slots_from 2 n; given = 1 }; trees = literal_trees 0 n; copy = None; counted = 0 }
 
 -- a copy is the words, and nobody else is active
 pub record CopyHolds (words : List ℕ) (views : List Known) (id : ℕ) (ws : List ℕ) : Type 0 where

@@ -61,6 +61,7 @@ pub record IsCopied (old new : Standing) : Type 0 where
   pub words : List ℕ
   pub copy : new.known.copy ≡ Some words
   pub same : (ws : List ℕ) → old.known.copy ≡ Some ws → words ≡ ws
+  pub counted : new.known.counted ≡ old.known.counted
 
 -- worker 0, while no number is out
 abbrev pub IsAlone : View → Type 0

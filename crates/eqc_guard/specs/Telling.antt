@@ -1,5 +1,5 @@
 -- What a step tells the worker that takes it, beside its view: the word that it found, and what the trees that it knows have to do with it.
-use Rattle.std.specs.Prelude.{◌≡◌, ◌≢◌, ℕ, ◌^◌, ◌*◌, ◌<◌, ◌≤◌, ◌⊎◌, List, get_or, set, length, Option, Some, None, Bool}
+use Rattle.std.specs.Prelude.{◌≡◌, ◌≢◌, ℕ, suc, ◌^◌, ◌*◌, ◌<◌, ◌≤◌, ◌⊎◌, List, get_or, set, length, Option, Some, None, Bool}
 use mathlib.Core.Option.{some}
 use lib.ListN.{get_elem?}
 use Rattle.eqc_tree.specs.Tree.{Tree, value}
@@ -22,17 +22,25 @@ pub record Copies (k : Known) (i found left : ℕ) (after : Known) : Type 0 wher
   pub copy : after.copy ≡ copied k.copy i left
   pub seen : (ws : List ℕ) → k.copy ≡ Some ws → get_or ws i 0 ≡ found
 
--- a step by a worker, that found a number in the word i and left another, and told E
+-- a step by a worker, that found a number in the word i and left another, and told E; and what became of the number of its steps up and down
+abbrev pub Takes : {T : Type 0} → (ℕ → ℕ) → Known × List T → ℕ → ℕ → ℕ → View → Known × List T → (Known → Type 0) → Type 0
+Takes more me i n left v after E = Stepped me.0 v after.0 × (after.1 ≡ me.1) × Copies me.0 i n left after.0 × E after.0 × (after.0.counted ≡ more me.0.counted)
+
+-- a step that is none up or down
 abbrev pub Told : {T : Type 0} → Known × List T → ℕ → ℕ → ℕ → View → Known × List T → (Known → Type 0) → Type 0
-Told me i n left v after E = Stepped me.0 v after.0 × (after.1 ≡ me.1) × Copies me.0 i n left after.0 × E after.0
+Told me i n left v after E = Takes (λ steps. steps) me i n left v after E
+
+-- a step up or down
+abbrev pub Counts : {T : Type 0} → Known × List T → ℕ → ℕ → ℕ → View → Known × List T → (Known → Type 0) → Type 0
+Counts me i n left v after E = Takes suc me i n left v after E
 
 -- a load that leaves the view, and takes a copy of all words; a worker that had one has that
 abbrev pub Copied : {T : Type 0} → Known × List T → Known × List T → Type 0
-Copied me after = Stepped me.0 me.0.core after.0 × (after.1 ≡ me.1) × ((ws : List ℕ) × (after.0.copy ≡ Some ws) × ((had : List ℕ) → me.0.copy ≡ Some had → ws ≡ had))
+Copied me after = Stepped me.0 me.0.core after.0 × (after.1 ≡ me.1) × ((ws : List ℕ) × (after.0.copy ≡ Some ws) × ((had : List ℕ) → me.0.copy ≡ Some had → ws ≡ had)) × (after.0.counted ≡ me.0.counted)
 
 -- a store does not tell what it found
 abbrev pub Stored : {T : Type 0} → Known × List T → ℕ → ℕ → View → Known × List T → Type 0
-Stored me i left v after = Stepped me.0 v after.0 × (after.1 ≡ me.1) × (after.0.copy ≡ copied me.0.copy i left)
+Stored me i left v after = Stepped me.0 v after.0 × (after.1 ≡ me.1) × (after.0.copy ≡ copied me.0.copy i left) × (after.0.counted ≡ me.0.counted)
 
 abbrev pub Nothing : ℕ → Known → Type 0
 Nothing n k = Unit {0}

@@ -10,7 +10,7 @@ ghost use Rattle.eqc_core.specs.Sharing.{boxed};
 ghost use Rattle.eqc_core.specs.Making.{unclaimed, read_node};
 ghost use Rattle.eqc_guard.specs.Known.{Known, nobody};
 ghost use Rattle.eqc_guard.specs.Seats.{split_left, split_off, both};
-ghost use Rattle.eqc_guard.specs.Telling.{Copied, Told, Stored, Nothing, Looks, Rechecks, Settles};
+ghost use Rattle.eqc_guard.specs.Telling.{Copied, Told, Counts, Stored, Nothing, Looks, Rechecks, Settles};
 ghost use Rattle.eqc_guard.specs.Making.{Claims, spotted, Writes, Reads, Reclaims, Ups};
 ghost use Rattle.eqc_guard.specs.Locking.{Locks, Unlocks};
 ghost use Rattle.eqc_guard.specs.Sharing.{Receives};
@@ -58,14 +58,14 @@ impl Play<Stripe, View> for Recheck {
 pub struct Up;
 
 impl Play<Stripe, View> for Up {
-    ghost then = { λ s me n after. Told me s.word n ((n + 1) % 2 ^ 64) (upped me.0.core (s.word - announced_words me.0.core.sizes)) after (Ups me.0 (s.word - announced_words me.0.core.sizes)) };
+    ghost then = { λ s me n after. Counts me s.word n ((n + 1) % 2 ^ 64) (upped me.0.core (s.word - announced_words me.0.core.sizes)) after (Ups me.0 (s.word - announced_words me.0.core.sizes)) };
 }
 
 /// A name was counted down.
 pub struct Down;
 
 impl Play<Stripe, View> for Down {
-    ghost then = { λ s me n after. Told me s.word n ((n + (2 ^ 64 - 1)) % 2 ^ 64) (downed me.0.core (s.word - announced_words me.0.core.sizes)) after (Nothing n) };
+    ghost then = { λ s me n after. Counts me s.word n ((n + (2 ^ 64 - 1)) % 2 ^ 64) (downed me.0.core (s.word - announced_words me.0.core.sizes)) after (Nothing n) };
 }
 
 /// A cell was swapped.

@@ -67,7 +67,7 @@ impl Model for Worker {
 
 impl Worker {
     ghost use Rattle.eqc_tree.specs.Tree.{SameFunction};
-    ghost use Rattle.std.specs.Prelude.{[], false, if◌then◌else◌, List, Some, ◌-◌, ◌*◌, ◌%◌, ◌^◌, ◌≤◌, ◌↔◌, ◌++◌, length, ℕ, IsTrue, IfSome, None, IfOk, OnOk, OnErr, IfErr};
+    ghost use Rattle.std.specs.Prelude.{[], suc, false, if◌then◌else◌, List, Some, ◌-◌, ◌*◌, ◌%◌, ◌^◌, ◌≤◌, ◌↔◌, ◌++◌, length, ℕ, IsTrue, IfSome, None, IfOk, OnOk, OnErr, IfErr};
     ghost use Rattle.eqc_core.specs.View.{phase_at};
     ghost use Rattle.eqc_core.specs.Words.{announced_words, word_at, first_of, second_of, result_of};
     ghost use Rattle.eqc_core.specs.Moves.{IsReady};
@@ -154,6 +154,7 @@ impl Worker {
         ensures step { Steps self.old (looked self.old.known.core 0 cell result) self.new }
         ensures tells { Looks self.old.known result self.new.known }
         ensures copies { Copies self.old.known (cells_from self.old.known.core.sizes + cell) result result self.new.known }
+        ensures counted { self.new.known.counted ≡ self.old.known.counted }
     {
         let word = self.cell_word(cell);
         let found = self.table.shared.load::<Look>(&mut self.seat, word);
@@ -166,6 +167,7 @@ impl Worker {
         requires { cell < self.old.known.core.sizes.cells }
         ensures step { Steps self.old self.old.known.core self.new }
         ensures copies { Copies self.old.known (cells_from self.old.known.core.sizes + cell) result result self.new.known }
+        ensures counted { self.new.known.counted ≡ self.old.known.counted }
     {
         let at = self.cell_word(cell);
         self.table.shared.load::<Load>(&mut self.seat, at)
@@ -176,6 +178,7 @@ impl Worker {
         requires { MayAnnounce self.old.known.core 0 x }
         ensures step { Steps self.old (announced self.old.known.core 0) self.new }
         ensures copies { self.new.known.copy ≡ copied self.old.known.copy (word_at self.old.known.core.sizes self.old.known.core.number 0) x }
+        ensures counted { self.new.known.counted ≡ self.old.known.counted }
     {
         let word = self.announcement_word();
         self.table
@@ -190,6 +193,7 @@ impl Worker {
         ensures step { Steps self.old (upped self.old.known.core x) self.new }
         ensures tells { Ups self.old.known x self.new.known }
         ensures copies { (n : ℕ) × Copies self.old.known (announced_words self.old.known.core.sizes + x) n ((n + 1) % 2 ^ 64) self.new.known }
+        ensures counted { self.new.known.counted ≡ suc self.old.known.counted }
     {
         let word = self.count_word(x);
         self.table.shared.fetch_add::<Up>(&mut self.seat, word, 1);
@@ -210,6 +214,7 @@ impl Worker {
         ensures still { OnErr result (self.new ≡ self.old) }
         ensures full { OnErr result (2 ^ 32 - 1 ≤ length self.old.known.core.held) }
         ensures only { IfErr result (λ s. s ≡ Stop.References) }
+        ensures counted { OnOk result (self.new.known.counted ≡ suc self.old.known.counted) }
     {
         if self.held() >= u64::from(u32::MAX) {
             return Err(Stop::References);
@@ -225,6 +230,7 @@ impl Worker {
         requires held { IsHeld self.old.known.core x }
         ensures step { Steps self.old (downed self.old.known.core x) self.new }
         ensures copies { Copies self.old.known (announced_words self.old.known.core.sizes + x) result ((result + (2 ^ 64 - 1)) % 2 ^ 64) self.new.known }
+        ensures counted { self.new.known.counted ≡ suc self.old.known.counted }
     {
         let word = self.count_word(x);
         let found = self.table.shared.fetch_sub::<Down>(&mut self.seat, word, 1);
@@ -239,6 +245,7 @@ impl Worker {
         ensures constant { name.number < 2 → self.new ≡ self.old }
         ensures step { 2 ≤ name.number → Steps self.old (downed self.old.known.core name.number) self.new }
         ensures copies { 2 ≤ name.number → (n : ℕ) × Copies self.old.known (announced_words self.old.known.core.sizes + name.number) n ((n + (2 ^ 64 - 1)) % 2 ^ 64) self.new.known }
+        ensures counted { 2 ≤ name.number → self.new.known.counted ≡ suc self.old.known.counted }
     {
         let Ref { number } = name;
         if number >= 2 {
@@ -254,6 +261,7 @@ impl Worker {
         requires held { IsHeld self.old.known.core name.number }
         ensures step { Steps self.old (downed self.old.known.core name.number) self.new }
         ensures copies { Copies self.old.known (announced_words self.old.known.core.sizes + name.number) result ((result + (2 ^ 64 - 1)) % 2 ^ 64) self.new.known }
+        ensures counted { self.new.known.counted ≡ suc self.old.known.counted }
     {
         let Ref { number } = name;
         self.count_down(number)
@@ -262,7 +270,7 @@ impl Worker {
     /// Loads the cell again whose result is announced, and says whether it has the same word.
     pub fn recheck(&mut self) -> bool
         requires { MayRecheck self.old.known.core 0 }
-        ensures { (found : ℕ) × Steps self.old (rechecked self.old.known.core 0 found) self.new × Rechecks self.old.known found self.new.known × (IsTrue result ↔ HasFound (phase_at self.old.known.core 0) found) × Copies self.old.known (cells_from self.old.known.core.sizes + announced_cell (phase_at self.old.known.core 0)) found found self.new.known }
+        ensures { (found : ℕ) × Steps self.old (rechecked self.old.known.core 0 found) self.new × Rechecks self.old.known found self.new.known × (IsTrue result ↔ HasFound (phase_at self.old.known.core 0) found) × Copies self.old.known (cells_from self.old.known.core.sizes + announced_cell (phase_at self.old.known.core 0)) found found self.new.known × (self.new.known.counted ≡ self.old.known.counted) }
     {
         let phase = self.phase;
         let Phase::Announced(cell, seen) = phase else {
@@ -280,6 +288,7 @@ impl Worker {
         ensures step { Steps self.old (rechecked self.old.known.core 0 result) self.new }
         ensures tells { Rechecks self.old.known result self.new.known }
         ensures copies { Copies self.old.known (cells_from self.old.known.core.sizes + cell) result result self.new.known }
+        ensures counted { self.new.known.counted ≡ self.old.known.counted }
     {
         let word = self.cell_word(cell);
         let found = self.table.shared.load::<Recheck>(&mut self.seat, word);
@@ -292,6 +301,7 @@ impl Worker {
         requires { MayFill self.old.known cell word }
         ensures step { Steps self.old (swapped self.old.known.core result word) self.new }
         ensures copies { Copies self.old.known (cells_from self.old.known.core.sizes + cell) result word self.new.known }
+        ensures counted { self.new.known.counted ≡ self.old.known.counted }
     {
         let place = self.cell_word(cell);
         let old = self
@@ -310,7 +320,7 @@ impl Worker {
     /// retired: a later scan makes it held.
     pub fn swap_cell(&mut self, cell: u32, filled: Option<Filled>) -> Option<(Ref, Ref)>
         requires { MaySwap self.old.known cell filled }
-        ensures { (found : ℕ) × Steps self.old (swapped self.old.known.core found (word_of filled)) self.new × ((result ≡ None) ↔ (found ≡ 0)) × IfSome result (λ p. (p.0.number ≡ first_of found) × (p.1.number ≡ second_of found)) × Copies self.old.known (cells_from self.old.known.core.sizes + cell) found (word_of filled) self.new.known }
+        ensures { (found : ℕ) × Steps self.old (swapped self.old.known.core found (word_of filled)) self.new × ((result ≡ None) ↔ (found ≡ 0)) × IfSome result (λ p. (p.0.number ≡ first_of found) × (p.1.number ≡ second_of found)) × Copies self.old.known (cells_from self.old.known.core.sizes + cell) found (word_of filled) self.new.known × (self.new.known.counted ≡ self.old.known.counted) }
     {
         // There are so few names that those of the entry fit its word.
         let _names = self.sizes.names;
@@ -328,6 +338,7 @@ impl Worker {
         ensures some { IfSome result (λ ejected. self.new.known.core.held ≡ self.old.known.core.held ++ ejected.items) }
         ensures none { result ≡ None → self.new.known.core.held ≡ self.old.known.core.held }
         ensures goes_on { (result ≡ None) ↔ (self.old.known.core.position + 1 < announced_words self.old.known.core.sizes) }
+        ensures counted { self.new.known.counted ≡ self.old.known.counted }
     {
         let words = self.announcement_words();
         let place = self.position as usize;
@@ -483,6 +494,7 @@ impl Worker {
         requires { name < self.old.known.core.sizes.names }
         ensures step { Steps self.old self.old.known.core self.new }
         ensures copies { Copies self.old.known (announced_words self.old.known.core.sizes + name) result result self.new.known }
+        ensures counted { self.new.known.counted ≡ self.old.known.counted }
     {
         let word = self.count_word(name);
         self.table.shared.load::<Load>(&mut self.seat, word)
@@ -529,6 +541,7 @@ impl Worker {
         ensures none { result ≡ None → IsPassed self.old self.new }
         ensures found { (ws : List ℕ) → self.old.known.copy ≡ Some ws → IfSome result (λ word. word ≡ cell_in self.old.known ws cell) }
         ensures missed { result ≡ None → (ws : List ℕ) → self.old.known.copy ≡ Some ws → result_of (cell_in self.old.known ws cell) < 2 }
+        ensures counted { self.new.known.counted ≡ self.old.known.counted }
     {
         // A worker has one announcement word.
         let _phase = self.phase;
@@ -554,6 +567,7 @@ impl Worker {
         ensures no { result ≡ false → IsAt Phase.Idle self.old self.new }
         ensures cells { KeepsCells self.old.known self.new.known }
         ensures alone { (ws : List ℕ) → self.old.known.copy ≡ Some ws → (c word : ℕ) → phase_at self.old.known.core 0 ≡ Phase.Seen c word → cell_in self.old.known ws c ≡ word → IsTrue result }
+        ensures counted { self.new.known.counted ≡ self.old.known.counted }
     {
         // A worker has one announcement word.
         let _phase = self.phase;
@@ -571,6 +585,7 @@ impl Worker {
         ensures step { Steps self.old (announced self.old.known.core 0) self.new }
         ensures copies { self.new.known.copy ≡ copied self.old.known.copy (word_at self.old.known.core.sizes self.old.known.core.number 0) 0 }
         ensures cells { KeepsCells self.old.known self.new.known }
+        ensures counted { self.new.known.counted ≡ self.old.known.counted }
     {
         // A worker has one announcement word, and its number is there.
         let _phase = self.phase;

@@ -34,6 +34,7 @@ impl Worker {
         requires { MayLookBox self.old.known.core b }
         ensures step { Steps self.old self.old.known.core self.new }
         ensures copies { Copies self.old.known (boxes_from self.old.known.core.sizes + b) result result self.new.known }
+        ensures counted { self.new.known.counted ≡ self.old.known.counted }
     {
         let word = self.box_word(b);
         self.table.shared.load::<Load>(&mut self.seat, word)
@@ -45,6 +46,7 @@ impl Worker {
         ensures step { Steps self.old (boxed self.old.known.core result word) self.new }
         ensures tells { Receives result self.new.known }
         ensures copies { Copies self.old.known (boxes_from self.old.known.core.sizes + b) result word self.new.known }
+        ensures counted { self.new.known.counted ≡ self.old.known.counted }
     {
         let place = self.box_word(b);
         let old = self
@@ -65,6 +67,7 @@ impl Worker {
         ensures whole { IsWhole parcel × IsWhole result }
         ensures right { IsGenuine self.new.known result }
         ensures copies { Copies self.old.known (boxes_from self.old.known.core.sizes + b) (parcel_word result) (parcel_word parcel) self.new.known }
+        ensures counted { self.new.known.counted ≡ self.old.known.counted }
     {
         // There are so few names that those of the parcel fit its word.
         let _names = self.sizes.names;

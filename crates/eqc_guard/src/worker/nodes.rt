@@ -44,6 +44,7 @@ impl Worker {
         ensures won { IsTrue result → Steps self.old (claimed self.old.known.core x) self.new }
         ensures lost { result ≡ false → Steps self.old (found_taken self.old.known.core x) self.new }
         ensures copies { (count : ℕ) × (IsTrue result ↔ (count ≡ 0)) × Copies self.old.known (announced_words self.old.known.core.sizes + x) count (if result then 2 else count) self.new.known }
+        ensures counted { self.new.known.counted ≡ self.old.known.counted }
     {
         // Most slots that are tried are taken. A load comes first: it does not take the cache line
         // from others, and loads overlap, where locked instructions do not.
@@ -58,6 +59,7 @@ impl Worker {
         requires { x < self.old.known.core.sizes.names }
         ensures step { Steps self.old (spotted self.old.known.core x result) self.new }
         ensures copies { Copies self.old.known (announced_words self.old.known.core.sizes + x) result result self.new.known }
+        ensures counted { self.new.known.counted ≡ self.old.known.counted }
     {
         let at = self.count_word(x);
         self.table.shared.load::<Spot>(&mut self.seat, at)
@@ -69,6 +71,7 @@ impl Worker {
         ensures won { IsTrue result → Steps self.old (claimed self.old.known.core x) self.new }
         ensures lost { result ≡ false → Steps self.old (found_taken self.old.known.core x) self.new }
         ensures copies { (count : ℕ) × (IsTrue result ↔ (count ≡ 0)) × Copies self.old.known (announced_words self.old.known.core.sizes + x) count (if result then 2 else count) self.new.known }
+        ensures counted { self.new.known.counted ≡ self.old.known.counted }
     {
         let word = self.count_word(x);
         let count = self
@@ -89,6 +92,7 @@ impl Worker {
         requires { (d : ℕ) × MayUnclaim self.old.known.core d }
         ensures step { Steps self.old (unclaimed self.old.known.core) self.new }
         ensures copies { self.new.known.copy ≡ copied self.old.known.copy (announced_words self.old.known.core.sizes + draft_of self.old.known.core.draft) 0 }
+        ensures counted { self.new.known.counted ≡ self.old.known.counted }
     {
         let Some(slot) = self.draft else {
             unreachable!();
@@ -105,6 +109,7 @@ impl Worker {
         ensures step { Steps self.old (drafted self.old.known.core (node_word var low high)) self.new }
         ensures tree { tree_of self.new.known slot ≡ Node var (tree_of self.old.known low) (tree_of self.old.known high) }
         ensures copies { self.new.known.copy ≡ copied self.old.known.copy (nodes_from self.old.known.core.sizes + slot) (node_word var low high) }
+        ensures counted { self.new.known.counted ≡ self.old.known.counted }
     {
         let place = self.node_word(slot);
         let word = pack_node(var, low, high);
@@ -127,6 +132,7 @@ impl Worker {
         ensures name { self.old.known.core.draft ≡ Some result.number }
         ensures tree { tree_of self.new.known result.number ≡ Node var (tree_of self.old.known low.number) (tree_of self.old.known high.number) }
         ensures copies { self.new.known.copy ≡ copied self.old.known.copy (nodes_from self.old.known.core.sizes + result.number) (node_word var low.number high.number) }
+        ensures counted { self.new.known.counted ≡ self.old.known.counted }
     {
         let Ref { number: low } = low;
         let Ref { number: high } = high;
@@ -146,6 +152,7 @@ impl Worker {
         ensures step { Steps self.old (read_node self.old.known.core node.now.number result) self.new }
         ensures tells { Reads self.old.known node.now.number result self.new.known }
         ensures copies { Copies self.old.known (nodes_from self.old.known.core.sizes + node.now.number) result result self.new.known }
+        ensures counted { self.new.known.counted ≡ self.old.known.counted }
     {
         let word = self.node_word(node.number);
         self.table.shared.load::<ReadNode>(&mut self.seat, word)
@@ -164,6 +171,7 @@ impl Worker {
         ensures won { IfSome result (λ p. (p.0.number ≡ low_of word) × (p.1.number ≡ high_of word) × Steps self.old (taken_back self.old.known.core x word) self.new) }
         ensures lost { result ≡ None → Steps self.old self.old.known.core self.new }
         ensures copies { (count : ℕ) × ((result ≡ None) ↔ (count ≢ 1)) × Copies self.old.known (announced_words self.old.known.core.sizes + x) count (if eqb count 1 then 0 else count) self.new.known }
+        ensures counted { self.new.known.counted ≡ self.old.known.counted }
     {
         // What the worker knows is in order, so the slot of an entry is there.
         let _number = self.number;
@@ -183,6 +191,7 @@ impl Worker {
         ensures won { IfSome result (λ p. (p.0.number ≡ low_of word) × (p.1.number ≡ high_of word) × Steps self.old (taken_back self.old.known.core x word) self.new) }
         ensures lost { result ≡ None → Steps self.old self.old.known.core self.new }
         ensures copies { (count : ℕ) × ((result ≡ None) ↔ (count ≢ 1)) × Copies self.old.known (announced_words self.old.known.core.sizes + x) count (if eqb count 1 then 0 else count) self.new.known }
+        ensures counted { self.new.known.counted ≡ self.old.known.counted }
     {
         let place = self.count_word(x);
         let count = self

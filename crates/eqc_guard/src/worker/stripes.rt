@@ -33,6 +33,7 @@ impl Worker {
         requires { MayLock self.old.known.core stripe }
         ensures won { IfSome result (λ map. Steps self.old (locked self.old.known.core stripe map.entries) self.new × (self.new.known.copy ≡ copied self.old.known.copy (locks_from self.old.known.core.sizes + 8 * stripe) 1)) }
         ensures lost { result ≡ None → Steps self.old self.old.known.core self.new × (self.new.known.copy ≡ self.old.known.copy) }
+        ensures counted { self.new.known.counted ≡ self.old.known.counted }
     {
         let word = self.lock_word(stripe);
         let found = self
@@ -59,6 +60,7 @@ impl Worker {
         requires { MayLock self.old.known.core stripe }
         ensures step { Steps self.old (locked self.old.known.core stripe result.entries) self.new }
         ensures copies { self.new.known.copy ≡ copied self.old.known.copy (locks_from self.old.known.core.sizes + 8 * stripe) 1 }
+        ensures counted { self.new.known.counted ≡ self.old.known.counted }
     {
         // What the worker knows is in order.
         let _number = self.number;
@@ -87,6 +89,7 @@ impl Worker {
         requires { MayHome self.old.known.core stripe map.entries }
         ensures step { Steps self.old (unlocked self.old.known.core) self.new }
         ensures copies { self.new.known.copy ≡ copied self.old.known.copy (locks_from self.old.known.core.sizes + 8 * stripe) 0 }
+        ensures counted { self.new.known.counted ≡ self.old.known.counted }
     {
         let word = self.lock_word(stripe);
         self.nodes_seen = map.len();

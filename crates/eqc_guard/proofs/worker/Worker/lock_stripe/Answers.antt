@@ -9,7 +9,7 @@ use Rattle.eqc_guard.proofs.worker.Worker.lock_stripe.Goals as goal
 pub loop-init : goal.loop-init
 loop-init g c =
     let known : IsKnown c.args.self.now.known = subst (λ (s : Standing). IsKnown s.known) c.self.view_is c.self.invariant.worker.known in
-    (steps_none c.args.self.now known, refl)
+    (steps_none c.args.self.now known, refl, refl)
 
 pub returns-in-Some-try_stripe-clause-step : goal.returns-in-Some-try_stripe-clause-step
 returns-in-Some-try_stripe-clause-step g c =

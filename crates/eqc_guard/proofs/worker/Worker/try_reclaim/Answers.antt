@@ -77,3 +77,12 @@ returns-clause-copies c =
       subst (λ (s : Standing). Copies s.known (announced_words s.known.core.sizes + c.args.x) c.compare_exchange-count.result (if eqb c.compare_exchange-count.result 1 then 0 else c.compare_exchange-count.result) c.compare_exchange-count.new.seat.me.0) c.self.view_is
           (rw (eq-eqb c.compare_exchange-count.result 1 one) (subst (λ (i : ℕ). Copies c.self.inside.seat.me.0 i c.compare_exchange-count.result 0 c.compare_exchange-count.new.seat.me.0) at told.2)),
     )
+
+pub returns-clause-counted : goal.returns-clause-counted
+returns-clause-counted c =
+    let me = c.self.inside.seat.me in
+    let v = sym c.self.view_is in
+    let at : c.count_word-place.result ≡ announced_words me.0.core.sizes + c.args.x = subst (λ (s : Standing). c.count_word-place.result ≡ announced_words s.known.core.sizes + c.args.x) v c.count_word-place.ensures in
+    let entry : IsEntry me.0.core c.args.word c.args.x = subst (λ (s : Standing). IsEntry s.known.core c.args.word c.args.x) v c.requires.entry in
+    let told = reclaim_won me c.count_word-place.result c.args.x c.args.word c.compare_exchange-count.result c.compare_exchange-count.new.seat.me at c.if-count-ne1.false entry c.compare_exchange-count.ensures.2 in
+    subst (λ (s : Standing). c.compare_exchange-count.new.seat.me.0.counted ≡ s.known.counted) c.self.view_is told.4
