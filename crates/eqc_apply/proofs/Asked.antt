@@ -6,6 +6,7 @@ use Rattle.eqc_tree.specs.declared.stopping.Stop.TheVariants.{NodeLimit, Memory,
 use Rattle.eqc_core.specs.Words.{slots_of}
 use Rattle.eqc_guard.specs.Known.{IsHeld, IsKnown, tree_of}
 use Rattle.eqc_guard.specs.Standing.{Standing}
+use Rattle.eqc_arena.proofs.Resting.{rest_begins}
 use Rattle.eqc_arena.specs.Changing.{Exchanges}
 use Rattle.eqc_arena.specs.Nodes.{MayAsk, IsNodeOf}
 use Rattle.eqc_core.proofs.Names.{times-nil}
@@ -26,7 +27,7 @@ module _ (variable low high n : ℕ) (counts : List ℕ) (s0 s1 : Standing) (h :
   -- a worker may ask for a node over its names
   pub may_ask : variable < n → StartsAbove variable (tree_of s0.known low) → StartsAbove variable (tree_of s0.known high) → MayAsk s0.known variable low high
   may_ask few l u = record {
-    rest = h.rest;
+    rest = rest_begins h.rest;
     cells = h.cells;
     room = let f = few_held h known in omega arith;
     few = let r = h.range in omega arith;

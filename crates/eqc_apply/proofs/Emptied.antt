@@ -12,7 +12,7 @@ use Rattle.eqc_guard.specs.Closing.{IsTallied}
 use Rattle.eqc_arena.specs.Changing.{Exchanges}
 use Rattle.eqc_arena.specs.Unboxing.{AreUnboxed}
 use Rattle.eqc_arena.specs.Emptying.{MayEmpty, HasNoCounts}
-use Rattle.eqc_arena.proofs.Taking.{rest_now}
+use Rattle.eqc_arena.proofs.Resting.{rest_now}
 use Rattle.eqc_arena.proofs.Changing.{lengths_now}
 use Rattle.eqc_arena.proofs.Unboxing.{may_empty}
 use Rattle.eqc_arena.proofs.Emptying.{tells_none}
@@ -72,6 +72,6 @@ module _ (s0 s1 : Standing) (alone : IsAlone s0.known.core) (rest : IsAtRest s0.
 
       pub none_told : (counted : ℕ) → IsTallied counted s3.known → s0.known.core.held ≡ [] → s0.known.core.sizes.variables ≤ 2048 → counted ≡ 0
       none_told counted told none few =
-          let may = may_empty s1 s2 c.words c.copy (ap (λ (v : View). v.held) c.step.known.core ∙ none) (subst (λ (v : View). v.sizes.variables ≤ 2048) (sym c.step.known.core) few) t u in
+          let may = may_empty s1 s2 c.words c.copy (ap (λ (v : View). v.held) c.step.known.core ∙ none) (subst (λ (v : View). v.sizes.variables ≤ 2048) (sym c.step.known.core) few) (λ k p lt at. unboxed_rest.quiet k p at) t u in
           let left = w.copy may.words may.copy in
           tells_none counted left.0 s3.known (e may) left.1 told

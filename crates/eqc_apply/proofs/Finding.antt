@@ -1,19 +1,15 @@
 -- Results in the cells that all workers share.
-use Rattle.std.proofs.Common.{◌≡◌, ℕ, zero, suc, Bool, List, [], ◌∷◌, ◌++◌, set, length-append, refl, sym, ap, subst, ◌∙◌, arith}
-use mathlib.Core.Option.{some, some-injective, some-ne-none}
-use lib.ListN.{get_elem?}
+use Rattle.std.proofs.Common.{◌≡◌, ℕ, Bool, List, [], ◌∷◌, ◌++◌, length-append, refl, sym, ap, ◌∙◌, arith}
 use Rattle.eqc_tree.specs.Tree.{Tree, value}
 use Rattle.eqc_tree.specs.Operation.{operate}
 use Rattle.eqc_tree.specs.declared.operation.Op.{Op}
-use Rattle.eqc_core.specs.declared.phase.Phase.{Phase}
 use Rattle.eqc_core.specs.Words.{slots_of}
-use Rattle.eqc_core.specs.Moves.{IsQuiet}
 use Rattle.eqc_core.proofs.Names.{times-nil, times-append}
 use Rattle.eqc_guard.specs.Acquiring.{IsPassed}
 use Rattle.eqc_guard.specs.Known.{IsHeld, IsKnown, tree_of}
 use Rattle.eqc_guard.specs.Standing.{Standing}
 use Rattle.eqc_cache.specs.Finding.{IsHit}
-use Rattle.eqc_arena.specs.Changing.{AreQuiet, Changes}
+use Rattle.eqc_arena.specs.Changing.{Changes}
 use Rattle.eqc_apply.specs.Names.{IsThere}
 use Rattle.eqc_apply.specs.Before.{IsBefore}
 use Rattle.eqc_apply.specs.Combining.{IsResult}
@@ -21,27 +17,18 @@ use Rattle.eqc_arena.proofs.Asking.{held_is_named}
 use Rattle.eqc_apply.proofs.Reading.{starts_below, starts_root}
 use Rattle.eqc_apply.proofs.Above.{starts_both}
 
--- phases that are quiet stay so where the first one is set to a quiet one
-quiet_set : (ps : List Phase) (p : Phase) → IsQuiet p → AreQuiet ps → AreQuiet (set ps 0 p)
-quiet_set [] p q all k o e = absurd (some-ne-none o (sym e))
-quiet_set (o ∷ ps) p q all k r e = go k e
-  where
-    go : (k : ℕ) → get_elem? (p ∷ ps) k ≡ some r → IsQuiet r
-    go zero e = subst (λ (t : Phase). IsQuiet t) (some-injective p r e) q
-    go (suc k) e = all (suc k) r e
-
 -- nothing was found
 pub passes : (old new : Standing) → IsPassed old new → Changes [] [] old.known.core.hand old.known.core.draft old new
 passes old new s = record {
   forest = s.stands.forest;
   held = old.known.core.held;
-  phases = set old.known.core.phases 0 s.phase;
+  phase = s.phase;
   retired = old.known.core.retired;
   read = old.known.core.read;
   turn = old.known.core.turn;
   stops = old.known.core.stops;
   core = s.stands.core;
-  quiet = quiet_set old.known.core.phases s.phase s.quiet;
+  quiet = λ q. s.quiet;
   enough = λ x. omega (arith, times-nil x);
   names = λ x. refl;
   lengths = refl;
@@ -55,13 +42,13 @@ pub hits : (op : Op) (f g r : ℕ) (old new : Standing) → IsHit op f g r old n
 hits op f g r old new s = record {
   forest = s.forest;
   held = old.known.core.held ++ slots_of (r ∷ []);
-  phases = set old.known.core.phases 0 s.phase;
+  phase = s.phase;
   retired = old.known.core.retired;
   read = old.known.core.read;
   turn = old.known.core.turn;
   stops = old.known.core.stops;
   core = s.core;
-  quiet = quiet_set old.known.core.phases s.phase s.quiet;
+  quiet = λ q. s.quiet;
   enough = λ x. omega (arith, times-nil x);
   names = λ x. omega (arith, times-append x old.known.core.held (slots_of (r ∷ [])), times-nil x);
   lengths = omega (arith, length-append old.known.core.held (slots_of (r ∷ [])));

@@ -10,7 +10,8 @@ use Rattle.eqc_guard.specs.Known.{IsHeld, IsKnown, tree_of}
 use Rattle.eqc_guard.specs.Standing.{Standing, Steps}
 use Rattle.eqc_guard.proofs.Learning.{held_named}
 use Rattle.eqc_arena.specs.Changing.{Exchanges}
-use Rattle.eqc_arena.proofs.Changing.{ready_now, quiet_now, hand_now, draft_now, names_now}
+use Rattle.eqc_arena.proofs.Changing.{names_now}
+use Rattle.eqc_arena.proofs.Resting.{rest_now}
 use Rattle.eqc_arena.proofs.References.{gives}
 use Rattle.eqc_apply.specs.Names.{Has, Drops}
 use Rattle.eqc_apply.proofs.Once.{counted_held, seat_of}
@@ -44,12 +45,7 @@ module _ (x n m : ℕ) (counts : List ℕ) (old : Standing) (within : x < length
 
     pub drops_has : Has [] n new (set counts x 0)
     drops_has = record {
-      rest = record {
-        ready = ready_now gone h.rest.ready;
-        quiet = quiet_now gone h.rest.quiet;
-        no_draft = draft_now gone ∙ h.rest.no_draft;
-        no_hand = hand_now gone ∙ h.rest.no_hand;
-      };
+      rest = rest_now h.rest gone;
       cells = subst (λ (v : View). 0 < v.sizes.cells) (sym gone.core) h.cells;
       range = h.range ∙ sym (ap (λ (v : View). v.sizes.variables) gone.core);
       constants = λ y small. get_or-set_other counts x y 0 0 (λ e. absurd (let t = is_slot in omega arith)) ∙ h.constants y small;

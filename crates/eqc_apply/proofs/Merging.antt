@@ -12,7 +12,8 @@ use Rattle.eqc_guard.specs.Standing.{Standing, Steps}
 use Rattle.eqc_guard.proofs.Acquiring.{constant_trees}
 use Rattle.eqc_guard.proofs.Learning.{held_named}
 use Rattle.eqc_arena.specs.Changing.{Exchanges}
-use Rattle.eqc_arena.proofs.Changing.{ready_now, quiet_now, hand_now, draft_now, names_now}
+use Rattle.eqc_arena.proofs.Changing.{names_now}
+use Rattle.eqc_arena.proofs.Resting.{rest_now}
 use Rattle.eqc_arena.proofs.References.{gives}
 use Rattle.eqc_apply.specs.Names.{Has}
 use Rattle.eqc_apply.specs.Before.{IsBefore}
@@ -107,7 +108,7 @@ module _ (x n first second : ℕ) (c d : List ℕ) (old : Standing) (in_c : x < 
 
       pub merged_has : (m : ℕ) → m ≡ first + (second - 1) → HasTwo n new (set c x m) (set d x 0)
       merged_has m sum = two_set n x m c d old new in_c in_d is_slot h
-          (record { ready = ready_now gone h.rest.ready; quiet = quiet_now gone h.rest.quiet; no_draft = draft_now gone ∙ h.rest.no_draft; no_hand = hand_now gone ∙ h.rest.no_hand })
+          (rest_now h.rest gone)
           (ap (λ (v : View). v.sizes) gone.core) (omega (arith, once)) others
 
       before : IsBefore old.known new.known

@@ -14,7 +14,8 @@ use Rattle.eqc_guard.proofs.Learning.{held_named}
 use Rattle.eqc_arena.specs.Changing.{Changes, Exchanges}
 use Rattle.eqc_arena.specs.Nodes.{MayCount}
 use Rattle.eqc_arena.proofs.References.{gives}
-use Rattle.eqc_arena.proofs.Changing.{ups, ready_now, quiet_now, hand_now, draft_now, names_now, held_still, same_tree}
+use Rattle.eqc_arena.proofs.Changing.{ups, names_now, held_still, same_tree}
+use Rattle.eqc_arena.proofs.Resting.{rest_now}
 use Rattle.eqc_apply.specs.Names.{refs_of, Has, IsCounted, Settles, SameReferences, IsThere}
 use Rattle.eqc_apply.specs.Before.{IsBefore, IsSeat}
 
@@ -76,12 +77,7 @@ module _ {gone came : List ℕ} {old new : Standing} (t : Exchanges gone came ol
   -- the counts are as they were: names that went stood beside them, and so do those that came
   pub has_after : (more left : List ℕ) (n : ℕ) (counts : List ℕ) → ((x : ℕ) → times x left + times x gone ≡ times x more + times x came) → Has more n old counts → Has left n new counts
   has_after more left n counts balance h = record {
-    rest = record {
-      ready = ready_now t h.rest.ready;
-      quiet = quiet_now t h.rest.quiet;
-      no_draft = draft_now t ∙ h.rest.no_draft;
-      no_hand = hand_now t ∙ h.rest.no_hand;
-    };
+    rest = rest_now h.rest t;
     cells = subst (λ (v : View). 0 < v.sizes.cells) (sym t.core) h.cells;
     range = h.range ∙ sym (ap (λ (v : View). v.sizes.variables) t.core);
     constants = h.constants;

@@ -17,7 +17,7 @@ use Rattle.eqc_guard.specs.Locking.{MayHome}
 use Rattle.eqc_guard.specs.declared.reference.Ref.{Ref}
 use Rattle.eqc_arena.specs.Changing.{Changes, Exchanges}
 use Rattle.eqc_arena.specs.Nodes.{MayAsk, MayEnter, IsMade, IsNodeOf, IsGiven}
-use Rattle.eqc_arena.proofs.Changing.{hand_now, draft_now, ready_now, quiet_now, names_now, lengths_now, held_still, same_tree, here, and, still, one_comes, locks, unlocks}
+use Rattle.eqc_arena.proofs.Changing.{begins, hand_now, draft_now, names_now, lengths_now, held_still, same_tree, here, and, still, one_comes, locks, unlocks}
 use Rattle.eqc_guard.proofs.Learning.{held_named}
 use Rattle.eqc_arena.proofs.Entering.{found_still}
 use Rattle.eqc_arena.proofs.Entries.{home_locked}
@@ -79,12 +79,7 @@ module _ (t : Entries) (s variable low high : ℕ) (s0 s1 : Standing) (may : May
 -- what is asked for after a collection is asked for as before
 pub asks_still : (variable low high : ℕ) (old mid : Standing) → MayAsk old.known variable low high → Exchanges [] [] old mid → MayAsk mid.known variable low high
 asks_still variable low high old mid may t = record {
-  rest = record {
-    ready = ready_now t may.rest.ready;
-    quiet = quiet_now t may.rest.quiet;
-    no_draft = draft_now t ∙ may.rest.no_draft;
-    no_hand = hand_now t ∙ may.rest.no_hand;
-  };
+  rest = begins may.rest t;
   cells = subst (λ (v : View). 0 < v.sizes.cells) (sym t.core) may.cells;
   room = let r = may.room in omega (arith, lengths_now t);
   few = subst (λ (v : View). variable < v.sizes.variables) (sym t.core) may.few;

@@ -1,10 +1,10 @@
 -- What the steps of a worker change, and what several changes make together.
-use Rattle.std.proofs.Common.{◌≡◌, ℕ, zero, suc, ◌+◌, ◌<◌, ◌≤◌, List, [], ◌∷◌, ◌++◌, set, length, if◌then◌else◌, Option, Some, None, length-append, refl, sym, ap, subst, ◌∙◌, arith, inl, inr}
-use mathlib.Core.Option.{some, some-injective, some-ne-none}
+use Rattle.std.proofs.Common.{◌≡◌, ℕ, ◌+◌, ◌<◌, ◌≤◌, List, [], ◌∷◌, ◌++◌, set, get_or, length, if◌then◌else◌, Option, Some, None, length-append, refl, sym, ap, subst, ◌∙◌, arith, inl, inr}
+use Rattle.std.proofs.lemmas.List.{set-get_or}
 use native.Mathlib.Decide.{ℕ_discrete, dec_le}
-use lib.ListN.{get_elem?}
 use Rattle.eqc_core.specs.declared.phase.Phase.{Phase}
-use Rattle.eqc_core.specs.View.{View, Hand}
+use Rattle.eqc_core.specs.declared.phase.Phase.TheVariants.{Idle}
+use Rattle.eqc_core.specs.View.{View, Hand, Read, phase_at}
 use Rattle.eqc_core.specs.Words.{times, slots_of, children}
 use Rattle.eqc_core.specs.Tables.{Entries}
 use Rattle.eqc_core.specs.Moves.{IsReady, IsQuiet, AreHeld, without, without_each}
@@ -16,13 +16,38 @@ use Rattle.eqc_guard.specs.Known.{IsHeld, IsKnown, tree_of}
 use Rattle.eqc_guard.specs.Standing.{Standing, Steps}
 use Rattle.eqc_guard.specs.Searching.{IsDrafted, HasSeen}
 use Rattle.eqc_guard.specs.Sweeping.{IsScanned}
-use Rattle.eqc_guard.proofs.Acquiring.{constant_trees}
+use Rattle.eqc_guard.proofs.Acquiring.{constant_trees, set_twice}
 use Rattle.eqc_guard.proofs.Counts.{slots_held, length-without_all}
 use Rattle.eqc_guard.proofs.Learning.{held_named, keeps_on}
 use Rattle.eqc_guard.proofs.Copying.{keeps_copy}
 use Rattle.eqc_cache.specs.Storing.{IsAsBefore}
 use Rattle.eqc_cache.proofs.Trading.{slots_times, slots_length}
-use Rattle.eqc_arena.specs.Changing.{AreQuiet, Changes, Exchanges}
+use Rattle.eqc_arena.specs.Changing.{MayBegin, Changes, Exchanges}
+
+-- a view with the phases that it has
+same_phases : (v : View) → v ≡ record v { phases = set v.phases 0 (phase_at v 0) }
+same_phases v = ap (λ (ps : List Phase). record v { phases = ps }) (sym (set-get_or v.phases 0 Idle))
+
+-- the same with other names, and another stripe in hand and draft
+still_phases : (v : View) (held retired : List ℕ) (read : Option Read) (turn stops : List ℕ) (hand : Option Hand) (draft : Option ℕ)
+    → record v { held = held; retired = retired; read = read; turn = turn; stops = stops; hand = hand; draft = draft }
+    ≡ record v { held = held; phases = set v.phases 0 (phase_at v 0); retired = retired; read = read; turn = turn; stops = stops; hand = hand; draft = draft }
+still_phases v held retired read turn stops hand draft = ap (λ (w : View). record w { held = held; retired = retired; read = read; turn = turn; stops = stops; hand = hand; draft = draft }) (same_phases v)
+
+-- a view that was changed twice has what the second change left
+pub changed_twice : (v w u : View) {held more retired less : List ℕ} {read late : Option Read} {turn next stops ends : List ℕ} {hand other : Option Hand} {draft second : Option ℕ} (p q : Phase)
+    → w ≡ record v { held = held; phases = set v.phases 0 p; retired = retired; read = read; turn = turn; stops = stops; hand = hand; draft = draft }
+    → u ≡ record w { held = more; phases = set w.phases 0 q; retired = less; read = late; turn = next; stops = ends; hand = other; draft = second }
+    → u ≡ record v { held = more; phases = set v.phases 0 q; retired = less; read = late; turn = next; stops = ends; hand = other; draft = second }
+changed_twice v w u {held} {more} {retired} {less} {read} {late} {turn} {next} {stops} {ends} {hand} {other} {draft} {second} p q first later =
+    later
+    ∙ (ap (λ (t : View). record t { held = more; phases = set t.phases 0 q; retired = less; read = late; turn = next; stops = ends; hand = other; draft = second }) first
+    ∙ ap (λ (ps : List Phase). record v { held = more; phases = ps; retired = less; read = late; turn = next; stops = ends; hand = other; draft = second }) (set_twice v.phases p q))
+
+-- a list of phases whose first one is set to a quiet one begins with a quiet one
+pub quiet_first : (ps : List Phase) (p : Phase) → IsQuiet p → IsQuiet (get_or (set ps 0 p) 0 Idle)
+quiet_first [] p q = tt
+quiet_first (o ∷ ps) p q = q
 
 -- a step changes what its view says
 module _ (gone came : List ℕ) (v : View) (old new : Standing) (s : Steps old v new)
@@ -34,12 +59,12 @@ module _ (gone came : List ℕ) (v : View) (old new : Standing) (s : Steps old v
   changed = record {
     forest = s.forest;
     held = v.held;
-    phases = old.known.core.phases;
+    phase = phase_at old.known.core 0;
     retired = v.retired;
     read = v.read;
     turn = v.turn;
     stops = v.stops;
-    core = s.known.core ∙ is;
+    core = s.known.core ∙ (is ∙ still_phases old.known.core v.held v.retired v.read v.turn v.stops v.hand v.draft);
     quiet = λ q. q;
     enough = enough;
     names = names;
@@ -57,12 +82,12 @@ pub stays : (s : Standing) → IsKnown s.known → Changes [] [] s.known.core.ha
 stays s known = record {
   forest = refl;
   held = s.known.core.held;
-  phases = s.known.core.phases;
+  phase = phase_at s.known.core 0;
   retired = s.known.core.retired;
   read = s.known.core.read;
   turn = s.known.core.turn;
   stops = s.known.core.stops;
-  core = refl;
+  core = same_phases s.known.core;
   quiet = λ q. q;
   enough = λ x. omega (arith, no_names x);
   names = λ x. refl;
@@ -119,12 +144,12 @@ pub claims : (slot : ℕ) (old new : Standing) → IsDrafted slot old new → Ch
 claims slot old new d = record {
   forest = d.forest;
   held = old.known.core.held;
-  phases = old.known.core.phases;
+  phase = phase_at old.known.core 0;
   retired = old.known.core.retired;
   read = old.known.core.read;
   turn = [];
   stops = old.known.core.stops;
-  core = d.core;
+  core = d.core ∙ still_phases old.known.core old.known.core.held old.known.core.retired old.known.core.read [] old.known.core.stops old.known.core.hand (Some slot);
   quiet = λ q. q;
   enough = λ x. omega (arith, no_names x);
   names = λ x. refl;
@@ -138,12 +163,12 @@ pub sees : (first last : ℕ) (old new : Standing) → HasSeen first last old ne
 sees first last old new n = record {
   forest = n.forest;
   held = old.known.core.held;
-  phases = old.known.core.phases;
+  phase = phase_at old.known.core 0;
   retired = old.known.core.retired;
   read = old.known.core.read;
   turn = n.turn;
   stops = old.known.core.stops;
-  core = n.core;
+  core = n.core ∙ still_phases old.known.core old.known.core.held old.known.core.retired old.known.core.read n.turn old.known.core.stops old.known.core.hand old.known.core.draft;
   quiet = λ q. q;
   enough = λ x. omega (arith, no_names x);
   names = λ x. refl;
@@ -185,27 +210,18 @@ reclaims x word h old new s =
     (λ y. omega (arith, times-append y old.known.core.held (slots_of (children word)), times-nil y))
     (omega (arith, length-append old.known.core.held (slots_of (children word))))
 
--- phases that are quiet stay so where the first one is set to a quiet one
-quiet_set : (ps : List Phase) (p : Phase) → IsQuiet p → AreQuiet ps → AreQuiet (set ps 0 p)
-quiet_set [] p q all k o e = absurd (some-ne-none o (sym e))
-quiet_set (o ∷ ps) p q all k r e = go k e
-  where
-    go : (k : ℕ) → get_elem? (p ∷ ps) k ≡ some r → IsQuiet r
-    go zero e = subst (λ (t : Phase). IsQuiet t) (some-injective p r e) q
-    go (suc k) e = all (suc k) r e
-
 -- the cells were emptied
 pub empties : (old new : Standing) → IsAsBefore old new → Changes [] [] old.known.core.hand old.known.core.draft old new
 empties old new s = record {
   forest = s.forest;
   held = s.held;
-  phases = set old.known.core.phases 0 s.phase;
+  phase = s.phase;
   retired = s.retired;
   read = old.known.core.read;
   turn = old.known.core.turn;
   stops = old.known.core.stops;
   core = s.core;
-  quiet = quiet_set old.known.core.phases s.phase s.quiet;
+  quiet = λ q. s.quiet;
   enough = λ x. omega (arith, no_names x);
   names = λ x. omega (arith, s.names x);
   lengths = omega (arith, s.lengths);
@@ -223,12 +239,15 @@ pub scans : (old new : Standing) → IsKnown old.known → IsReady old.known.cor
 scans old new known ready s = record {
   forest = s.forest;
   held = s.held;
-  phases = old.known.core.phases;
+  phase = phase_at old.known.core 0;
   retired = s.retired;
   read = old.known.core.read;
   turn = old.known.core.turn;
   stops = old.known.core.stops;
-  core = s.core ∙ (λ i. record old.known.core { held = s.held; retired = s.retired; position = sym ready i; noted = sym noted i });
+  core =
+      s.core
+      ∙ ((λ i. record old.known.core { held = s.held; retired = s.retired; position = sym ready i; noted = sym noted i })
+      ∙ still_phases old.known.core s.held s.retired old.known.core.read old.known.core.turn old.known.core.stops old.known.core.hand old.known.core.draft);
   quiet = λ q. q;
   enough = λ x. omega (arith, no_names x);
   names = λ x. omega (arith, s.same x);
@@ -252,8 +271,8 @@ module _ {gone came : List ℕ} {hand : Option Hand} {draft : Option ℕ} {old m
   pub ready_now : IsReady old.known.core → IsReady mid.known.core
   ready_now ready = ap (λ (v : View). v.position) t.core ∙ ready
 
-  pub quiet_now : AreQuiet old.known.core.phases → AreQuiet mid.known.core.phases
-  quiet_now q = subst (λ (v : View). AreQuiet v.phases) (sym t.core) (t.quiet q)
+  pub quiet_now : IsQuiet (phase_at old.known.core 0) → IsQuiet (phase_at mid.known.core 0)
+  quiet_now q = subst (λ (v : View). IsQuiet (phase_at v 0)) (sym t.core) (quiet_first old.known.core.phases t.phase (t.quiet q))
 
   pub names_now : (x : ℕ) → times x mid.known.core.held + times x gone ≡ times x old.known.core.held + times x came
   names_now x = subst (λ (v : View). times x v.held + times x gone ≡ times x old.known.core.held + times x came) (sym t.core) (t.names x)
@@ -271,12 +290,12 @@ module _ {gone came : List ℕ} {hand : Option Hand} {draft : Option ℕ} {old m
   on {went} {more} {hand'} {draft'} {new} all u covered balance weights = record {
     forest = u.forest ∙ t.forest;
     held = u.held;
-    phases = u.phases;
+    phase = u.phase;
     retired = u.retired;
     read = u.read;
     turn = u.turn;
     stops = u.stops;
-    core = u.core ∙ ap (λ (v : View). record v { held = u.held; phases = u.phases; retired = u.retired; read = u.read; turn = u.turn; stops = u.stops; hand = hand'; draft = draft' }) t.core;
+    core = changed_twice old.known.core mid.known.core new.known.core t.phase u.phase t.core u.core;
     quiet = λ q. u.quiet (quiet_now q);
     enough = t.enough;
     names = λ x. omega (arith, u.names x, names_now x, balance x);
@@ -300,12 +319,12 @@ pub after_still : {went more : List ℕ} {hand : Option Hand} {draft : Option �
 after_still {went} {more} {hand} {draft} {old} {mid} {new} t w = let u = here t w in record {
   forest = u.forest ∙ t.forest;
   held = u.held;
-  phases = u.phases;
+  phase = u.phase;
   retired = u.retired;
   read = u.read;
   turn = u.turn;
   stops = u.stops;
-  core = u.core ∙ ap (λ (v : View). record v { held = u.held; phases = u.phases; retired = u.retired; read = u.read; turn = u.turn; stops = u.stops; hand = hand; draft = draft }) t.core;
+  core = changed_twice old.known.core mid.known.core new.known.core t.phase u.phase t.core u.core;
   quiet = λ q. u.quiet (quiet_now t q);
   enough = λ x. omega (arith, u.enough x, names_now t x, times-nil x);
   names = λ x. omega (arith, u.names x, names_now t x);
@@ -350,3 +369,7 @@ two_come x y t u v =
 pub goes : {gone : List ℕ} {hand : Option Hand} {draft : Option ℕ} {old mid new : Standing} (x : ℕ) (came : List ℕ) → Changes gone (slots_of (x ∷ came)) hand draft old mid → Exchanges (slots_of (x ∷ [])) [] mid new → Changes gone (slots_of came) hand draft old new
 goes x came t u =
     on t (slots_of came) (here t u) (λ z. omega (arith, slots_times z x came)) (λ z. omega (arith, slots_times z x came, times-nil z)) (omega (arith, slots_length x came))
+
+-- a call may begin after another one
+pub begins : {old new : Standing} → MayBegin old.known.core → Exchanges [] [] old new → MayBegin new.known.core
+begins may t = record { ready = ready_now t may.ready; quiet = quiet_now t may.quiet; no_draft = draft_now t ∙ may.no_draft; no_hand = hand_now t ∙ may.no_hand }

@@ -6,15 +6,15 @@ use Rattle.std.proofs.lemmas.Bool.{le-ltb}
 use mathlib.Core.Option.{some, some-injective, some-ne-none}
 use native.Mathlib.Decide.{ℕ_discrete, dec_le}
 use lib.ListN.{get_elem?}
+use Rattle.eqc_core.specs.declared.phase.Phase.{Phase}
 use Rattle.eqc_core.specs.declared.sizes.Sizes.{Sizes}
 use Rattle.eqc_core.specs.View.{View, Hand, unused, spent, view_at}
 use Rattle.eqc_core.specs.Words.{Words, announced_words, times, variable_of, stripe_of, low_of, high_of, children, slots_of}
 use Rattle.eqc_core.specs.Tables.{Entries, IsTable, tabled, home_there, has_stripe}
-use Rattle.eqc_core.specs.Moves.{without}
+use Rattle.eqc_core.specs.Moves.{IsQuiet, without}
 use Rattle.eqc_core.specs.Counting.{downed}
 use Rattle.eqc_core.specs.Locking.{locked, unlocked}
 use Rattle.eqc_core.specs.Making.{read_node}
-use Rattle.eqc_core.specs.Seating.{IsAtRest}
 use Rattle.eqc_core.specs.State.{State}
 use Rattle.eqc_core.specs.Collecting.{IsBare}
 use Rattle.eqc_core.proofs.Lists.{at_get, at_below}
@@ -31,13 +31,14 @@ use Rattle.eqc_guard.specs.Standing.{Standing, Steps}
 use Rattle.eqc_guard.specs.Telling.{Copies, copied}
 use Rattle.eqc_guard.specs.Making.{taken_back}
 use Rattle.eqc_guard.specs.Locking.{MayHome}
-use Rattle.eqc_guard.specs.Sweeping.{IsScanned}
+use Rattle.eqc_guard.specs.Sweeping.{IsSilent, IsScanned}
 use Rattle.eqc_guard.proofs.Closing.{read_stays}
 use Rattle.eqc_guard.proofs.Copying.{below}
 use Rattle.eqc_guard.proofs.Laid.{get_count, get_node, get_cell, get_behind}
 use Rattle.eqc_cache.specs.Placing.{AreEmpty}
 use Rattle.eqc_cache.specs.Storing.{IsAsBefore}
 use Rattle.eqc_arena.proofs.Entries.{stood_behind, elem_get, in_both, entry_in_hand}
+use Rattle.eqc_arena.specs.Changing.{MayBegin}
 use Rattle.eqc_arena.specs.Emptying.{count_in, node_in, IsCounted, HasNoCounts, MayEmpty, AreBlank, AllFrom, IsPast, AreDone, AreTried, IsBetween, IsFrom, IsTrying}
 
 -- a box in a copy of the words
@@ -485,19 +486,26 @@ no_length : (xs : List ℕ) → length xs ≡ 0 → xs ≡ []
 no_length [] e = refl
 no_length (x ∷ xs) e = absurd (omega arith)
 
+-- where the first phase alone is set, the others are quiet as before
+silent_set : (ps : List Phase) (q : Phase) → ((k : ℕ) (p : Phase) → 0 < k → get_elem? ps k ≡ some p → IsQuiet p) → (k : ℕ) (p : Phase) → 0 < k → get_elem? (set ps 0 q) k ≡ some p → IsQuiet p
+silent_set [] q others k p lt e = others k p lt e
+silent_set (o ∷ ps) q others zero p lt e = absurd (omega arith)
+silent_set (o ∷ ps) q others (suc k) p lt e = others (suc k) p lt e
+
 -- the cells are cleared, and nothing is retired after a scan: the first turn may begin
-pub first_turn : (old cleared swept : Standing) → MayEmpty old.known → IsAtRest old.known.core → IsAsBefore old cleared → AreEmpty old.known.core.sizes.cells old.known cleared.known → IsScanned cleared swept → IsFrom 0 swept.known
+pub first_turn : (old cleared swept : Standing) → MayEmpty old.known → MayBegin old.known.core → IsAsBefore old cleared → AreEmpty old.known.core.sizes.cells old.known cleared.known → IsScanned cleared swept → IsFrom 0 swept.known
 first_turn old cleared swept may rest before empty scan =
     let t = empty may.words may.copy in
     let u = scan.copy t.0 t.1 in
     let sizes : swept.known.core.sizes ≡ old.known.core.sizes = ap (λ (v : View). v.sizes) scan.core ∙ ap (λ (v : View). v.sizes) before.core in
     let first : length cleared.known.core.held ≡ 0 = ap (λ (v : View). length v.held) before.core ∙ (before.lengths ∙ ap length may.holds) in
+    let quiet : IsSilent cleared.known.core = subst (λ (v : View). IsSilent v) (sym before.core) (silent_set old.known.core.phases before.phase may.silent) in
     let blank : AreBlank old.known.core.sizes u.0 = λ c lt. subst (λ (z : Sizes). get_or u.0 (cells_from z + c) 0 ≡ get_or t.0 (cells_from z + c) 0) (ap (λ (v : View). v.sizes) before.core) (u.2 c) ∙ go t.0 t.2 t.3 c lt (dec_le old.known.core.sizes.cells c) in
     record {
       words = u.0;
       copy = u.1;
       holds = ap (λ (v : View). v.held) scan.core ∙ no_length scan.held (scan.lengths ∙ first);
-      retired = ap (λ (v : View). v.retired) scan.core ∙ scan.alone t.0 t.1;
+      retired = ap (λ (v : View). v.retired) scan.core ∙ scan.alone quiet t.0 t.1;
       ready = ap (λ (v : View). v.position) scan.core;
       draft = ap (λ (v : View). v.draft) scan.core ∙ (ap (λ (v : View). v.draft) before.core ∙ rest.no_draft);
       blank = subst (λ (z : Sizes). AreBlank z u.0) (sym sizes) blank;

@@ -1,4 +1,5 @@
 pub mod Changing
+pub mod Resting
 pub mod References
 pub mod Unboxing
 pub mod Entries

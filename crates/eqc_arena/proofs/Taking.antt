@@ -3,26 +3,23 @@ use Rattle.std.proofs.Common.{◌≡◌, ℕ, ◌+◌, ◌-◌, ◌*◌, ◌%◌
 use Rattle.std.specs.List.{swap_remove}
 use native.Mathlib.Decide.{dec_le}
 use Rattle.eqc_core.specs.View.{View, Hand, hand_of, phase_at}
-use Rattle.eqc_core.specs.declared.phase.Phase.TheVariants.{Idle}
 use Rattle.eqc_core.specs.Announcing.{MayLook}
-use Rattle.eqc_core.proofs.Lists.{get_at}
 use Rattle.eqc_guard.specs.Sweeping.{IsScanned}
 use Rattle.eqc_cache.specs.Storing.{IsAsBefore}
 use Rattle.eqc_core.specs.Words.{announced_words, slots_of, low_of, high_of}
 use Rattle.eqc_core.specs.Tables.{Entries}
 use Rattle.eqc_core.specs.Moves.{IsReady, IsQuiet}
 use Rattle.eqc_core.specs.Counting.{downed}
-use Rattle.eqc_core.specs.Seating.{IsAtRest}
 use Rattle.eqc_core.specs.Making.{read_node, without_slot}
 use Rattle.eqc_guard.specs.Known.{Known, IsKnown, IsHeld}
 use Rattle.eqc_guard.specs.Standing.{Standing, Steps}
 use Rattle.eqc_guard.specs.Telling.{Copies}
 use Rattle.eqc_guard.specs.Making.{taken_back}
 use Rattle.eqc_guard.specs.Locking.{MayHome}
-use Rattle.eqc_arena.specs.Changing.{Changes, Exchanges}
+use Rattle.eqc_arena.specs.Changing.{MayBegin, Changes, Exchanges}
 use Rattle.eqc_arena.specs.Taking.{GivesChild, TriesEntry}
 use Rattle.eqc_arena.specs.Emptying.{IsTrying}
-use Rattle.eqc_arena.proofs.Changing.{reads, empties, scans, here, ready_now, quiet_now, reclaims, hand_now, draft_now, still, held_still, after_still, goes, came_held}
+use Rattle.eqc_arena.proofs.Changing.{begins, reads, empties, scans, here, ready_now, reclaims, hand_now, draft_now, still, held_still, after_still, goes, came_held}
 use Rattle.eqc_arena.proofs.References.{gives}
 use Rattle.eqc_arena.proofs.Entries.{home_after, home_stays}
 use Rattle.eqc_arena.proofs.Emptying.{trying_read, trying_won, trying_given}
@@ -77,27 +74,23 @@ pub next_try : (n s before more won i : ℕ) (t left : Entries) (old new : Stand
 next_try n s before more won i t left old new lt sum tries home trying =
     subst (λ (m : ℕ). IsTrying [] n s m (i - 1) left new.known) sum (tries n s before home (subst (λ (j : ℕ). IsTrying [] n s before j t old.known) (let e : i ≡ i - 1 + 1 = omega arith in e) trying))
 
--- a worker that was at rest is so after a change
-pub rest_now : {old new : Standing} → IsAtRest old.known.core → Exchanges [] [] old new → IsAtRest new.known.core
-rest_now rest t = record { ready = ready_now t rest.ready; quiet = quiet_now t rest.quiet; no_draft = draft_now t ∙ rest.no_draft; no_hand = hand_now t ∙ rest.no_hand }
-
--- a worker at rest may empty the cells, of which there are some
-pub may_clear : (k : Known) → IsKnown k → IsAtRest k.core → 0 < k.core.sizes.cells → MayLook k.core 0 0
-may_clear k known rest cells = (rest.ready, go (dec_le 1 k.core.sizes.announcements), cells, rest.quiet 0 (phase_at k.core 0) (get_at k.core.phases 0 Idle known.word))
+-- where a call may begin, the cells may be emptied, of which there are some
+pub may_clear : (k : Known) → IsKnown k → MayBegin k.core → 0 < k.core.sizes.cells → MayLook k.core 0 0
+may_clear k known rest cells = (rest.ready, go (dec_le 1 k.core.sizes.announcements), cells, rest.quiet)
   where
     go : Dec (1 ≤ k.core.sizes.announcements) → 0 < k.core.sizes.announcements
     go (yes lt) = lt
     go (no n) = absurd (let zero : k.core.sizes.announcements ≡ 0 = omega arith in let e = ap {B = ℕ} (λ (a : ℕ). k.core.sizes.workers * a) zero in let place = known.place in omega arith)
 
 -- the cells were emptied, and a scan made
-pub cleared : (old mid new : Standing) → IsAtRest old.known.core → IsAsBefore old mid → IsScanned mid new → Exchanges [] [] old new
+pub cleared : (old mid new : Standing) → MayBegin old.known.core → IsAsBefore old mid → IsScanned mid new → Exchanges [] [] old new
 cleared old mid new rest before scan =
     let t = empties old mid before in
     still t (here t (scans mid new before.known (ready_now t rest.ready) scan))
 
 -- and announces nothing when the cells were emptied
-pub quiet_cleared : (old mid : Standing) → IsAtRest old.known.core → IsAsBefore old mid → IsQuiet (phase_at mid.known.core 0)
-quiet_cleared old mid rest before = (rest_now rest (empties old mid before)).quiet 0 (phase_at mid.known.core 0) (get_at mid.known.core.phases 0 Idle before.known.word)
+pub quiet_cleared : (old mid : Standing) → MayBegin old.known.core → IsAsBefore old mid → IsQuiet (phase_at mid.known.core 0)
+quiet_cleared old mid rest before = (begins rest (empties old mid before)).quiet
 
 -- a child that is a constant is given back
 pub constant_gives : (x : ℕ) (old new : Standing) → x < 2 → new ≡ old → GivesChild x old new

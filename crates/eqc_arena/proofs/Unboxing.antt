@@ -13,6 +13,7 @@ use Rattle.eqc_guard.specs.Known.{Known, IsHeld}
 use Rattle.eqc_guard.specs.Standing.{Standing, Steps}
 use Rattle.eqc_guard.specs.Rule.{boxes_from}
 use Rattle.eqc_guard.specs.Copying.{box_in, SetsBox}
+use Rattle.eqc_guard.specs.Sweeping.{IsSilent}
 use Rattle.eqc_guard.specs.Sharing.{parcel_word, parcel_names, parcel_stops, IsWhole, MayPut}
 use Rattle.eqc_guard.proofs.Counts.{length-without_all, slots_held}
 use Rattle.eqc_guard.proofs.Parcels.{names_of_word, stops_of_word}
@@ -20,7 +21,7 @@ use Rattle.eqc_cache.proofs.Trading.{slots_times, slots_length}
 use Rattle.eqc_arena.specs.Changing.{Exchanges}
 use Rattle.eqc_arena.specs.Unboxing.{HoldsParcel, AreUnboxed, KeepsMarks, NotesStop}
 use Rattle.eqc_arena.specs.Emptying.{MayEmpty}
-use Rattle.eqc_arena.proofs.Changing.{changed, here, on, names_now, lengths_now, quiet_now}
+use Rattle.eqc_arena.proofs.Changing.{changed, changed_twice, here, on, names_now, lengths_now, quiet_now}
 use Rattle.eqc_guard.proofs.Learning.{keeps_on}
 
 -- these names are held, each as often as it is there
@@ -44,12 +45,12 @@ front_goes x rest {old} {mid} {new} t next =
     record {
       forest = u.forest ∙ t.forest;
       held = u.held;
-      phases = u.phases;
+      phase = u.phase;
       retired = u.retired;
       read = u.read;
       turn = u.turn;
       stops = u.stops;
-      core = u.core ∙ ap (λ (v : View). record v { held = u.held; phases = u.phases; retired = u.retired; read = u.read; turn = u.turn; stops = u.stops; hand = old.known.core.hand; draft = old.known.core.draft }) t.core;
+      core = changed_twice old.known.core mid.known.core new.known.core t.phase u.phase t.core u.core;
       quiet = λ q. u.quiet (quiet_now t q);
       enough = λ y. let e = u.enough y in omega (arith, names_now t y, slots_times y x rest, times-nil y);
       names = λ y. omega (arith, u.names y, names_now t y, slots_times y x rest, times-nil y);
@@ -110,15 +111,16 @@ one_unboxed n a b c same first then ws e =
         subst (λ (z : Sizes). get_or u.0 (boxes_from z + d) 0 ≡ get_or t.0 (boxes_from z + d) 0) same (u.3 d is) ∙ t.2 d (omega arith)
 
 -- a worker that is alone, holds nothing and has emptied the boxes may empty the forest
-pub may_empty : (old new : Standing) (ws : List ℕ) → old.known.copy ≡ Some ws → old.known.core.held ≡ [] → old.known.core.sizes.variables ≤ 2048 → Exchanges [] [] old new
+pub may_empty : (old new : Standing) (ws : List ℕ) → old.known.copy ≡ Some ws → old.known.core.held ≡ [] → old.known.core.sizes.variables ≤ 2048 → IsSilent new.known.core → Exchanges [] [] old new
     → AreUnboxed (16 * old.known.core.sizes.workers) old.known new.known → MayEmpty new.known
-may_empty old new ws copy none few t empty =
+may_empty old new ws copy none few silent t empty =
     let u = empty ws copy in
     let same : old.known.core.sizes ≡ new.known.core.sizes = sym (ap (λ (v : View). v.sizes) t.core) in
     record {
       words = u.0;
       copy = u.1;
       holds = none_left new.known.core.held (let e = ap {B = ℕ} (λ (l : List ℕ). length l) none in omega (arith, lengths_now t));
+      silent = silent;
       boxes = λ b lt. subst (λ (z : Sizes). get_or u.0 (boxes_from z + b) 0 ≡ 0) same (u.2 b (subst (λ (z : Sizes). b < 16 * z.workers) (sym same) lt));
       few = subst (λ (z : Sizes). z.variables ≤ 2048) same few;
     }

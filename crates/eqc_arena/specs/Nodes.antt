@@ -3,7 +3,6 @@ use Rattle.std.specs.Prelude.{◌≡◌, ◌≢◌, ℕ, ◌-◌, ◌^◌, ◌<�
 use Rattle.eqc_tree.specs.Tree.{Tree, Node, StartsAbove}
 use Rattle.eqc_core.specs.View.{View}
 use Rattle.eqc_core.specs.Counting.{Knows as IsKept}
-use Rattle.eqc_core.specs.Seating.{IsAtRest}
 use Rattle.eqc_tree.specs.Word.{node_word}
 use Rattle.eqc_tree.specs.declared.stopping.Stop.{Stop}
 use Rattle.eqc_tree.specs.declared.stopping.Stop.TheVariants.{NodeLimit, References, Threads}
@@ -13,7 +12,7 @@ use Rattle.eqc_guard.specs.Locking.{MayHome}
 use Rattle.eqc_guard.specs.Searching.{HasSeenAll}
 use Rattle.eqc_guard.specs.Standing.{Standing}
 use Rattle.eqc_guard.specs.declared.reference.Ref.{Ref}
-use Rattle.eqc_arena.specs.Changing.{Changes, Exchanges}
+use Rattle.eqc_arena.specs.Changing.{MayBegin, Changes, Exchanges}
 use Rattle.eqc_guard.specs.Known.{Known, IsHeld, IsNamed, names_of, tree_of}
 
 -- the node of a variable over two halves, or the half itself where both are equal
@@ -28,9 +27,9 @@ MayCount v x = (x < 2) ⊎ ((0 < times x (names_of v)) × IsKept v x)
 abbrev pub KeepsTrees : Known → Known → Type 0
 KeepsTrees k after = (x : ℕ) → IsNamed k.core x → tree_of after x ≡ tree_of k x
 
--- a worker may ask for a node: it is at rest, holds the children, whose variables are greater, and there are cells
+-- a worker may ask for a node: a call may begin, it holds the children, whose variables are greater, and there are cells
 pub record MayAsk (k : Known) (variable low high : ℕ) : Type 0 where
-  pub rest : IsAtRest k.core
+  pub rest : MayBegin k.core
   pub cells : 0 < k.core.sizes.cells
   pub room : length k.core.held ≤ 2 ^ 39
   pub few : variable < k.core.sizes.variables

@@ -2,10 +2,9 @@
 ghost use Rattle.std.specs.Prelude.{◌≡◌, ℕ, ◌^◌, ◌<◌, ◌≤◌, [], ◌∷◌, length, if◌then◌else◌};
 ghost use Rattle.eqc_core.specs.Words.{slots_of};
 ghost use Rattle.eqc_core.specs.Moves.{IsReady};
-ghost use Rattle.eqc_core.specs.Seating.{IsAtRest};
 ghost use Rattle.eqc_guard.specs.Known.{IsHeld};
 ghost use Rattle.eqc_guard.specs.Locking.{MayHome};
-ghost use Rattle.eqc_arena.specs.Changing.{Changes, Exchanges};
+ghost use Rattle.eqc_arena.specs.Changing.{MayBegin, Changes, Exchanges};
 ghost use Rattle.eqc_arena.specs.Taking.{GivesChild, TriesEntry, TriesStripe, TriesAll, TakesMore, HomesStill};
 ghost use Rattle.eqc_arena.specs.Emptying.{MayEmpty, HasNoCounts};
 
@@ -123,7 +122,7 @@ pub(crate) fn take_stripe<R: Wait>(
     stripe: u32,
     fallen: &mut Fallen,
 ) -> u32
-    requires rest { IsAtRest worker.old.known.core }
+    requires rest { MayBegin worker.old.known.core }
     requires stripe { stripe < 16 }
     requires room { length worker.old.known.core.held ≤ 2 ^ 39 }
     ensures few { result ≤ 2 ^ 20 }
@@ -145,7 +144,7 @@ pub(crate) fn take_stripe<R: Wait>(
 // Tries to take the node of a word back, where its stripe's map has the word: it may have been taken
 // back since its count fell, and made anew.
 fn take_word<R: Wait>(worker: &mut Worker, rt: &R, word: u64, fallen: &mut Fallen) -> bool
-    requires rest { IsAtRest worker.old.known.core }
+    requires rest { MayBegin worker.old.known.core }
     requires room { length worker.old.known.core.held ≤ 2 ^ 39 }
     ensures changes { Exchanges [] [] worker.old worker.new }
     ensures takes { TakesMore (if result then 1 else 0) worker.old worker.new }
@@ -166,7 +165,7 @@ fn take_word<R: Wait>(worker: &mut Worker, rt: &R, word: u64, fallen: &mut Falle
 // Tries the fallen nodes, the last one first, and gives how many were taken back. Their children
 // come behind them, so that there are few at a time: as many as a path has nodes, and some.
 pub(crate) fn take_fallen<R: Wait>(worker: &mut Worker, rt: &R, fallen: &mut Fallen) -> u32
-    requires rest { IsAtRest worker.old.known.core }
+    requires rest { MayBegin worker.old.known.core }
     requires room { length worker.old.known.core.held ≤ 2 ^ 39 }
     ensures few { result ≤ 2 ^ 20 }
     ensures changes { Exchanges [] [] worker.old worker.new }
@@ -188,7 +187,7 @@ pub(crate) fn take_fallen<R: Wait>(worker: &mut Worker, rt: &R, fallen: &mut Fal
 // Makes one turn over all stripes, and gives how many nodes were taken back. After each stripe it
 // goes on with the nodes that fell.
 fn turn<R: Wait>(worker: &mut Worker, rt: &R, fallen: &mut Fallen) -> u32
-    requires rest { IsAtRest worker.old.known.core }
+    requires rest { MayBegin worker.old.known.core }
     requires room { length worker.old.known.core.held ≤ 2 ^ 39 }
     ensures changes { Exchanges [] [] worker.old worker.new }
     ensures tries { TriesAll result worker.old worker.new }
@@ -206,12 +205,13 @@ fn turn<R: Wait>(worker: &mut Worker, rt: &R, fallen: &mut Fallen) -> u32
 /// Empties all cells, and takes dead nodes back, in turns over all stripes, until there are none.
 /// Within a turn it goes on with the children that fell to one owner. It gives how many nodes were taken back, 2^32 - 1 at most.
 ///
-/// The worker is at rest, there is a cell, and at most 2^39 names are held. It holds what it held.
-/// Where it is alone, holds nothing, all boxes are empty and there are at most 2,048 variables, no
-/// slot has a count above 0 then.
+/// No scan is under way, the worker's first announcement word announces nothing, and nothing is claimed or in hand. There is
+/// a cell, and at most 2^39 names are held. The worker holds what it held.
+/// Where it is alone, holds nothing, none of its announcement words but the first announces a name,
+/// all boxes are empty and there are at most 2,048 variables, no slot has a count above 0 then.
 #[inline(never)]
 pub fn collect<R: Wait>(worker: &mut Worker, rt: &R) -> u32
-    requires rest { IsAtRest worker.old.known.core }
+    requires rest { MayBegin worker.old.known.core }
     requires cells { 0 < worker.old.known.core.sizes.cells }
     requires room { length worker.old.known.core.held ≤ 2 ^ 39 }
     ensures changes { Exchanges [] [] worker.old worker.new }

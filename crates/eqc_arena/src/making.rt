@@ -184,7 +184,8 @@ fn insist<R: Wait>(
 /// The one node of a variable over two children: a reference of the node where there is one, else of
 /// a new one in a free slot. Where both children are the same it is one of the child.
 ///
-/// The worker is at rest, there is a cell, at most 2^39 names are held, the children are held or
+/// No scan is under way, the worker's first announcement word announces nothing, and nothing is
+/// claimed or in hand. There is a cell, at most 2^39 names are held, the children are held or
 /// constants, and `var` is a variable of the forest that is below the children's. The call may wait
 /// for a stripe's lock. The error is 71 after a collection and a whole turn in which every slot was
 /// seen taken, 72 where a stripe's map can't grow, and 73 at 2^32 - 2 names held; then the same

@@ -1,8 +1,7 @@
 //! Dead nodes are taken back where a worker needs room: as few as let it go on, so that the others are held up for a short
 //! time.
 ghost use Rattle.std.specs.Prelude.{◌^◌, ◌<◌, ◌≤◌, [], length};
-ghost use Rattle.eqc_core.specs.Seating.{IsAtRest};
-ghost use Rattle.eqc_arena.specs.Changing.{Exchanges};
+ghost use Rattle.eqc_arena.specs.Changing.{MayBegin, Exchanges};
 
 use crate::collecting::{Fallen, collect, take_fallen, take_stripe};
 use eqc_guard::worker::Worker;
@@ -37,7 +36,7 @@ fn first_stripe(worker: &Worker) -> u32 {
 // Makes one turn over the stripes, or a part of it: it ends with the first stripe in which fewer nodes than so many were
 // dead. It gives how many were taken back.
 fn turn<R: Wait>(worker: &mut Worker, rt: &R, fallen: &mut Fallen, few: u32) -> u32
-    requires rest { IsAtRest worker.old.known.core }
+    requires rest { MayBegin worker.old.known.core }
     requires room { length worker.old.known.core.held ≤ 2 ^ 39 }
     ensures changes { Exchanges [] [] worker.old worker.new }
 {
@@ -57,7 +56,7 @@ fn turn<R: Wait>(worker: &mut Worker, rt: &R, fallen: &mut Fallen, few: u32) -> 
 
 // Empties all cells, and gives up what is retired: they would keep nodes from being taken back.
 fn empty_cells(worker: &mut Worker)
-    requires rest { IsAtRest worker.old.known.core }
+    requires rest { MayBegin worker.old.known.core }
     requires cells { 0 < worker.old.known.core.sizes.cells }
     requires room { length worker.old.known.core.held ≤ 2 ^ 39 }
     ensures changes { Exchanges [] [] worker.old worker.new }
@@ -70,7 +69,7 @@ fn empty_cells(worker: &mut Worker)
 // Takes dead nodes back in one turn, or where a worker is alone in several: as long as a turn takes many. A turn ends with
 // the first stripe in which fewer nodes than so many were dead.
 fn sweep<R: Wait>(worker: &mut Worker, rt: &R, few: u32)
-    requires rest { IsAtRest worker.old.known.core }
+    requires rest { MayBegin worker.old.known.core }
     requires room { length worker.old.known.core.held ≤ 2 ^ 39 }
     ensures changes { Exchanges [] [] worker.old worker.new }
 {
@@ -87,9 +86,10 @@ fn sweep<R: Wait>(worker: &mut Worker, rt: &R, few: u32)
 
 /// Takes dead nodes back: an effort follows the one before it, where that was in vain. The worker holds what it held.
 ///
-/// It is at rest, there is a cell, and at most 2^39 names are held. The call may wait.
+/// No scan is under way, its first announcement word announces nothing, and nothing is claimed or in hand. There is a cell,
+/// and at most 2^39 names are held. The call may wait.
 pub(crate) fn take_back<R: Wait>(worker: &mut Worker, rt: &R, effort: Effort)
-    requires rest { IsAtRest worker.old.known.core }
+    requires rest { MayBegin worker.old.known.core }
     requires cells { 0 < worker.old.known.core.sizes.cells }
     requires room { length worker.old.known.core.held ≤ 2 ^ 39 }
     ensures changes { Exchanges [] [] worker.old worker.new }

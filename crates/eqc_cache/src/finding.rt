@@ -83,7 +83,8 @@ fn seek(worker: &mut Worker, op: Op, first: u32, second: u32, cell: u32) -> Opti
 
 /// The result of an operation, where the cache has it: it is then held once more.
 ///
-/// Both operands are held or constants, the worker is at rest, and there is a cell. Without a hit
+/// Both operands are held or constants, no scan is under way, the worker's first announcement word
+/// announces nothing, and there is a cell. Without a hit
 /// the same names are held as before. So it is at 2^32 - 1 names held. Below that, a worker that is
 /// alone has a hit exactly where the cell of the operands has their entry.
 #[inline]

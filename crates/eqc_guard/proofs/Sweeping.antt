@@ -12,7 +12,7 @@ use Rattle.eqc_core.proofs.Scanning.{some_cases, length_note, kept_ejected}
 use native.Mathlib.Decide.{ℕ_discrete}
 use Rattle.eqc_guard.specs.Known.{Known, IsKnown, names_of, tree_of}
 use Rattle.eqc_guard.specs.Standing.{Standing, Steps}
-use Rattle.eqc_guard.specs.Sweeping.{AreNone, scanning, IsScanning, IsSwept, IsLetting, IsScanned}
+use Rattle.eqc_guard.specs.Sweeping.{IsSilent, AreNone, scanning, IsScanning, IsSwept, IsLetting, IsScanned}
 use Rattle.eqc_guard.proofs.Announced.{none_announced}
 use Rattle.eqc_guard.proofs.Learning.{held_named}
 use Rattle.eqc_guard.specs.Copying.{KeepsCells}
@@ -34,30 +34,31 @@ begins s known ready = record {
   position = s.known.core.position;
   noted = s.known.core.noted;
   core = refl;
-  alone = λ ws e. no_length s.known.core.noted (let n = known.noted in omega arith);
+  alone = λ silent ws e. no_length s.known.core.noted (let n = known.noted in omega arith);
   trees = λ x two h. refl;
   copy = cells_stay s.known;
   known = known;
 }
 
 -- the scan of a worker that is alone, and announces nothing, reads no name
-pub reads_none : (old mid next : Standing) (name : ℕ) → IsScanning old mid → old.known.core.sizes.announcements ≡ 1 → IsQuiet (phase_at old.known.core 0) → Copies mid.known mid.known.core.position name name next.known
-    → (ws : List ℕ) → old.known.copy ≡ Some ws → name ≡ 0
-reads_none old mid next name m one quiet copies ws e =
+pub reads_none : (old mid next : Standing) (name : ℕ) → IsScanning old mid → IsQuiet (phase_at old.known.core 0) → Copies mid.known mid.known.core.position name name next.known
+    → IsSilent old.known.core → (ws : List ℕ) → old.known.copy ≡ Some ws → name ≡ 0
+reads_none old mid next name m quiet copies silent ws e =
     let t = m.copy ws e in
-    let here : mid.known.core.sizes.announcements ≡ 1 = ap (λ (v : View). v.sizes.announcements) m.core ∙ one in
-    sym (copies.seen t.0 t.1) ∙ none_announced mid.known t.0 mid.known.core.position m.known here (subst (λ (v : View). IsQuiet (phase_at v 0)) (sym m.core) quiet) t.1 m.known.place
+    let first : IsQuiet (phase_at mid.known.core 0) = subst (λ (v : View). IsQuiet (phase_at v 0)) (sym m.core) quiet in
+    let others : IsSilent mid.known.core = subst (λ (v : View). IsSilent v) (sym m.core) silent in
+    sym (copies.seen t.0 t.1) ∙ none_announced mid.known t.0 mid.known.core.position m.known first others t.1 m.known.place
 
 -- so it notes none
-notes_none : (k : Known) (name : ℕ) (noted : List ℕ) → AreNone k noted → ((ws : List ℕ) → k.copy ≡ Some ws → name ≡ 0) → AreNone k (note name noted)
-notes_none k name noted none zero ws e = λ i. note (zero ws e i) (none ws e i)
+notes_none : (k : Known) (name : ℕ) (noted : List ℕ) → AreNone k noted → (IsSilent k.core → (ws : List ℕ) → k.copy ≡ Some ws → name ≡ 0) → AreNone k (note name noted)
+notes_none k name noted none zero silent ws e = λ i. note (zero silent ws e i) (none silent ws e i)
 
 -- and keeps none
 kept_none : (xs : List ℕ) → kept [] xs ≡ []
 kept_none [] = refl
 kept_none (x ∷ xs) = rw (le-ltb 0 (times x []) (omega (arith, times-nil x))) (kept_none xs)
 
-module _ (old mid next : Standing) (name : ℕ) (m : IsScanning old mid) (s : Steps mid (scanned mid.known.core name) next) (copies : Copies mid.known mid.known.core.position name name next.known) (zero : (ws : List ℕ) → old.known.copy ≡ Some ws → name ≡ 0) where
+module _ (old mid next : Standing) (name : ℕ) (m : IsScanning old mid) (s : Steps mid (scanned mid.known.core name) next) (copies : Copies mid.known mid.known.core.position name name next.known) (zero : IsSilent old.known.core → (ws : List ℕ) → old.known.copy ≡ Some ws → name ≡ 0) where
   there : (x : ℕ) → 0 < times x old.known.core.held → 0 < times x mid.known.core.held
   there x h = subst (λ (v : View). 0 < times x v.held) (sym m.core) h
 
@@ -88,7 +89,7 @@ cancel : (a b c : List ℕ) → a ++ b ≡ a ++ c → b ≡ c
 cancel [] b c e = e
 cancel (x ∷ a) b c e = cancel a b c (ap tail e)
 
-module _ (old mid next : Standing) (name : ℕ) (m : IsScanning old mid) (s : Steps mid (scanned mid.known.core name) next) (copies : Copies mid.known mid.known.core.position name name next.known) (zero : (ws : List ℕ) → old.known.copy ≡ Some ws → name ≡ 0) (end : announced_words mid.known.core.sizes ≤ mid.known.core.position + 1) where
+module _ (old mid next : Standing) (name : ℕ) (m : IsScanning old mid) (s : Steps mid (scanned mid.known.core name) next) (copies : Copies mid.known mid.known.core.position name name next.known) (zero : IsSilent old.known.core → (ws : List ℕ) → old.known.copy ≡ Some ws → name ≡ 0) (end : announced_words mid.known.core.sizes ≤ mid.known.core.position + 1) where
   off : scanned mid.known.core name ≡ scan_end mid.known.core name
   off = ap (λ (b : Bool). if b then scan_on mid.known.core name else scan_end mid.known.core name) (le-ltb (mid.known.core.position + 1) (announced_words mid.known.core.sizes) end)
 
@@ -112,7 +113,7 @@ module _ (old mid next : Standing) (name : ℕ) (m : IsScanning old mid) (s : St
             ∙ ap (λ (o : Option Read). record old.known.core { held = old.known.core.held ++ go; read = o; position = 0; noted = []; retired = kept (note name m.noted) old.known.core.retired }) stays);
         names = λ x. omega (arith, kept_ejected x (note name m.noted) old.known.core.retired, ap (λ (l : List ℕ). times x l) same);
         few = omega (arith, kept_few (note name m.noted) old.known.core.retired, length_note name m.noted);
-        alone = λ ws e. ap (λ (l : List ℕ). kept l old.known.core.retired) (notes_none old.known name m.noted m.alone zero ws e) ∙ kept_none old.known.core.retired;
+        alone = λ silent ws e. ap (λ (l : List ℕ). kept l old.known.core.retired) (notes_none old.known name m.noted m.alone zero silent ws e) ∙ kept_none old.known.core.retired;
         trees = λ x two h.
             let was : 0 < times x mid.known.core.held = subst (λ (v : View). 0 < times x v.held) (sym m.core) h in
             let is : 0 < times x (scan_end mid.known.core name).held = omega (arith, times-append x mid.known.core.held (ejected (note name mid.known.core.noted) mid.known.core.retired)) in

@@ -1,15 +1,22 @@
--- What a whole scan leaves. The cells stay: a worker that is alone has the same ones in its copy of the words, and nothing is retired any longer.
+-- What a whole scan leaves. The cells stay: a worker that is alone has the same ones in its copy of the words, and where it announces nothing, nothing is retired any longer.
 use Rattle.std.specs.Prelude.{◌≡◌, ℕ, ◌+◌, ◌<◌, ◌≤◌, List, [], ◌++◌, length, Some}
+use mathlib.Core.Option.{some}
+use lib.ListN.{get_elem?}
+use Rattle.eqc_core.specs.declared.phase.Phase.{Phase}
 use Rattle.eqc_core.specs.View.{View}
 use Rattle.eqc_core.specs.Words.{times, announced_words}
-use Rattle.eqc_core.specs.Moves.{forget}
+use Rattle.eqc_core.specs.Moves.{IsQuiet, forget}
 use Rattle.eqc_guard.specs.Known.{Known, IsKnown, tree_of}
 use Rattle.eqc_guard.specs.Copying.{KeepsCells}
 use Rattle.eqc_guard.specs.Standing.{Standing}
 
--- there are none of these, where the worker has a copy of the words: then nobody else is active
+-- none of the worker's announcement words but the first announces a name
+abbrev pub IsSilent : View → Type 0
+IsSilent v = (k : ℕ) (p : Phase) → 0 < k → get_elem? v.phases k ≡ some p → IsQuiet p
+
+-- there are none of these, where the worker has a copy of the words and announces nothing: then nobody else is active
 abbrev pub AreNone : Known → List ℕ → Type 0
-AreNone k names = (ws : List ℕ) → k.copy ≡ Some ws → names ≡ []
+AreNone k names = IsSilent k.core → (ws : List ℕ) → k.copy ≡ Some ws → names ≡ []
 
 -- the view in the middle of a scan
 abbrev pub scanning : View → ℕ → List ℕ → View

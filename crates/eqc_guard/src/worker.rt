@@ -647,7 +647,7 @@ impl Worker {
 
     /// Scans all announcement words, and gives back each name that was retired and is not kept any
     /// longer. At most as many names are retired then as there are announcement words, and none at
-    /// a worker that is alone and has a copy of the words.
+    /// a worker that is alone, has a copy of the words, and announces nothing.
     ///
     /// No scan is under way, nothing is announced, and at most 2^39 names are held.
     pub fn scan(&mut self)

@@ -22,13 +22,13 @@ use Rattle.eqc_guard.specs.Making.{Reads}
 use Rattle.eqc_guard.specs.Splitting.{IsAbsorbed}
 use Rattle.eqc_guard.specs.Acquiring.{IsAt, IsPassed}
 use Rattle.eqc_guard.specs.Standing.{Standing, Steps}
-use Rattle.eqc_arena.specs.Changing.{AreQuiet, Exchanges}
+use Rattle.eqc_arena.specs.Changing.{Exchanges}
 use Rattle.eqc_cache.specs.Storing.{IsAsBefore}
 use Rattle.eqc_cache.specs.Finding.{IsTaken, IsHit}
 use Rattle.eqc_arena.specs.Nodes.{MayAsk}
 use Rattle.eqc_arena.proofs.Changing.{reads, empties, same_tree, held_still, still, here, names_now, lengths_now, one_comes}
 use Rattle.eqc_arena.proofs.References.{variable_is, low_is, high_is}
-use Rattle.eqc_arena.proofs.Taking.{rest_now}
+use Rattle.eqc_arena.proofs.Resting.{AreQuiet, rest_begins, rest_now}
 use Rattle.eqc_node_tests.specs.Making.{references_of, announces, Rests, IsMaking}
 
 -- the references cover what is held
@@ -56,7 +56,7 @@ module _ (var low high : ℕ) (w0 w1 w2 : Standing) (rest : IsAtRest w0.known.co
   pub may_ask : StartsAbove var (tree_of w1.known low) → StartsAbove var (tree_of w2.known high) → MayAsk w2.known var low high
   unfolding both_looks
   may_ask above_low above_high = record {
-    rest = rest_now rest both_looks;
+    rest = rest_begins (rest_now rest both_looks);
     cells = subst (λ (v : View). 0 < v.sizes.cells) (sym both_looks.core) cells;
     room = omega (arith, lengths_now both_looks);
     few = subst (λ (v : View). var < v.sizes.variables) (sym both_looks.core) few;
@@ -114,7 +114,7 @@ at_rest v r = record { ready = r.place; quiet = are_quiet v.phases r.silent; no_
 rests_then : {gone came : List ℕ} {old new : Standing} → Rests old.known.core → Exchanges gone came old new → Rests new.known.core
 rests_then {gone} {came} {old} {new} r t = record {
   place = ap (λ (v : View). v.position) t.core ∙ r.place;
-  silent = are_silent new.known.core.phases (subst (λ (v : View). AreQuiet v.phases) (sym t.core) (t.quiet (are_quiet old.known.core.phases r.silent)));
+  silent = are_silent new.known.core.phases (rest_now (at_rest old.known.core r) t).quiet;
   no_draft = ap (λ (v : View). v.draft) t.core ∙ r.no_draft;
   no_hand = ap (λ (v : View). v.hand) t.core ∙ r.no_hand;
 }

@@ -1,4 +1,5 @@
 use Rattle.eqc_guard.specs.Splitting.{IsCopied}
+use Rattle.eqc_arena.proofs.Resting.{rest_begins}
 use Rattle.eqc_apply.proofs.Emptied.{unboxed_rest, none_told}
 use Rattle.eqc_apply.proofs.Telling.{left_at_end}
 use Rattle.eqc_apply.proofs.closing.finish.Goals as goal
@@ -7,7 +8,7 @@ pub collect-requires-clause-rest : goal.collect-requires-clause-rest
 collect-requires-clause-rest g c =
     let w = c.args.worker in
     let p : IsCopied w c.alone-alone.new.self = c.alone-alone.ensures.copy (c.alone-alone.ensures.answer.1 c.requires.alone) in
-    unboxed_rest w c.alone-alone.new.self c.requires.alone c.requires.rest c.requires.cells c.requires.room p c.empty_boxes.new.worker c.empty_boxes.ensures.changes c.empty_boxes.ensures.empty
+    rest_begins (unboxed_rest w c.alone-alone.new.self c.requires.alone c.requires.rest c.requires.cells c.requires.room p c.empty_boxes.new.worker c.empty_boxes.ensures.changes c.empty_boxes.ensures.empty)
 
 pub returns : goal.returns
 returns g c =

@@ -1,8 +1,8 @@
 use Rattle.std.proofs.Common.{◌≡◌, arith, ap}
 use Rattle.eqc_core.specs.View.{View}
-use Rattle.eqc_arena.proofs.Changing.{still, here, lengths_now}
+use Rattle.eqc_arena.proofs.Changing.{begins, still, here, lengths_now}
 use Rattle.eqc_arena.proofs.Emptying.{first_turn, all_turns}
-use Rattle.eqc_arena.proofs.Taking.{rest_now, may_clear, quiet_cleared, cleared}
+use Rattle.eqc_arena.proofs.Taking.{may_clear, quiet_cleared, cleared}
 use Rattle.eqc_arena.proofs.collecting.collect.Goals as goal
 
 pub clear-requires-clause-may : goal.clear-requires-clause-may
@@ -18,7 +18,7 @@ loop-turn-init g c = record {
 }
 
 pub turn-taken-requires-clause-rest : goal.turn-taken-requires-clause-rest
-turn-taken-requires-clause-rest g c = rest_now c.requires.rest c.loop-turn.invariant.changes
+turn-taken-requires-clause-rest g c = begins c.requires.rest c.loop-turn.invariant.changes
 
 pub turn-taken-requires-clause-room : goal.turn-taken-requires-clause-room
 turn-taken-requires-clause-room g c = let room = c.requires.room in omega (arith, lengths_now c.loop-turn.invariant.changes)

@@ -1,21 +1,20 @@
 use Rattle.std.proofs.Common.{◌≡◌, ℕ, ◌+◌, [], arith, subst}
 use Rattle.eqc_arena.specs.Emptying.{IsBetween}
-use Rattle.eqc_arena.proofs.Changing.{stays, still, here, lengths_now}
+use Rattle.eqc_arena.proofs.Changing.{stays, still, here, lengths_now, begins}
 use Rattle.eqc_arena.proofs.Emptying.{next_turn, took_none}
-use Rattle.eqc_arena.proofs.Taking.{rest_now}
 use Rattle.eqc_arena.proofs.collecting.turn.Goals as goal
 
 pub loop-stripe-init : goal.loop-stripe-init
 loop-stripe-init g c = record { few = omega arith; changes = stays c.args.worker.now c.recall_laws.ensures; tries = λ n b. b }
 
 pub take_stripe-taken-requires-clause-rest : goal.take_stripe-taken-requires-clause-rest
-take_stripe-taken-requires-clause-rest g c = rest_now c.requires.rest c.loop-stripe.invariant.changes
+take_stripe-taken-requires-clause-rest g c = begins c.requires.rest c.loop-stripe.invariant.changes
 
 pub take_stripe-taken-requires-clause-room : goal.take_stripe-taken-requires-clause-room
 take_stripe-taken-requires-clause-room g c = let room = c.requires.room in omega (arith, lengths_now c.loop-stripe.invariant.changes)
 
 pub take_fallen-taken-requires-clause-rest : goal.take_fallen-taken-requires-clause-rest
-take_fallen-taken-requires-clause-rest g c = rest_now (rest_now c.requires.rest c.loop-stripe.invariant.changes) c.take_stripe-taken.ensures.changes
+take_fallen-taken-requires-clause-rest g c = begins (begins c.requires.rest c.loop-stripe.invariant.changes) c.take_stripe-taken.ensures.changes
 
 pub take_fallen-taken-requires-clause-room : goal.take_fallen-taken-requires-clause-room
 take_fallen-taken-requires-clause-room g c = let room = c.requires.room in omega (arith, lengths_now c.loop-stripe.invariant.changes, lengths_now c.take_stripe-taken.ensures.changes)

@@ -9,6 +9,11 @@ attempt_after-requires-2-clause-may g c =
     let t : Exchanges [] [] c.args.worker.now c.attempt_after.new.worker = c.in-Err-NodeLimit.ensures.still in
     asks_still c.args.var c.args.low.now.number c.args.high.now.number c.args.worker.now c.attempt_after.new.worker c.requires.may t
 
+pub returns-in_default-attempt_after : goal.returns-in_default-attempt_after
+returns-in_default-attempt_after g c =
+    let t : Exchanges [] [] c.args.worker.now c.attempt_after.new.worker = c.in-Err-NodeLimit.ensures.still in
+    later_given c.args.var c.args.low.now.number c.args.high.now.number c.args.worker.now c.attempt_after.new.worker t c.requires.may c.attempt_after-2.new.worker _ c.in_default-attempt_after.ensures
+
 pub returns-in_default-attempt_after-2 : goal.returns-in_default-attempt_after-2
 returns-in_default-attempt_after-2 g c =
     let t : Exchanges [] [] c.args.worker.now c.attempt_after.new.worker = c.in-Err-NodeLimit.ensures.still in

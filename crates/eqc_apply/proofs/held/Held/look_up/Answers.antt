@@ -1,6 +1,7 @@
 use Rattle.std.proofs.Common.{ℕ, [], arith, refl, subst, ◌∙◌}
 use Rattle.eqc_cache.specs.Finding.{IsHit}
 use Rattle.eqc_arena.proofs.Taking.{may_clear}
+use Rattle.eqc_arena.proofs.Resting.{rest_begins}
 use Rattle.eqc_apply.proofs.Once.{has_after}
 use Rattle.eqc_apply.proofs.Asked.{came_has, came_before, came_seat}
 use Rattle.eqc_apply.proofs.Finding.{passes, hits, found_result}
@@ -8,7 +9,7 @@ use Rattle.eqc_plain.proofs.Spending.{spends_refl}
 use Rattle.eqc_apply.proofs.held.Held.look_up.Goals as goal
 
 pub lookup-hit-requires-clause-may : goal.lookup-hit-requires-clause-may
-lookup-hit-requires-clause-may c = may_clear c.args.self.now.worker.known c.recall_laws.ensures c.args.self.now.once.rest c.args.self.now.once.cells
+lookup-hit-requires-clause-may c = may_clear c.args.self.now.worker.known c.recall_laws.ensures (rest_begins c.args.self.now.once.rest) c.args.self.now.once.cells
 
 pub invariant_of-self : goal.invariant_of-self
 invariant_of-self c = record { once = has_after (passes c.args.self.now.worker c.lookup-hit.new.worker (c.lookup-hit.ensures.miss c.in_default.is)) [] [] c.args.self.now.variables c.args.self.now.counts.items (λ y. omega arith) c.args.self.now.once }

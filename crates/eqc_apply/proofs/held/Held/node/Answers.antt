@@ -1,7 +1,7 @@
-use Rattle.std.proofs.Common.{ℕ, refl, sym, subst, ◌∙◌}
+use Rattle.std.proofs.Common.{ℕ, [], refl, sym, subst, ◌∙◌, arith}
 use Rattle.eqc_guard.specs.Known.{tree_of}
 use Rattle.eqc_arena.specs.Nodes.{MayAsk, IsNodeOf}
-use Rattle.eqc_apply.proofs.Once.{changes_before, seat_of}
+use Rattle.eqc_apply.proofs.Once.{has_after, changes_before, seat_of}
 use Rattle.eqc_apply.proofs.Asked.{may_ask, two_left, came_has, came_before, came_seat, node_is, memory_left}
 use Rattle.eqc_plain.proofs.Spending.{spends_refl}
 use Rattle.eqc_apply.proofs.held.Held.node.Goals as goal
@@ -49,3 +49,6 @@ returns-in-Err-clause-names g c = record {
 
 pub returns-in-Err-clause-only : goal.returns-in-Err-clause-only
 returns-in-Err-clause-only g c = two_left c.args.variable c.args.low c.args.high c.args.self.now.variables c.args.self.now.counts.items c.args.self.now.worker c.mk-made.new.worker c.args.self.now.once c.recall_laws.ensures c.requires.low c.requires.high c.in-Err.stop c.in-Err.ensures.only c.in-Err.ensures.full
+
+pub invariant_of-self-in-Err-1 : goal.invariant_of-self-in-Err-1
+invariant_of-self-in-Err-1 g c = record { once = has_after c.in-Err.ensures.still [] [] c.args.self.now.variables c.args.self.now.counts.items (λ y. omega arith) c.args.self.now.once }

@@ -1,7 +1,7 @@
 use Rattle.std.proofs.Common.{[], ◌∷◌, refl, ◌∙◌, arith}
 use Rattle.eqc_core.specs.Words.{slots_of}
 use Rattle.eqc_guard.specs.declared.parcel.Parcel.TheVariants.{Task}
-use Rattle.eqc_apply.proofs.Once.{few_held, same_as, changes_before, seat_of}
+use Rattle.eqc_apply.proofs.Once.{few_held, has_after, has_same, same_as, changes_before, seat_of}
 use Rattle.eqc_arena.proofs.Unboxing.{came_went}
 use Rattle.eqc_apply.proofs.Handing.{come_may, come_held}
 use Rattle.eqc_apply.proofs.Receiving.{first_has, second_has, both_before, both_seat}
@@ -81,3 +81,11 @@ returns-clause-names c =
 
 pub returns-clause-held : goal.returns-clause-held
 returns-clause-held c = (c.count_in-second.ensures.settles.held c.count_in-first.result c.count_in-first.ensures.now, c.count_in-second.ensures.there.1.0)
+
+pub invariant_of-self : goal.invariant_of-self
+invariant_of-self c = record { once = has_after (c.task_out.ensures.none c.in_default.is) [] [] c.args.self.now.variables c.args.self.now.counts.items (λ y. omega arith) c.args.self.now.once }
+
+pub invariant_of-self-in_default-grow_counts : goal.invariant_of-self-in_default-grow_counts
+invariant_of-self-in_default-grow_counts c =
+    let t = came_went c.in-Some.ensures.some c.put.ensures.changes in
+    record { once = has_same [] c.args.self.now.variables c.put.new.worker c.args.self.now.counts.items c.grow_counts.new.counts.items c.grow_counts.ensures.same (has_after t [] [] c.args.self.now.variables c.args.self.now.counts.items (λ y. omega arith) c.args.self.now.once) }

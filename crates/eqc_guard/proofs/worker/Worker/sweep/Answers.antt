@@ -3,7 +3,6 @@ use native.Mathlib.Decide.{dec_le}
 use Rattle.eqc_core.specs.Words.{announced_words}
 use Rattle.eqc_guard.specs.Known.{IsKnown}
 use Rattle.eqc_guard.specs.Standing.{Standing}
-use Rattle.eqc_guard.proofs.Copying.{IsPlaced, placed}
 use Rattle.eqc_guard.proofs.Sweeping.{begins, reads_none, further, ends}
 use Rattle.eqc_guard.proofs.worker.Worker.sweep.Goals as goal
 
@@ -14,8 +13,7 @@ loop-ejected-init c =
 
 pub returns-in-Some : goal.returns-in-Some
 returns-in-Some c =
-    let one : IsPlaced c.args.self.now.known.core = subst (λ (s : Standing). IsPlaced s.known.core) c.self.view_is (placed _ _ c.self.inside.seat.me c.self.invariant.worker) in
-    let zero = reads_none c.args.self.now c.loop-ejected.self c.scan_one.new.self c.scan_one.ensures.step.0 c.loop-ejected.invariant one.0 c.requires.may c.scan_one.ensures.step.2 in
+    let zero = reads_none c.args.self.now c.loop-ejected.self c.scan_one.new.self c.scan_one.ensures.step.0 c.loop-ejected.invariant c.requires.may c.scan_one.ensures.step.2 in
     elim (dec_le (announced_words c.loop-ejected.self.known.core.sizes) (c.loop-ejected.self.known.core.position + 1)) [
       | yes end ↦ ends c.args.self.now c.loop-ejected.self c.scan_one.new.self c.scan_one.ensures.step.0 c.loop-ejected.invariant c.scan_one.ensures.step.1 c.scan_one.ensures.step.2 zero end c.in-Some.ejected.items c.in-Some.ensures.some
       | no n ↦ absurd (let q = c.in-Some.ensures.goes_on.1 (omega arith) in cc)
@@ -23,7 +21,6 @@ returns-in-Some c =
 
 pub loop-ejected-preserved : goal.loop-ejected-preserved
 loop-ejected-preserved c =
-    let one : IsPlaced c.args.self.now.known.core = subst (λ (s : Standing). IsPlaced s.known.core) c.self.view_is (placed _ _ c.self.inside.seat.me c.self.invariant.worker) in
-    let zero = reads_none c.args.self.now c.loop-ejected.self c.scan_one.new.self c.scan_one.ensures.step.0 c.loop-ejected.invariant one.0 c.requires.may c.scan_one.ensures.step.2 in
+    let zero = reads_none c.args.self.now c.loop-ejected.self c.scan_one.new.self c.scan_one.ensures.step.0 c.loop-ejected.invariant c.requires.may c.scan_one.ensures.step.2 in
     let lt : c.loop-ejected.self.known.core.position + 1 < announced_words c.loop-ejected.self.known.core.sizes = c.scan_one.ensures.goes_on.0 c.in_default.is in
     further c.args.self.now c.loop-ejected.self c.scan_one.new.self c.scan_one.ensures.step.0 c.loop-ejected.invariant c.scan_one.ensures.step.1 c.scan_one.ensures.step.2 zero lt
