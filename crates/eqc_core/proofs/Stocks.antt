@@ -40,7 +40,6 @@ no_rest l n = ap (λ (k : ℕ). l ++ repeated 0 k) (let e : n + 2 - (n + 2) ≡ 
 -- a small machine that was stocked is lawful
 pub stocked_kept : (m : Machine) (workers nodes cells : ℕ) → IsSmall workers nodes cells → state_of m ≡ stocked workers nodes cells → IsKept m
 stocked_kept m workers nodes cells small is = record {
-  one_word = ap (λ (s : State). s.sizes.announcements) is;
   lawful = subst (λ (s : State). IsLawful s) (sym is) (opening_lawful (record { workers = workers; announcements = 1; names = nodes + 2; cells = cells; variables = nodes }) nodes
       (let a = small.some_workers in let b = small.few_workers in let d = small.some_nodes in let e = small.few_nodes in let f = small.some_cells in let g = small.few_cells in
       record { some_workers = omega arith; few_workers = omega arith; some_announcements = omega arith; few_announced = omega arith; some_names = omega arith; few_names = omega arith; few_cells = omega arith; few_variables = omega arith })

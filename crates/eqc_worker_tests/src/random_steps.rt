@@ -36,15 +36,15 @@ fn load(rt: &impl Abort, driver: &mut Driver, kind: u32, cell: u32) -> Taken
 {
     match kind {
         0 => match driver.look(cell) {
-            Some(_) => Taken::One(Step::Look(cell)),
+            Some(_) => Taken::One(Step::Look(0, cell)),
             None => Taken::Nothing,
         },
         1 => match driver.announce() {
-            Some(x) => Taken::One(Step::Announce(x)),
+            Some(x) => Taken::One(Step::Announce(0, x)),
             None => Taken::Nothing,
         },
         2 => match driver.recheck() {
-            Some(_) => Taken::One(Step::Recheck),
+            Some(_) => Taken::One(Step::Recheck(0)),
             None => Taken::Nothing,
         },
         3 => match driver.up_confirmed(rt) {
@@ -52,7 +52,7 @@ fn load(rt: &impl Abort, driver: &mut Driver, kind: u32, cell: u32) -> Taken
             None => Taken::Nothing,
         },
         _ => if driver.release() {
-            Taken::One(Step::Announce(0))
+            Taken::One(Step::Announce(0, 0))
         } else {
             Taken::Nothing
         },

@@ -1,8 +1,8 @@
 //! The steps by which numbers become workers and are taken in again.
 
-use crate::multiset;
 use crate::sizes::Sizes;
 use crate::worker::Worker;
+use crate::{multiset, phase};
 use std::alloc::AllocError;
 
 impl Worker {
@@ -30,11 +30,10 @@ impl Worker {
         if self.hand.is_some() {
             return false;
         }
-        self.position == 0 && self.phase.is_quiet()
+        self.position == 0 && phase::are_quiet(&self.phases)
     }
 
     pub(crate) fn may_join(&self, sizes: Sizes, from: u32, other: &Worker) -> bool
-        requires { sizes.announcements ≡ 1 }
         ensures { IsTrue result ↔ MayJoin (active_view sizes self.now) from (view_of sizes other.now) }
     {
         if self.position != 0 || from == self.number || from == 0 {
