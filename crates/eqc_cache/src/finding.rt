@@ -73,7 +73,7 @@ fn seek(worker: &mut Worker, op: Op, first: u32, second: u32, cell: u32) -> Opti
     ensures found { IfSome result (λ r. HasResultAt op (first, second) cell r.number worker.old.known) }
     ensures missed { result ≡ None → (2 ^ 32 - 1 ≤ length worker.old.known.core.held) ⊎ HasNoneAt op (first, second) cell worker.old.known }
 {
-    let word = worker.look(cell);
+    let word = worker.look(0, cell);
     let found = result_in(word, op, first, second)?;
     if found < 2 {
         return Some(worker.constant(found == 1));

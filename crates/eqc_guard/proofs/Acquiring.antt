@@ -1,5 +1,6 @@
 -- The steps of a counted load, one after the other.
-use Rattle.std.proofs.Common.{◌≡◌, ◌≢◌, ℕ, ◌<◌, ◌≤◌, List, [], ◌∷◌, inl, inr, set, get_or, eq-eqb, ne_eqb, Some, ◌+◌, refl, sym, ap, subst, ◌∙◌, arith}
+use Rattle.std.proofs.Common.{◌≡◌, ◌≢◌, ℕ, ◌<◌, ◌≤◌, List, [], ◌∷◌, length, inl, inr, set, get_or, eq-eqb, ne_eqb, Some, ◌+◌, refl, sym, ap, subst, ◌∙◌, arith}
+use Rattle.std.proofs.lemmas.List.{get_or-set_same}
 use native.Mathlib.Decide.{ℕ_discrete, dec_le}
 use Rattle.eqc_tree.specs.Tree.{Tree, value}
 use Rattle.eqc_tree.specs.Operation.{operate}
@@ -43,9 +44,9 @@ goes_on old mid new p q a s = record {
   known = s.known.known;
 }
 
--- a worker with one announcement word has that phase
-pub phase_is : (old new : Standing) (p q : Phase) → old.known.core.phases ≡ p ∷ [] → IsAt q old new → phase_at new.known.core 0 ≡ q
-phase_is old new p q one a = ap (λ (v : View). phase_at v 0) a.core ∙ ap (λ (ps : List Phase). get_or (set ps 0 q) 0 Idle) one
+-- the first announcement word has that phase
+pub phase_is : (old new : Standing) (q : Phase) → 0 < length old.known.core.phases → IsAt q old new → phase_at new.known.core 0 ≡ q
+phase_is old new q some_word a = ap (λ (v : View). phase_at v 0) a.core ∙ get_or-set_same old.known.core.phases 0 q Idle some_word
 
 -- what may be announced was seen
 pub seen_as : (p : Phase) (x : ℕ) → LetsAnnounce p x → 2 ≤ x → (c : ℕ) × (word : ℕ) × (p ≡ Seen c word) × (x ≡ result_of word)
@@ -87,12 +88,12 @@ result_before p old mid word t at is first second op tag a =
     ∙ (ap (λ (s : Tree). operate op (value (tree_of mid.known (first_of word)) a) (value s a)) (sym (held_tree_stays p old mid (second_of word) at second))
     ∙ is (held_stays p old mid (first_of word) at first) (held_stays p old mid (second_of word) at second) op tag a)
 
-module _ (old s1 : Standing) (q : Phase) (c word x : ℕ) (one : old.known.core.phases ≡ q ∷ []) (seen : phase_at old.known.core 0 ≡ Seen c word) (says : Steps old (announced old.known.core 0) s1) where
+module _ (old s1 : Standing) (c word x : ℕ) (some_word : 0 < length old.known.core.phases) (seen : phase_at old.known.core 0 ≡ Seen c word) (says : Steps old (announced old.known.core 0) s1) where
   announces_it : IsAt (Announced c word) old s1
   announces_it = starts old s1 (Announced c word) (subst (λ (p : Phase). Steps old (with_phase old.known.core 0 (announced_phase p)) s1) seen says)
 
   pub phase_then : phase_at s1.known.core 0 ≡ Announced c word
-  phase_then = phase_is old s1 q (Announced c word) one announces_it
+  phase_then = phase_is old s1 (Announced c word) some_word announces_it
 
   module _ (s2 : Standing) (found : ℕ) (looks : Steps s1 (rechecked s1.known.core 0 found) s2) where
     second_look : (p : Phase) → rechecked_phase (Announced c word) found ≡ p → IsAt p old s2
@@ -125,7 +126,7 @@ module _ (old s1 : Standing) (q : Phase) (c word x : ℕ) (one : old.known.core.
     withdrawn s3 other says' =
         let n : found ≢ word = λ e. other (has_found e) in
         let a : IsAt (Missed (result_of word)) old s2 = second_look (Missed (result_of word)) (rw (ne_eqb found word n) refl) in
-        let p : phase_at s2.known.core 0 ≡ Missed (result_of word) = phase_is old s2 q (Missed (result_of word)) one a in
+        let p : phase_at s2.known.core 0 ≡ Missed (result_of word) = phase_is old s2 (Missed (result_of word)) some_word a in
         goes_on old s2 s3 (Missed (result_of word)) Idle a (subst (λ (r : Phase). Steps s2 (with_phase s2.known.core 0 (announced_phase r)) s3) p says')
 
 pub joins : (old mid new : Standing) (p q : Phase) → IsAt p old mid → IsAt q mid new → IsAt q old new

@@ -4,6 +4,7 @@ use Rattle.std.proofs.lemmas.List.{get_or-set_same, get_or-set_other}
 use Rattle.eqc_core.specs.declared.sizes.Sizes.{Sizes}
 use Rattle.eqc_core.specs.View.{View}
 use Rattle.eqc_core.specs.Words.{announced_words, times, word_at}
+use Rattle.eqc_core.proofs.Places.{below as word_there}
 use Rattle.eqc_guard.specs.Known.{Known, IsKnown, KeepsCopy}
 use Rattle.atomic_table.specs.Seated.{TableId}
 use Rattle.eqc_core.specs.Announcing.{announced, rechecked}
@@ -110,24 +111,20 @@ stays_set a b c n word same first then ws e =
     )
 
 -- an announcement word stands before the cells
-pub word_before : (z : Sizes) (number : ℕ) → z.announcements ≡ 1 → number < z.workers → word_at z number 0 < cells_from z
-unfolding word_at
-word_before z number one there =
-    let a : number * z.announcements ≡ number * 1 = ap {B = ℕ} (λ (n : ℕ). number * n) one in
-    let b : z.workers * z.announcements ≡ z.workers * 1 = ap {B = ℕ} (λ (n : ℕ). z.workers * n) one in
-    omega arith
+pub word_before : (z : Sizes) (number k : ℕ) → k < z.announcements → number < z.workers → word_at z number k < cells_from z
+word_before z number k lt there = let b = word_there z number k there lt in omega arith
 
 -- so what is announced leaves the cells
-pub announce_keeps : (k after : Known) (left : ℕ) → k.core.sizes.announcements ≡ 1 → k.core.number < k.core.sizes.workers → after.copy ≡ copied k.copy (word_at k.core.sizes k.core.number 0) left → KeepsCells k after
-announce_keeps k after left one there is = set_keeps k after (word_at k.core.sizes k.core.number 0) left (word_before k.core.sizes k.core.number one there) is
+pub announce_keeps : (k after : Known) (left : ℕ) → 0 < k.core.sizes.announcements → k.core.number < k.core.sizes.workers → after.copy ≡ copied k.copy (word_at k.core.sizes k.core.number 0) left → KeepsCells k after
+announce_keeps k after left some_word there is = set_keeps k after (word_at k.core.sizes k.core.number 0) left (word_before k.core.sizes k.core.number 0 some_word there) is
 
--- a worker has one announcement word, and its number is there
+-- a worker has an announcement word, and its number is there
 abbrev pub IsPlaced : View → Type 0
-IsPlaced v = (v.sizes.announcements ≡ 1) × (v.number < v.sizes.workers)
+IsPlaced v = (0 < v.sizes.announcements) × (v.number < v.sizes.workers)
 
 pub placed : {T : Type 0} (id : TableId) (z : Sizes) (me : Known × List T) → IsWorker id z me → IsPlaced me.0.core
 placed id z me w = (
-  ap {B = ℕ} (λ (s : Sizes). s.announcements) w.sizes ∙ w.one_word,
+  subst (λ (s : Sizes). 0 < s.announcements) (sym w.sizes) w.limits.some_announcements,
   subst (λ (s : Sizes). me.0.core.number < s.workers) (sym w.sizes) w.number,
 )
 

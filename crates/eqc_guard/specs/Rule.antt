@@ -72,7 +72,8 @@ pub record Held {S : Type 0} (z : Sizes) (s : State (HashMap ℕ ℕ S) Known) :
 pub record IsWorker {T : Type 0} (id : TableId) (z : Sizes) (me : Known × List T) : Type 0 where
   pub words : id.words ≡ all_words z
   pub limits : IsWithinLimits z
-  pub one_word : z.announcements ≡ 1
+  pub few_words : z.announcements ≤ 4
+  pub few_announced : announced_words z ≤ 256
   pub few_workers : z.workers ≤ 64
   pub sizes : me.0.core.sizes ≡ z
   pub active : me.0.core.active ≡ true

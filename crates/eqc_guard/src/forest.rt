@@ -1,6 +1,7 @@
 //! A new forest.
 ghost use Rattle.std.specs.Prelude.{◌≡◌, ◌+◌, ◌≤◌, ◌^◌, map, IfOk};
 ghost use Rattle.eqc_core.specs.State.{IsWithinLimits, slots_from};
+ghost use Rattle.eqc_core.specs.Words.{announced_words};
 ghost use Rattle.eqc_guard.specs.Rule.{beginner, sizes_of};
 
 use crate::origin::Origin;
@@ -18,7 +19,8 @@ use std::sync::Arc;
 // Worker 0 of a new forest.
 fn plant(alloc: Global, origin: Origin) -> Result<Worker, AllocError>
     requires limits { IsWithinLimits origin.sizes }
-    requires words { origin.sizes.announcements ≡ 1 }
+    requires words { origin.sizes.announcements ≤ 4 }
+    requires announced { announced_words origin.sizes ≤ 256 }
     requires workers { origin.sizes.workers ≤ 64 }
     requires few { origin.literals ≤ 16 }
     requires names { origin.literals + 2 ≤ origin.sizes.names }

@@ -1,0 +1,22 @@
+use Rattle.std.proofs.Common.{◌<◌, length, sym, ap, subst, refl, ◌∙◌, arith}
+use Rattle.eqc_core.specs.declared.phase.Phase.{Phase}
+use Rattle.eqc_core.specs.declared.phase.Phase.TheVariants.{Idle}
+use Rattle.eqc_core.specs.Moves.{IsQuiet}
+use Rattle.eqc_core.proofs.Lists.{get_at, at_get, at_below}
+use Rattle.eqc_guard.proofs.phases.are_silent.Goals as goal
+
+pub returns-then-not-is_quiet : goal.returns-then-not-is_quiet
+returns-then-not-is_quiet c =
+    let ps = c.args.phases.now.items in
+    let i = c.loop-k.k in
+    let here = get_at ps i Idle (let lt = c.loop-k-test.true in let l = c.len.ensures in let e = ap length c.as_slice-all.ensures.value in omega arith) in
+    ((λ t. absurd (cc)), (λ all. absurd (let q = c.if-not-is_quiet.ensures.1 (all i _ (let from = c.loop-k.auto.k in omega arith) here) in cc)))
+
+pub returns : goal.returns
+returns c =
+    let ps = c.args.phases.now.items in (
+      (λ t k p from at.
+          let lt : k < c.loop-k.k = (let b = at_below ps k p at in let past = c.loop-k-test.false in let l = c.len.ensures in let e = ap length c.as_slice-all.ensures.value in omega arith) in
+          subst (λ (q : Phase). IsQuiet q) (at_get ps k p Idle at) (c.loop-k.invariant k from lt)),
+      (λ all. refl),
+    )

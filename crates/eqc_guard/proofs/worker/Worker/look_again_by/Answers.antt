@@ -1,0 +1,42 @@
+use Rattle.std.proofs.Common.{◌≡◌, ◌+◌, ◌<◌, length, ap, sym, subst, arith}
+use Rattle.eqc_core.specs.declared.sizes.Sizes.{Sizes}
+use Rattle.eqc_core.specs.View.{phase_at}
+use Rattle.eqc_core.specs.Announcing.{MayRecheck, announced_cell}
+use Rattle.eqc_guard.specs.Rule.{cells_from}
+use Rattle.eqc_guard.specs.Standing.{Standing}
+use Rattle.eqc_guard.specs.Telling.{Rechecks}
+use Rattle.eqc_guard.proofs.Moves.{again_allows}
+use Rattle.eqc_guard.proofs.worker.Worker.look_again_by.Goals as goal
+
+pub load-found-requires : goal.load-found-requires
+load-found-requires g c =
+    let is = c.self.invariant in
+    let me = c.self.inside.seat.me in
+    let v = sym c.self.view_is in
+    let at : c.cell_word-word.result ≡ cells_from me.0.core.sizes + c.args.cell = subst (λ (s : Standing). c.cell_word-word.result ≡ cells_from s.known.core.sizes + c.args.cell) v c.cell_word-word.ensures in
+    let may : MayRecheck me.0.core g.row.K = subst (λ (s : Standing). MayRecheck s.known.core g.row.K) v c.requires.may in
+    let cell : c.args.cell ≡ announced_cell (phase_at me.0.core g.row.K) = subst (λ (s : Standing). c.args.cell ≡ announced_cell (phase_at s.known.core g.row.K)) v c.requires.cell in
+    let there : c.args.cell < me.0.core.sizes.cells = subst (λ (s : Standing). c.args.cell < s.known.core.sizes.cells) v c.requires.there in (
+      rw c.deref.ensures is.one_table,
+      rw (c.deref.ensures, is.worker.words) (let e = ap cells_from is.worker.sizes in let f = ap (λ (z : Sizes). z.cells) is.worker.sizes in omega arith),
+      again_allows c.deref.result.now.shared.key.sizes c.deref.result.now.shared.table_id.slots c.self.inside.seat.id c.cell_word-word.result me is.worker.active g.row.K c.args.cell at cell there may,
+    )
+
+pub returns-clause-tells : goal.returns-clause-tells
+returns-clause-tells g c = subst (λ (s : Standing). Rechecks s.known g.row.K c.load-found.result c.load-found.new.seat.me.0) c.self.view_is c.load-found.ensures.2.3
+
+pub phase_of-phase-requires : goal.phase_of-phase-requires
+phase_of-phase-requires g c =
+    let is = c.self.invariant in
+    let mine = subst (λ (s : Standing). g.row.K < s.known.core.sizes.announcements) (sym c.self.view_is) c.requires.may.1 in
+    let each = is.worker.known.each in
+    let long = ap length is.phases_are in
+    omega arith
+
+pub set_phase-requires : goal.set_phase-requires
+set_phase-requires g c =
+    let is = c.self.invariant in
+    let mine = subst (λ (s : Standing). g.row.K < s.known.core.sizes.announcements) (sym c.self.view_is) c.requires.may.1 in
+    let each = is.worker.known.each in
+    let long = ap length is.phases_are in
+    omega arith
