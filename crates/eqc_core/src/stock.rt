@@ -14,7 +14,7 @@ use std::alloc::{AllocError, Global};
 const STRIPES: u32 = 16;
 
 // How many announcement words each worker has.
-const ANNOUNCEMENTS: u32 = 1;
+const ANNOUNCEMENTS: u32 = 4;
 
 // How many boxes each worker has.
 const BOXES: u32 = 16;
@@ -122,7 +122,7 @@ pub(crate) fn stock(
             cells,
             variables: nodes,
         },
-        announced: silence(alloc, workers)?,
+        announced: silence(alloc, workers * ANNOUNCEMENTS)?,
         counts,
         nodes: words,
         cells: repeat(alloc, 0, cells)?,

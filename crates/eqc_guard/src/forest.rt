@@ -42,14 +42,14 @@ fn plant(alloc: Global, origin: Origin) -> Result<Worker, AllocError>
     Ok(Worker::seated(alloc, table, seat, origin.sizes, 0, held, 1))
 }
 
-// The sizes of a forest, in which each worker has one announcement word.
+// The sizes of a forest, in which each worker has four announcement words.
 fn sizes_for(vars: u32, nodes: u32, cells: u32, workers: u32) -> Sizes
     requires { nodes ≤ 1048574 }
     ensures { result ≡ sizes_of vars nodes cells workers }
 {
     Sizes {
         workers,
-        announcements: 1,
+        announcements: 4,
         names: nodes + 2,
         cells,
         variables: vars,

@@ -105,7 +105,7 @@ quiet_first [] e = tt
 quiet_first (o ∷ ps) e = silent_quiet o (omega (arith, sum_by-cons announces o ps))
 
 pub may_look : (v : ℕ) (refs : List Ref) (s : Standing) → IsMaking v refs s → MayLook s.known.core 0 0
-may_look v refs s m = (m.rests.place, omega (arith, m.one_word), m.cells, quiet_first s.known.core.phases m.rests.silent)
+may_look v refs s m = (m.rests.place, omega (arith, m.four_words), m.cells, quiet_first s.known.core.phases m.rests.silent)
 
 pub at_rest : (v : View) → Rests v → IsAtRest v
 at_rest v r = record { ready = r.place; quiet = are_quiet v.phases r.silent; no_draft = r.no_draft; no_hand = r.no_hand }
@@ -123,7 +123,7 @@ rests_then {gone} {came} {old} {new} r t = record {
 pub makes_still : (v : ℕ) (refs : List Ref) (old new : Standing) → IsMaking v refs old → Exchanges [] [] old new → IsMaking v refs new
 makes_still v refs old new m t = record {
   rests = rests_then m.rests t;
-  one_word = ap (λ (u : View). u.sizes.announcements) t.core ∙ m.one_word;
+  four_words = ap (λ (u : View). u.sizes.announcements) t.core ∙ m.four_words;
   cells = subst (λ (u : View). 0 < u.sizes.cells) (sym t.core) m.cells;
   few = subst (λ (u : View). v ≤ u.sizes.variables) (sym t.core) m.few;
   covered = λ y two. omega (arith, m.covered y two, names_now t y);
@@ -133,7 +133,7 @@ makes_still v refs old new m t = record {
 pub makes_more : (v : ℕ) (r : Ref) (refs more : List Ref) (old new : Standing) → IsMaking v refs old → Exchanges [] (slots_of (r.number ∷ [])) old new → more ≡ refs ++ r ∷ [] → IsMaking v more new
 makes_more v r refs more old new m t is = record {
   rests = rests_then m.rests t;
-  one_word = ap (λ (u : View). u.sizes.announcements) t.core ∙ m.one_word;
+  four_words = ap (λ (u : View). u.sizes.announcements) t.core ∙ m.four_words;
   cells = subst (λ (u : View). 0 < u.sizes.cells) (sym t.core) m.cells;
   few = subst (λ (u : View). v ≤ u.sizes.variables) (sym t.core) m.few;
   covered = λ y two.
@@ -146,7 +146,7 @@ pub makes_fewer : (v i : ℕ) (r : Ref) (refs left : List Ref) (old new : Standi
 unfolding one
 makes_fewer v i r refs left old new m t lt e is = record {
   rests = rests_then m.rests t;
-  one_word = ap (λ (u : View). u.sizes.announcements) t.core ∙ m.one_word;
+  four_words = ap (λ (u : View). u.sizes.announcements) t.core ∙ m.four_words;
   cells = subst (λ (u : View). 0 < u.sizes.cells) (sym t.core) m.cells;
   few = subst (λ (u : View). v ≤ u.sizes.variables) (sym t.core) m.few;
   covered = λ y two.
@@ -171,7 +171,7 @@ module _ (v : ℕ) (refs others : List Ref) (old other new : Standing) (m : IsMa
   with_covered : (all : List Ref) → AreCovered all new.known.core.held → IsMaking v all new
   with_covered all covered = record {
     rests = rests_both;
-    one_word = ap (λ (u : View). u.sizes.announcements) t.core ∙ m.one_word;
+    four_words = ap (λ (u : View). u.sizes.announcements) t.core ∙ m.four_words;
     cells = subst (λ (u : View). 0 < u.sizes.cells) (sym t.core) m.cells;
     few = subst (λ (u : View). v ≤ u.sizes.variables) (sym t.core) m.few;
     covered = covered;
@@ -200,7 +200,7 @@ makes_passed v refs old new m p = record {
     no_draft = ap (λ (u : View). u.draft) p.stands.core ∙ m.rests.no_draft;
     no_hand = ap (λ (u : View). u.hand) p.stands.core ∙ m.rests.no_hand;
   };
-  one_word = ap (λ (u : View). u.sizes.announcements) p.stands.core ∙ m.one_word;
+  four_words = ap (λ (u : View). u.sizes.announcements) p.stands.core ∙ m.four_words;
   cells = subst (λ (u : View). 0 < u.sizes.cells) (sym p.stands.core) m.cells;
   few = subst (λ (u : View). v ≤ u.sizes.variables) (sym p.stands.core) m.few;
   covered = subst (λ (u : View). AreCovered refs u.held) (sym p.stands.core) m.covered;
@@ -214,7 +214,7 @@ makes_hit v f g op r refs more old new m h is = record {
     no_draft = ap (λ (u : View). u.draft) h.core ∙ m.rests.no_draft;
     no_hand = ap (λ (u : View). u.hand) h.core ∙ m.rests.no_hand;
   };
-  one_word = ap (λ (u : View). u.sizes.announcements) h.core ∙ m.one_word;
+  four_words = ap (λ (u : View). u.sizes.announcements) h.core ∙ m.four_words;
   cells = subst (λ (u : View). 0 < u.sizes.cells) (sym h.core) m.cells;
   few = subst (λ (u : View). v ≤ u.sizes.variables) (sym h.core) m.few;
   covered = subst (λ (u : View). AreCovered more u.held) (sym h.core) (λ y two.
@@ -233,7 +233,7 @@ makes_taken v cell word r refs more old mid new m looks t is =
         no_draft = ap (λ (u : View). u.draft) t.core ∙ n.rests.no_draft;
         no_hand = ap (λ (u : View). u.hand) t.core ∙ n.rests.no_hand;
       };
-      one_word = ap (λ (u : View). u.sizes.announcements) t.core ∙ n.one_word;
+      four_words = ap (λ (u : View). u.sizes.announcements) t.core ∙ n.four_words;
       cells = subst (λ (u : View). 0 < u.sizes.cells) (sym t.core) n.cells;
       few = subst (λ (u : View). v ≤ u.sizes.variables) (sym t.core) n.few;
       covered = subst (λ (u : View). AreCovered more u.held) (sym t.core) (λ y two.

@@ -491,7 +491,7 @@ impl Driver {
     pub fn rest(&mut self, rt: &impl Abort)
         ensures { self.new.worker.forest ≡ self.old.worker.forest }
     {
-        for _ in 0..64 {
+        for _ in 0..256 {
             if self.position != 0 {
                 self.scan_one(rt);
             }

@@ -7,7 +7,7 @@ use Rattle.eqc_core.proofs.stock.stock.Goals as goal
 pub returns : goal.returns
 returns c =
     let n = c.args.nodes in
-    let z : Sizes = record { workers = c.args.workers; announcements = 1; names = n + 2; cells = c.args.cells; variables = n } in
+    let z : Sizes = record { workers = c.args.workers; announcements = 4; names = n + 2; cells = c.args.cells; variables = n } in
     let counts = c.in_ok-extend_from_slice.ensures.items ∙ (λ i. c.in_ok-counts.ensures i ++ (c.deref.ensures.value ∙ c.in_ok-counted.ensures) i) in
     let nodes = c.in_ok-extend_from_slice-2.ensures.items ∙ (λ i. c.in_ok-words.ensures i ++ (c.deref-2.ensures.value ∙ c.in_ok-literals.ensures) i) in
     let all = c.in_ok-push.ensures.items ∙ ap (λ l. l ++ c.in_ok-first.first ∷ []) c.new-all.ensures.items in

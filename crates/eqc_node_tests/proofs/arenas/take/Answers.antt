@@ -17,7 +17,7 @@ taken-reference-requires-clause-may g c =
     let word = c.look-word.result in
     let seen = starts s.worker c.look-word.new.self (Seen 0 word) c.look-word.ensures.step in
     let is : c.args.x ≡ result_of word = sym c.if-found-x.false ∙ (λ i. (c.unpack_cell-found.ensures.fields i).3) in
-    may_announce s.worker c.look-word.new.self 0 word c.args.x seen s.making.rests.place (omega (arith, s.making.one_word)) c.if-x-lt2.false is
+    may_announce s.worker c.look-word.new.self 0 word c.args.x seen s.making.rests.place (omega (arith, s.making.four_words)) c.if-x-lt2.false is
 
 pub invariant_of-maker : goal.invariant_of-maker
 invariant_of-maker g c =
