@@ -1,15 +1,15 @@
 -- Copies of literals, over positions.
-use Rattle.std.proofs.Common.{◌≡◌, ℕ, ◌+◌, ◌*◌, ◌/◌, ◌%◌, ◌<◌, ◌≤◌, ◌==◌, Bool, true, false, nat_eq, ◌&&◌, List, [], ◌∷◌, ◌++◌, length, get_or, refl, sym, ◌∙◌, ap, ap₂, subst, inl, inr, arith, Result, Ok, Err, IfOk, OnOk}
+use Rattle.std.proofs.Common.{◌≡◌, ℕ, ◌+◌, ◌*◌, ◌/◌, ◌%◌, ◌<◌, ◌≤◌, ◌==◌, Bool, false, nat_eq, ◌&&◌, List, [], ◌∷◌, ◌++◌, length, get_or, refl, sym, ◌∙◌, ap, ap₂, subst, inl, inr, arith}
 use Rattle.std.specs.List.{position_or_len}
 use Rattle.std.proofs.lemmas.Bool.{cases_eq, cases_lt, eq-eqb, ne_eqb}
 use Rattle.std.proofs.lemmas.List.{length-append, get_or_append_left, get_or_at, get_or_past}
 use Rattle.eqc_tree.specs.Assigned.{assigned}
 use Rattle.eqc_graph.specs.declared.node.Node.{Node}
 use Rattle.eqc_graph.specs.declared.node.Node.TheVariants.{And, Xor}
-use Rattle.eqc_graph.specs.Graph.{literal_value, node_value, differ, node_at, Extends, IsGraph, IsWithin}
+use Rattle.eqc_graph.specs.Graph.{literal_value, node_value, differ, Extends, IsGraph, IsWithin}
 use Rattle.eqc_graph.proofs.GraphLemmas.{value_of_zero}
 use Rattle.eqc_graph.proofs.LiteralLemmas.{value_behind}
-use Rattle.eqc_witness.specs.Cones.{AreClosed, AreCopies, AreMarked, HasInputs, IsCopy, is_marked, values_at}
+use Rattle.eqc_witness.specs.Cones.{AreCopies, HasInputs, IsCopy, values_at}
 
 -- ---- graphs that go on
 
@@ -92,49 +92,40 @@ copy_gate f graph old new variables k l x y p q first second within is by = reco
 }
 
 -- as a gate is pushed
-pub copy_and : {E : Type 0} (graph old new : List Node) (variables : List ℕ) (k x y p q : ℕ) (r : Result ℕ E) → IsCopy graph old variables x p → IsCopy graph old variables y q → OnOk r (new ≡ old ++ And p q ∷ []) → IfOk r (λ l. l ≡ 2 * length old)
-    → IfOk r (λ l. (a : ℕ → Bool) → literal_value new a l ≡ node_value a (literal_value old a) (And p q)) → ((a : ℕ → Bool) → literal_value graph a k ≡ node_value a (literal_value graph a) (And x y)) → IfOk r (IsCopy graph new variables k)
-copy_and graph old new variables k x y p q (Err e) first second pushed is value by = tt
-copy_and graph old new variables k x y p q (Ok l) first second pushed is value by =
+pub copy_and : (graph old new : List Node) (variables : List ℕ) (k l x y p q : ℕ) → IsCopy graph old variables x p → IsCopy graph old variables y q → new ≡ old ++ And p q ∷ [] → l ≡ 2 * length old
+    → ((a : ℕ → Bool) → literal_value new a l ≡ node_value a (literal_value old a) (And p q)) → ((a : ℕ → Bool) → literal_value graph a k ≡ node_value a (literal_value graph a) (And x y)) → IsCopy graph new variables k l
+copy_and graph old new variables k l x y p q first second pushed is value by =
     copy_gate ◌&&◌ graph old new variables k l x y p q first second (omega (arith, is, ap length pushed, length-append old (And p q ∷ []))) value by
 
-pub copy_xor : {E : Type 0} (graph old new : List Node) (variables : List ℕ) (k x y p q : ℕ) (r : Result ℕ E) → IsCopy graph old variables x p → IsCopy graph old variables y q → OnOk r (new ≡ old ++ Xor p q ∷ []) → IfOk r (λ l. l ≡ 2 * length old)
-    → IfOk r (λ l. (a : ℕ → Bool) → literal_value new a l ≡ node_value a (literal_value old a) (Xor p q)) → ((a : ℕ → Bool) → literal_value graph a k ≡ node_value a (literal_value graph a) (Xor x y)) → IfOk r (IsCopy graph new variables k)
-copy_xor graph old new variables k x y p q (Err e) first second pushed is value by = tt
-copy_xor graph old new variables k x y p q (Ok l) first second pushed is value by =
+pub copy_xor : (graph old new : List Node) (variables : List ℕ) (k l x y p q : ℕ) → IsCopy graph old variables x p → IsCopy graph old variables y q → new ≡ old ++ Xor p q ∷ [] → l ≡ 2 * length old
+    → ((a : ℕ → Bool) → literal_value new a l ≡ node_value a (literal_value old a) (Xor p q)) → ((a : ℕ → Bool) → literal_value graph a k ≡ node_value a (literal_value graph a) (Xor x y)) → IsCopy graph new variables k l
+copy_xor graph old new variables k l x y p q first second pushed is value by =
     copy_gate differ graph old new variables k l x y p q first second (omega (arith, is, ap length pushed, length-append old (Xor p q ∷ []))) value by
 
 -- ---- the table
 
--- the copy of a literal of a marked node, from the table
-pub copy_in : (graph copy : List Node) (variables : List ℕ) (marks : List Bool) (table : List ℕ) (x y : ℕ) → AreCopies graph copy variables marks table → x / 2 < length table → is_marked marks (x / 2) ≡ true
-    → y / 2 ≡ get_or table (x / 2) 0 / 2 → ((nodes : List Node) (a : ℕ → Bool) → literal_value nodes a y ≡ differ (x % 2 == 1) (literal_value nodes a (get_or table (x / 2) 0))) → IsCopy graph copy variables x y
-copy_in graph copy variables marks table x y copies inside marked node is =
-    copy_literal graph copy variables x y (get_or table (x / 2) 0) (copies.each (x / 2) inside marked) node is
+-- the copy of a literal, from that of its node in the row
+pub copy_in : (old new : List Node) (variables row table : List ℕ) (x y place : ℕ) → AreCopies old new variables row table → place < length table → get_or row place 0 ≡ x / 2
+    → y / 2 ≡ get_or table place 0 / 2 → ((nodes : List Node) (a : ℕ → Bool) → literal_value nodes a y ≡ differ (x % 2 == 1) (literal_value nodes a (get_or table place 0))) → IsCopy old new variables x y
+copy_in old new variables row table x y place copies inside here node is =
+    copy_literal old new variables x y (get_or table place 0) (subst (λ k. IsCopy old new variables (2 * k) (get_or table place 0)) here (copies.each place inside)) node is
 
-pub copies_extended : (graph old new : List Node) (variables : List ℕ) (marks : List Bool) (table : List ℕ) → Extends old new → AreCopies graph old variables marks table → AreCopies graph new variables marks table
-copies_extended graph old new variables marks table extends copies = record {
-  each = λ k inside is. copy_extended graph old new variables (2 * k) (get_or table k 0) extends (copies.each k inside is);
+pub copies_extended : (graph old new : List Node) (variables row table : List ℕ) → Extends old new → AreCopies graph old variables row table → AreCopies graph new variables row table
+copies_extended graph old new variables row table extends copies = record {
+  each = λ k inside. copy_extended graph old new variables (2 * get_or row k 0) (get_or table k 0) extends (copies.each k inside);
 }
 
-pub copies_none : (graph copy : List Node) (variables : List ℕ) (marks : List Bool) → AreCopies graph copy variables marks []
-copies_none graph copy variables marks = record { each = λ k inside. absurd (omega arith) }
+pub copies_none : (graph copy : List Node) (variables row : List ℕ) → AreCopies graph copy variables row []
+copies_none graph copy variables row = record { each = λ k inside. absurd (omega arith) }
 
--- one node more, that is copied where it is marked
-pub copies_more : (graph copy : List Node) (variables : List ℕ) (marks : List Bool) (table : List ℕ) (k y : ℕ) → length table ≡ k → AreCopies graph copy variables marks table → (is_marked marks k ≡ true → IsCopy graph copy variables (2 * k) y) → AreCopies graph copy variables marks (table ++ y ∷ [])
-copies_more graph copy variables marks table k y size copies here = record {
-  each = λ j inside is. elim (cases_lt j k) [
-    | inl lower ↦ subst (λ z. IsCopy graph copy variables (2 * j) z) (sym (get_or_append_left table (y ∷ []) 0 j (omega (arith, lower, size)))) (copies.each j (omega (arith, lower, size)) is)
+-- the node of one place more
+pub copies_more : (graph copy : List Node) (variables row table : List ℕ) (k node y : ℕ) → length table ≡ k → get_or row k 0 ≡ node → AreCopies graph copy variables row table → IsCopy graph copy variables (2 * node) y → AreCopies graph copy variables row (table ++ y ∷ [])
+copies_more graph copy variables row table k node y size here copies last = record {
+  each = λ j inside. elim (cases_lt j k) [
+    | inl lower ↦ subst (λ z. IsCopy graph copy variables (2 * get_or row j 0) z) (sym (get_or_append_left table (y ∷ []) 0 j (omega (arith, lower, size)))) (copies.each j (omega (arith, lower, size)))
     | inr above ↦
         let same : k ≡ j = omega (arith, above, inside, size, length-append table (y ∷ [])) in
-        subst (λ z. IsCopy graph copy variables (2 * j) z) (sym (get_or_at table y [] 0 j (omega (arith, size, same))))
-        (subst (λ i. is_marked marks i ≡ true → IsCopy graph copy variables (2 * i) y) same here is)
+        subst (λ z. IsCopy graph copy variables (2 * get_or row j 0) z) (sym (get_or_at table y [] 0 j (omega (arith, size, same))))
+        (subst (λ n. IsCopy graph copy variables (2 * n) y) (sym here ∙ ap (λ i. get_or row i 0) same) last)
   ];
 }
-
--- the operands of a marked node are copied
-pub operands_and : (marks : List Bool) (graph : List Node) (k x y : ℕ) → AreClosed graph marks → k < length graph → is_marked marks k ≡ true → And x y ≡ node_at graph k → (is_marked marks (x / 2) ≡ true) × (is_marked marks (y / 2) ≡ true)
-operands_and marks graph k x y closed inside is node = subst (AreMarked marks) (sym node) (closed.operands k inside is)
-
-pub operands_xor : (marks : List Bool) (graph : List Node) (k x y : ℕ) → AreClosed graph marks → k < length graph → is_marked marks k ≡ true → Xor x y ≡ node_at graph k → (is_marked marks (x / 2) ≡ true) × (is_marked marks (y / 2) ≡ true)
-operands_xor marks graph k x y closed inside is node = subst (AreMarked marks) (sym node) (closed.operands k inside is)

@@ -1,5 +1,4 @@
 pub mod BeginningLemmas
-pub mod BelowLemmas
 pub mod CopyLemmas
 pub mod ConeLemmas
 pub mod ValueLemmas

@@ -1,9 +1,8 @@
 -- Graphs whose variables are the positions of a list: copies of what lies below a literal.
-use Rattle.std.specs.Prelude.{◌≡◌, ℕ, ◌+◌, ◌*◌, ◌/◌, ◌<◌, Bool, true, false, not, List, ◌++◌, length, ⊤, slice_index_or, slice_set}
+use Rattle.std.specs.Prelude.{◌≡◌, ℕ, ◌+◌, ◌*◌, ◌/◌, ◌<◌, Bool, false, not, List, ◌++◌, length, slice_index_or}
 use Rattle.std.specs.List.{list_any}
 use Rattle.eqc_graph.specs.declared.node.Node.{Node}
-use Rattle.eqc_graph.specs.declared.node.Node.TheVariants.{Constant, Input, And, Xor}
-use Rattle.eqc_graph.specs.Graph.{literal_value, IsWithin, node_at, value_among}
+use Rattle.eqc_graph.specs.Graph.{literal_value, IsWithin, value_among}
 use Rattle.eqc_witness.specs.Witnesses.{is_true_under}
 
 -- the values of positions, false behind the last
@@ -29,31 +28,9 @@ pub record IsCone (nodes : List Node) (root n : ℕ) : Type 0 where
   pub inputs : HasInputs nodes n
   pub within : IsWithin nodes root
 
-abbrev pub is_marked : List Bool → ℕ → Bool
-is_marked marks k = slice_index_or marks k false
-
--- marks, and besides them those of a node's operands
-abbrev pub with_operands : List Bool → Node → List Bool
-with_operands marks Constant = marks
-with_operands marks (Input v) = marks
-with_operands marks (And x y) = slice_set (slice_set marks (x / 2) true) (y / 2) true
-with_operands marks (Xor x y) = slice_set (slice_set marks (x / 2) true) (y / 2) true
-
--- the operands of a node are marked
-abbrev pub AreMarked : List Bool → Node → Type 0
-AreMarked marks Constant = ⊤
-AreMarked marks (Input v) = ⊤
-AreMarked marks (And x y) = (is_marked marks (x / 2) ≡ true) × (is_marked marks (y / 2) ≡ true)
-AreMarked marks (Xor x y) = (is_marked marks (x / 2) ≡ true) × (is_marked marks (y / 2) ≡ true)
-
--- there is a mark for each node, and the operands of each node that is marked are marked
-pub record AreClosed (nodes : List Node) (marks : List Bool) : Type 0 where
-  pub size : length marks ≡ length nodes
-  pub operands : (k : ℕ) → k < length nodes → is_marked marks k ≡ true → AreMarked marks (node_at nodes k)
-
--- the table has a copy of the literal of each of the first nodes that is marked
-pub record AreCopies (old new : List Node) (variables : List ℕ) (marks : List Bool) (table : List ℕ) : Type 0 where
-  pub each : (k : ℕ) → k < length table → is_marked marks k ≡ true → IsCopy old new variables (2 * k) (slice_index_or table k 0)
+-- the table has copies of the literals of the first nodes of a row
+pub record AreCopies (old new : List Node) (variables row table : List ℕ) : Type 0 where
+  pub each : (k : ℕ) → k < length table → IsCopy old new variables (2 * slice_index_or row k 0) (slice_index_or table k 0)
 
 -- under values that begin with these, each of these literals is true where the root is
 pub record AreAssumptions (nodes : List Node) (root : ℕ) (first : List Bool) (literals : List ℕ) : Type 0 where

@@ -1,9 +1,8 @@
 //! The graph below a literal, over positions.
-ghost use Rattle.std.specs.Prelude.{◌≡◌, ◌≤◌, length, IfOk};
-ghost use Rattle.eqc_graph.specs.Graph.{IsWithin};
+ghost use Rattle.std.specs.Prelude.{◌≡◌, ◌≤◌, length, IfOk, IfSome};
 ghost use Rattle.eqc_witness.specs.Cones.{AreAssumptions, IsCone, IsCopy};
 
-use crate::below::below;
+use crate::below::Below;
 use crate::copying::{copies, copy_of, inputs_alone};
 use eqc_graph::{Graph, negated_if};
 use std::alloc::{AllocError, Global};
@@ -19,26 +18,28 @@ pub(crate) struct Cone {
 }
 
 impl Cone {
-    /// What lies below a literal of a graph, over the positions of these variables. It takes time in proportion to the
-    /// graph, and to its inputs times the positions. Fails where memory is refused, or where there are 2^30 nodes.
+    /// What lies below a literal of a graph, over the positions of these variables: always some. It takes time in proportion to
+    /// that, and to its inputs times the positions. Fails where memory is refused, or where there are 2^30 nodes.
     pub(crate) fn of(
         alloc: Global,
         graph: &Graph,
         literal: u32,
         variables: &[u16],
-    ) -> Result<Cone, AllocError>
-        requires { IsWithin graph.now literal }
-        ensures positions { IfOk result (λ cone. cone.positions ≡ length variables.now) }
-        ensures copy { IfOk result (λ cone. IsCopy graph.now cone.graph variables.now literal cone.root) }
+    ) -> Result<Option<Cone>, AllocError>
+        ensures positions { IfOk result (λ found. IfSome found (λ cone. cone.positions ≡ length variables.now)) }
+        ensures copy { IfOk result (λ found. IfSome found (λ cone. IsCopy graph.now cone.graph variables.now literal cone.root)) }
     {
-        let marks = below(alloc, graph, literal)?;
+        let below = Below::of(alloc, graph, literal)?;
         let mut copy = inputs_alone(alloc, variables.len())?;
-        let table = copies(alloc, &mut copy, graph, &marks, variables)?;
-        Ok(Cone {
+        let table = copies(alloc, &mut copy, graph, &below, variables)?;
+        let Some(root) = copy_of(&below, &table, literal) else {
+            return Ok(None);
+        };
+        Ok(Some(Cone {
             graph: copy,
-            root: copy_of(&table, literal),
+            root,
             positions: variables.len(),
-        })
+        }))
     }
 
     /// Assumptions by which the root is true, and the first positions have these values. Fails where memory is refused.

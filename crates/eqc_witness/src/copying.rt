@@ -1,9 +1,10 @@
 //! The copy of a graph's nodes, over positions.
-ghost use Rattle.std.specs.Prelude.{◌≡◌, ℕ, ◌/◌, ◌*◌, ◌%◌, ◌<◌, ◌==◌, Bool, true, List, length, nat_eq, IfOk, slice_index_or};
+ghost use Rattle.std.specs.Prelude.{◌≡◌, ℕ, ◌*◌, ◌<◌, List, length, nat_eq, IfOk, IfSome};
 ghost use Rattle.std.specs.List.{position_or_len};
-ghost use Rattle.eqc_graph.specs.Graph.{differ, literal_value, node_at, Extends};
-ghost use Rattle.eqc_witness.specs.Cones.{AreClosed, AreCopies, HasInputs, IsCopy, is_marked};
+ghost use Rattle.eqc_graph.specs.Graph.{Extends};
+ghost use Rattle.eqc_witness.specs.Cones.{AreCopies, HasInputs, IsCopy};
 
+use crate::below::Below;
 use eqc_graph::{Graph, Node, is_negated, negated_if, node_of};
 use std::alloc::{AllocError, Global};
 
@@ -32,74 +33,91 @@ pub(crate) fn inputs_alone(alloc: Global, positions: usize) -> Result<Graph, All
     Ok(graph)
 }
 
-/// The copy of a literal, by the copies of nodes.
-pub(crate) fn copy_of(table: &[u32], literal: u32) -> u32
-    ensures node { result / 2 ≡ slice_index_or table.now (literal / 2) 0 / 2 }
-    ensures value { (nodes : List Node) (a : ℕ → Bool) → literal_value nodes a result ≡ differ (literal % 2 == 1) (literal_value nodes a (slice_index_or table.now (literal / 2) 0)) }
+/// The copy of a literal, by the copies of the first nodes, if its node is one of these.
+pub(crate) fn copy_of(below: &Below, copies: &[u32], literal: u32) -> Option<u32>
+    ensures { (old new : List Node) (variables : List ℕ) → AreCopies old new variables below.now.nodes.items copies.now → IfSome result (IsCopy old new variables literal) }
 {
-    let copy = table.get(node_of(literal) as usize).copied().unwrap_or(0);
-    negated_if(copy, is_negated(literal))
+    let place = below.place_of(node_of(literal))?;
+    if place >= copies.len() {
+        return None;
+    }
+    Some(negated_if(copies[place], is_negated(literal)))
 }
 
-/// Copies a node, where those that it is made of are copied. A variable that has no position is false. Fails where
-/// memory is refused, or where there are 2^30 nodes.
+#[tactic(auto, using(crate::proofs::CopyLemmas::copy_and, crate::proofs::CopyLemmas::copy_xor))]
+/// Copies a node, where those that it is made of are copied: none where one of them isn't. A variable that has no position is
+/// false. Fails where memory is refused, or where there are 2^30 nodes.
 fn copied(
     copy: &mut Graph,
     graph: &Graph,
     node: u32,
-    table: &[u32],
-    marks: &[bool],
+    below: &Below,
+    copies: &[u32],
     variables: &[u16],
-) -> Result<u32, AllocError>
-    requires next { length table.now ≡ node }
+) -> Result<Option<u32>, AllocError>
     requires within { node < length graph.now }
     requires inputs { HasInputs copy.old (length variables.now) }
-    requires closed { AreClosed graph.now marks.now }
-    requires marked { is_marked marks.now node ≡ true }
-    requires copies { AreCopies graph.now copy.old variables.now marks.now table.now }
+    requires copies { AreCopies graph.now copy.old variables.now below.now.nodes.items copies.now }
     ensures extends { Extends copy.old copy.new }
-    ensures copy { IfOk result (IsCopy graph.now copy.new variables.now (2 * node)) }
+    ensures copy { IfOk result (λ found. IfSome found (IsCopy graph.now copy.new variables.now (2 * node))) }
 {
     let _ = copy.len();
     match graph.node(node) {
-        Node::Constant => Ok(0),
+        Node::Constant => Ok(Some(0)),
         Node::Input(variable) => {
             let position = position_of(variables, variable);
             if position < variables.len() {
-                Ok(2 * position as u32 + 2)
+                Ok(Some(2 * position as u32 + 2))
             } else {
-                Ok(0)
+                Ok(Some(0))
             }
         }
-        Node::And(x, y) => copy.push(Node::And(copy_of(table, x), copy_of(table, y))),
-        Node::Xor(x, y) => copy.push(Node::Xor(copy_of(table, x), copy_of(table, y))),
+        Node::And(x, y) => {
+            let Some(first) = copy_of(below, copies, x) else {
+                return Ok(None);
+            };
+            let Some(second) = copy_of(below, copies, y) else {
+                return Ok(None);
+            };
+            let literal = copy.push(Node::And(first, second))?;
+            Ok(Some(literal))
+        }
+        Node::Xor(x, y) => {
+            let Some(first) = copy_of(below, copies, x) else {
+                return Ok(None);
+            };
+            let Some(second) = copy_of(below, copies, y) else {
+                return Ok(None);
+            };
+            let literal = copy.push(Node::Xor(first, second))?;
+            Ok(Some(literal))
+        }
     }
 }
 
-/// Copies the marked nodes of a graph, in their order, and gives the copy of each. Fails where memory is refused, or where
-/// there are 2^30 nodes.
+/// Copies nodes of a graph in their order, and gives the copy of each: of all, since each comes behind those that it is made of.
+/// Fails where memory is refused, or where there are 2^30 nodes.
 pub(crate) fn copies(
     alloc: Global,
     copy: &mut Graph,
     graph: &Graph,
-    marks: &[bool],
+    below: &Below,
     variables: &[u16],
 ) -> Result<Vec<u32>, AllocError>
-    requires inputs { HasInputs copy.old (length variables.now) }
-    requires closed { AreClosed graph.now marks.now }
+    requires { HasInputs copy.old (length variables.now) }
     ensures inputs { HasInputs copy.new (length variables.now) }
-    ensures size { IfOk result (λ table. length table.items ≡ length graph.now) }
-    ensures copies { IfOk result (λ table. AreCopies graph.now copy.new variables.now marks.now table.items) }
+    ensures copies { IfOk result (λ table. AreCopies graph.now copy.new variables.now below.now.nodes.items table.items) }
 {
-    let count = graph.len();
-    let mut table = Vec::with_capacity(alloc, count as usize)?;
-    for k in 0..count {
-        if !marks[k as usize] {
-            table.push(0)?;
-            continue;
+    let mut table = Vec::with_capacity(alloc, below.nodes.len())?;
+    for place in 0..below.nodes.len() {
+        let node = below.nodes[place];
+        if node >= graph.len() {
+            break;
         }
-        let node = copied(copy, graph, k, &table, marks, variables)?;
-        table.push(node)?;
+        let Some(literal) = copied(copy, graph, node, below, &table, variables)? else {
+            break;
+        };
+        table.push(literal)?;
     }
     Ok(table)
 }

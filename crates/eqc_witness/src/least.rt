@@ -20,7 +20,7 @@ const WITHOUT: u64 = 100;
 /// Visits of each node for each position, besides.
 const EACH: u64 = 16;
 
-/// So many visits, or nodes of the graph, count as a conflict, where there were fewer conflicts.
+/// So many visits, or nodes below the literal, count as a conflict, where there were fewer conflicts.
 const WORTH: u64 = 2_000;
 
 /// What may be spent where there may be so many conflicts.
@@ -36,14 +36,21 @@ fn budget_of(conflicts: u64, cone: &Cone) -> Budget {
     }
 }
 
-/// The conflicts that are left of what was given. Where much was visited for each, that counts as more of them, and so does
-/// reading the graph.
+/// The conflicts that are left of what was given for a cone of so many nodes. Where much was visited for each, that counts as more
+/// of them, and so does reading the nodes.
 fn conflicts_left(given: Budget, left: Budget, nodes: u32) -> u64 {
     let visits = given.visits.saturating_sub(left.visits);
-    let worth = given.conflicts.saturating_sub(visits / WORTH);
-    left.conflicts
-        .min(worth)
-        .saturating_sub(u64::from(nodes) / WORTH)
+    let worth = visits.saturating_add(u64::from(nodes)) / WORTH;
+    left.conflicts.min(given.conflicts.saturating_sub(worth))
+}
+
+/// A number above all variables.
+fn above_all(variables: &[u16]) -> usize {
+    let mut above = 0;
+    for variable in variables {
+        above = above.max(*variable as usize + 1);
+    }
+    above
 }
 
 /// The values of variables as values of their positions, false where none is told. The last that is told of a variable
@@ -55,7 +62,7 @@ fn values_told(
 ) -> Result<Vec<bool>, AllocError>
     ensures { IfOk result (λ values. length values.items ≡ length variables.now) }
 {
-    let mut by_variable = vec![in alloc; false; 65_536]?;
+    let mut by_variable = vec![in alloc; false; above_all(variables)]?;
     for (variable, value) in told {
         let at = *variable as usize;
         if at < by_variable.len() {
@@ -137,9 +144,9 @@ fn least_of(
 /// `variables` has the variable of each position; where one stands twice, its first position counts. Of a literal that
 /// depends on others less may be found. `seen` are variables and their values in an assignment that is tried first; what isn't there is false, and nothing is promised of it.
 /// `conflicts` are those that all questions together may have: without any, nothing is found. Those that there were are taken away,
-/// and at least one for each two thousand literals that were visited, and one for each two thousand nodes of the graph, which is
-/// read whole. Time and memory are in proportion to the graph and the conflicts, and to the nodes below the literal times the
-/// positions. Fails where memory is refused.
+/// and at least one for each two thousand literals that were visited and nodes below the literal. Time and memory are in
+/// proportion to the conflicts, and to the nodes below the literal and the positions times the positions. Fails where memory is
+/// refused.
 pub fn least_witness(
     alloc: Global,
     graph: &Graph,
@@ -154,7 +161,9 @@ pub fn least_witness(
     if *conflicts == 0 {
         return Ok(Witness::Unknown(None));
     }
-    let cone = Cone::of(alloc, graph, literal, variables)?;
+    let Some(cone) = Cone::of(alloc, graph, literal, variables)? else {
+        return Ok(Witness::Unknown(None));
+    };
     let guess = values_told(alloc, variables, seen)?;
     let given = budget_of(*conflicts, &cone);
     let mut means = Means {
@@ -163,6 +172,6 @@ pub fn least_witness(
         budget: given,
     };
     let found = least_of(alloc, &cone, &guess, &mut means);
-    *conflicts = conflicts_left(means.given, means.budget, graph.len());
+    *conflicts = conflicts_left(means.given, means.budget, cone.graph.len());
     found
 }

@@ -141,6 +141,16 @@ fn number_of(values: &[bool]) -> u32 {
     number
 }
 
+/// What is found, without its memory.
+fn found_of(witness: Witness) -> Found {
+    match witness {
+        Witness::Least(values) => Found::Least(number_of(&values)),
+        Witness::Never => Found::Never,
+        Witness::Unknown(None) => Found::Unknown(None),
+        Witness::Unknown(Some(values)) => Found::Unknown(Some(number_of(&values))),
+    }
+}
+
 /// What is found of a literal of a graph of these nodes.
 fn witness_in(
     rt: &(impl Abort + AllocGlobal),
@@ -157,12 +167,33 @@ fn witness_in(
     }
     let mut left = conflicts;
     let witness = least_witness(rt.alloc(), &graph, literal, variables, seen, &mut left)?;
-    Ok(match witness {
-        Witness::Least(values) => Found::Least(number_of(&values)),
-        Witness::Never => Found::Never,
-        Witness::Unknown(None) => Found::Unknown(None),
-        Witness::Unknown(Some(values)) => Found::Unknown(Some(number_of(&values))),
-    })
+    Ok(found_of(witness))
+}
+
+/// What is found of three variables and 6,000 nodes, each the conjunction of one of these and the node before: of the last node, or
+/// of the second variable. With it the conflicts that are left of 100.
+fn found_in_chain(
+    rt: &(impl Abort + AllocGlobal),
+    of_last: bool,
+) -> Result<(Found, u64), AllocError> {
+    let mut graph = Graph::new(rt.alloc())?;
+    push_all(
+        rt,
+        &mut graph,
+        &[Node::Input(0), Node::Input(1), Node::Input(2)],
+    )?;
+    let mut last = X;
+    for k in 0..6_000 {
+        push_all(rt, &mut graph, &[Node::And(last, 2 * (k % 3) + 2)])?;
+        last = 2 * (graph.len() - 1);
+    }
+    let literal = if of_last { last } else { Y };
+    if node_of(literal) >= graph.len() {
+        panic!(rt; "a literal is of a node");
+    }
+    let mut left = 100;
+    let witness = least_witness(rt.alloc(), &graph, literal, &[0, 1, 2], &[], &mut left)?;
+    Ok((found_of(witness), left))
 }
 
 #[test]
@@ -186,4 +217,16 @@ fn conflicts_are_a_limit(rt: HostRuntime) {
         );
         same(&rt, witness, Ok(*wanted), case);
     }
+}
+
+#[test]
+fn nodes_below_the_literal_are_read(rt: HostRuntime) {
+    let witness = found_in_chain(&rt, true).map(|(found, _)| found);
+    same(&rt, witness, Ok(Found::Least(0b111)), "the last node");
+}
+
+#[test]
+fn other_nodes_cost_nothing(rt: HostRuntime) {
+    let found = found_in_chain(&rt, false);
+    same(&rt, found, Ok((Found::Least(0b010), 100)), "a variable");
 }

@@ -3,5 +3,5 @@ use Rattle.eqc_witness.proofs.least.least_witness.Goals as goal
 
 pub returns : goal.returns
 returns c =
-    let cone = c.in_ok-cone.cone in
-    found_by_copy c.args.graph.now cone.graph c.args.literal cone.root cone.positions c.args.variables.now c.least_of-found.result c.in_ok-cone.ensures.positions c.in_ok-cone.ensures.copy c.least_of-found.ensures
+    let cone = c.in-Some.cone in
+    found_by_copy c.args.graph.now cone.graph c.args.literal cone.root cone.positions c.args.variables.now c.least_of-found.result (rw c.in-Some.is at c.in_ok-cone.ensures.positions) (rw c.in-Some.is at c.in_ok-cone.ensures.copy) c.least_of-found.ensures
