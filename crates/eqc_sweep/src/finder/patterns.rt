@@ -8,8 +8,15 @@ use std::alloc::{AllocError, Global};
 /// How many rows of random patterns there are.
 const RANDOM: usize = 8;
 
+/// How many rows there are in which all inputs but one are true, each of 256 inputs in its turn, and how many in which all but one
+/// are false. They tell conjunctions of many inputs apart, and disjunctions, which look constant under random patterns.
+const ALL_BUT_ONE: usize = 4;
+
+/// How many rows there are before those of counterexamples.
+const FIXED: usize = RANDOM + 2 * ALL_BUT_ONE;
+
 /// How many rows there may be, with those of counterexamples.
-const MOST: usize = 40;
+const MOST: usize = FIXED + 32;
 
 /// The words of all nodes, row by row, and the signatures.
 #[derive(Drop)]
@@ -17,22 +24,48 @@ pub(crate) struct Patterns {
     rows: Vec<Vec<u64>>,
     signatures: Vec<u64>,
     random: Random,
+    /// How many inputs there are.
+    inputs: u32,
     /// The row of counterexamples that is replaced next, once there are all.
     oldest: usize,
 }
 
+/// The word of an input of this number in a row in which each input but one has the same value.
+fn turn_of(input: u32, row: usize) -> u64 {
+    let row = row.saturating_sub(RANDOM);
+    let place = input as usize % (64 * ALL_BUT_ONE);
+    let mut other: u64 = 0;
+    if place / 64 == row % ALL_BUT_ONE {
+        other = 1 << (input % 64);
+    }
+    if row < ALL_BUT_ONE {
+        other ^ u64::MAX
+    } else {
+        other
+    }
+}
+
+/// The word of an input of this number in a row.
+fn input_word(random: &mut Random, input: u32, row: usize) -> u64 {
+    if row >= RANDOM && row < FIXED {
+        return turn_of(input, row);
+    }
+    random.next()
+}
+
 impl Patterns {
-    /// The rows of random patterns, without nodes.
+    /// The rows that are there before counterexamples, without nodes.
     pub(crate) fn new(alloc: Global) -> Result<Patterns, AllocError> {
         let mut rows = Vec::new(alloc);
-        for _ in 0..RANDOM {
+        for _ in 0..FIXED {
             rows.push(Vec::new(alloc))?;
         }
         Ok(Patterns {
             rows,
             signatures: Vec::new(alloc),
             random: Random::new(),
-            oldest: RANDOM,
+            inputs: 0,
+            oldest: FIXED,
         })
     }
 
@@ -91,7 +124,7 @@ impl Patterns {
         let mut signature: u64 = 0;
         let mut flip: u64 = 0;
         for at in 0..self.rows.len() {
-            let input = self.random.next();
+            let input = input_word(&mut self.random, self.inputs, at);
             let row = &mut self.rows[at];
             let word = word_by(row.as_slice(), node, input);
             row.push(word)?;
@@ -101,6 +134,9 @@ impl Patterns {
             signature = signature.wrapping_add(share_of(at, word ^ flip));
         }
         self.signatures.push(signature)?;
+        if let Node::Input(_) = node {
+            self.inputs = self.inputs.wrapping_add(1);
+        }
         Ok(())
     }
 
@@ -160,7 +196,7 @@ impl Patterns {
             return Ok(());
         }
         let at = self.oldest;
-        self.oldest = if at < MOST - 1 { at + 1 } else { RANDOM };
+        self.oldest = if at < MOST - 1 { at + 1 } else { FIXED };
         self.discount(at);
         if at < self.rows.len() {
             self.rows[at] = row;
