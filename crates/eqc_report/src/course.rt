@@ -185,10 +185,7 @@ fn by_sweeping<R: Threads + Wait + Sync, P: Progress<R> + Sync>(
     }
     let each = comparison.options.conflicts as u64;
     let more = ask_outputs(comparison, inside, alike, each);
-    let many = Conflicts {
-        each,
-        all: u64::MAX,
-    };
+    let many = Conflicts { each, all: each };
     match by_search(comparison, inside, alike, many, left) {
         Err(Stop::NodeLimit) if more => in_room(comparison, Room::Whole, alike),
         report => report,
