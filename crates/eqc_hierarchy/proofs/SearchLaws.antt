@@ -41,15 +41,17 @@ use Rattle.std.proofs.Common.{
 use Rattle.std.specs.List.{list_all, list_any, slice_get, count_by}
 use Rattle.std.proofs.Math.Bool.{or-false}
 use Rattle.std.proofs.lemmas.Bool.{cases_eq, cases_lt, true≢false, and_parts, and_from, lt-ltb, ltb-true, not-true, or_cases, eqb-true, eq-eqb}
-use Rattle.std.proofs.lemmas.List.{get_or-set_same, get_or-set_other, take_all, take_more, map_push, length-set, length_push, get_or-replicate, get_or_past, length-replicate}
+use Rattle.std.proofs.lemmas.List.{get_or-set_same, get_or-set_other, take_all, take_more, map_push, length-set, length_push, get_or-replicate, get_or_past, length-replicate, get_or_push, get_or_append_left}
 use Rattle.std.proofs.lemmas.List.Sums.{sum_by-set, sum_by-cons}
 use Rattle.std.proofs.lemmas.Option.{slice_get_within, get_or_from_slice_get}
 use Rattle.eqc_hierarchy.specs.Dependency.{among, ends_within}
 use Rattle.eqc_hierarchy.specs.declared.search.Stage.{Stage}
 use Rattle.eqc_hierarchy.specs.declared.search.Stage.TheVariants.{Fresh, Open, Done}
 use Rattle.eqc_hierarchy.specs.Searching.{is_fresh, stage_at, IsPath, on, IsSearch}
+use Rattle.eqc_hierarchy.specs.Walks.{StandOnce}
 use Rattle.eqc_hierarchy.proofs.Depth.{all_more, or_right}
-use Rattle.eqc_hierarchy.proofs.Orders.{same_all, all_push, all_front, all_last, among_left, among_end, among_push, order_more, stuck_never_ends, any_at}
+use Rattle.eqc_hierarchy.proofs.Members.{among_at}
+use Rattle.eqc_hierarchy.proofs.Orders.{same_all, all_push, all_front, all_last, all_among, among_left, among_end, among_push, order_more, stuck_never_ends, any_at}
 
 -- one more element of a list that is there
 take_get : (xs : List ℕ) (k t : ℕ) → slice_get xs k ≡ Some t → take (k + 1) xs ≡ take k xs ++ t ∷ []
@@ -112,6 +114,29 @@ begun_more stages n t to xs inside begun h = all_more (λ s. nat_lt s n && not (
 pub on_push : (path : List (ℕ × ℕ)) (s k : ℕ) → on (path ++ (s, k) ∷ []) ≡ on path ++ s ∷ []
 on_push path s k = map_push (λ (p : ℕ × ℕ). p.0) path (s, k)
 
+-- a number that isn't there goes behind numbers that stand once
+once_push : (xs : List ℕ) (t : ℕ) → StandOnce xs → (among xs t ≡ true → ⊥) → StandOnce (xs ++ t ∷ [])
+once_push xs t h new i j less inside same = elim (cases_lt j (length xs)) [
+  | inl within ↦ h i j less within (sym (front i (omega (arith, less, within))) ∙ (same ∙ front j within))
+  | inr past ↦ new (there i (omega (arith, less, inside, size)) (sym (front i (omega (arith, less, inside, size))) ∙ (same ∙ get_or_push xs t 0 j (omega (arith, inside, size, past)))))
+]
+  where
+    size : length (xs ++ t ∷ []) ≡ length xs + 1
+    size = length_push xs t
+
+    front : (k : ℕ) → k < length xs → get_or (xs ++ t ∷ []) k 0 ≡ get_or xs k 0
+    front k room = get_or_append_left xs (t ∷ []) 0 k room
+
+    there : (k : ℕ) → k < length xs → get_or xs k 0 ≡ t → among xs t ≡ true
+    there k room is = let P : ℕ → Type 0 = λ x. among xs x ≡ true in subst P is (among_at xs k room)
+
+-- numbers that stand once do without the last
+once_front : (xs : List ℕ) (t : ℕ) → StandOnce (xs ++ t ∷ []) → StandOnce xs
+once_front xs t h i j less inside same =
+    let size : length (xs ++ t ∷ []) ≡ length xs + 1 = length_push xs t in
+    h i j less (omega (arith, inside, size))
+    (get_or_append_left xs (t ∷ []) 0 i (omega (arith, less, inside)) ∙ (same ∙ sym (get_or_append_left xs (t ∷ []) 0 j inside)))
+
 -- a new search
 pub start : (deps : ℕ → List ℕ) (n : ℕ) → IsSearch deps n (replicate n Fresh) [] []
 start deps n = record {
@@ -121,6 +146,7 @@ start deps n = record {
   open_on_path = λ s e. absurd (fresh_all s Open (λ k. absurd (true≢false (ap is_fresh k))) e);
   path_begun = refl;
   chain = tt;
+  apart = λ i j less inside same. absurd (omega (arith, inside));
   order_within = refl;
   counted = all_fresh n;
 }
@@ -158,12 +184,18 @@ enter deps n stages path order t h inside fresh linked = record {
       (and_from (nat_lt t n) (not (is_fresh (stage_at (set stages t Open) t))) (lt-ltb t n inside)
       (rw (stage_same stages t t Open room refl) refl)));
   chain = linked;
+  apart = let P : List ℕ → Type 0 = λ l. StandOnce l in subst P (sym (on_push path t 0)) (once_push (on path) t h.apart not_on);
   order_within = h.order_within;
   counted = count;
 }
   where
     room : t < length stages
     room = omega (arith, h.size)
+
+    not_on : among (on path) t ≡ true → ⊥
+    not_on there =
+        let begun = and_parts (nat_lt t n) (not (is_fresh (stage_at stages t))) (all_among (λ s. nat_lt s n && not (is_fresh (stage_at stages s))) (on path) t h.path_begun there) in
+        true≢false (sym begun.1 ∙ ap (λ x. not (is_fresh x)) fresh)
 
     not_done : (x : ℕ) → x ≡ t → stage_at (set stages t Open) x ≡ Done → ⊥
     not_done x same e = let is : stage_at (set stages t Open) x ≡ Open = stage_same stages t x Open room same in cc
@@ -191,6 +223,7 @@ leave deps n stages front order s k h all = record {
   ];
   path_begun = begun_more stages n s Done (on front) room refl (all_front (λ s. nat_lt s n && not (is_fresh (stage_at stages s))) (on front) (s ∷ []) begun);
   chain = path_more deps order s front (path_front deps order front (s, k) h.chain);
+  apart = once_front (on front) s (let P : List ℕ → Type 0 = λ l. StandOnce l in subst P (on_push front s k) h.apart);
   order_within = all_push (λ s. nat_lt s n) order s h.order_within here.0;
   counted = count;
 }
@@ -233,6 +266,7 @@ advance deps n stages front order s k t h next done = record {
   order_within = h.order_within;
   open_on_path = λ x e. rw (same_on) (h.open_on_path x e);
   path_begun = rw (same_on) h.path_begun;
+  apart = let P : List ℕ → Type 0 = λ l. StandOnce l in subst P (sym same_on) h.apart;
   chain = path_next deps order front s k (k + 1) (rw (take_get (deps s) k t next) (all_push (among order) (take k (deps s)) t (path_last deps order front s k h.chain) (h.finished t done))) h.chain;
   counted = omega (arith, h.counted, length_push front (s, k), length_push front (s, k + 1));
 }

@@ -244,6 +244,10 @@ visit_walk deps n root begun stages path front order p t trail h split next open
       follows = subst Q (sym split) (path_walk deps order front p t (subst P split h.searching.chain) next);
       begins = subst S (sym split) (first front (subst R split h.rooted));
       back = (j, omega (arith, inside, size), get_or_append_left (on path) (t ∷ []) 0 j inside ∙ (there ∙ sym last));
+      once = λ i k less within same.
+          h.searching.apart i k less (omega (arith, within, size))
+          (sym (get_or_append_left (on path) (t ∷ []) 0 i (omega (arith, less, within, size)))
+          ∙ (same ∙ get_or_append_left (on path) (t ∷ []) 0 k (omega (arith, within, size))));
     })
   where
     first : (front : List (ℕ × ℕ)) → IsRooted root (front ++ p ∷ []) order → get_or (on (front ++ p ∷ []) ++ t ∷ []) 0 0 ≡ root

@@ -2,6 +2,7 @@
 use Rattle.std.specs.Prelude.{◌≡◌, ℕ, ◌+◌, ◌<◌, Bool, true, false, not, ◌&&◌, List, [], ◌∷◌, length, take, map, slice_get, slice_index_or, Some, nat_lt}
 use Rattle.std.specs.List.{list_all, count_by}
 use Rattle.eqc_hierarchy.specs.Dependency.{among, in_order}
+use Rattle.eqc_hierarchy.specs.Walks.{StandOnce}
 use Rattle.eqc_hierarchy.specs.declared.search.Stage.{Stage}
 use Rattle.eqc_hierarchy.specs.declared.search.Stage.TheVariants.{Fresh, Open, Done}
 
@@ -35,6 +36,7 @@ pub record IsSearch (deps : ℕ → List ℕ) (n : ℕ) (stages : List Stage) (p
   pub open_on_path : (s : ℕ) → stage_at stages s ≡ Open → among (on path) s ≡ true
   pub path_begun : list_all (λ s. nat_lt s n && not (is_fresh (stage_at stages s))) (on path) ≡ true
   pub chain : IsPath deps order path
+  pub apart : StandOnce (on path)
   pub order_within : list_all (λ s. nat_lt s n) order ≡ true
   pub counted : length order + length path + count_by is_fresh stages ≡ n
 
