@@ -46,7 +46,7 @@ use Rattle.eqc_blif.proofs.CodeLemmas.{alone}
 use Rattle.eqc_flat.specs.Graph.{DriverOf, input, tie, cover, dependencies}
 use Rattle.eqc_flat.specs.HierarchyLaws.{needed}
 use Rattle.eqc_flat.specs.Ordering.{signal_deps, IsTrail, HasNoOrder}
-use Rattle.eqc_hierarchy.specs.Walks.{IsWalk, from_on}
+use Rattle.eqc_hierarchy.specs.Walks.{IsWalk, from_on, StandOnce}
 use Rattle.eqc_hierarchy.specs.Hierarchy.{model, model_at, paths_within, paths}
 use Rattle.eqc_hierarchy.specs.Signals.{SignalOf, needs, names_of, signals, sources, drivings}
 use Rattle.eqc_hierarchy.specs.Codes.{
@@ -64,7 +64,7 @@ use Rattle.eqc_hierarchy.specs.Codes.{
   flat_code,
 }
 use Rattle.eqc_flat.specs.Flattened.{path_at, model_of, first_signal, signal_at, source_of}
-use Rattle.eqc_flat.specs.DriverTable.{in_slot, IsFilled, IsTable, IsDriven, driven_code, first_driven, HasSources}
+use Rattle.eqc_flat.specs.DriverTable.{in_slot, IsFilled, IsTable, IsDriven, driven_code, first_driven, IsDrivenSo}
 use Rattle.eqc_hierarchy.specs.Columns.{all_columns}
 use Rattle.eqc_flat.specs.RowTable.{all_rows}
 use Rattle.eqc_flat.specs.StoredDrivers.{driver_from}
@@ -238,23 +238,41 @@ empty_known library top columns slots twice h filled = by (is_some (position is_
         absurd (true≢false (sym (told_27 (is_driven_twice library top) (is_undriven library top) (is_cyclic library top) h.left).1
         ∙ all_taken library top columns slots once (unplaced is_none slots e)))
 
--- an empty slot is that of a signal that nothing drives
+-- the first empty slot is that of the first signal that nothing drives
 pub empty_undriven : (library : List ModelOf) (top : ℕ) (columns : List (List ℕ)) (slots : List (Option StoredDriver)) (twice : Option ℕ)
     (s : ℕ) → IsNumbered library top 27
     → IsFilled library top (map (option_map (driver_from columns)) slots) twice (drivings library top)
-    → position is_none slots ≡ Some s → (s < length (signals library top)) × (sources library top (signal_at library top s) ≡ [])
+    → position is_none slots ≡ Some s → (s < length (signals library top)) × IsDrivenSo Never library top s
 empty_undriven library top columns slots twice s h filled e =
     let found = position-Some is_none slots s None e in
     let free : slice_index_or slots s None ≡ None = none_there (slice_index_or slots s None) found.1 in
-    let room : s < length (map (option_map (driver_from columns)) slots) = omega (arith, found.0, length-map slots (option_map (driver_from columns))) in
-    let once : is_some twice ≡ false = ap is_some (none_twice library top (map (option_map (driver_from columns)) slots) twice h filled) in (
+    let room : s < length (map (option_map (driver_from columns)) slots) = omega (arith, found.0, length-map slots (option_map (driver_from columns))) in (
       omega (arith, room, filled.size),
-      filled.once once s room ∙ ap (λ o. map (source_of (signal_at library top) (all_rows library)) (in_slot o)) (slot_empty columns slots s found.0 free),
+      (
+        filled.once once s room ∙ ap (λ o. map (source_of (signal_at library top) (all_rows library)) (in_slot o)) (slot_empty columns slots s found.0 free),
+        λ k less none. taken k (omega (arith, less, found.0)) (slice_index_or slots k None) refl (found.2 k less) none,
+      ),
     )
   where
     none_there : (o : Option StoredDriver) → is_none o ≡ true → o ≡ None
     none_there None k = refl
     none_there (Some d) k = absurd (true≢false (sym k))
+
+    once : is_some twice ≡ false
+    once = ap is_some (none_twice library top (map (option_map (driver_from columns)) slots) twice h filled)
+
+    taken : (k : ℕ) → k < length slots → (o : Option StoredDriver) → slice_index_or slots k None ≡ o
+        → is_none (slice_index_or slots k None) ≡ false → sources library top (signal_at library top k) ≡ [] → ⊥
+    taken k room None is some none = true≢false (sym (ap is_none is) ∙ some)
+    taken k room (Some d) is some none =
+        let place : k < length (map (option_map (driver_from columns)) slots) = omega (arith, room, length-map slots (option_map (driver_from columns))) in
+        let slot : slice_index_or (map (option_map (driver_from columns)) slots) k None ≡ Some (driver_from columns d) =
+        get_or-map (option_map (driver_from columns)) slots k None None room ∙ ap (option_map (driver_from columns)) is in
+        let source = source_of (signal_at library top) (all_rows library) in
+        let one : sources library top (signal_at library top k) ≡ source (driver_from columns d) ∷ [] =
+        filled.once once k place ∙ ap (λ o. map source (in_slot o)) slot in
+        let long : 0 ≡ 1 = ap length (sym none ∙ one) in
+        omega (arith, long)
 
 -- what holds of a hierarchy that is refused for a signal that is driven so
 pub driven_numbered : (driven : Driven) (library : List ModelOf) (top : ℕ) → flat_code library top ≡ Some (driven_code driven) → IsNumbered library top (driven_code driven)
@@ -272,7 +290,7 @@ driven_known Never library top slots twice h table = empty_known library top (al
 pub driven_is : (driven : Driven) (library : List ModelOf) (top : ℕ) (slots : List (Option StoredDriver)) (twice : Option ℕ) (s : ℕ)
     → IsNumbered library top (driven_code driven) → IsTable library top slots twice (drivings library top)
     → first_driven driven slots twice ≡ Some s
-    → (s < length (signals library top)) × HasSources driven (sources library top (signal_at library top s))
+    → (s < length (signals library top)) × IsDrivenSo driven library top s
 driven_is Twice library top slots twice s h table e = table.again s e
 driven_is Never library top slots twice s h table e = empty_undriven library top (all_columns library) slots twice s h table e
 
@@ -364,6 +382,7 @@ circle_named library top drivers walk start circle driven (root, rooted, back) i
       (let bound = walk_within deps n closed round head steps k (omega (arith, less, count)) in
       let at = get_or-take (length round - 1) round k 0 (omega (arith, less, count)) in
       omega (arith, bound, at, driven.size, length-map drivers (λ (d : DriverOf). Some d)))),
+  apart,
   walk_mapped deps (needed library top) (signal_at library top) n closed (dependency_needed library top drivers driven) (members ++ slice_index_or members 0 0 ∷ []) front closed_round,
 )
   where
@@ -387,6 +406,14 @@ circle_named library top drivers walk start circle driven (root, rooted, back) i
 
     count : length members ≡ length round - 1
     count = length-take-le (length round - 1) round (omega arith)
+
+    member_is : (k : ℕ) → k < length members → get_or members k 0 ≡ get_or walk (start + k) 0
+    member_is k less = get_or-take (length round - 1) round k 0 (omega (arith, less, count)) ∙ get_or-drop start walk k 0
+
+    apart : StandOnce members
+    apart i j less there same =
+        back.once (start + i) (start + j) (omega (arith, less)) (omega (arith, there, count, long, inside))
+        (sym (member_is i (omega (arith, less, there))) ∙ (same ∙ member_is j there))
 
     steps : IsWalk deps round
     steps = walk_drop deps start walk back.follows

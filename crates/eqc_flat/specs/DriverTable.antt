@@ -55,12 +55,13 @@ abbrev pub first_driven : Driven → List (Option StoredDriver) → Option ℕ �
 first_driven Twice slots twice = twice
 first_driven Never slots twice = position is_none slots
 
--- the sources of a signal that is driven so
-abbrev pub HasSources : {A : Type 0} → Driven → List A → Type 0
-HasSources Twice all = 1 < length all
-HasSources Never all = all ≡ []
+-- a flat signal is driven so: twice, or by nothing, and is the first of which that holds
+abbrev pub IsDrivenSo : Driven → List ModelOf → ℕ → ℕ → Type 0
+IsDrivenSo Twice library top s = 1 < length (sources library top (signal_at library top s))
+IsDrivenSo Never library top s =
+    (sources library top (signal_at library top s) ≡ []) × ((k : ℕ) → k < s → sources library top (signal_at library top k) ≡ [] → ⊥)
 
 -- a flat signal of this name is driven so
 abbrev pub NamesDriven : Driven → List ModelOf → ℕ → List Step × List ℕ → Type 0
 NamesDriven driven library top name =
-    (s : ℕ) × (s < length (signals library top)) × (name ≡ hierarchical_name library top (signal_at library top s)) × HasSources driven (sources library top (signal_at library top s))
+    (s : ℕ) × (s < length (signals library top)) × (name ≡ hierarchical_name library top (signal_at library top s)) × IsDrivenSo driven library top s

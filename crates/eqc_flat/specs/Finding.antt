@@ -2,7 +2,7 @@
 use Rattle.std.specs.Prelude.{◌≡◌, ℕ, ◌<◌, ◌+◌, ◌-◌, List, [], ◌∷◌, ◌++◌, length, map, take, slice_index_or, Option, Some, None}
 use Rattle.eqc_blif.specs.Netlist.{ModelOf}
 use Rattle.eqc_hierarchy.specs.Hierarchy.{model, callees, model_at, paths}
-use Rattle.eqc_hierarchy.specs.Walks.{IsWalk, WalksBack}
+use Rattle.eqc_hierarchy.specs.Walks.{IsWalk, WalksBack, StandOnce}
 use Rattle.eqc_flat.specs.HierarchyLaws.{needed}
 use Rattle.eqc_hierarchy.specs.Signals.{SignalOf, signals, sources}
 use Rattle.eqc_hierarchy.specs.Codes.{flat_code}
@@ -28,13 +28,14 @@ abbrev pub NamesDrivenTwice : List ModelOf → ℕ → List Step × List ℕ →
 NamesDrivenTwice library top name =
     (s : ℕ) × (s < length (signals library top)) × (name ≡ hierarchical_name library top (signal_at library top s)) × (1 < length (sources library top (signal_at library top s)))
 
--- 27: nothing drives a flat signal of this name
+-- 27: nothing drives a flat signal of this name, the first of which that holds
 abbrev pub NamesUndriven : List ModelOf → ℕ → List Step × List ℕ → Type 0
 NamesUndriven library top name =
     (s : ℕ) × (s < length (signals library top)) × (name ≡ hierarchical_name library top (signal_at library top s)) × (sources library top (signal_at library top s) ≡ [])
+    × ((k : ℕ) → k < s → sources library top (signal_at library top k) ≡ [] → ⊥)
 
--- 28: of some flat signals each depends on the next one, and the last on the first; their first twenty are named, and
--- their number is told
+-- 28: of some flat signals, none of which stands twice, each depends on the next one, and the last on the first; their
+-- first twenty are named, and their number is told
 abbrev pub IsCircle : List ModelOf → ℕ → List (List Step × List ℕ) × ℕ → Type 0
 IsCircle library top circle =
     (members : List ℕ)
@@ -42,6 +43,7 @@ IsCircle library top circle =
     × (circle.1 ≡ length members)
     × (circle.0 ≡ map (λ s. hierarchical_name library top (signal_at library top s)) (take 20 members))
     × ((k : ℕ) → k < length members → slice_index_or members k 0 < length (signals library top))
+    × StandOnce members
     × IsWalk (needed library top) (map (signal_at library top) (members ++ slice_index_or members 0 0 ∷ []))
 
 -- what is named holds of the hierarchy, which is refused for it

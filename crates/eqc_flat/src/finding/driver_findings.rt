@@ -4,7 +4,7 @@ ghost use Rattle.eqc_hierarchy.specs.Hierarchy.{model};
 ghost use Rattle.eqc_hierarchy.specs.Signals.{signals, sources, drivings};
 ghost use Rattle.eqc_hierarchy.specs.Codes.{flat_code, has_unknown_formal, is_recursive, is_too_large};
 ghost use Rattle.eqc_flat.specs.Flattened.{signal_at};
-ghost use Rattle.eqc_flat.specs.DriverTable.{IsTable, driven_code, HasSources, NamesDriven};
+ghost use Rattle.eqc_flat.specs.DriverTable.{IsTable, driven_code, IsDrivenSo, NamesDriven};
 ghost use Rattle.eqc_flat.specs.Instances.{IsExpansion};
 
 use crate::drivers::driver_table::{Driven, DriverTable};
@@ -58,7 +58,7 @@ fn driven_in(
     requires same { library.now ≡ hierarchy.now.0 }
     requires refused { flat_code hierarchy.now.0 hierarchy.now.1 ≡ Some (driven_code driven) }
     ensures within { IfOk result (λ s. s < length (signals hierarchy.now.0 hierarchy.now.1)) }
-    ensures driven { IfOk result (λ s. HasSources driven (sources hierarchy.now.0 hierarchy.now.1 (signal_at hierarchy.now.0 hierarchy.now.1 s))) }
+    ensures driven { IfOk result (λ s. IsDrivenSo driven hierarchy.now.0 hierarchy.now.1 s) }
 {
     let table = table_in(alloc, library, hierarchy)?;
     Ok(table.first_driven(driven).unwrap())
