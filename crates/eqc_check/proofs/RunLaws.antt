@@ -188,7 +188,7 @@ read_warns remaining given case report found h w =
 
 -- a verdict that is written is the report's
 verdict_shown : (report : ReportOf) (old new : Option (List ℕ)) (status : Status) (w : IsWritten report old new status) → IsComparison w.shown → IsComparison report
-verdict_shown report old new status w is = elim w.one_of [ inl e ↦ subst IsComparison e is | inr e ↦ absurd (subst IsComparison e is) ]
+verdict_shown report old new status w is = elim w.one_of [ inl e ↦ subst IsComparison e is | inr e ↦ absurd (subst IsComparison e.0 is) ]
 
 verdict_of : (shown : ReportOf) → (status : Status) → status ≡ status_of shown → (IsComparison shown) ⊎ ((w : Warnings) → warnings_at status w ≡ no_warnings)
 verdict_of equivalent status e = inl tt

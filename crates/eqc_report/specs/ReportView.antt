@@ -32,10 +32,10 @@ status_of vacuous = status.Vacuous
 status_of (refused side line code) = status.Refused
 status_of (stopped code) = status.Stopped
 
--- whether a report is no stop
-abbrev pub IsAnswer : ReportOf → Type 0
-IsAnswer equivalent = Unit {0}
-IsAnswer (differs differences) = Unit {0}
-IsAnswer vacuous = Unit {0}
-IsAnswer (refused side line code) = Unit {0}
-IsAnswer (stopped code) = ⊥
+-- whether a report is a refusal: the text of no other takes memory
+abbrev pub IsRefusal : ReportOf → Type 0
+IsRefusal equivalent = ⊥
+IsRefusal (differs differences) = ⊥
+IsRefusal vacuous = ⊥
+IsRefusal (refused side line code) = Unit {0}
+IsRefusal (stopped code) = ⊥

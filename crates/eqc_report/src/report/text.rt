@@ -6,7 +6,7 @@ ghost use Rattle.eqc_report.specs.Ends.{AppendsPrefix};
 ghost use Rattle.eqc_report.specs.Spooling.{Puts};
 ghost use Rattle.std.specs.List.{flat_map, zip};
 ghost use Rattle.eqc_report.specs.Report.{text, block, value_line, stopped, refused, differs};
-ghost use Rattle.eqc_report.specs.ReportView.{difference_of, differences_of, report_of, IsAnswer};
+ghost use Rattle.eqc_report.specs.ReportView.{difference_of, differences_of, report_of, IsRefusal};
 ghost use Rattle.eqc_report.specs.Written.{IsShown, IsWritten, IsCutShort};
 
 use crate::io::fault::{RunFault, StreamFault};
@@ -92,13 +92,13 @@ fn put_differences<W: Write>(out: &mut W, differences: &Differences) -> io::Resu
     spool.close(out)
 }
 
-/// Writes the report's bytes and flushes the writer. Memory is refused before the first byte, and never for a report that
-/// stopped. Nothing is tried again.
+/// Writes the report's bytes and flushes the writer. Memory is refused before the first byte, and for a refusal alone. Nothing
+/// is tried again.
 fn put_report<W: Write>(alloc: Global, report: &Report, out: &mut W) -> Result<(), StreamFault>
     ensures written { OnOk result (Appends (W.contents out.old) (W.contents out.new) (text (report_of report.now))) }
     ensures part { OnErr result (AppendsPrefix (W.contents out.old) (W.contents out.new) (text (report_of report.now))) }
     ensures memory { IfErr result (λ fault. fault ≡ StreamFault.Refused → Keeps (W.contents out.old) (W.contents out.new)) }
-    ensures answers { IfErr result (λ fault. fault ≡ StreamFault.Refused → IsAnswer (report_of report.now)) }
+    ensures answers { IfErr result (λ fault. fault ≡ StreamFault.Refused → IsRefusal (report_of report.now)) }
 {
     match report {
         Report::Equivalent => write_whole(out, b"equivalent\n")?,
@@ -113,14 +113,14 @@ fn put_report<W: Write>(alloc: Global, report: &Report, out: &mut W) -> Result<(
     Ok(())
 }
 
-/// Writes the report's bytes and flushes the writer. `Memory` comes before the first byte, and never for a
-/// report that stopped; a write that fails or takes nothing, or a flush that fails, is `Write`, and nothing
+/// Writes the report's bytes and flushes the writer. `Memory` comes before the first byte, and for a report that
+/// is a refusal alone; a write that fails or takes nothing, or a flush that fails, is `Write`, and nothing
 /// is tried again.
 pub fn write_report<W: Write>(alloc: Global, report: &Report, out: &mut W) -> Result<(), RunFault>
     ensures written { OnOk result (Appends (W.contents out.old) (W.contents out.new) (text (report_of report.now))) }
     ensures part { OnErr result (AppendsPrefix (W.contents out.old) (W.contents out.new) (text (report_of report.now))) }
     ensures memory { IfErr result (λ fault. fault ≡ RunFault.Memory → Keeps (W.contents out.old) (W.contents out.new)) }
-    ensures answers { IfErr result (λ fault. fault ≡ RunFault.Memory → IsAnswer (report_of report.now)) }
+    ensures answers { IfErr result (λ fault. fault ≡ RunFault.Memory → IsRefusal (report_of report.now)) }
     ensures read { IfErr result (λ fault. fault ≢ RunFault.Read) }
 {
     match put_report(alloc, report, out) {
@@ -139,8 +139,8 @@ fn write_stopped<W: Write>(out: &mut W) -> io::Result<Status>
     Ok(Status::Stopped)
 }
 
-/// Writes the bytes of a report of any kind and flushes the writer, or does so with those of `stopped 72` where the report's take
-/// memory that is refused, and answers the kind of what was written. Nothing is tried again.
+/// Writes the bytes of a report of any kind and flushes the writer, or does so with those of `stopped 72` where the report is a
+/// refusal, whose bytes take memory, and that is refused. It answers the kind of what was written. Nothing is tried again.
 ///
 /// It fails with the writer's error where a write or the flush fails, and with `WriteZero` where a write takes nothing; then a part
 /// of what was to be written was written, and maybe all of it.
