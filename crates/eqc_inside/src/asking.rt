@@ -33,6 +33,8 @@ pub(crate) struct Answer {
     pub witness: Witness,
     /// The conflicts that were left of those that it could have.
     pub left: u64,
+    /// The work that was done beside the conflicts.
+    pub work: u64,
 }
 
 /// The questions for these outputs, the last one first. An output whose steps have no literals isn't asked for. Fails where
@@ -65,28 +67,34 @@ pub(crate) fn questions_of(
     Ok(all)
 }
 
-/// What is found of an output by a search with so many conflicts. Fails where memory is refused.
+/// What is found of an output by a search with so many conflicts and so much work beside them. Fails where memory is refused.
 fn ask(
     alloc: Global,
     pair: &Pair<'_>,
     graph: &Graph,
     question: &Question,
     conflicts: u64,
+    work: u64,
 ) -> Result<Answer, AllocError>
     requires { IsQuestionOf pair.now graph.now question.now }
     ensures { IfOk result (IsAnswerOf pair.now) }
 {
     let mut left = conflicts;
+    let mut rest = work;
     let Question {
         output,
         literal,
         seen,
     } = question;
-    let witness = least_witness(alloc, graph, *literal, pair.variables(), seen, &mut left)?;
+    let variables = pair.variables();
+    let witness = least_witness(
+        alloc, graph, *literal, variables, seen, &mut left, &mut rest,
+    )?;
     Ok(Answer {
         output: *output,
         witness,
         left,
+        work: work.saturating_sub(rest),
     })
 }
 
@@ -97,19 +105,21 @@ fn ask_each(
     graph: &Graph,
     questions: &[Question],
     conflicts: u64,
+    work: u64,
 ) -> Result<Vec<Answer>, AllocError>
     requires { All (IsQuestionOf pair.now graph.now) questions.now }
     ensures { IfOk result (λ all. All (IsAnswerOf pair.now) all.items) }
 {
     let mut all = Vec::with_capacity(alloc, questions.len())?;
     for question in questions {
-        all.push(ask(alloc, pair, graph, question, conflicts)?)?;
+        all.push(ask(alloc, pair, graph, question, conflicts, work)?)?;
     }
     Ok(all)
 }
 
 /// What is found of each of these outputs, in their order, by so many threads, of which each takes a part. Each output may have so
-/// many conflicts. Fails where memory is refused. Where a thread can't be started its part is done here.
+/// many conflicts, and so much work beside them. Fails where memory is refused. Where a thread can't be started its part is done
+/// here.
 #[cycle(questions)]
 pub(crate) fn ask_all<R: Threads + Sync>(
     rt: &R,
@@ -118,13 +128,14 @@ pub(crate) fn ask_all<R: Threads + Sync>(
     graph: &Graph,
     questions: &[Question],
     conflicts: u64,
+    work: u64,
     threads: u32,
 ) -> Result<Vec<Answer>, AllocError>
     requires { All (IsQuestionOf pair.now graph.now) questions.now }
     ensures { IfOk result (λ all. All (IsAnswerOf pair.now) all.items) }
 {
     if threads < 2 || questions.len() < 2 {
-        return ask_each(alloc, pair, graph, questions, conflicts);
+        return ask_each(alloc, pair, graph, questions, conflicts, work);
     }
     let (some, others) = questions.split_at(questions.len() / 2);
     let here = threads / 2;
@@ -132,11 +143,11 @@ pub(crate) fn ask_all<R: Threads + Sync>(
     let front = move || -> Result<Vec<Answer>, AllocError>
         requires { IsSync R.row × All (IsQuestionOf pair.now graph.now) some.now }
         ensures { IfOk result (λ all. All (IsAnswerOf pair.entry.now) all.items) }
-    { ask_all(rt, alloc, pair, graph, some, conflicts, here) };
+    { ask_all(rt, alloc, pair, graph, some, conflicts, work, here) };
     let back = move || -> Result<Vec<Answer>, AllocError>
         requires { IsSync R.row × All (IsQuestionOf pair.now graph.now) others.now }
         ensures { IfOk result (λ all. All (IsAnswerOf pair.entry.now) all.items) }
-    { ask_all(rt, alloc, pair, graph, others, conflicts, there) };
+    { ask_all(rt, alloc, pair, graph, others, conflicts, work, there) };
     let (front, back) = join(rt, front, back);
     let mut all = front?;
     let mut others = back?;

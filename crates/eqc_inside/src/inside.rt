@@ -24,6 +24,8 @@ pub struct Inside<'a> {
     pub(crate) steps: Steps<'a>,
     pub(crate) sweep: Sweep,
     pub(crate) literals: Vec<Option<u32>>,
+    /// The work that the searches for differences may do beside their conflicts, all together, yet.
+    pub(crate) work: u64,
 }
 
 impl<'a> Model for Inside<'a> {
@@ -35,6 +37,19 @@ impl<'a> Model for Inside<'a> {
     ghost view = { λ a. a.steps.pair };
 
     ghost invariant = { λ a. IsInside a.steps a.sweep a.literals.items };
+}
+
+/// How much work the searches for differences may do beside their conflicts, all together: so much for each node of the graph and
+/// for the graph as a whole, and never more than so much, whatever the netlist.
+const EACH_NODE: u64 = 20_000;
+
+const WHOLE: u64 = 10_000_000;
+
+const AT_MOST: u64 = 100_000_000;
+
+/// The work for a graph of so many nodes.
+fn work_for(nodes: u32) -> u64 {
+    (u64::from(nodes) * EACH_NODE + WHOLE).min(AT_MOST)
 }
 
 /// The literal of a step, or none.
@@ -183,10 +198,12 @@ impl<'a> Inside<'a> {
         let mut sweep = Sweep::new(alloc, Effort::usual())?;
         let told = |step: u32| watch.step(rt, step as usize, count);
         let literals = literals(alloc, &steps, &marks, &mut sweep, &told)?;
+        let work = work_for(sweep.graph().len());
         Ok(Inside {
             steps,
             sweep,
             literals,
+            work,
         })
     }
 

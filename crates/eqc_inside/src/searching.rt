@@ -111,7 +111,7 @@ pub(crate) fn seen_true(alloc: Global, sweep: &mut Sweep, literal: u32) -> Vec<(
 }
 
 /// The least assignment under which an output differs, where a literal of the graph says when it does, by a search with so many
-/// conflicts, which are counted down. Fails where memory is refused.
+/// conflicts and so much work beside them, which are counted down. Fails where memory is refused.
 fn witness_of(
     alloc: Global,
     pair: &Pair<'_>,
@@ -119,6 +119,7 @@ fn witness_of(
     output: usize,
     literal: u32,
     conflicts: &mut u64,
+    work: &mut u64,
 ) -> Result<Witness, AllocError>
     requires output { output < length pair.now.first.outputs }
     requires literal { SaysDifferent pair.now sweep.old output literal }
@@ -133,6 +134,7 @@ fn witness_of(
         pair.variables(),
         &seen,
         conflicts,
+        work,
     )
 }
 
@@ -169,8 +171,12 @@ fn is_never_allowed(
 {
     let seen = seen_true(alloc, sweep, literal);
     let mut left = conflicts;
+    let mut work = u64::MAX;
+    let graph = sweep.graph();
     let variables = pair.variables();
-    let found = least_witness(alloc, sweep.graph(), literal, variables, &seen, &mut left)?;
+    let found = least_witness(
+        alloc, graph, literal, variables, &seen, &mut left, &mut work,
+    )?;
     Ok(tells_vacuous(pair, found))
 }
 
@@ -209,7 +215,8 @@ fn mark(alike: &mut Alike, output: usize)
 impl<'a> Inside<'a> {
     /// The least assignment that is allowed and under which an output differs, in lexicographic order over the first netlist's
     /// inputs, 0 before 1, by a search with so many conflicts, which are counted down; or that it differs under none. `output` is
-    /// its position in the first netlist. Fails where memory is refused.
+    /// its position in the first netlist. Nothing is found any more once all such searches have done as much work beside their
+    /// conflicts as the graph's size allows. Fails where memory is refused.
     pub fn search_output(
         &mut self,
         alloc: Global,
@@ -222,7 +229,18 @@ impl<'a> Inside<'a> {
     {
         let pair = self.steps.pair();
         match difference_literal(&self.steps, &mut self.sweep, &self.literals, output)? {
-            Some(literal) => witness_of(alloc, pair, &mut self.sweep, output, literal, conflicts),
+            Some(literal) => {
+                let work = &mut self.work;
+                witness_of(
+                    alloc,
+                    pair,
+                    &mut self.sweep,
+                    output,
+                    literal,
+                    conflicts,
+                    work,
+                )
+            }
             None => Ok(Witness::Unknown(None)),
         }
     }
@@ -261,7 +279,8 @@ impl<'a> Inside<'a> {
         let open = open_outputs(alloc, pair, marks, from, threads as usize)?;
         let questions = questions_of(alloc, &self.steps, &mut self.sweep, &self.literals, &open)?;
         let graph = self.sweep.graph();
-        ask_all(rt, alloc, pair, graph, &questions, conflicts, threads)
+        let work = self.work;
+        ask_all(rt, alloc, pair, graph, &questions, conflicts, work, threads)
     }
 
     /// What is found of an output: with several threads the next ones are asked for beside it, and what is found of these is
@@ -288,6 +307,7 @@ impl<'a> Inside<'a> {
         if let Some(answer) = ahead.pop() {
             if answer.output == output {
                 *conflicts = answer.left;
+                self.work = self.work.saturating_sub(answer.work);
                 return Ok(answer.witness);
             }
         }
@@ -323,6 +343,7 @@ impl<'a> Inside<'a> {
                 continue;
             }
             let mut left = conflicts.next();
+            let work = self.work;
             let marks = &alike.equal;
             let witness = self.next_witness(
                 rt, alloc, marks, output, &mut left, threads, &mut ahead,
@@ -332,6 +353,8 @@ impl<'a> Inside<'a> {
                 Witness::Never => mark(alike, output),
                 Witness::Unknown(seen) => return Ok(Searched::Open(output, seen)),
                 Witness::Least(values) => {
+                    // What is told of is worth its work.
+                    self.work = work;
                     found.push(Difference { output, values })?;
                     if !every {
                         return Ok(Searched::Found(Outcome::Compared(found)));

@@ -70,6 +70,7 @@ static SATISFIED: &[Case] = &[
 const MUCH: Budget = Budget {
     conflicts: 10_000,
     visits: 100_000_000,
+    work: 1_000_000_000,
 };
 
 /// Whether all assumptions are true under an assignment of nodes' values, in which the others are false.
@@ -144,20 +145,18 @@ fn answer_within(
     Ok((found, left))
 }
 
-/// Budgets that are too small: the conflicts are used up, or the visits.
+/// Budgets that are too small: the conflicts are used up, or the visits, or the work.
 static SMALL: &[Budget] = &[
     Budget {
         conflicts: 0,
-        visits: 100_000_000,
+        ..MUCH
     },
     Budget {
         conflicts: 3,
-        visits: 100_000_000,
+        ..MUCH
     },
-    Budget {
-        conflicts: 10_000,
-        visits: 1,
-    },
+    Budget { visits: 1, ..MUCH },
+    Budget { work: 1, ..MUCH },
 ];
 
 #[test]
@@ -165,7 +164,9 @@ fn a_search_gives_up_when_its_budget_is_used_up(rt: HostRuntime) {
     let mut search = Search::new(rt.alloc());
     for budget in SMALL {
         let found = match answer_within(&rt, &mut search, *budget) {
-            Ok((Answer::GaveUp, left)) => left.conflicts == 0 || left.visits == 0,
+            Ok((Answer::GaveUp, left)) => {
+                left.conflicts == 0 || left.visits == 0 || left.work == 0
+            }
             _ => false,
         };
         same(&rt, found, true, budget.conflicts);
@@ -177,7 +178,9 @@ fn a_search_takes_what_it_spends_from_its_budget(rt: HostRuntime) {
     let mut search = Search::new(rt.alloc());
     let found = match answer_within(&rt, &mut search, MUCH) {
         Ok((Answer::Refuted, left)) => {
-            left.conflicts < MUCH.conflicts && left.visits < MUCH.visits
+            let visits = MUCH.visits.saturating_sub(left.visits);
+            let work = MUCH.work.saturating_sub(left.work);
+            left.conflicts < MUCH.conflicts && visits > 0 && work > visits
         }
         _ => false,
     };

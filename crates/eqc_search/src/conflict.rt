@@ -1,5 +1,5 @@
 //! What a conflict teaches: a clause, and the hints that show it.
-use crate::engine::Engine;
+use crate::engine::{Engine, WORK_RESOLVED};
 use crate::learned::Learned;
 use crate::reads::{NONE, lengthen, literal_of, node_at, number, read, write};
 use crate::values::{Reason, Value, Values};
@@ -269,6 +269,8 @@ impl Engine {
         self.minimize(graph)?;
         self.analysis
             .order_hints(&self.values, &self.learned, conflict)?;
+        let touched = number(self.analysis.touched.len());
+        self.count_work(touched, WORK_RESOLVED);
         self.analysis.clear();
         let glue = self.analysis.count_levels(&self.values);
         Ok((self.analysis.second_level(&self.values), glue))

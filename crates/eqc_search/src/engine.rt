@@ -4,6 +4,7 @@ use crate::decisions::Decisions;
 use crate::learned::Learned;
 use crate::reads::{literal_of, node_at};
 use crate::restarts::Restarts;
+use crate::search::Budget;
 use crate::values::{Reason, Value, Values};
 use crate::window::Window;
 use eqc_graph::{Graph, Node, node_of};
@@ -15,8 +16,16 @@ const FIRST_WINDOW: u32 = 20;
 
 const WINDOW_GROWTH: u32 = 8;
 
-/// To take a gate into the window takes as long as so many visits.
+/// To take a gate into the window counts as so many visits.
 const TAKEN_IN: u64 = 4;
+
+/// The work that isn't among visits: to take a gate into the window, to free a literal that may be decided again, and to resolve a
+/// conflict with a literal.
+const WORK_TAKEN_IN: u64 = 12;
+
+const WORK_FREED: u64 = 4;
+
+pub(crate) const WORK_RESOLVED: u64 = 4;
 
 /// All that a search keeps of a question, and of earlier ones to begin with. Where they are about one graph, the window and
 /// the learned clauses stay too.
@@ -28,8 +37,9 @@ pub(crate) struct Engine {
     pub(crate) learned: Learned,
     pub(crate) restarts: Restarts,
     pub(crate) analysis: Analysis,
-    /// The literals visited that aren't charged yet.
+    /// The literals visited that aren't charged yet, and the work besides.
     pub(crate) visits: u64,
+    work: u64,
     /// So many gates the window may have.
     aim: u32,
 }
@@ -44,6 +54,7 @@ impl Engine {
             restarts: Restarts::new(),
             analysis: Analysis::new(alloc),
             visits: 0,
+            work: 0,
             aim: FIRST_WINDOW,
         }
     }
@@ -63,10 +74,18 @@ impl Engine {
         self.visits = self.visits.wrapping_add(1);
     }
 
-    /// Takes the visits from what may be spent.
-    pub(crate) fn charge(&mut self, left: &mut u64) {
-        *left = left.saturating_sub(self.visits);
+    /// Counts work that is done so many times.
+    pub(crate) fn count_work(&mut self, times: u32, each: u64) {
+        self.work = self.work.wrapping_add(u64::from(times).wrapping_mul(each));
+    }
+
+    /// Takes the visits and the work from what may be spent.
+    pub(crate) fn charge(&mut self, left: &mut Budget) {
+        let work = self.visits.saturating_add(self.work);
+        left.visits = left.visits.saturating_sub(self.visits);
+        left.work = left.work.saturating_sub(work);
         self.visits = 0;
+        self.work = 0;
     }
 
     /// Makes the window so large, as far as there are gates.
@@ -76,6 +95,7 @@ impl Engine {
         self.window.expand(graph, most)?;
         let more = self.window.gates().saturating_sub(before);
         self.visits = self.visits.wrapping_add(u64::from(more) * TAKEN_IN);
+        self.count_work(more, WORK_TAKEN_IN);
         Ok(())
     }
 
@@ -112,10 +132,13 @@ impl Engine {
 
     /// Takes back all values of higher levels.
     pub(crate) fn back_to(&mut self, level: u32) {
-        for _ in self.values.start_above(level)..self.values.len() {
+        let start = self.values.start_above(level);
+        let freed = self.values.len().saturating_sub(start);
+        for _ in 0..freed {
             let node = self.take_back();
             self.decisions.insert(node, self.window.height(node));
         }
+        self.count_work(freed, WORK_FREED);
         self.values.end_above(level);
     }
 

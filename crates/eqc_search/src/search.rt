@@ -42,6 +42,9 @@ pub struct Budget {
     pub conflicts: u64,
     /// Literals visited, of gates and of learned clauses.
     pub visits: u64,
+    /// What takes time, one for each literal visited, and as much more as the rest takes: to lay out windows, to order decisions
+    /// and to learn from conflicts.
+    pub work: u64,
 }
 
 /// A search, with the memory that it needs for graphs of the largest size that it met. Contracts see the clauses that it learned.
@@ -116,7 +119,7 @@ impl Search {
     {
         self.model.clear();
         let answer = self.run(graph, assumptions, budget);
-        self.engine.charge(&mut budget.visits);
+        self.engine.charge(budget);
         self.engine.finish();
         answer
     }
@@ -158,8 +161,8 @@ impl Search {
                     }
                 }
             }
-            self.engine.charge(&mut budget.visits);
-            if budget.visits == 0 {
+            self.engine.charge(budget);
+            if budget.visits == 0 || budget.work == 0 {
                 return Ok(Answer::GaveUp);
             }
         }

@@ -180,7 +180,7 @@ impl Finder {
     fn try_pair(&mut self, graph: &Graph, x: u32, y: u32) -> Result<Answer, AllocError>
         ensures { IfOk result (λ answer. answer ≡ Answer.Refuted → AreEqual graph.now x y) }
     {
-        let given = self.account.open();
+        let given = self.account.open(graph.len());
         let mut budget = given;
         let answer = ask_both(&mut self.search, graph, x, y, &mut budget);
         let is_equal = match &answer {
@@ -237,7 +237,7 @@ impl Finder {
         if *conflicts == 0 {
             return Ok(Comparison::Unknown);
         }
-        let given = budget_of(*conflicts);
+        let given = budget_of(*conflicts, u64::MAX);
         let mut budget = given;
         let answer = ask_both(&mut self.search, graph, x, y, &mut budget);
         *conflicts = conflicts_left(given, budget, graph.len());

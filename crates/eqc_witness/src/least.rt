@@ -23,7 +23,12 @@ const EACH: u64 = 16;
 /// So many visits, or nodes below the literal, count as a conflict, where there were fewer conflicts.
 const WORTH: u64 = 2_000;
 
-/// What may be spent where there may be so many conflicts.
+/// The work that goes with a conflict, and what it takes to read a node, to copy it and to make room for it in a search.
+const FREE: u64 = 8_000;
+
+const READ: u64 = 20;
+
+/// What may be spent where there may be so many conflicts. The work is only counted: what is begun isn't given up for it.
 fn budget_of(conflicts: u64, cone: &Cone) -> Budget {
     let nodes = u64::from(cone.graph.len());
     let questions = (cone.positions as u64).saturating_add(1);
@@ -33,6 +38,7 @@ fn budget_of(conflicts: u64, cone: &Cone) -> Budget {
             .saturating_add(WITHOUT)
             .saturating_mul(VISITS)
             .saturating_add(questions.saturating_mul(nodes).saturating_mul(EACH)),
+        work: u64::MAX,
     }
 }
 
@@ -42,6 +48,14 @@ fn conflicts_left(given: Budget, left: Budget, nodes: u32) -> u64 {
     let visits = given.visits.saturating_sub(left.visits);
     let worth = visits.saturating_add(u64::from(nodes)) / WORTH;
     left.conflicts.min(given.conflicts.saturating_sub(worth))
+}
+
+/// The work that was done beside the conflicts, for a cone of so many nodes.
+fn work_beside(given: Budget, left: Budget, nodes: u32) -> u64 {
+    let conflicts = given.conflicts.saturating_sub(left.conflicts);
+    let work = given.work.saturating_sub(left.work);
+    work.saturating_sub(conflicts.saturating_mul(FREE))
+        .saturating_add(u64::from(nodes) * READ)
 }
 
 /// A number above all variables.
@@ -144,9 +158,10 @@ fn least_of(
 /// `variables` has the variable of each position; where one stands twice, its first position counts. Of a literal that
 /// depends on others less may be found. `seen` are variables and their values in an assignment that is tried first; what isn't there is false, and nothing is promised of it.
 /// `conflicts` are those that all questions together may have: without any, nothing is found. Those that there were are taken away,
-/// and at least one for each two thousand literals that were visited and nodes below the literal. Time and memory are in
-/// proportion to the conflicts, and to the nodes below the literal and the positions times the positions. Fails where memory is
-/// refused.
+/// and at least one for each two thousand literals that were visited and nodes below the literal. `work` is what may be done beside
+/// these conflicts: without any, nothing is found. What was done is taken away, and may be more, since no search is given up for it.
+/// Its unit is a literal visited, and 8,000 go with each conflict; a node below the literal takes 20. Time and memory are in proportion
+/// to the conflicts, and to the nodes below the literal and the positions times the positions. Fails where memory is refused.
 pub fn least_witness(
     alloc: Global,
     graph: &Graph,
@@ -154,11 +169,12 @@ pub fn least_witness(
     variables: &[u16],
     seen: &[(u32, bool)],
     conflicts: &mut u64,
+    work: &mut u64,
 ) -> Result<Witness, AllocError>
     requires { IsWithin graph.now literal }
     ensures { IfOk result (IsWitness graph.now literal variables.now) }
 {
-    if *conflicts == 0 {
+    if *conflicts == 0 || *work == 0 {
         return Ok(Witness::Unknown(None));
     }
     let Some(cone) = Cone::of(alloc, graph, literal, variables)? else {
@@ -172,6 +188,8 @@ pub fn least_witness(
         budget: given,
     };
     let found = least_of(alloc, &cone, &guess, &mut means);
-    *conflicts = conflicts_left(means.given, means.budget, cone.graph.len());
+    let nodes = cone.graph.len();
+    *conflicts = conflicts_left(means.given, means.budget, nodes);
+    *work = work.saturating_sub(work_beside(means.given, means.budget, nodes));
     found
 }

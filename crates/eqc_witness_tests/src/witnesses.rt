@@ -105,6 +105,9 @@ static LIMITS: &[Limit] = &[
     ("nothing is asked without conflicts", FIRST_OR_APART, &[(0, true), (6, true)], 0, Found::Unknown(None)),
 ];
 
+/// So much work is enough.
+const MUCH_WORK: u64 = 1_000_000_000;
+
 /// Whether a node is made of nodes below this number.
 fn is_below(k: u32, node: Node) -> bool
     ensures { IsTrue result → IsBelow k node }
@@ -166,16 +169,26 @@ fn witness_in(
         panic!(rt; "a literal is of a node");
     }
     let mut left = conflicts;
-    let witness = least_witness(rt.alloc(), &graph, literal, variables, seen, &mut left)?;
+    let mut work = MUCH_WORK;
+    let witness = least_witness(
+        rt.alloc(),
+        &graph,
+        literal,
+        variables,
+        seen,
+        &mut left,
+        &mut work,
+    )?;
     Ok(found_of(witness))
 }
 
 /// What is found of three variables and 6,000 nodes, each the conjunction of one of these and the node before: of the last node, or
-/// of the second variable. With it the conflicts that are left of 100.
+/// of the second variable. With it the conflicts that are left of 100, and what is left of so much work.
 fn found_in_chain(
     rt: &(impl Abort + AllocGlobal),
     of_last: bool,
-) -> Result<(Found, u64), AllocError> {
+    work: u64,
+) -> Result<(Found, u64, u64), AllocError> {
     let mut graph = Graph::new(rt.alloc())?;
     push_all(
         rt,
@@ -192,8 +205,18 @@ fn found_in_chain(
         panic!(rt; "a literal is of a node");
     }
     let mut left = 100;
-    let witness = least_witness(rt.alloc(), &graph, literal, &[0, 1, 2], &[], &mut left)?;
-    Ok((found_of(witness), left))
+    let mut rest = work;
+    let variables = &[0, 1, 2];
+    let witness = least_witness(
+        rt.alloc(),
+        &graph,
+        literal,
+        variables,
+        &[],
+        &mut left,
+        &mut rest,
+    )?;
+    Ok((found_of(witness), left, rest))
 }
 
 #[test]
@@ -221,12 +244,33 @@ fn conflicts_are_a_limit(rt: HostRuntime) {
 
 #[test]
 fn nodes_below_the_literal_are_read(rt: HostRuntime) {
-    let witness = found_in_chain(&rt, true).map(|(found, _)| found);
-    same(&rt, witness, Ok(Found::Least(0b111)), "the last node");
+    let witness = found_in_chain(&rt, true, MUCH_WORK).map(|(found, _, rest)| (
+        found,
+        rest < MUCH_WORK,
+    ));
+    same(
+        &rt,
+        witness,
+        Ok((Found::Least(0b111), true)),
+        "the last node",
+    );
+}
+
+#[test]
+fn work_is_a_limit(rt: HostRuntime) {
+    let without = found_in_chain(&rt, true, 0).map(|(found, left, _)| (found, left));
+    same(
+        &rt,
+        without,
+        Ok((Found::Unknown(None), 100)),
+        "without work",
+    );
+    let little = found_in_chain(&rt, true, 1).map(|(_, _, rest)| rest);
+    same(&rt, little, Ok(0), "what reads more nodes");
 }
 
 #[test]
 fn other_nodes_cost_nothing(rt: HostRuntime) {
-    let found = found_in_chain(&rt, false);
+    let found = found_in_chain(&rt, false, MUCH_WORK).map(|(found, left, _)| (found, left));
     same(&rt, found, Ok((Found::Least(0b010), 100)), "a variable");
 }

@@ -1,4 +1,5 @@
 //! What a sweep may spend, and has spent.
+ghost use Rattle.std.specs.Prelude.{◌<◌};
 
 use eqc_search::Budget;
 
@@ -22,30 +23,32 @@ const WITHOUT: u64 = 100;
 /// So many visits count as a conflict, where there were fewer conflicts.
 const WORTH: u64 = 1_000;
 
-/// A visit counts once more for each so many nodes of the graph: it takes longer where these are far apart in memory.
+/// Work counts once more for each so many nodes of the graph: it takes longer where these are far apart in memory.
 const LARGE: u32 = 200_000;
 
-/// How much all questions and simulations together may cost: so much for each node, and for the graph as a whole, and never more
+/// How much work all questions and simulations together may do: so much for each node, and for the graph as a whole, and never more
 /// than so much, whatever the netlist.
-const EACH_NODE: u64 = 20_000;
+const EACH_NODE: u64 = 40_000;
 
-const WHOLE: u64 = 10_000_000;
+const WHOLE: u64 = 20_000_000;
 
-const AT_MOST: u64 = 200_000_000;
+const AT_MOST: u64 = 100_000_000;
 
 /// How much of that may be in vain: simulations, and questions after which no node was found equal. A netlist of which no two
 /// nodes are equal costs no more, whatever its size.
-const IN_VAIN: u64 = 100_000_000;
+const IN_VAIN: u64 = 70_000_000;
 
-/// What a question costs that visits nothing.
+/// The work of a question that visits nothing, and of a simulated word: the signature is another one then, and is entered anew.
 const QUESTION: u64 = 200;
+
+const WORD: u64 = 4;
 
 /// How many rows of counterexamples are simulated with one of them each, and how many in all.
 const ALONE: u32 = 64;
 
 const ROWS: u32 = 256;
 
-/// What was spent of conflicts, of visits and simulated words, and of rows.
+/// What was spent of conflicts, of work, and of rows.
 #[derive(Clone, Copy, Debug)]
 pub(crate) struct Account {
     conflicts: u64,
@@ -55,24 +58,27 @@ pub(crate) struct Account {
     rows: u32,
 }
 
-/// What a question may spend that may have so many conflicts.
-pub(crate) fn budget_of(conflicts: u64) -> Budget {
+/// What a question may spend that may have so many conflicts, and so much work.
+pub(crate) fn budget_of(conflicts: u64, work: u64) -> Budget {
     Budget {
         conflicts,
         visits: conflicts.saturating_add(WITHOUT).saturating_mul(VISITS),
+        work,
     }
 }
 
-/// What visits count in a graph of so many nodes.
-fn weighed(visits: u64, nodes: u32) -> u64 {
-    visits.saturating_mul(1 + u64::from(nodes / LARGE))
+/// As how much work counts what is done in a graph of so many nodes.
+fn weight_of(nodes: u32) -> u64
+    ensures { 0 < result }
+{
+    1 + u64::from(nodes / LARGE)
 }
 
 /// The conflicts that are left of what a question about a graph of so many nodes was given. Where much was visited for each, that
 /// counts as more of them.
 pub(crate) fn conflicts_left(given: Budget, left: Budget, nodes: u32) -> u64 {
     let visits = given.visits.saturating_sub(left.visits);
-    let worth = weighed(visits, nodes) / WORTH;
+    let worth = visits.saturating_mul(weight_of(nodes)) / WORTH;
     left.conflicts.min(given.conflicts.saturating_sub(worth))
 }
 
@@ -86,30 +92,38 @@ impl Account {
         }
     }
 
-    /// Whether more may be spent on a graph of so many nodes.
-    pub(crate) fn has_room(&self, nodes: u32) -> bool {
-        let room = u64::from(nodes) * EACH_NODE + WHOLE;
-        weighed(self.spent, nodes) <= room.min(AT_MOST) && weighed(self.vain, nodes) <= IN_VAIN
+    /// What may be spent on a graph of so many nodes yet.
+    fn left(&self, nodes: u32) -> u64 {
+        let room = (u64::from(nodes) * EACH_NODE + WHOLE).min(AT_MOST);
+        let weight = weight_of(nodes);
+        let all = (room / weight).saturating_sub(self.spent);
+        all.min((IN_VAIN / weight).saturating_sub(self.vain))
     }
 
-    /// What the next question may spend.
-    pub(crate) fn open(&mut self) -> Budget {
+    /// Whether more may be spent on a graph of so many nodes.
+    pub(crate) fn has_room(&self, nodes: u32) -> bool {
+        self.left(nodes) > 0
+    }
+
+    /// What the next question about a graph of so many nodes may spend.
+    pub(crate) fn open(&mut self, nodes: u32) -> Budget {
         self.conflicts = self.conflicts.saturating_add(EACH);
-        budget_of((self.conflicts / PART).max(FEWEST).min(MOST))
+        let conflicts = (self.conflicts / PART).max(FEWEST).min(MOST);
+        budget_of(conflicts, self.left(nodes))
     }
 
     /// Counts what a question spent, by which a node was found equal or not.
     pub(crate) fn close(&mut self, given: Budget, left: Budget, is_equal: bool) {
         let conflicts = given.conflicts.saturating_sub(left.conflicts);
         self.conflicts = self.conflicts.saturating_sub(conflicts);
-        let visits = given.visits.saturating_sub(left.visits);
-        self.spend(visits.saturating_add(QUESTION), !is_equal);
+        let work = given.work.saturating_sub(left.work);
+        self.spend(work.saturating_add(QUESTION), !is_equal);
     }
 
-    fn spend(&mut self, words: u64, in_vain: bool) {
-        self.spent = self.spent.saturating_add(words);
+    fn spend(&mut self, work: u64, in_vain: bool) {
+        self.spent = self.spent.saturating_add(work);
         if in_vain {
-            self.vain = self.vain.saturating_add(words);
+            self.vain = self.vain.saturating_add(work);
         }
     }
 
@@ -129,7 +143,7 @@ impl Account {
             return false;
         }
         self.rows += 1;
-        self.spend(u64::from(nodes), true);
+        self.spend(u64::from(nodes) * WORD, true);
         true
     }
 }

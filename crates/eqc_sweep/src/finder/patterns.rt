@@ -8,6 +8,10 @@ use std::alloc::{AllocError, Global};
 /// How many rows of random patterns there are.
 const RANDOM: usize = 8;
 
+/// The random row in the last two places of which all inputs are true, and all are false. So a conjunction of all inputs doesn't look
+/// constant either.
+const ALIKE: usize = RANDOM - 1;
+
 /// How many rows there are in which all inputs but one are true, each of 256 inputs in its turn, and how many in which all but one
 /// are false. They tell conjunctions of many inputs apart, and disjunctions, which look constant under random patterns.
 const ALL_BUT_ONE: usize = 4;
@@ -50,7 +54,8 @@ fn input_word(random: &mut Random, input: u32, row: usize) -> u64 {
     if row >= RANDOM && row < FIXED {
         return turn_of(input, row);
     }
-    random.next()
+    let word = random.next();
+    if row == ALIKE { word >> 2 | 1 << 62 } else { word }
 }
 
 impl Patterns {
