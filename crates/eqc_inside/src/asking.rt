@@ -5,7 +5,7 @@ ghost use Rattle.std.specs.Thread.{IsSync};
 ghost use Rattle.eqc_inside.specs.Inside.{IsInside};
 ghost use Rattle.eqc_inside.specs.Searching.{IsAnswerOf, IsQuestionOf};
 
-use crate::searching::{difference_literal, seen_true};
+use crate::searching::{difference_literal, seen_true, work_left};
 use eqc_build::Steps;
 use eqc_graph::Graph;
 use eqc_pair::Pair;
@@ -33,7 +33,7 @@ pub(crate) struct Answer {
     pub witness: Witness,
     /// The conflicts that were left of those that it could have.
     pub left: u64,
-    /// The work that was done beside the conflicts.
+    /// The work that it takes from the others, beside the conflicts.
     pub work: u64,
 }
 
@@ -86,15 +86,21 @@ fn ask(
         literal,
         seen,
     } = question;
-    let variables = pair.variables();
     let witness = least_witness(
-        alloc, graph, *literal, variables, seen, &mut left, &mut rest,
+        alloc,
+        graph,
+        *literal,
+        pair.variables(),
+        seen,
+        &mut left,
+        &mut rest,
     )?;
+    let kept = work_left(&witness, work, rest);
     Ok(Answer {
         output: *output,
         witness,
         left,
-        work: work.saturating_sub(rest),
+        work: work.saturating_sub(kept),
     })
 }
 

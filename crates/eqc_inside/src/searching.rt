@@ -138,6 +138,15 @@ fn witness_of(
     )
 }
 
+/// The work that is left for further outputs, where so much was there before a search, and so much behind it: a difference that is told
+/// of is worth its work.
+pub(crate) fn work_left(found: &Witness, before: u64, behind: u64) -> u64 {
+    match found {
+        Witness::Least(_) => before,
+        Witness::Never | Witness::Unknown(_) => behind,
+    }
+}
+
 /// Whether no assignment is allowed, by what is found of those that are: none where nothing is.
 fn tells_vacuous(pair: &Pair<'_>, found: Witness) -> Option<bool>
     requires { IsFoundOf (length pair.now.first.inputs) (is_allowed (netlist_of pair.now.first) (assumption_of pair.now)) found }
@@ -172,10 +181,15 @@ fn is_never_allowed(
     let seen = seen_true(alloc, sweep, literal);
     let mut left = conflicts;
     let mut work = u64::MAX;
-    let graph = sweep.graph();
     let variables = pair.variables();
     let found = least_witness(
-        alloc, graph, literal, variables, &seen, &mut left, &mut work,
+        alloc,
+        sweep.graph(),
+        literal,
+        variables,
+        &seen,
+        &mut left,
+        &mut work,
     )?;
     Ok(tells_vacuous(pair, found))
 }
@@ -230,16 +244,18 @@ impl<'a> Inside<'a> {
         let pair = self.steps.pair();
         match difference_literal(&self.steps, &mut self.sweep, &self.literals, output)? {
             Some(literal) => {
-                let work = &mut self.work;
-                witness_of(
+                let mut work = self.work;
+                let found = witness_of(
                     alloc,
                     pair,
                     &mut self.sweep,
                     output,
                     literal,
                     conflicts,
-                    work,
-                )
+                    &mut work,
+                )?;
+                self.work = work_left(&found, self.work, work);
+                Ok(found)
             }
             None => Ok(Witness::Unknown(None)),
         }
@@ -343,7 +359,6 @@ impl<'a> Inside<'a> {
                 continue;
             }
             let mut left = conflicts.next();
-            let work = self.work;
             let marks = &alike.equal;
             let witness = self.next_witness(
                 rt, alloc, marks, output, &mut left, threads, &mut ahead,
@@ -353,8 +368,6 @@ impl<'a> Inside<'a> {
                 Witness::Never => mark(alike, output),
                 Witness::Unknown(seen) => return Ok(Searched::Open(output, seen)),
                 Witness::Least(values) => {
-                    // What is told of is worth its work.
-                    self.work = work;
                     found.push(Difference { output, values })?;
                     if !every {
                         return Ok(Searched::Found(Outcome::Compared(found)));
