@@ -55,7 +55,11 @@ fn input_word(random: &mut Random, input: u32, row: usize) -> u64 {
         return turn_of(input, row);
     }
     let word = random.next();
-    if row == ALIKE { word >> 2 | 1 << 62 } else { word }
+    if row == ALIKE {
+        word >> 2 | 1 << 62
+    } else {
+        word
+    }
 }
 
 impl Patterns {
