@@ -13,12 +13,13 @@ use Rattle.eqc_arena.specs.Changing.{Changes}
 use Rattle.eqc_apply.specs.Names.{IsThere}
 use Rattle.eqc_apply.specs.Before.{IsBefore}
 use Rattle.eqc_apply.specs.Combining.{IsResult}
+use Rattle.eqc_guard.proofs.Snapshots.{first_all}
 use Rattle.eqc_arena.proofs.Asking.{held_is_named}
 use Rattle.eqc_apply.proofs.Reading.{starts_below, starts_root}
 use Rattle.eqc_apply.proofs.Above.{starts_both}
 
 -- nothing was found
-pub passes : (old new : Standing) → IsPassed old new → Changes [] [] old.known.core.hand old.known.core.draft old new
+pub passes : (old new : Standing) → IsPassed 0 old new → Changes [] [] old.known.core.hand old.known.core.draft old new
 passes old new s = record {
   forest = s.stands.forest;
   held = old.known.core.held;
@@ -33,6 +34,7 @@ passes old new s = record {
   names = λ x. refl;
   lengths = refl;
   trees = λ x two h. s.stands.trees x two (omega arith);
+  snapshots = first_all old.known new.known s.stands.others;
   copy = s.stands.copy;
   known = s.stands.known;
 }
@@ -53,6 +55,7 @@ hits op f g r old new s = record {
   names = λ x. omega (arith, times-append x old.known.core.held (slots_of (r ∷ [])), times-nil x);
   lengths = omega (arith, length-append old.known.core.held (slots_of (r ∷ [])));
   trees = λ x two h. s.trees x two (omega arith);
+  snapshots = s.snapshots;
   copy = s.copy;
   known = s.known;
 }

@@ -20,3 +20,4 @@ pub mod Absorbing
 pub mod Emptied
 pub mod Copying
 pub mod Telling
+pub mod Comparing

@@ -2,9 +2,16 @@
 use Rattle.std.proofs.Common.{◌≡◌, ℕ, zero, suc, ◌+◌, List, [], ◌∷◌, ◌++◌, map, max, Result, Ok, Err, IfOk, OnErr, refl, sym, ap, subst, ◌∙◌, arith}
 use Rattle.std.proofs.lemmas.List.Elements.{All-push, All-cons}
 use Rattle.std.proofs.lemmas.List.{map-append}
+use mathlib.Core.Option.{some, some-injective, some-ne-none}
+use lib.ListN.{get_elem?}
 use Rattle.atomic_table.specs.Seated.{TableId}
 use Rattle.eqc_tree.specs.Holding.{IsNew}
 use Rattle.eqc_core.specs.State.{slots_from}
+use Rattle.eqc_core.specs.Words.{times}
+use Rattle.eqc_core.specs.declared.phase.Phase.{Phase}
+use Rattle.eqc_core.specs.declared.phase.Phase.TheVariants.{Idle}
+use Rattle.eqc_core.specs.View.{idle}
+use Rattle.eqc_core.specs.Moves.{IsQuiet}
 use Rattle.eqc_core.specs.declared.sizes.Sizes.{Sizes}
 use Rattle.eqc_guard.specs.declared.fault.SplitFault.{SplitFault}
 use Rattle.eqc_guard.specs.Known.{Known}
@@ -38,6 +45,26 @@ pub splits : (n : ℕ) (counts cells : List ℕ) (old new : Standing) (o : Resul
     OnErr o (new ≡ old) → Has [] n old counts → IsCache (kept_of n old.known) cells → Has [] n new counts × IsCache (kept_of n new.known) cells
 splits n counts cells old new (Ok other) s e h c = (left_has n counts old new s.known h, left_cached n cells old new s.known c)
 splits n counts cells old new (Err f) s e h c = (subst (λ (t : Standing). Has [] n t counts) (sym e) h, subst (λ (t : Standing). IsCache (kept_of n t.known) cells) (sym e) c)
+
+-- an announcement word of a worker that has just come announces nothing
+idle_quiet : (n k : ℕ) (p : Phase) → get_elem? (idle n) k ≡ some p → IsQuiet p
+idle_quiet zero k p e = absurd (some-ne-none p (sym e))
+idle_quiet (suc n) zero p e = subst (λ (q : Phase). IsQuiet q) (some-injective Idle p e) tt
+idle_quiet (suc n) (suc k) p e = idle_quiet n k p e
+
+-- who was split off is at rest, and holds nothing
+pub off_has : (n : ℕ) (counts none : List ℕ) (old other : Standing) → other.known ≡ split_off old.known → none ≡ [] → Has [] n old counts → Has [] n other none
+unfolding times
+off_has n counts none old other is empty h =
+    subst (λ (cs : List ℕ). Has [] n other cs) (sym empty)
+    (subst (λ (k : Known). Has [] n (record { forest = other.forest; known = k }) []) (sym is)
+    (record {
+      rest = record { ready = refl; quiet = λ k p e. idle_quiet old.known.core.sizes.announcements k p e; no_draft = refl; no_hand = refl };
+      cells = h.cells;
+      range = h.range;
+      constants = λ x lt. refl;
+      once = λ x two. refl;
+    }))
 
 -- the first member is as it was, and has given one number more
 pub lead_left : (n w g v : ℕ) (counts : List ℕ) (old new : Known) → new ≡ split_left old → IsNew n (holding_of v old counts) → IsNew n (holding_of v new counts)

@@ -1,6 +1,7 @@
 -- For proofs alone: cofactors, nodes and results, among the names that a worker holds (Bryant 1986, section 4.3). No public promise cites it.
-use Rattle.std.specs.Prelude.{◌≡◌, ℕ, ◌<◌, Bool, if◌then◌else◌}
+use Rattle.std.specs.Prelude.{◌≡◌, ◌↔◌, ℕ, ◌<◌, Bool, IsTrue, if◌then◌else◌}
 use Rattle.eqc_tree.specs.Tree.{value, StartsAbove}
+use Rattle.eqc_tree.specs.Operation.{operate}
 use Rattle.eqc_tree.specs.declared.operation.Op.{Op}
 use Rattle.eqc_plain.specs.Combining.{IsResult as IsRight}
 use Rattle.eqc_guard.specs.Known.{Known, IsHeld, tree_of}
@@ -23,3 +24,7 @@ pub record AreCofactors (variables : ℕ) (k : Known) (v x low high : ℕ) : Typ
 -- x has the operation's function on those of f and g, and starts no higher than both
 abbrev pub IsResult : ℕ → Op → Known → (f g x : ℕ) → Type 0
 IsResult variables op k f g x = IsRight (meaning_of variables k) op f g x
+
+-- it is told whether the operation's function on those of f and g is that of x
+abbrev pub Compares : Op → Known → (f g x : ℕ) → Bool → Type 0
+Compares op k f g x same = IsTrue same ↔ ((a : ℕ → Bool) → operate op (value (tree_of k f) a) (value (tree_of k g) a) ≡ value (tree_of k x) a)

@@ -7,7 +7,8 @@
 //! - `held`, what a worker holds: its counts, cofactors and nodes; `reference`, what is handed out
 //! - `applier`, with the results that a worker keeps for itself; `expansion` and `apply`, the loop; `parts`, with which
 //!   part of an operation a worker begins
-//! - `allowance`, how long operations may go on; `shared`, the operation cache that all workers share
+//! - `allowance`, how long operations may go on; `shared`, the operation cache that all workers share; `cached`,
+//!   whether a result that it has is a given function, asked without a count
 //! - `boxes` and `forking`, in which one half of an operation is offered to other workers; `serving`, which
 //!   do it
 //! - `least`, the least assignment, found on a `plain_copy` of a diagram
@@ -19,6 +20,7 @@ mod allowance;
 mod applier;
 mod apply;
 mod boxes;
+mod cached;
 mod closing;
 mod diagrams;
 mod expansion;

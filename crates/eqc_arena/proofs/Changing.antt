@@ -20,6 +20,7 @@ use Rattle.eqc_guard.proofs.Acquiring.{constant_trees, set_twice}
 use Rattle.eqc_guard.proofs.Counts.{slots_held, length-without_all}
 use Rattle.eqc_guard.proofs.Learning.{held_named, keeps_on}
 use Rattle.eqc_guard.proofs.Copying.{keeps_copy}
+use Rattle.eqc_guard.proofs.Snapshots.{all_stay, named_keep, snapshots_on, steps_keep}
 use Rattle.eqc_cache.specs.Storing.{IsAsBefore}
 use Rattle.eqc_cache.proofs.Trading.{slots_times, slots_length}
 use Rattle.eqc_arena.specs.Changing.{MayBegin, Changes, Exchanges}
@@ -71,6 +72,7 @@ module _ (gone came : List ℕ) (v : View) (old new : Standing) (s : Steps old v
     names = names;
     lengths = lengths;
     trees = λ x two h. s.known.agrees x two (held_named old.known.core x (omega arith)) (held_named v x (omega (arith, names x)));
+    snapshots = steps_keep old new v s (ap (λ (w : View). w.phases) is);
     copy = s.known.copy;
     known = s.known.known;
   }
@@ -94,6 +96,7 @@ stays s known = record {
   names = λ x. refl;
   lengths = refl;
   trees = λ x two h. refl;
+  snapshots = all_stay s.known;
   copy = λ ws e. (ws, e);
   known = known;
 }
@@ -159,6 +162,7 @@ claims slot old new d = record {
   names = λ x. refl;
   lengths = refl;
   trees = λ x two h. d.trees x two (held_named old.known.core x (omega arith));
+  snapshots = named_keep old.known new.known (ap (λ (v : View). v.phases) d.core) d.trees;
   copy = d.copy;
   known = d.known;
 }
@@ -178,6 +182,7 @@ sees first last old new n = record {
   names = λ x. refl;
   lengths = refl;
   trees = λ x two h. n.trees x two (held_named old.known.core x (omega arith));
+  snapshots = named_keep old.known new.known (ap (λ (v : View). v.phases) n.core) n.trees;
   copy = n.copy;
   known = n.known;
 }
@@ -231,6 +236,7 @@ empties old new s = record {
   names = λ x. omega (arith, s.names x);
   lengths = omega (arith, s.lengths);
   trees = λ x two h. s.trees x two (omega arith);
+  snapshots = s.snapshots;
   copy = s.copy;
   known = s.known;
 }
@@ -258,6 +264,7 @@ scans old new known ready s = record {
   names = λ x. omega (arith, s.same x);
   lengths = omega (arith, s.lengths);
   trees = λ x two h. s.trees x two (omega arith);
+  snapshots = s.snapshots;
   copy = keeps_copy old.known new.known s.copy;
   known = s.known;
 }
@@ -306,6 +313,7 @@ module _ {gone came : List ℕ} {hand : Option Hand} {draft : Option ℕ} {old m
     names = λ x. omega (arith, u.names x, names_now x, balance x);
     lengths = omega (arith, u.lengths, lengths_now, weights);
     trees = λ x two h. u.trees x two (omega (arith, names_now x, covered x)) ∙ t.trees x two h;
+    snapshots = snapshots_on old.known mid.known new.known t.snapshots u.snapshots;
     copy = keeps_on old.known mid.known new.known t.copy u.copy;
     known = u.known;
   }
@@ -336,6 +344,7 @@ after_still {went} {more} {hand} {draft} {old} {mid} {new} t w = let u = here t 
   names = λ x. omega (arith, u.names x, names_now t x);
   lengths = omega (arith, u.lengths, lengths_now t);
   trees = λ x two h. u.trees x two (omega (arith, names_now t x)) ∙ t.trees x two (omega (arith, times-nil x));
+  snapshots = snapshots_on old.known mid.known new.known t.snapshots u.snapshots;
   copy = keeps_on old.known mid.known new.known t.copy u.copy;
   known = u.known;
 }

@@ -23,6 +23,7 @@ use Rattle.eqc_arena.specs.Unboxing.{HoldsParcel, AreUnboxed, KeepsMarks, NotesS
 use Rattle.eqc_arena.specs.Emptying.{MayEmpty}
 use Rattle.eqc_arena.proofs.Changing.{changed, changed_twice, here, on, names_now, lengths_now, quiet_now}
 use Rattle.eqc_guard.proofs.Learning.{keeps_on}
+use Rattle.eqc_guard.proofs.Snapshots.{snapshots_on}
 
 -- these names are held, each as often as it is there
 abbrev pub HasAll : List ℕ → View → Type 0
@@ -56,6 +57,7 @@ front_goes x rest {old} {mid} {new} t next =
       names = λ y. omega (arith, u.names y, names_now t y, slots_times y x rest, times-nil y);
       lengths = omega (arith, u.lengths, lengths_now t, slots_length x rest);
       trees = λ y two h. u.trees y two (omega (arith, names_now t y, slots_times y x rest, times-nil y)) ∙ t.trees y two (omega (arith, slots_times y x rest));
+      snapshots = snapshots_on old.known mid.known new.known t.snapshots u.snapshots;
       copy = keeps_on old.known mid.known new.known t.copy u.copy;
       known = u.known;
     }

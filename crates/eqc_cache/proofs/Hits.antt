@@ -24,8 +24,10 @@ use Rattle.eqc_guard.specs.Acquiring.{IsAt, IsAcquired}
 use Rattle.eqc_guard.specs.Telling.{IsResult, Shown}
 use Rattle.eqc_guard.proofs.Acquiring.{set_twice, seen_as, goes_on, constant_trees, result_before}
 use Rattle.eqc_guard.proofs.Learning.{held_named, confirmed_named, keeps_on}
+use Rattle.eqc_guard.proofs.Snapshots.{snapshots_on, steps_keep, first_keeps, first_all}
 use Rattle.eqc_guard.proofs.Sweeping.{forget_none}
 use Rattle.eqc_cache.specs.Finding.{IsOrdered, IsTaken, IsHit}
+use Rattle.eqc_cache.specs.Placing.{IsEntry}
 
 -- a worker has a first announcement word, and its phase there is the one that was set
 pub length_set : (ps : List Phase) (p : Phase) → length (set ps 0 p) ≡ length ps
@@ -36,25 +38,25 @@ pub first_set : (ps : List Phase) (p : Phase) → 0 < length ps → get_or (set 
 first_set [] p some_words = absurd (omega arith)
 first_set (q ∷ qs) p some_words = refl
 
-some_phases : (old mid : Standing) (p : Phase) → IsAt p old mid → 0 < length old.known.core.phases
+some_phases : (old mid : Standing) (p : Phase) → IsAt 0 p old mid → 0 < length old.known.core.phases
 some_phases old mid p a = let n : 0 < length (set old.known.core.phases 0 p) = subst (λ (v : View). 0 < length v.phases) a.core a.known.word in omega (arith, length_set old.known.core.phases p)
 
-pub phase_now : (old mid : Standing) (p : Phase) → IsAt p old mid → phase_at mid.known.core 0 ≡ p
+pub phase_now : (old mid : Standing) (p : Phase) → IsAt 0 p old mid → phase_at mid.known.core 0 ≡ p
 phase_now old mid p a = ap (λ (v : View). phase_at v 0) a.core ∙ first_set old.known.core.phases p (some_phases old mid p a)
 
-phase_there : (old mid : Standing) (p : Phase) → IsAt p old mid → get_elem? mid.known.core.phases 0 ≡ some p
+phase_there : (old mid : Standing) (p : Phase) → IsAt 0 p old mid → get_elem? mid.known.core.phases 0 ≡ some p
 phase_there old mid p a = ap (λ (v : View). get_elem? v.phases 0) a.core ∙ set_here old.known.core.phases 0 p (some_phases old mid p a)
 
 -- what may be announced is the result of the word that was seen
-module _ (old s1 : Standing) (x : ℕ) (may : MayAnnounce old.known.core 0 x) (two : 2 ≤ x) (yes_it_is : (c word : ℕ) → phase_at old.known.core 0 ≡ Seen c word → IsAcquired word old s1) where
+module _ (old s1 : Standing) (x : ℕ) (may : MayAnnounce old.known.core 0 x) (two : 2 ≤ x) (yes_it_is : (c word : ℕ) → phase_at old.known.core 0 ≡ Seen c word → IsAcquired 0 word old s1) where
   seen : (c : ℕ) × (word : ℕ) × (phase_at old.known.core 0 ≡ Seen c word) × (x ≡ result_of word)
   seen = seen_as (phase_at old.known.core 0) x may.2 two
 
-  got : IsAcquired seen.1 old s1
+  got : IsAcquired 0 seen.1 old s1
   got = yes_it_is seen.0 seen.1 seen.2
 
-  pub confirmed_at : IsAt (Confirmed x) old s1
-  confirmed_at = subst (λ (n : ℕ). IsAt (Confirmed n) old s1) (sym seen.3) got.confirmed
+  pub confirmed_at : IsAt 0 (Confirmed x) old s1
+  confirmed_at = subst (λ (n : ℕ). IsAt 0 (Confirmed n) old s1) (sym seen.3) got.confirmed
 
   pub knows_it : Knows s1.known.core x
   knows_it = inr (inl (0, phase_there old s1 (Confirmed x) confirmed_at))
@@ -74,9 +76,9 @@ module _ (old s1 : Standing) (x : ℕ) (may : MayAnnounce old.known.core 0 x) (t
   )
 
   -- where the limit of references forbids the count, nothing is announced then, and no name more is held
-  pub let_go : (s2 s3 : Standing) → s2 ≡ s1 → Steps s2 (announced s2.known.core 0) s3 → IsAt Idle old s3
+  pub let_go : (s2 s3 : Standing) → s2 ≡ s1 → Steps s2 (announced s2.known.core 0) s3 → IsAt 0 Idle old s3
   let_go s2 s3 same gone =
-      goes_on old s1 s3 (Confirmed x) Idle confirmed_at
+      goes_on 0 old s1 s3 (Confirmed x) Idle confirmed_at
       (subst (λ (p : Phase). Steps s1 (with_phase s1.known.core 0 (announced_phase p)) s3) (phase_now old s1 (Confirmed x) confirmed_at)
       (subst (λ (s : Standing). Steps s (announced s.known.core 0) s3) same gone))
 
@@ -121,6 +123,9 @@ module _ (old s1 : Standing) (x : ℕ) (may : MayAnnounce old.known.core 0 x) (t
             let mine : tree_of s3.known x ≡ tree_of s1.known x =
             later x two (confirmed_named s1.known.core 0 x (phase_there old s1 (Confirmed x) confirmed_at)) (omega (arith, times-append x s1.known.core.held (x ∷ []), times-same x x [] refl)) in
             subst (λ (t : Tree). IsResult old.known word t) (ap (tree_of s1.known) (sym l.1) ∙ sym mine) a.right;
+        snapshots = snapshots_on old.known s1.known s3.known (first_all old.known s1.known confirmed_at.others) (snapshots_on s1.known s2.known s3.known
+            (steps_keep s1 s2 (upped s1.known.core x) up refl)
+            (first_keeps s2 s3 (announced s2.known.core 0) gone (announced_phase (phase_at s2.known.core 0)) refl));
         copy = keeps_on old.known s1.known s3.known confirmed_at.copy (keeps_on s1.known s2.known s3.known up.known.copy gone.known.copy);
         known = gone.known.known;
       }
@@ -141,14 +146,19 @@ either_way Xor false true n = refl
 either_way Xor false false n = refl
 either_way AndNot a b n = absurd (n refl)
 
+-- the result of an entry's word is the operation's of its operands
+pub given_result : (op : Op) (f g word : ℕ) (k : Known) (t : Tree) → IsEntry op (f, g) word → IsHeld k.core f → IsHeld k.core g → IsResult k word t
+    → (a : ℕ → Bool) → operate op (value (tree_of k f) a) (value (tree_of k g) a) ≡ value t a
+given_result op f g word k t entry hf hg is a =
+    (λ i. operate op (value (tree_of k (sym entry.1 i)) a) (value (tree_of k (sym entry.2 i)) a))
+    ∙ is (subst (λ (n : ℕ). IsHeld k.core n) (sym entry.1) hf) (subst (λ (n : ℕ). IsHeld k.core n) (sym entry.2) hg) op entry.0 a
+
 -- what a look leaves, and a count after it
-module _ (op : Op) (f g x cell word : ℕ) (old s1 : Standing) (looks : IsAt (Seen cell word) old s1) (tag : operation_of word ≡ tag_of op)
+module _ (op : Op) (f g x cell word : ℕ) (old s1 : Standing) (looks : IsAt 0 (Seen cell word) old s1) (tag : operation_of word ≡ tag_of op)
     (first : first_of word ≡ f) (second : second_of word ≡ g) (f_held : IsHeld old.known.core f) (g_held : IsHeld old.known.core g) where
   -- the word's result, told of the operands
   as_given : (t : Tree) → IsResult old.known word t → (a : ℕ → Bool) → operate op (value (tree_of old.known f) a) (value (tree_of old.known g) a) ≡ value t a
-  as_given t is a =
-      (λ i. operate op (value (tree_of old.known (sym first i)) a) (value (tree_of old.known (sym second i)) a))
-      ∙ is (subst (λ (k : ℕ). IsHeld old.known.core k) (sym first) f_held) (subst (λ (k : ℕ). IsHeld old.known.core k) (sym second) g_held) op tag a
+  as_given t is a = given_result op f g word old.known t (tag, first, second) f_held g_held is a
 
   -- a constant needs no count
   pub finds_constant : (r : ℕ) → r ≡ result_of word → result_of word < 2 → Shown old.known word → IsHit op f g r old s1
@@ -161,6 +171,7 @@ module _ (op : Op) (f g x cell word : ℕ) (old s1 : Standing) (looks : IsAt (Se
         (sym (append-nil old.known.core.held) ∙ ap (λ (l : List ℕ). old.known.core.held ++ l) (sym none));
     result = λ a. as_given (tree_of old.known (result_of word)) (shown.constant small) a ∙ ap (λ (t : Tree). value t a) (same ∙ ap (tree_of s1.known) (sym is));
     trees = looks.trees;
+    snapshots = first_all old.known s1.known looks.others;
     copy = looks.copy;
     known = looks.known;
   }
@@ -180,8 +191,9 @@ module _ (op : Op) (f g x cell word : ℕ) (old s1 : Standing) (looks : IsAt (Se
     core = taken.core
         ∙ (ap (λ (v : View). record v { held = v.held ++ x ∷ []; phases = set v.phases 0 Idle }) looks.core
         ∙ (λ i. record old.known.core { held = old.known.core.held ++ sym one i; phases = set_twice old.known.core.phases (Seen cell word) Idle i }));
-    result = λ a. as_given (tree_of new.known x) (result_before (Seen cell word) old s1 word (tree_of new.known x) looks (taken.right cell word (phase_now old s1 (Seen cell word) looks))) a;
+    result = λ a. as_given (tree_of new.known x) (result_before 0 (Seen cell word) old s1 word (tree_of new.known x) looks (taken.right cell word (phase_now old s1 (Seen cell word) looks))) a;
     trees = λ y two_y h. taken.trees y two_y (subst (λ (v : View). 0 < times y v.held) (sym looks.core) h) ∙ looks.trees y two_y h;
+    snapshots = snapshots_on old.known s1.known new.known (first_all old.known s1.known looks.others) taken.snapshots;
     copy = keeps_on old.known s1.known new.known looks.copy taken.copy;
     known = taken.known;
   }
@@ -209,6 +221,7 @@ other_way op f g r old new free hit = record {
   core = hit.core;
   result = λ a. either_way op (value (tree_of old.known f) a) (value (tree_of old.known g) a) free ∙ hit.result a;
   trees = hit.trees;
+  snapshots = hit.snapshots;
   copy = hit.copy;
   known = hit.known;
 }
@@ -250,7 +263,7 @@ constant_number (suc zero) lt = refl
 constant_number (suc (suc n)) lt = absurd (omega arith)
 
 -- what was seen may be announced
-pub may_announce : (old s1 : Standing) (cell word x : ℕ) → IsAt (Seen cell word) old s1 → IsReady old.known.core →
+pub may_announce : (old s1 : Standing) (cell word x : ℕ) → IsAt 0 (Seen cell word) old s1 → IsReady old.known.core →
     0 < old.known.core.sizes.announcements → 2 ≤ x → x ≡ result_of word → MayAnnounce s1.known.core 0 x
 may_announce old s1 cell word x at ready some_words two is = (
   ap (λ (v : View). v.position) at.core ∙ ready,

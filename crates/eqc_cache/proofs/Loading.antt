@@ -22,6 +22,7 @@ use Rattle.eqc_guard.proofs.Acquiring.{starts, joins, held_tree_stays}
 use Rattle.eqc_guard.proofs.Closing.{read_stays}
 use Rattle.eqc_guard.proofs.Copying.{load_keeps, cells_on}
 use Rattle.eqc_guard.proofs.Learning.{keeps_on}
+use Rattle.eqc_guard.proofs.Snapshots.{snapshots_on, first_all}
 use Rattle.eqc_cache.specs.Finding.{IsOrdered, IsHit}
 use Rattle.eqc_cache.specs.Placing.{in_order, place_of, IsEntry, HasResult, HasNone, HasResultAt, HasNoneAt}
 use Rattle.eqc_cache.proofs.Hits.{ordered_hit}
@@ -31,22 +32,22 @@ module _ (old mid : Standing) (loads : Steps old old.known.core mid) where
   same_phase = ap (λ (ps : List Phase). record old.known.core { phases = ps }) (set-get_or old.known.core.phases 0 Idle)
 
   -- the phase is what it was
-  still : IsAt (phase_at old.known.core 0) old mid
-  still = starts old mid (phase_at old.known.core 0) (subst (λ (v : View). Steps old v mid) (sym same_phase) loads)
+  still : IsAt 0 (phase_at old.known.core 0) old mid
+  still = starts 0 old mid (phase_at old.known.core 0) (subst (λ (v : View). Steps old v mid) (sym same_phase) loads)
 
-  pub passes : IsQuiet (phase_at old.known.core 0) → IsPassed old mid
+  pub passes : IsQuiet (phase_at old.known.core 0) → IsPassed 0 old mid
   passes quiet = record { phase = phase_at old.known.core 0; quiet = quiet; stands = still }
 
   pub may_on : (cell : ℕ) → MayLook old.known.core 0 0 → cell < old.known.core.sizes.cells → MayLook mid.known.core 0 cell
   may_on cell may there = subst (λ (v : View). MayLook v 0 cell) (sym loads.known.core) (may.0, may.1, there, may.3)
 
-  pub passed_on : (new : Standing) → IsPassed mid new → IsPassed old new
-  passed_on new p = record { phase = p.phase; quiet = p.quiet; stands = joins old mid new (phase_at old.known.core 0) p.phase still p.stands }
+  pub passed_on : (new : Standing) → IsPassed 0 mid new → IsPassed 0 old new
+  passed_on new p = record { phase = p.phase; quiet = p.quiet; stands = joins 0 old mid new (phase_at old.known.core 0) p.phase still p.stands }
 
   hit_on : (op : Op) (f g r : ℕ) (new : Standing) → IsHeld old.known.core f → IsHeld old.known.core g → IsHit op f g r mid new → IsHit op f g r old new
   hit_on op f g r new first second hit =
-      let left = held_tree_stays (phase_at old.known.core 0) old mid f still first in
-      let right = held_tree_stays (phase_at old.known.core 0) old mid g still second in
+      let left = held_tree_stays 0 (phase_at old.known.core 0) old mid f still first in
+      let right = held_tree_stays 0 (phase_at old.known.core 0) old mid g still second in
       record {
         forest = hit.forest ∙ loads.forest;
         phase = hit.phase;
@@ -54,6 +55,7 @@ module _ (old mid : Standing) (loads : Steps old old.known.core mid) where
         core = hit.core ∙ ap (λ (v : View). record v { held = v.held ++ slots_of (r ∷ []); phases = set v.phases 0 hit.phase }) loads.known.core;
         result = λ a. (λ i. operate op (value (sym left i) a) (value (sym right i) a)) ∙ hit.result a;
         trees = λ x two h. hit.trees x two (subst (λ (v : View). 0 < times x v.held) (sym loads.known.core) h) ∙ still.trees x two h;
+        snapshots = snapshots_on old.known mid.known new.known (first_all old.known mid.known still.others) hit.snapshots;
         copy = keeps_on old.known mid.known new.known loads.known.copy hit.copy;
         known = hit.known;
       }

@@ -23,6 +23,7 @@ use Rattle.eqc_guard.proofs.Acquiring.{set_twice, constant_trees}
 use Rattle.eqc_guard.proofs.Counts.{length-without_all}
 use Rattle.eqc_guard.proofs.Learning.{held_named, keeps_on}
 use Rattle.eqc_guard.proofs.Copying.{keeps_copy}
+use Rattle.eqc_guard.proofs.Snapshots.{all_stay, snapshots_on, steps_keep, first_keeps}
 use Rattle.eqc_guard.proofs.Sweeping.{forget_none, forget_twice}
 use Rattle.eqc_cache.specs.Finding.{IsOrdered}
 use Rattle.eqc_cache.specs.Storing.{Trades, IsAsBefore, IsRight, MayReplace}
@@ -60,6 +61,7 @@ stays s known quiet = record {
   names = λ x. refl;
   lengths = refl;
   trees = λ x two h. refl;
+  snapshots = all_stay s.known;
   copy = λ ws e. (ws, e);
   known = known;
 }
@@ -84,6 +86,7 @@ scanned old new known ready quiet s = record {
   names = λ x. omega (arith, s.same x);
   lengths = omega (arith, s.lengths);
   trees = λ x two h. s.trees x two (omega (arith, times-nil x));
+  snapshots = s.snapshots;
   copy = keeps_copy old.known new.known s.copy;
   known = s.known;
 }
@@ -109,6 +112,7 @@ counted x old new known quiet s = record {
   trees = λ y two h.
       let was : 0 < times y old.known.core.held = omega arith in
       s.known.agrees y two (held_named old.known.core y was) (held_named (upped old.known.core x) y (omega (arith, times-append y old.known.core.held (x ∷ []))));
+  snapshots = steps_keep old new (upped old.known.core x) s refl;
   copy = s.known.copy;
   known = s.known.known;
 }
@@ -134,6 +138,7 @@ swaps found word old new may s = record {
   trees = λ x two h.
       let was : 0 < times x old.known.core.held = omega arith in
       s.known.agrees x two (held_named old.known.core x was) (held_named (swapped old.known.core found word) x (omega (arith, names x)));
+  snapshots = first_keeps old new (swapped old.known.core found word) s Idle refl;
   copy = s.known.copy;
   known = s.known.known;
 }
@@ -213,6 +218,7 @@ module _ (came went more gone all : List ℕ) (old mid new : Standing) (t : Trad
     trees = λ x two h.
         u.trees x two (omega (arith, names_now [] came old mid t x, covers x, times-nil x))
         ∙ t.trees x two (omega (arith, times-nil x));
+    snapshots = snapshots_on old.known mid.known new.known t.snapshots u.snapshots;
     copy = keeps_on old.known mid.known new.known t.copy u.copy;
     known = u.known;
   }
@@ -259,6 +265,7 @@ module _ (gone came : List ℕ) (x : ℕ) (old mid next : Standing) (t : Trades 
         let here : 0 < times y mid.known.core.held = subst (λ (l : List ℕ). 0 < times y l) (sym mine) was in
         let after : 0 < times y (downed mid.known.core x).held = subst (λ (l : List ℕ). 0 < times y (without x l)) (sym mine) is in
         s.known.agrees y two (held_named mid.known.core y here) (held_named (downed mid.known.core x) y after) ∙ t.trees y two h;
+    snapshots = snapshots_on old.known mid.known next.known t.snapshots (steps_keep mid next (downed mid.known.core x) s refl);
     copy = keeps_on old.known mid.known next.known t.copy s.known.copy;
     known = s.known.known;
   }
@@ -293,6 +300,7 @@ as_before old new known t = record {
   names = λ x. omega (arith, t.names x);
   lengths = omega (arith, t.lengths);
   trees = λ x two h. t.trees x two (omega (arith, times-nil x));
+  snapshots = t.snapshots;
   copy = t.copy;
   known = t.known;
 }

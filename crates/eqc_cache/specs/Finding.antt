@@ -10,6 +10,7 @@ use Rattle.eqc_core.specs.View.{phase_at}
 use Rattle.eqc_core.specs.Words.{times, slots_of}
 use Rattle.eqc_core.specs.Moves.{IsQuiet}
 use Rattle.eqc_guard.specs.Known.{IsKnown, KeepsCopy, tree_of}
+use Rattle.eqc_guard.specs.Snapshots.{KeepsSnapshots}
 use Rattle.eqc_guard.specs.Standing.{Standing}
 use Rattle.eqc_guard.specs.Telling.{IsResult}
 
@@ -23,6 +24,7 @@ pub record IsTaken (x : ℕ) (old new : Standing) : Type 0 where
   pub core : new.known.core ≡ record old.known.core { held = old.known.core.held ++ x ∷ []; phases = set old.known.core.phases 0 Idle }
   pub trees : (y : ℕ) → 2 ≤ y → 0 < times y old.known.core.held → tree_of new.known y ≡ tree_of old.known y
   pub right : (c word : ℕ) → phase_at old.known.core 0 ≡ Seen c word → IsResult old.known word (tree_of new.known x)
+  pub snapshots : KeepsSnapshots old.known new.known
   pub copy : KeepsCopy old.known new.known
   pub known : IsKnown new.known
 
@@ -34,5 +36,6 @@ pub record IsHit (op : Op) (f g r : ℕ) (old new : Standing) : Type 0 where
   pub core : new.known.core ≡ record old.known.core { held = old.known.core.held ++ slots_of (r ∷ []); phases = set old.known.core.phases 0 phase }
   pub result : (a : ℕ → Bool) → operate op (value (tree_of old.known f) a) (value (tree_of old.known g) a) ≡ value (tree_of new.known r) a
   pub trees : (x : ℕ) → 2 ≤ x → 0 < times x old.known.core.held → tree_of new.known x ≡ tree_of old.known x
+  pub snapshots : KeepsSnapshots old.known new.known
   pub copy : KeepsCopy old.known new.known
   pub known : IsKnown new.known

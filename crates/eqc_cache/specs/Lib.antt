@@ -1,3 +1,4 @@
 pub mod Placing
 pub mod Finding
 pub mod Storing
+pub mod Peeking

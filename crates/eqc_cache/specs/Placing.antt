@@ -61,3 +61,11 @@ HasResult op f g r k = (ws : List ℕ) → k.copy ≡ Some ws → IsEntry op (in
 -- or has no entry there
 abbrev pub HasNone : Op → ℕ → ℕ → Known → Type 0
 HasNone op f g k = (ws : List ℕ) → k.copy ≡ Some ws → IsEntry op (in_order op f g) (kept_word op f g k ws) → ⊥
+
+-- the cell of a worker that has a copy of the words has a node as its result
+abbrev pub HasNodeAt : ℕ → Known → Type 0
+HasNodeAt c k = (ws : List ℕ) → k.copy ≡ Some ws → 2 ≤ result_of (cell_in k ws c)
+
+-- so has the operands' cell
+abbrev pub HasNode : Op → ℕ → ℕ → Known → Type 0
+HasNode op f g k = (ws : List ℕ) → k.copy ≡ Some ws → 2 ≤ result_of (kept_word op f g k ws)

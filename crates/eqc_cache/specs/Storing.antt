@@ -10,6 +10,7 @@ use Rattle.eqc_core.specs.Moves.{IsReady, IsQuiet, forget}
 use Rattle.eqc_guard.specs.declared.filled.Filled.{Filled}
 use Rattle.eqc_guard.specs.Known.{Known, IsKnown, KeepsCopy, tree_of}
 use Rattle.eqc_guard.specs.Filling.{HasEntry}
+use Rattle.eqc_guard.specs.Snapshots.{KeepsSnapshots}
 use Rattle.eqc_guard.specs.Standing.{Standing}
 
 -- the operation on the functions of the operands gives the function of the result, as the worker knows them
@@ -37,6 +38,7 @@ pub record Trades (gone came : List ℕ) (old new : Standing) : Type 0 where
   pub names : (x : ℕ) → times x held + times x gone ≡ times x old.known.core.held + times x came
   pub lengths : length held + length gone ≡ length old.known.core.held + length came
   pub trees : (x : ℕ) → 2 ≤ x → times x gone < times x old.known.core.held → tree_of new.known x ≡ tree_of old.known x
+  pub snapshots : KeepsSnapshots old.known new.known
   pub copy : KeepsCopy old.known new.known
   pub known : IsKnown new.known
 
@@ -51,5 +53,6 @@ pub record IsAsBefore (old new : Standing) : Type 0 where
   pub names : (x : ℕ) → times x held ≡ times x old.known.core.held
   pub lengths : length held ≡ length old.known.core.held
   pub trees : (x : ℕ) → 2 ≤ x → 0 < times x old.known.core.held → tree_of new.known x ≡ tree_of old.known x
+  pub snapshots : KeepsSnapshots old.known new.known
   pub copy : KeepsCopy old.known new.known
   pub known : IsKnown new.known

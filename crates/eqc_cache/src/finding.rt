@@ -18,7 +18,7 @@ use eqc_tree::{Op, pack_cell, unpack_cell};
 // The result in a word, where the word is the entry of the operation with these operands.
 #[tactic(auto, unfolding(eqc_core::specs::Words::operation_of, eqc_core::specs::Words::first_of, eqc_core::specs::Words::second_of, eqc_core::specs::Words::result_of))]
 #[inline(always)]
-fn result_in(word: u64, op: Op, first: u32, second: u32) -> Option<u32>
+pub(crate) fn result_in(word: u64, op: Op, first: u32, second: u32) -> Option<u32>
     requires first { first < 2 ^ 20 }
     requires second { second < 2 ^ 20 }
     ensures entry { IfSome result (λ found. IsEntry op (first, second) word × (found ≡ result_of word)) }
@@ -39,11 +39,11 @@ fn take(worker: &mut Worker, found: u32) -> Option<Ref>
     requires slot { 2 ≤ found }
     ensures name { IfSome result (λ r. r.number ≡ found) }
     ensures hit { IfSome result (λ r. IsTaken found worker.old worker.new) }
-    ensures miss { result ≡ None → IsAt Idle worker.old worker.new }
+    ensures miss { result ≡ None → IsAt 0 Idle worker.old worker.new }
     ensures cells { KeepsCells worker.old.known worker.new.known }
     ensures alone { result ≡ None → (2 ^ 32 - 1 ≤ length worker.old.known.core.held) ⊎ ((ws : List ℕ) → worker.old.known.copy ≡ Some ws → (c word : ℕ) → phase_at worker.old.known.core 0 ≡ Seen c word → cell_in worker.old.known ws c ≡ word → ⊥) }
 {
-    if !worker.confirm(found) {
+    if !worker.confirm(0, found) {
         return None;
     }
     match worker.up(found) {
@@ -68,12 +68,12 @@ fn seek(worker: &mut Worker, op: Op, first: u32, second: u32, cell: u32) -> Opti
     requires first_held { IsHeld worker.old.known.core first }
     requires second_held { IsHeld worker.old.known.core second }
     ensures hit { IfSome result (λ r. IsHit op first second r.number worker.old worker.new) }
-    ensures miss { result ≡ None → IsPassed worker.old worker.new }
+    ensures miss { result ≡ None → IsPassed 0 worker.old worker.new }
     ensures cells { KeepsCells worker.old.known worker.new.known }
     ensures found { IfSome result (λ r. HasResultAt op (first, second) cell r.number worker.old.known) }
     ensures missed { result ≡ None → (2 ^ 32 - 1 ≤ length worker.old.known.core.held) ⊎ HasNoneAt op (first, second) cell worker.old.known }
 {
-    let word = worker.look(cell);
+    let word = worker.look(0, cell);
     let found = result_in(word, op, first, second)?;
     if found < 2 {
         return Some(worker.constant(found == 1));
@@ -93,7 +93,7 @@ pub fn lookup(worker: &mut Worker, op: Op, f: &Ref, g: &Ref) -> Option<Ref>
     requires first { IsHeld worker.old.known.core f.now.number }
     requires second { IsHeld worker.old.known.core g.now.number }
     ensures hit { IfSome result (λ r. IsHit op f.now.number g.now.number r.number worker.old worker.new) }
-    ensures miss { result ≡ None → IsPassed worker.old worker.new }
+    ensures miss { result ≡ None → IsPassed 0 worker.old worker.new }
     ensures cells { KeepsCells worker.old.known worker.new.known }
     ensures found { IfSome result (λ r. HasResult op f.now.number g.now.number r.number worker.old.known) }
     ensures missed { result ≡ None → (2 ^ 32 - 1 ≤ length worker.old.known.core.held) ⊎ HasNone op f.now.number g.now.number worker.old.known }

@@ -2,6 +2,7 @@ pub mod Lists
 pub mod Sums
 pub mod Names
 pub mod Places
+pub mod Phases
 pub mod Tables
 pub mod Frames
 pub mod Announcing

@@ -22,9 +22,9 @@ pub tree_stays : (s : State) (id x : ℕ) (v : View) (p : Step) (t : Tree) → I
     0 < tabled s.homes s.views x → IsTree s.words.nodes t x → IsTree (words_after s id v p).nodes t x
 tree_stays s id x v (Split to) t law at may tab is = is
 tree_stays s id x v (Join from) t law at may tab is = is
-tree_stays s id x v (Announce y) t law at may tab is = is
-tree_stays s id x v (Look c) t law at may tab is = is
-tree_stays s id x v Recheck t law at may tab is = is
+tree_stays s id x v (Announce k y) t law at may tab is = is
+tree_stays s id x v (Look k c) t law at may tab is = is
+tree_stays s id x v (Recheck k) t law at may tab is = is
 tree_stays s id x v (Up y) t law at may tab is = is
 tree_stays s id x v (Down y) t law at may tab is = is
 tree_stays s id x v (SwapCell c word) t law at may tab is = is
@@ -49,9 +49,9 @@ pub room_after : (s : State) (id : ℕ) (v : View) (p : Step) → IsLawful s →
     held_before s v p ≤ 2 ^ 39 → length (view_after s v p).held ≤ 2 ^ 40
 room_after s id v (Split to) law at on may le = half (length v.held) le
 room_after s id v (Join from) law at on may le = omega (arith, length-append v.held (view_at s.views from).held)
-room_after s id v (Announce x) law at on may le = half (length v.held) le
-room_after s id v (Look c) law at on may le = half (length v.held) le
-room_after s id v Recheck law at on may le = half (length v.held) le
+room_after s id v (Announce k x) law at on may le = half (length v.held) le
+room_after s id v (Look k c) law at on may le = half (length v.held) le
+room_after s id v (Recheck k) law at on may le = half (length v.held) le
 room_after s id v (Up x) law at on may le = omega (arith, length-append v.held (x ∷ []))
 room_after s id v (Down x) law at on may le = omega (arith, length-without x v.held)
 room_after s id v (SwapCell c word) law at on may le =

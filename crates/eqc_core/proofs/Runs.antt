@@ -43,9 +43,9 @@ step_lawful : (s : State) (id : ℕ) (v : View) (p : Step) → IsLawful s → ge
 step_lawful s id v (Split to) law at on may room = split_keeps s.sizes s.words s.homes s.views id to v law at on may
 step_lawful s id v (Join from) law at on may room =
     join_keeps s.sizes s.words s.homes s.views id from v (view_at s.views from) law at on (active_there s.views from may.3) may room
-step_lawful s id v (Announce x) law at on may room = announce_keeps s.sizes s.words s.homes s.views id v law at on 0 x may
-step_lawful s id v (Look c) law at on may room = look_keeps s.sizes s.words s.homes s.views id v law at on 0 c may
-step_lawful s id v Recheck law at on may room = recheck_keeps s.sizes s.words s.homes s.views id v law at on 0 may
+step_lawful s id v (Announce k x) law at on may room = announce_keeps s.sizes s.words s.homes s.views id v law at on k x may
+step_lawful s id v (Look k c) law at on may room = look_keeps s.sizes s.words s.homes s.views id v law at on k c may
+step_lawful s id v (Recheck k) law at on may room = recheck_keeps s.sizes s.words s.homes s.views id v law at on k may
 step_lawful s id v (Up x) law at on may room = up_keeps s.sizes s.words s.homes s.views id v law at on x may room
 step_lawful s id v (Down x) law at on may room = down_keeps s.sizes s.words s.homes s.views id v law at on x may
 step_lawful s id v (SwapCell c word) law at on may room = swap_keeps s.sizes s.words s.homes s.views id v law at on c word may room
@@ -83,9 +83,9 @@ run_is_lawful z n es t limits fits few is =
 given_once : (s : State) (id : ℕ) (v : View) (p : Step) → IsLawful s → get_elem? s.views id ≡ some v → v.active ≡ true → May s v p → IsGivenOnce s p
 given_once s id v (Split to) law at on may = tt
 given_once s id v (Join from) law at on may = tt
-given_once s id v (Announce x) law at on may = tt
-given_once s id v (Look c) law at on may = tt
-given_once s id v Recheck law at on may = tt
+given_once s id v (Announce k x) law at on may = tt
+given_once s id v (Look k c) law at on may = tt
+given_once s id v (Recheck k) law at on may = tt
 given_once s id v (Up x) law at on may = tt
 given_once s id v (Down x) law at on may = tt
 given_once s id v (SwapCell c word) law at on may = tt

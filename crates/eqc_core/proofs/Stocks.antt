@@ -40,8 +40,7 @@ no_rest l n = ap (λ (k : ℕ). l ++ repeated 0 k) (let e : n + 2 - (n + 2) ≡ 
 -- a small machine that was stocked is lawful
 pub stocked_kept : (m : Machine) (workers nodes cells : ℕ) → IsSmall workers nodes cells → state_of m ≡ stocked workers nodes cells → IsKept m
 stocked_kept m workers nodes cells small is = record {
-  one_word = ap (λ (s : State). s.sizes.announcements) is;
-  lawful = subst (λ (s : State). IsLawful s) (sym is) (opening_lawful (record { workers = workers; announcements = 1; names = nodes + 2; cells = cells; variables = nodes }) nodes
+  lawful = subst (λ (s : State). IsLawful s) (sym is) (opening_lawful (record { workers = workers; announcements = 4; names = nodes + 2; cells = cells; variables = nodes }) nodes
       (let a = small.some_workers in let b = small.few_workers in let d = small.some_nodes in let e = small.few_nodes in let f = small.some_cells in let g = small.few_cells in
       record {
         some_workers = omega arith;
@@ -62,17 +61,16 @@ opening_view z held = record (fresh z 0) { held = held; given = 1 }
 
 -- the state of the parts that were made
 pub stocked_of : (w n k : ℕ) (z : Sizes) (announced counts nodes cells boxes locks : List ℕ) (homes : Homes) (views : List View) →
-    z ≡ record { workers = w; announcements = 1; names = n + 2; cells = k; variables = n }
-    → announced ≡ repeated 0 w → counts ≡ repeated 0 2 ++ repeated 2 n → nodes ≡ repeated 0 2 ++ literals 0 n → cells ≡ repeated 0 k →
+    z ≡ record { workers = w; announcements = 4; names = n + 2; cells = k; variables = n }
+    → announced ≡ repeated 0 (w * 4) → counts ≡ repeated 0 2 ++ repeated 2 n → nodes ≡ repeated 0 2 ++ literals 0 n → cells ≡ repeated 0 k →
     boxes ≡ repeated 0 (16 * w) → locks ≡ repeated 0 16 → homes ≡ literal_homes n → views ≡ opening_view z (slots_from 2 n) ∷ []
     → record { sizes = z; words = record { announced = announced; counts = counts; nodes = nodes; cells = cells; boxes = boxes; locks = locks }; homes = homes; views = views } ≡ stocked w n k
 stocked_of w n k z announced counts nodes cells boxes locks homes views ez ea ec en ek eb el eh ev =
-    let a : announced ≡ repeated 0 (w * 1) = ea ∙ ap (repeated 0) (let e : w ≡ w * 1 = omega arith in e) in
     let c : counts ≡ 0 ∷ 0 ∷ repeated 2 n ++ repeated 0 (n + 2 - (n + 2)) = ec ∙ sym (no_rest (0 ∷ 0 ∷ repeated 2 n) n) in
     let d : nodes ≡ 0 ∷ 0 ∷ literals 0 n ++ repeated 0 (n + 2 - (n + 2)) = en ∙ sym (no_rest (0 ∷ 0 ∷ literals 0 n) n) in
-    let v : views ≡ opening_view (record { workers = w; announcements = 1; names = n + 2; cells = k; variables = n }) (slots_from 2 n) ∷ [] = ev
+    let v : views ≡ opening_view (record { workers = w; announcements = 4; names = n + 2; cells = k; variables = n }) (slots_from 2 n) ∷ [] = ev
     ∙ ap (λ (z : Sizes). opening_view z (slots_from 2 n) ∷ []) ez in
-    λ i. record { sizes = ez i; words = record { announced = a i; counts = c i; nodes = d i; cells = ek i; boxes = eb i; locks = el i }; homes = eh i; views = v i }
+    λ i. record { sizes = ez i; words = record { announced = ea i; counts = c i; nodes = d i; cells = ek i; boxes = eb i; locks = el i }; homes = eh i; views = v i }
 
 -- the one worker
 pub first_view : (z : Sizes) (w : Worker) (all : List Worker) (held slots : List ℕ) → all ≡ [] ++ w ∷ [] → w.active ≡ true →

@@ -1,5 +1,5 @@
 -- The views that stored workers stand for.
-use Rattle.std.proofs.Common.{◌≡◌, ℕ, zero, suc, ◌*◌, ◌<◌, ◌≤◌, List, [], ◌∷◌, length, set, get_or, map, Bool, true, false, Option, Some, None, if◌then◌else◌, refl, sym, ap, subst, ◌∙◌, arith, inr}
+use Rattle.std.proofs.Common.{◌≡◌, ℕ, zero, suc, ◌*◌, ◌<◌, ◌^◌, ◌≤◌, List, [], ◌∷◌, length, set, get_or, map, Bool, true, false, Option, Some, None, if◌then◌else◌, refl, sym, ap, subst, ◌∙◌, arith, inr}
 use Rattle.std.proofs.lemmas.List.{map-set}
 use mathlib.Core.Option.{some, some-injective, some-ne-none}
 use lib.ListN.{get_elem?}
@@ -25,11 +25,6 @@ use Rattle.eqc_core.proofs.Sums.{at_le_sum}
 use Rattle.eqc_core.specs.Making.{MayReclaim}
 use Rattle.eqc_core.proofs.Tables.{owned_is, held_tabled, table_tabled}
 use Rattle.eqc_core.proofs.Runs.{active_there}
-
--- the one phase of a worker with one announcement word
-pub one_phase : (a p : Phase) (k : ℕ) → get_elem? (a ∷ []) k ≡ some p → a ≡ p
-one_phase a p zero e = some-injective a p e
-one_phase a p (suc k) e = absurd (some-ne-none p (sym e))
 
 -- an option that is no Some
 pub is_none : {A : Type 0} (o : Option A) → is_some o ≡ false → o ≡ None
@@ -78,9 +73,9 @@ pub stepped_home : (s : State) (w w' : Words) (hs hs' : Homes) (vs vs' : List Vi
     record s { words = w; homes = hs; views = vs } ≡ record s { words = w'; homes = hs'; views = vs' }
 stepped_home s w w' hs hs' vs vs' p h q = λ i. record s { words = p i; homes = h i; views = q i }
 
-pub at_rest : (z : Sizes) (w : Worker) → w.position ≡ 0 → IsQuiet w.phase → w.draft ≡ None → w.hand ≡ None → IsAtRest (active_view z w)
-at_rest z w ready quiet draft hand =
-    record { ready = ready; quiet = λ k p e. (let P : Phase → Type 0 = λ q. IsQuiet q in subst P (one_phase w.phase p k e) quiet); no_draft = draft; no_hand = ap hand_view hand }
+pub at_rest : (z : Sizes) (w : Worker) → w.position ≡ 0 → ((k : ℕ) (p : Phase) → get_elem? w.phases.items k ≡ some p → IsQuiet p) → w.draft ≡ None → w.hand ≡ None →
+    IsAtRest (active_view z w)
+at_rest z w ready quiet draft hand = record { ready = ready; quiet = quiet; no_draft = draft; no_hand = ap hand_view hand }
 
 pub active_is : (z : Sizes) (w : Worker) → w.active ≡ true → view_of z w ≡ active_view z w
 active_is z w on = rw on refl
@@ -148,17 +143,24 @@ box_there m id b turn lt = let z = ap (λ (z : Sizes). z.workers) (turn_sizes m 
 pub count_there : (m : Machine) (id x : ℕ) → IsTurn m id → x < (view_at (state_of m).views id).sizes.names → (x < m.sizes.names) × (x < length m.counts.items)
 count_there m id x turn lt = let z = ap (λ (z : Sizes). z.names) (turn_sizes m id turn) in let n = turn.kept.lawful.sized.counts in (omega arith, omega arith)
 
--- with one announcement word each, a worker's has its number
-pub own_word : (m : Machine) (id : ℕ) → IsKept m → word_at m.sizes id 0 ≡ id
-unfolding word_at
-own_word m id kept = let one = kept.one_word in rw one (omega arith)
+-- an announcement word of the worker whose turn it is
+pub word_below : (m : Machine) (id k : ℕ) → IsTurn m id → k < (view_at (state_of m).views id).sizes.announcements → k < m.sizes.announcements
+word_below m id k turn lt = let z = ap (λ (z : Sizes). z.announcements) (turn_sizes m id turn) in omega arith
 
-pub announced_there : (m : Machine) (id : ℕ) → IsTurn m id → id < length m.announced.items
-announced_there m id turn =
-    let one = turn.kept.one_word in
+pub announced_there : (m : Machine) (id k : ℕ) → IsTurn m id → k < m.sizes.announcements → word_at m.sizes id k < length m.announced.items
+announced_there m id k turn lt =
     let law = turn.kept.lawful.sized in
-    let b = below m.sizes id 0 (let v = law.views in let l = at_below (state_of m).views id (view_at (state_of m).views id) (turn_there m id turn) in omega arith) law.some_announcements in
-    omega (arith, law.announced, own_word m id turn.kept)
+    let b = below m.sizes id k (let v = law.views in let l = at_below (state_of m).views id (view_at (state_of m).views id) (turn_there m id turn) in omega arith) lt in
+    omega (arith, law.announced)
+
+-- the number of the worker whose turn it is is small
+pub turn_small : (m : Machine) (id : ℕ) → IsTurn m id → id < 2 ^ 20
+turn_small m id turn =
+    let law = turn.kept.lawful.sized in
+    let v = law.views in
+    let n = law.few_workers in
+    let l = at_below (state_of m).views id (view_at (state_of m).views id) (turn_there m id turn) in
+    omega arith
 
 -- a held name is counted
 pub held_counted : (m : Machine) (id x : ℕ) → IsTurn m id → 2 ≤ x → x < m.sizes.names → 0 < times x (view_at (state_of m).views id).held → 0 < get_or m.counts.items x 0
@@ -176,12 +178,16 @@ turn_view m id w turn e =
 pub place_there : (m : Machine) (id : ℕ) (w : Worker) → IsTurn m id → w ≡ get_or m.workers.items id w → w.position < announced_words m.sizes
 place_there m id w turn e = subst (λ (v : View). v.position < announced_words m.sizes) (turn_view m id w turn e) (turn_fits m id turn).place
 
--- each worker's announcement word is there
-pub silence_there : (m : Machine) (id : ℕ) → IsKept m → id < m.sizes.workers → id < length m.announced.items
-silence_there m id kept lt =
+-- each announcement word of each worker is there
+pub silence_there : (m : Machine) (id k : ℕ) → IsKept m → id < m.sizes.workers → k < m.sizes.announcements → word_at m.sizes id k < length m.announced.items
+silence_there m id k kept lt word =
     let law = kept.lawful.sized in
-    let b = below m.sizes id 0 lt law.some_announcements in
-    omega (arith, law.announced, own_word m id kept)
+    let b = below m.sizes id k lt word in
+    omega (arith, law.announced)
+
+-- the worker whose turn it is has a phase for each announcement word
+pub phases_there : (m : Machine) (id : ℕ) (w : Worker) → IsTurn m id → w ≡ get_or m.workers.items id w → length w.phases.items ≡ m.sizes.announcements
+phases_there m id w turn e = subst (λ (v : View). length v.phases ≡ m.sizes.announcements) (turn_view m id w turn e) (turn_fits m id turn).phases
 
 -- a held name, and a slot of the stripe in hand, have their words
 pub held_there : (m : Machine) (id x : ℕ) → IsTurn m id → 0 < times x (view_at (state_of m).views id).held → x < length m.nodes.items

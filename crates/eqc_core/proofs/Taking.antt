@@ -49,10 +49,12 @@ view_at-after s id (Join from) on number may =
     let b = at_below s.views id (view_at s.views id) (active_there s.views id on) in
     get_or-set_other (set s.views id (joined (view_at s.views id) from (view_at s.views from))) from id spent unused (λ e. may.1 (sym e ∙ sym number))
     ∙ get_or-set_same s.views id (joined (view_at s.views id) from (view_at s.views from)) unused b
-view_at-after s id (Announce x) on number may =
-    get_or-set_same s.views id (view_after s (view_at s.views id) (Announce x)) unused (at_below s.views id (view_at s.views id) (active_there s.views id on))
-view_at-after s id (Look c) on number may = get_or-set_same s.views id (view_after s (view_at s.views id) (Look c)) unused (at_below s.views id (view_at s.views id) (active_there s.views id on))
-view_at-after s id Recheck on number may = get_or-set_same s.views id (view_after s (view_at s.views id) Recheck) unused (at_below s.views id (view_at s.views id) (active_there s.views id on))
+view_at-after s id (Announce k x) on number may =
+    get_or-set_same s.views id (view_after s (view_at s.views id) (Announce k x)) unused (at_below s.views id (view_at s.views id) (active_there s.views id on))
+view_at-after s id (Look k c) on number may =
+    get_or-set_same s.views id (view_after s (view_at s.views id) (Look k c)) unused (at_below s.views id (view_at s.views id) (active_there s.views id on))
+view_at-after s id (Recheck k) on number may =
+    get_or-set_same s.views id (view_after s (view_at s.views id) (Recheck k)) unused (at_below s.views id (view_at s.views id) (active_there s.views id on))
 view_at-after s id (Up x) on number may = get_or-set_same s.views id (view_after s (view_at s.views id) (Up x)) unused (at_below s.views id (view_at s.views id) (active_there s.views id on))
 view_at-after s id (Down x) on number may = get_or-set_same s.views id (view_after s (view_at s.views id) (Down x)) unused (at_below s.views id (view_at s.views id) (active_there s.views id on))
 view_at-after s id (SwapCell c word) on number may =
@@ -76,7 +78,6 @@ view_at-after s id (LookBox b) on number may = get_or-set_same s.views id (view_
 -- an event that was taken leaves a machine whose state is lawful
 pub kept_after : (m m' : Machine) (e : Event) → IsKept m → IsAllowed (state_of m) e → state_of m' ≡ after (state_of m) e → IsKept m'
 kept_after m m' e kept allowed is = record {
-  one_word = ap (λ (s : State). s.sizes.announcements) is ∙ kept.one_word;
   lawful = subst (λ (s : State). IsLawful s) (sym is) (event_lawful (state_of m) e kept.lawful allowed);
 }
 

@@ -127,9 +127,9 @@ StepsHaveRoom =
 abbrev pub IsGivenOnce : State → Step → Type 0
 IsGivenOnce s (Split to) = Unit {0}
 IsGivenOnce s (Join from) = Unit {0}
-IsGivenOnce s (Announce x) = Unit {0}
-IsGivenOnce s (Look c) = Unit {0}
-IsGivenOnce s Recheck = Unit {0}
+IsGivenOnce s (Announce k x) = Unit {0}
+IsGivenOnce s (Look k c) = Unit {0}
+IsGivenOnce s (Recheck k) = Unit {0}
 IsGivenOnce s (Up x) = Unit {0}
 IsGivenOnce s (Down x) = Unit {0}
 IsGivenOnce s (SwapCell c word) = Unit {0}

@@ -39,7 +39,7 @@ abbrev pub active_view : Sizes → Worker → View
 active_view z w =
     record (fresh z w.number) {
       held = w.held.items;
-      phases = w.phase ∷ [];
+      phases = w.phases.items;
       retired = w.retired.items;
       position = w.position;
       noted = w.noted.items;
@@ -61,9 +61,7 @@ words_of m = record { announced = m.announced.items; counts = m.counts.items; no
 abbrev pub state_of : Machine → State
 state_of m = record { sizes = m.sizes; words = words_of m; homes = map home_of m.homes.items; views = map (view_of m.sizes) m.workers.items }
 
--- the state is lawful, and each worker has one announcement word
 pub record IsKept (m : Machine) : Type 0 where
-  pub one_word : m.sizes.announcements ≡ 1
   pub lawful : IsLawful (state_of m)
 
 -- From here on: what the steps on the stored machine say to one another. No public promise cites it.

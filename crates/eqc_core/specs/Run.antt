@@ -23,9 +23,9 @@ use Rattle.eqc_core.specs.Sharing.{MaySwapBox, MayLookBox, boxed_words, boxed}
 abbrev pub May : State → View → Step → Type 0
 May s v (Split to) = MaySplit s.views v to
 May s v (Join from) = MayJoin v from (view_at s.views from)
-May s v (Announce x) = MayAnnounce v 0 x
-May s v (Look c) = MayLook v 0 c
-May s v Recheck = MayRecheck v 0
+May s v (Announce k x) = MayAnnounce v k x
+May s v (Look k c) = MayLook v k c
+May s v (Recheck k) = MayRecheck v k
 May s v (Up x) = MayUp v x
 May s v (Down x) = MayDown v x
 May s v (SwapCell c word) = MaySwapCell s.words.nodes v c word
@@ -44,9 +44,9 @@ May s v (LookBox b) = MayLookBox v b
 abbrev pub view_after : State → View → Step → View
 view_after s v (Split to) = splitter v to
 view_after s v (Join from) = joined v from (view_at s.views from)
-view_after s v (Announce x) = announced v 0
-view_after s v (Look c) = looked v 0 c (get_or s.words.cells c 0)
-view_after s v Recheck = rechecked v 0 (get_or s.words.cells (announced_cell (phase_at v 0)) 0)
+view_after s v (Announce k x) = announced v k
+view_after s v (Look k c) = looked v k c (get_or s.words.cells c 0)
+view_after s v (Recheck k) = rechecked v k (get_or s.words.cells (announced_cell (phase_at v k)) 0)
 view_after s v (Up x) = upped v x
 view_after s v (Down x) = downed v x
 view_after s v (SwapCell c word) = swapped v (get_or s.words.cells c 0) word
@@ -67,9 +67,9 @@ view_after s v (LookBox b) = v
 abbrev pub held_before : State → View → Step → ℕ
 held_before s v (Split to) = length v.held
 held_before s v (Join from) = length v.held + length (view_at s.views from).held
-held_before s v (Announce x) = length v.held
-held_before s v (Look c) = length v.held
-held_before s v Recheck = length v.held
+held_before s v (Announce k x) = length v.held
+held_before s v (Look k c) = length v.held
+held_before s v (Recheck k) = length v.held
 held_before s v (Up x) = length v.held
 held_before s v (Down x) = length v.held
 held_before s v (SwapCell c word) = length v.held
@@ -88,9 +88,9 @@ held_before s v (LookBox b) = length v.held
 abbrev pub words_after : State → ℕ → View → Step → Words
 words_after s id v (Split to) = s.words
 words_after s id v (Join from) = s.words
-words_after s id v (Announce x) = with_announced s.words (word_at s.sizes id 0) x
-words_after s id v (Look c) = s.words
-words_after s id v Recheck = s.words
+words_after s id v (Announce k x) = with_announced s.words (word_at s.sizes id k) x
+words_after s id v (Look k c) = s.words
+words_after s id v (Recheck k) = s.words
 words_after s id v (Up x) = with_count s.words x (get_or s.words.counts x 0 + 1)
 words_after s id v (Down x) = with_count s.words x (get_or s.words.counts x 0 - 1)
 words_after s id v (SwapCell c word) = with_cell s.words c word
@@ -111,9 +111,9 @@ words_after s id v (LookBox b) = s.words
 abbrev pub homes_after : State → View → Step → Homes
 homes_after s v (Split to) = s.homes
 homes_after s v (Join from) = s.homes
-homes_after s v (Announce x) = s.homes
-homes_after s v (Look c) = s.homes
-homes_after s v Recheck = s.homes
+homes_after s v (Announce k x) = s.homes
+homes_after s v (Look k c) = s.homes
+homes_after s v (Recheck k) = s.homes
 homes_after s v (Up x) = s.homes
 homes_after s v (Down x) = s.homes
 homes_after s v (SwapCell c word) = s.homes
@@ -133,9 +133,9 @@ homes_after s v (LookBox b) = s.homes
 abbrev pub views_after : State → ℕ → View → Step → List View
 views_after s id v (Split to) = split s.views id v to
 views_after s id v (Join from) = join s.views id v from
-views_after s id v (Announce x) = set s.views id (view_after s v (Announce x))
-views_after s id v (Look c) = set s.views id (view_after s v (Look c))
-views_after s id v Recheck = set s.views id (view_after s v Recheck)
+views_after s id v (Announce k x) = set s.views id (view_after s v (Announce k x))
+views_after s id v (Look k c) = set s.views id (view_after s v (Look k c))
+views_after s id v (Recheck k) = set s.views id (view_after s v (Recheck k))
 views_after s id v (Up x) = set s.views id (view_after s v (Up x))
 views_after s id v (Down x) = set s.views id (view_after s v (Down x))
 views_after s id v (SwapCell c word) = set s.views id (view_after s v (SwapCell c word))

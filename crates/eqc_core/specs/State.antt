@@ -80,6 +80,6 @@ opening z n = record {
 abbrev pub empty : Sizes → State
 empty z = opening z 0
 
--- as many slots as variables, each with the literal of its variable
+-- as many slots as variables, each with the literal of its variable; each worker has four announcement words
 abbrev pub stocked : ℕ → ℕ → ℕ → State
-stocked workers nodes cells = opening (record { workers = workers; announcements = 1; names = nodes + 2; cells = cells; variables = nodes }) nodes
+stocked workers nodes cells = opening (record { workers = workers; announcements = 4; names = nodes + 2; cells = cells; variables = nodes }) nodes

@@ -17,12 +17,13 @@ pub enum Step {
     Split(u32),
     /// Joins this worker: what it held and retired is then the joiner's.
     Join(u32),
-    /// Stores to the announcement word: the result that was seen, or 0 to withdraw.
-    Announce(u32),
-    /// Loads this cell.
-    Look(u32),
-    /// Loads the cell again whose result is announced.
-    Recheck,
+    /// Stores to this announcement word of the worker, counted from 0, the result that was seen, or 0
+    /// to withdraw.
+    Announce(u32, u32),
+    /// Loads, for this announcement word, a cell.
+    Look(u32, u32),
+    /// Loads the cell again whose result this announcement word has.
+    Recheck(u32),
     /// Adds 1 to this slot's count.
     Up(u32),
     /// Takes 1 from this slot's count.

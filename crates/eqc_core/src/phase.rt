@@ -1,6 +1,12 @@
 //! How far a counted load has come.
+ghost use Rattle.std.specs.Prelude.{◌≡◌, ◌↔◌, IsTrue, IfOk, ℕ};
+ghost use mathlib.Core.Option.{some};
+ghost use lib.ListN.{get_elem?};
+ghost use Rattle.eqc_core.specs.View.{idle};
+ghost use Rattle.eqc_core.specs.Moves.{IsQuiet};
 
 use eqc_tree::unpack_cell;
+use std::alloc::{AllocError, Global};
 
 /// How far a counted load by one announcement word has come: a look at a cell, an announcement of
 /// the result that was seen there, and a second look.
@@ -18,13 +24,23 @@ pub enum Phase {
     Missed(u32),
 }
 
+impl Default for Phase {
+    ghost use Rattle.eqc_core.specs.declared.phase.Phase.{Phase};
+
+    ghost is_default = { λ phase. phase ≡ Phase.Idle };
+
+    fn default() -> Self {
+        Phase::Idle
+    }
+}
+
 impl Phase {
     ghost use Rattle.std.specs.Prelude.{◌≡◌, ◌↔◌, IsTrue, IfSome, IsNone, IsSome};
     ghost use Rattle.eqc_core.specs.Moves.{IsQuiet};
     ghost use Rattle.eqc_core.specs.Announcing.{LetsAnnounce, announced_phase, IsAnnounced, announced_cell, rechecked_phase};
 
-    // Whether nothing is announced.
-    pub(crate) fn is_quiet(self) -> bool
+    /// Whether nothing is announced.
+    pub fn is_quiet(self) -> bool
         ensures { IsTrue result ↔ IsQuiet self }
     {
         match self {
@@ -115,4 +131,48 @@ impl Phase {
             Phase::Missed(_) => false,
         }
     }
+}
+
+// The phases of so many announcement words by which no load is under way.
+pub(crate) fn idle(alloc: Global, words: u32) -> Result<Vec<Phase>, AllocError>
+    ensures { IfOk result (λ v. v.items ≡ idle words) }
+{
+    let mut phases = Vec::new(alloc);
+    for _k in 0..words {
+        phases.push(Phase::Idle)?;
+    }
+    Ok(phases)
+}
+
+// Whether one of the announcement words has confirmed this name.
+pub(crate) fn any_confirms(phases: &[Phase], x: u32) -> bool
+    ensures { IsTrue result ↔ ((k : ℕ) × (get_elem? phases.now k ≡ some (Phase.Confirmed x))) }
+{
+    for phase in phases {
+        if phase.confirms(x) {
+            return true;
+        }
+    }
+    false
+}
+
+// Whether no announcement word announces anything.
+pub(crate) fn are_quiet(phases: &[Phase]) -> bool
+    ensures { IsTrue result ↔ ((k : ℕ) → (p : Phase) → get_elem? phases.now k ≡ some p → IsQuiet p) }
+{
+    for phase in phases {
+        if !phase.is_quiet() {
+            return false;
+        }
+    }
+    true
+}
+
+// The same phases, in memory of their own.
+pub(crate) fn copy(alloc: Global, phases: &[Phase]) -> Result<Vec<Phase>, AllocError>
+    ensures { IfOk result (λ v. v.items ≡ phases.now) }
+{
+    let mut all = Vec::new(alloc);
+    all.extend_from_slice(phases)?;
+    Ok(all)
 }

@@ -16,13 +16,21 @@ pub struct Sizes {
 }
 
 impl Sizes {
-    ghost use Rattle.std.specs.Prelude.{◌≡◌};
-    ghost use Rattle.eqc_core.specs.Words.{announced_words};
+    ghost use Rattle.std.specs.Prelude.{◌≡◌, ◌<◌};
+    ghost use Rattle.eqc_core.specs.Words.{announced_words, word_at};
 
     // All announcement words.
     pub(crate) fn announced_words(self) -> u64
         ensures { result ≡ announced_words self }
     {
         u64::from(self.workers) * u64::from(self.announcements)
+    }
+
+    // The place of the k-th announcement word of a worker: worker 0 has the first ones.
+    #[tactic(auto, unfolding(crate::specs::Words::word_at))]
+    pub(crate) fn word_at(self, worker: u32, k: u32) -> u64
+        ensures { result ≡ word_at self worker k }
+    {
+        u64::from(worker) * u64::from(self.announcements) + u64::from(k)
     }
 }

@@ -81,12 +81,15 @@ impl Core {
         self.machine.cells[c as usize]
     }
 
-    /// What a worker, whose number is below the number of workers, announces; 0 is nothing.
-    pub fn announced(&self, worker: u32) -> u64
-        requires { worker < self.now.sizes.workers }
-        ensures { result ≡ slice_index self.now.words.announced (word_at self.now.sizes worker 0) }
+    /// What a worker, whose number is below the number of workers, announces by its k-th
+    /// announcement word, counted from 0; 0 is nothing.
+    pub fn announced(&self, worker: u32, k: u32) -> u64
+        requires worker { worker < self.now.sizes.workers }
+        requires word { k < self.now.sizes.announcements }
+        ensures { result ≡ slice_index self.now.words.announced (word_at self.now.sizes worker k) }
     {
-        u64::from(self.machine.announced[worker as usize])
+        let place = self.machine.sizes.word_at(worker, k);
+        u64::from(self.machine.announced[place as usize])
     }
 
     /// How often a worker holds this slot.

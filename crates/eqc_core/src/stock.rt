@@ -13,6 +13,9 @@ use std::alloc::{AllocError, Global};
 // How many stripes the unique table has.
 const STRIPES: u32 = 16;
 
+// How many announcement words each worker has.
+const ANNOUNCEMENTS: u32 = 4;
+
 // How many boxes each worker has.
 const BOXES: u32 = 16;
 
@@ -109,16 +112,17 @@ pub(crate) fn stock(
     words.extend_from_slice(&literals)?;
     let held = first_slots(alloc, nodes)?;
     let mut all = Vec::new(alloc);
-    all.push(Worker::first(alloc, held))?;
+    let first = Worker::first(alloc, held, ANNOUNCEMENTS)?;
+    all.push(first)?;
     Ok(Machine {
         sizes: Sizes {
             workers,
-            announcements: 1,
+            announcements: ANNOUNCEMENTS,
             names: nodes + 2,
             cells,
             variables: nodes,
         },
-        announced: silence(alloc, workers)?,
+        announced: silence(alloc, workers * ANNOUNCEMENTS)?,
         counts,
         nodes: words,
         cells: repeat(alloc, 0, cells)?,

@@ -10,7 +10,7 @@ mod seating;
 mod sharing;
 
 use crate::multiset;
-use crate::phase::Phase;
+use crate::phase::{self, Phase};
 use crate::table::{Hand, Table};
 use eqc_tree::unpack_node;
 use std::alloc::{AllocError, Global};
@@ -30,7 +30,8 @@ pub(crate) struct Worker {
     pub(crate) over: bool,
     pub(crate) number: u32,
     pub(crate) held: Vec<u32>,
-    pub(crate) phase: Phase,
+    // One phase for each of its announcement words.
+    pub(crate) phases: Vec<Phase>,
     pub(crate) retired: Vec<u32>,
     // The announcement word that the scan reads next, and the names that it noted.
     pub(crate) position: u64,
@@ -49,24 +50,24 @@ pub(crate) struct Worker {
 }
 
 impl Worker {
-    ghost use Rattle.std.specs.Prelude.{◌≡◌, ◌↔◌, IsTrue, IfOk, true, false};
+    ghost use Rattle.std.specs.Prelude.{◌≡◌, ◌↔◌, IsTrue, IfOk, true, false, get_or};
     ghost use Rattle.eqc_core.specs.declared.sizes.Sizes.{Sizes as Numbers};
     ghost use Rattle.eqc_core.specs.View.{fresh};
     ghost use Rattle.eqc_core.specs.Machine.{active_view, view_of, hand_view, read_view, HasInHand, HasRead, Turns};
     ghost use Rattle.eqc_core.specs.Moves.{with_held};
     ghost use Rattle.eqc_core.specs.Counting.{Knows};
 
-    // A worker of this number, which holds these names and knows nothing else yet.
-    fn seat(alloc: Global, number: u32, held: Vec<u32>, given: u64) -> Worker
+    // A worker of this number, which holds these names, has these phases and knows nothing else yet.
+    fn seat(alloc: Global, number: u32, held: Vec<u32>, phases: Vec<Phase>, given: u64) -> Worker
         ensures active { result.active ≡ true }
-        ensures view { (z : Numbers) → z.announcements ≡ 1 → active_view z result ≡ record (fresh z number) { held = held.items; given = given } }
+        ensures view { (z : Numbers) → active_view z result ≡ record (fresh z number) { held = held.items; phases = phases.items; given = given } }
     {
         Worker {
             active: true,
             over: false,
             number,
             held,
-            phase: Phase::Idle,
+            phases,
             retired: Vec::new(alloc),
             position: 0,
             noted: Vec::new(alloc),
@@ -85,26 +86,38 @@ impl Worker {
         ensures active { result.active ≡ false }
         ensures over { result.over ≡ over }
     {
-        let mut worker = Worker::seat(alloc, 0, Vec::new(alloc), 0);
+        let mut worker = Worker::seat(alloc, 0, Vec::new(alloc), Vec::new(alloc), 0);
         worker.active = false;
         worker.over = over;
         worker
     }
 
-    // A worker that was just split off.
-    pub(crate) fn fresh(alloc: Global, number: u32) -> Worker
-        ensures active { result.active ≡ true }
-        ensures view { (z : Numbers) → z.announcements ≡ 1 → active_view z result ≡ fresh z number }
+    // A worker with so many announcement words that was just split off.
+    pub(crate) fn fresh(alloc: Global, number: u32, words: u32) -> Result<Worker, AllocError>
+        ensures active { IfOk result (λ w. w.active ≡ true) }
+        ensures view { IfOk result (λ w. (z : Numbers) → z.announcements ≡ words → active_view z w ≡ fresh z number) }
     {
-        Worker::seat(alloc, number, Vec::new(alloc), 0)
+        let phases = phase::idle(alloc, words)?;
+        Ok(Worker::seat(alloc, number, Vec::new(alloc), phases, 0))
     }
 
-    // Worker 0 as a run begins, which holds these names.
-    pub(crate) fn first(alloc: Global, held: Vec<u32>) -> Worker
-        ensures active { result.active ≡ true }
-        ensures view { (z : Numbers) → z.announcements ≡ 1 → active_view z result ≡ record (fresh z 0) { held = held.items; given = 1 } }
+    // Worker 0 as a run begins, with so many announcement words, which holds these names.
+    pub(crate) fn first(alloc: Global, held: Vec<u32>, words: u32) -> Result<Worker, AllocError>
+        ensures active { IfOk result (λ w. w.active ≡ true) }
+        ensures view { IfOk result (λ w. (z : Numbers) → z.announcements ≡ words → active_view z w ≡ record (fresh z 0) { held = held.items; given = 1 }) }
     {
-        Worker::seat(alloc, 0, held, 1)
+        let phases = phase::idle(alloc, words)?;
+        Ok(Worker::seat(alloc, 0, held, phases, 1))
+    }
+
+    // The phase of the k-th announcement word; one that isn't there is idle.
+    pub(crate) fn phase_at(&self, k: u32) -> Phase
+        ensures { result ≡ get_or self.now.phases.items k Phase.Idle }
+    {
+        match self.phases.get(k as usize) {
+            Some(phase) => *phase,
+            None => Phase::Idle,
+        }
     }
 
     // Whether it knows that the slot stays.
@@ -114,7 +127,7 @@ impl Worker {
         if multiset::is_among(&self.held, x) {
             return true;
         }
-        if self.phase.confirms(x) {
+        if phase::any_confirms(&self.phases, x) {
             return true;
         }
         if self.has_in_hand(x) {
@@ -183,7 +196,7 @@ impl Worker {
             over: self.over,
             number: self.number,
             held: multiset::copy(alloc, &self.held)?,
-            phase: self.phase,
+            phases: phase::copy(alloc, &self.phases)?,
             retired: multiset::copy(alloc, &self.retired)?,
             position: self.position,
             noted: multiset::copy(alloc, &self.noted)?,

@@ -7,8 +7,9 @@ use Rattle.eqc_core.specs.View.{View, Read, phase_at}
 use Rattle.eqc_core.specs.Words.{announced_words, times}
 use Rattle.eqc_core.specs.Moves.{IsQuiet, forget}
 use Rattle.eqc_core.specs.Seating.{IsAtRest, out_after, joined}
+use Rattle.eqc_core.proofs.Lists.{get_at}
 use Rattle.eqc_core.proofs.Names.{times-append}
-use Rattle.eqc_guard.specs.Known.{IsKnown}
+use Rattle.eqc_guard.specs.Known.{Known, IsKnown}
 use Rattle.eqc_guard.specs.Standing.{Standing}
 use Rattle.eqc_guard.specs.Splitting.{IsJoined, IsAbsorbed}
 use Rattle.eqc_guard.specs.Sweeping.{IsScanned}
@@ -16,8 +17,8 @@ use Rattle.eqc_guard.proofs.Learning.{held_named}
 use Rattle.eqc_guard.proofs.Sweeping.{forget_none}
 
 -- a worker at rest announces nothing
-pub quiet_here : (v : View) (p : Phase) → v.phases ≡ p ∷ [] → IsAtRest v → IsQuiet (phase_at v 0)
-quiet_here v p one rest = subst (λ (q : Phase). IsQuiet q) (sym (ap (λ (ps : List Phase). get_or ps 0 Idle) one)) (rest.quiet 0 p (ap (λ (ps : List Phase). get_elem? ps 0) one))
+pub quiet_here : (k : Known) → IsKnown k → IsAtRest k.core → IsQuiet (phase_at k.core 0)
+quiet_here k known rest = rest.quiet 0 (phase_at k.core 0) (get_at k.core.phases 0 Idle known.word)
 
 module _ (old other s1 o1 : Standing) (s : IsScanned old s1) (o : IsScanned other o1) where
   pub absorbs : (new : Standing) → IsKnown old.known → IsJoined s1 o1 new → IsAbsorbed old other new

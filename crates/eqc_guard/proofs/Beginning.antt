@@ -8,9 +8,8 @@ use Rattle.atomic_table.specs.Table.{opening}
 use Rattle.atomic_table.specs.Seated.{TableId}
 use Rattle.eqc_tree.specs.Tree.{Tree, False, True, Node}
 use Rattle.eqc_core.specs.declared.sizes.Sizes.{Sizes}
-use Rattle.eqc_core.specs.declared.phase.Phase.TheVariants.{Idle}
 use Rattle.eqc_core.specs.View.{fresh, idle}
-use Rattle.eqc_core.specs.Words.{times, variable_of, low_of, high_of}
+use Rattle.eqc_core.specs.Words.{times, announced_words, variable_of, low_of, high_of}
 use Rattle.eqc_core.specs.Tables.{Homes}
 use Rattle.eqc_core.specs.Trees.{IsTree}
 use Rattle.eqc_core.specs.Lawful.{Lawful}
@@ -110,15 +109,16 @@ module _ (z : Sizes) (n : ℕ) (limits : IsWithinLimits z) (fits : n + 2 ≤ z.n
   beginner_known = is_known z (opening_state z n).words (literal_homes n) ((beginner z n).core ∷ []) 0 (beginner z n) lawful refl refl knows (λ ws e. absurd (cc))
 
   -- and it is a worker of the table
-  pub beginner_seated : {S : Type 0} (ws : List ℕ) (table : TableId) → z.announcements ≡ 1 → z.workers ≤ 64 →
-      ws ≡ flat (opening_state z n).words → table.words ≡ length ws → IsSeated {S = S} table table z z (beginner z n, []) 0 n Idle [] [] 0 1 [] None
-  beginner_seated ws table one few_workers laid words = record {
+  pub beginner_seated : {S : Type 0} (ws : List ℕ) (table : TableId) → z.announcements ≤ 4 → announced_words z ≤ 256 → z.workers ≤ 64 →
+      ws ≡ flat (opening_state z n).words → table.words ≡ length ws → IsSeated {S = S} table table z z (beginner z n, []) 0 n (idle z.announcements) [] [] 0 1 [] None
+  beginner_seated ws table few_words few_announced few_workers laid words = record {
     one_table = refl;
     one_key = refl;
     worker = record {
       words = words ∙ (ap (λ (l : List ℕ). length l) laid ∙ flat_length z (opening_state z n).words (literal_homes n) ((beginner z n).core ∷ []) lawful.sized);
       limits = limits;
-      one_word = one;
+      few_words = few_words;
+      few_announced = few_announced;
       few_workers = few_workers;
       sizes = refl;
       active = refl;
@@ -128,7 +128,7 @@ module _ (z : Sizes) (n : ℕ) (limits : IsWithinLimits z) (fits : n + 2 ≤ z.n
     carries = refl;
     number_is = refl;
     held_is = sym (slots_length 2 n);
-    phases_are = ap idle one;
+    phases_are = refl;
     retired_are = refl;
     noted_are = refl;
     position_is = refl;

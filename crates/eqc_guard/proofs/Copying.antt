@@ -4,9 +4,9 @@ use Rattle.std.proofs.lemmas.List.{get_or-set_same, get_or-set_other}
 use Rattle.eqc_core.specs.declared.sizes.Sizes.{Sizes}
 use Rattle.eqc_core.specs.View.{View}
 use Rattle.eqc_core.specs.Words.{announced_words, times, word_at}
+use Rattle.eqc_core.proofs.Places.{below as word_there}
 use Rattle.eqc_guard.specs.Known.{Known, IsKnown, KeepsCopy}
 use Rattle.atomic_table.specs.Seated.{TableId}
-use Rattle.eqc_core.specs.Announcing.{announced, rechecked}
 use Rattle.eqc_guard.specs.Rule.{cells_from, boxes_from, all_words, IsWorker}
 use Rattle.eqc_guard.specs.Standing.{Standing, Steps}
 use Rattle.eqc_guard.specs.Copying.{cell_in, KeepsCells, SetsCell, box_in, SetsBox}
@@ -111,42 +111,17 @@ stays_set a b c n word same first then ws e =
     )
 
 -- an announcement word stands before the cells
-pub word_before : (z : Sizes) (number : ℕ) → z.announcements ≡ 1 → number < z.workers → word_at z number 0 < cells_from z
-unfolding word_at
-word_before z number one there =
-    let a : number * z.announcements ≡ number * 1 = ap {B = ℕ} (λ (n : ℕ). number * n) one in
-    let b : z.workers * z.announcements ≡ z.workers * 1 = ap {B = ℕ} (λ (n : ℕ). z.workers * n) one in
-    omega arith
+pub word_before : (z : Sizes) (number k : ℕ) → k < z.announcements → number < z.workers → word_at z number k < cells_from z
+word_before z number k lt there = let b = word_there z number k there lt in omega arith
 
--- so what is announced leaves the cells
-pub announce_keeps : (k after : Known) (left : ℕ) → k.core.sizes.announcements ≡ 1 → k.core.number < k.core.sizes.workers →
-    after.copy ≡ copied k.copy (word_at k.core.sizes k.core.number 0) left → KeepsCells k after
-announce_keeps k after left one there is = set_keeps k after (word_at k.core.sizes k.core.number 0) left (word_before k.core.sizes k.core.number one there) is
+pub number_there : {T : Type 0} (id : TableId) (z : Sizes) (me : Known × List T) → IsWorker id z me → me.0.core.number < me.0.core.sizes.workers
+number_there id z me w = subst (λ (s : Sizes). me.0.core.number < s.workers) (sym w.sizes) w.number
 
--- a worker has one announcement word, and its number is there
-abbrev pub IsPlaced : View → Type 0
-IsPlaced v = (v.sizes.announcements ≡ 1) × (v.number < v.sizes.workers)
-
-pub placed : {T : Type 0} (id : TableId) (z : Sizes) (me : Known × List T) → IsWorker id z me → IsPlaced me.0.core
-placed id z me w = (
-  ap {B = ℕ} (λ (s : Sizes). s.announcements) w.sizes ∙ w.one_word,
-  subst (λ (s : Sizes). me.0.core.number < s.workers) (sym w.sizes) w.number,
-)
-
--- an announcement and a second look leave the cells
-module _ (old s1 s2 : Standing) (x found : ℕ) (there : IsPlaced old.known.core) (says : Steps old (announced old.known.core 0) s1)
-    (stored : s1.known.copy ≡ copied old.known.copy (word_at old.known.core.sizes old.known.core.number 0) x)
-    (looks : Steps s1 (rechecked s1.known.core 0 found) s2) where
-  pub announced_keeps : KeepsCells old.known s1.known
-  announced_keeps = announce_keeps old.known s1.known x there.0 there.1 stored
-
-  pub looked_keeps : (i : ℕ) → Copies s1.known i found found s2.known → KeepsCells old.known s2.known
-  looked_keeps i copies = cells_on old.known s1.known s2.known (ap (λ (v : View). v.sizes) says.known.core) announced_keeps (load_keeps s1.known s2.known i found copies)
-
-  -- and so does a withdrawal
-  pub withdrawn_keeps : (i : ℕ) (s3 : Standing) → Copies s1.known i found found s2.known →
-      s3.known.copy ≡ copied s2.known.copy (word_at s2.known.core.sizes s2.known.core.number 0) 0 → KeepsCells old.known s3.known
-  withdrawn_keeps i s3 copies gone =
-      let same : s2.known.core.sizes ≡ old.known.core.sizes = ap (λ (v : View). v.sizes) looks.known.core ∙ ap (λ (v : View). v.sizes) says.known.core in
-      let here : IsPlaced s2.known.core = subst (λ (v : View). IsPlaced v) (sym looks.known.core) (subst (λ (v : View). IsPlaced v) (sym says.known.core) there) in
-      cells_on old.known s2.known s3.known same (looked_keeps i copies) (announce_keeps s2.known s3.known 0 here.0 here.1 gone)
+-- a second look leaves the cells
+pub look_on : (old s1 s2 : Standing) (i found : ℕ) (v u : View) → Steps old v s1 → v.sizes ≡ old.known.core.sizes → Steps s1 u s2 → u.sizes ≡ s1.known.core.sizes → KeepsCells old.known s1.known →
+    Copies s1.known i found found s2.known → KeepsCells old.known s2.known × (s2.known.core.sizes ≡ old.known.core.sizes)
+look_on old s1 s2 i found v u first same second more keeps copies =
+    let mid : s1.known.core.sizes ≡ old.known.core.sizes = ap (λ (w : View). w.sizes) first.known.core ∙ same in (
+      cells_on old.known s1.known s2.known mid keeps (load_keeps s1.known s2.known i found copies),
+      ap (λ (w : View). w.sizes) second.known.core ∙ (more ∙ mid),
+    )

@@ -1,5 +1,5 @@
 -- How many names a worker holds after a step, and that what it steps on is there.
-use Rattle.std.proofs.Common.{◌≡◌, ℕ, ◌+◌, ◌-◌, ◌<◌, ◌≤◌, List, [], ◌∷◌, length, get_or, true, Option, Some, None, length-append, refl, sym, ap, subst, ◌∙◌, arith, inl, inr}
+use Rattle.std.proofs.Common.{◌≡◌, ◌≢◌, ℕ, ◌+◌, ◌-◌, ◌<◌, ◌≤◌, List, [], ◌∷◌, length, get_or, true, Option, Some, None, length-append, refl, sym, ap, subst, ◌∙◌, arith, inl, inr}
 use mathlib.Core.Option.{some}
 use native.Mathlib.Decide.{ℕ_discrete, dec_le}
 use lib.ListN.{get_elem?}
@@ -12,8 +12,10 @@ use Rattle.eqc_core.specs.Words.{times, cell_names, operands, slots_of}
 use Rattle.eqc_core.specs.Moves.{IsReady, AreHeld, without, without_each}
 use Rattle.eqc_core.specs.Counting.{MayDown, downed}
 use Rattle.eqc_core.specs.Caching.{swapped}
+use Rattle.eqc_core.proofs.Lists.{get_at}
 use Rattle.eqc_core.proofs.Names.{times-same, times-other, times-without, times-without_other, times-slots_of, slots_of_slots, length-without_one}
 use Rattle.eqc_guard.specs.Known.{Known, IsKnown, IsHeld, Stepped}
+use Rattle.eqc_guard.specs.Rule.{IsWorker}
 use Rattle.eqc_guard.specs.Standing.{IsSeated, slots_out, stripes_in}
 use Rattle.eqc_guard.proofs.Learning.{held_named}
 
@@ -27,21 +29,22 @@ may_down k x known ready two (inl lt) = absurd (omega arith)
 may_down k x known ready two (inr h) = (ready, two, known.below x two (held_named k.core x h), h)
 
 -- the cell of an announced phase is there
-pub announced_there : (k : Known) (p : Phase) (c word : ℕ) → IsKnown k → k.core.phases ≡ p ∷ [] → p ≡ Announced c word → (phase_at k.core 0 ≡ Announced c word) × (c < k.core.sizes.cells)
-announced_there k p c word known phases is =
-    let e : k.core.phases ≡ Announced c word ∷ [] = phases ∙ ap (λ (q : Phase). q ∷ []) is in
-    let here : get_elem? k.core.phases 0 ≡ some (Announced c word) = ap (λ (ps : List Phase). get_elem? ps 0) e in
-    (ap (λ (ps : List Phase). get_or ps 0 Idle) e, (known.phases 0 (Announced c word) here).0)
+pub announced_there : (k : Known) (j : ℕ) (p : Phase) (c word : ℕ) → IsKnown k → j < length k.core.phases → phase_at k.core j ≡ p → p ≡ Announced c word →
+    (phase_at k.core j ≡ Announced c word) × (c < k.core.sizes.cells)
+announced_there k j p c word known lt phase is =
+    let here : get_elem? k.core.phases j ≡ some (Announced c word) = get_at k.core.phases j Idle lt ∙ ap (λ (q : Phase). some q) (phase ∙ is) in
+    (phase ∙ is, (known.phases j (Announced c word) here).0)
 
 -- a worker's fields fit its seat after a step, where they are those of the new view
-module _ {S : Type 0} (seat_table table : TableId) (key sizes : Sizes) (me : Known × List (ℕ × S)) (number held : ℕ) (phase : Phase)
+module _ {S : Type 0} (seat_table table : TableId) (key sizes : Sizes) (me : Known × List (ℕ × S)) (number held : ℕ) (phases : List Phase)
     (retired noted : List ℕ) (position given : ℕ) (out : List ℕ) (draft : Option ℕ)
-    (is : IsSeated seat_table table key sizes me number held phase retired noted position given out draft) where
-  pub seated_with : (seat_table' : TableId) (me' : Known × List (ℕ × S)) (v : View) (held' : ℕ) (phase' : Phase) (retired' noted' : List ℕ) (position' given' : ℕ) (out' : List ℕ) (draft' : Option ℕ)
+    (is : IsSeated seat_table table key sizes me number held phases retired noted position given out draft) where
+  pub seated_with : (seat_table' : TableId) (me' : Known × List (ℕ × S)) (v : View) (held' : ℕ) (phases' : List Phase)
+      (retired' noted' : List ℕ) (position' given' : ℕ) (out' : List ℕ) (draft' : Option ℕ)
       → seat_table' ≡ seat_table → me'.0.core ≡ v → IsKnown me'.0 → slots_out me'.1 ≡ stripes_in v.hand → v.sizes ≡ me.0.core.sizes → v.active ≡ true → v.number ≡ me.0.core.number
-      → held' ≡ length v.held → v.phases ≡ phase' ∷ [] → retired' ≡ v.retired → noted' ≡ v.noted → position' ≡ v.position → given' ≡ v.given → out' ≡ v.out → draft' ≡ v.draft
-      → IsSeated seat_table' table key sizes me' number held' phase' retired' noted' position' given' out' draft'
-  seated_with seat_table' me' v held' phase' retired' noted' position' given' out' draft' same core knows carries size on num h p r n pos giv o d =
+      → held' ≡ length v.held → v.phases ≡ phases' → retired' ≡ v.retired → noted' ≡ v.noted → position' ≡ v.position → given' ≡ v.given → out' ≡ v.out → draft' ≡ v.draft
+      → IsSeated seat_table' table key sizes me' number held' phases' retired' noted' position' given' out' draft'
+  seated_with seat_table' me' v held' phases' retired' noted' position' given' out' draft' same core knows carries size on num h p r n pos giv o d =
       let e : v ≡ me'.0.core = sym core in
       let old = is.worker in
       record {
@@ -50,7 +53,8 @@ module _ {S : Type 0} (seat_table table : TableId) (key sizes : Sizes) (me : Kno
         worker = record {
           words = old.words;
           limits = old.limits;
-          one_word = old.one_word;
+          few_words = old.few_words;
+          few_announced = old.few_announced;
           few_workers = old.few_workers;
           sizes = ap (λ (u : View). u.sizes) (sym e) ∙ (size ∙ old.sizes);
           active = ap (λ (u : View). u.active) (sym e) ∙ on;
@@ -69,12 +73,13 @@ module _ {S : Type 0} (seat_table table : TableId) (key sizes : Sizes) (me : Kno
         draft_is = d ∙ ap (λ (u : View). u.draft) e;
       }
 
-  pub seated_after : (seat_table' : TableId) (me' : Known × List (ℕ × S)) (v : View) (held' : ℕ) (phase' : Phase) (retired' noted' : List ℕ) (position' given' : ℕ) (out' : List ℕ) (draft' : Option ℕ)
+  pub seated_after : (seat_table' : TableId) (me' : Known × List (ℕ × S)) (v : View) (held' : ℕ) (phases' : List Phase)
+      (retired' noted' : List ℕ) (position' given' : ℕ) (out' : List ℕ) (draft' : Option ℕ)
       → seat_table' ≡ seat_table → Stepped me.0 v me'.0 → me'.1 ≡ me.1 → v.sizes ≡ me.0.core.sizes → v.active ≡ true → v.number ≡ me.0.core.number → v.hand ≡ me.0.core.hand
-      → held' ≡ length v.held → v.phases ≡ phase' ∷ [] → retired' ≡ v.retired → noted' ≡ v.noted → position' ≡ v.position → given' ≡ v.given → out' ≡ v.out → draft' ≡ v.draft
-      → IsSeated seat_table' table key sizes me' number held' phase' retired' noted' position' given' out' draft'
-  seated_after seat_table' me' v held' phase' retired' noted' position' given' out' draft' same stepped carried size on num hand =
-      seated_with seat_table' me' v held' phase' retired' noted' position' given' out' draft' same stepped.core stepped.known
+      → held' ≡ length v.held → v.phases ≡ phases' → retired' ≡ v.retired → noted' ≡ v.noted → position' ≡ v.position → given' ≡ v.given → out' ≡ v.out → draft' ≡ v.draft
+      → IsSeated seat_table' table key sizes me' number held' phases' retired' noted' position' given' out' draft'
+  seated_after seat_table' me' v held' phases' retired' noted' position' given' out' draft' same stepped carried size on num hand =
+      seated_with seat_table' me' v held' phases' retired' noted' position' given' out' draft' same stepped.core stepped.known
       (ap slots_out carried ∙ (is.carries ∙ ap stripes_in (sym hand))) size on num
 
 -- no slot is out where no stripe is in hand

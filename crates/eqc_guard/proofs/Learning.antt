@@ -190,6 +190,7 @@ is_known z w hs vs id k law at on knows copy = record {
   few = subst (λ (y : Sizes). length k.core.out < y.workers) (sym (law.views id k.core at on).sizes) (out_few z w hs vs id k.core law at on);
   given = λ e. subst (λ (y : Sizes). (length k.core.out < k.core.given) × (k.core.given ≤ y.workers)) (sym (law.views id k.core at on).sizes) (out_given z w hs vs id k.core law at on e);
   word = let f = law.views id k.core at on in let e = f.phases in let some_words = law.sized.some_announcements in omega arith;
+  each = let f = law.views id k.core at on in f.phases ∙ sym (ap (λ (y : Sizes). y.announcements) f.sizes);
   retired = let f = law.views id k.core at on in subst (λ (y : Sizes). length k.core.retired ≤ 2 * announced_words y) (sym f.sizes) f.few;
   read = λ r e. ((law.views id k.core at on).read r e).held_still;
   slots = λ x h. (law.views id k.core at on).slots x (omega arith);

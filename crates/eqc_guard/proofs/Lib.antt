@@ -16,6 +16,7 @@ pub mod Filling
 pub mod Sharing
 pub mod Parcels
 pub mod Sameness
+pub mod Snapshots
 pub mod Acquiring
 pub mod Announced
 pub mod Sweeping

@@ -60,9 +60,14 @@ scans_on v n = go (ltb (v.position + 1) (announced_words v.sizes))
     go true = refl
     go false = refl
 
--- a worker's announcement word is one of the announcement words
-pub own_word_there : (z : Sizes) (v : View) → v.sizes ≡ z → IsWithinLimits z → v.number < z.workers → word_at v.sizes v.number 0 < announced_words z
-own_word_there z v is limits lt = subst (λ (y : Sizes). word_at y v.number 0 < announced_words z) (sym is) (below z v.number 0 lt limits.some_announcements)
+-- a worker's announcement words are among the announcement words
+pub own_word_there : (z : Sizes) (v : View) (k : ℕ) → v.sizes ≡ z → v.number < z.workers → k < v.sizes.announcements → word_at v.sizes v.number k < announced_words z
+own_word_there z v k is lt word = subst (λ (y : Sizes). word_at y v.number k < announced_words z) (sym is) (below z v.number k lt (subst (λ (y : Sizes). k < y.announcements) is word))
+
+-- they stand one after the other
+pub word_after : (z : Sizes) (number k : ℕ) → k ≡ word_at z number k - word_at z number 0
+unfolding word_at
+word_after z number k = omega arith
 
 -- an empty word has no result
 no_result : (word : ℕ) → 2 ≤ result_of word → word ≡ 0 → ⊥
@@ -209,55 +214,60 @@ module _ {S : Type 0} (z : Sizes) (slots id i : ℕ) (me : Me (HashMap ℕ ℕ S
         λ k e known. tt,
       ))
 
-  pub look_allows : (c : ℕ) → i ≡ cells_from me.0.core.sizes + c → MayLook me.0.core 0 c
-      → Allows (Held {S = S} z) slots id me i (λ n. n) (λ n after. Told me i n n (looked me.0.core 0 (i - cells_from me.0.core.sizes) n) after (Looks me.0 n))
-  look_allows c is may = load (λ n. looked me.0.core 0 (i - cells_from me.0.core.sizes) n) (Looks me.0) (λ n. on) (λ w hs vs law at knows.
+  pub look_allows : (j c : ℕ) → i ≡ cells_from me.0.core.sizes + c → MayLook me.0.core j c
+      → Allows (Held {S = S} z) slots id me i (λ n. n) (λ n after. Told me i n n (looked me.0.core j (i - cells_from me.0.core.sizes) n) after (Looks me.0 n))
+  look_allows j c is may = load (λ n. looked me.0.core j (i - cells_from me.0.core.sizes) n) (Looks me.0) (λ n. on) (λ w hs vs law at knows.
       let h = cell_here w hs vs law at c is may.2 in
       let back : c ≡ i - cells_from me.0.core.sizes = omega arith in (
-        subst (λ (q : ℕ × ℕ). Lawful z w hs (set vs id (looked me.0.core 0 q.0 q.1))) (λ j. (back j, sym h.2 j)) (look_keeps z w hs vs id me.0.core law at on 0 c may),
+        subst (λ (q : ℕ × ℕ). Lawful z w hs (set vs id (looked me.0.core j q.0 q.1))) (λ r. (back r, sym h.2 r)) (look_keeps z w hs vs id me.0.core law at on j c may),
         λ k e known nz. subst (λ (n : ℕ). Shown me.0 n) (sym h.2) (shown w hs vs law at c h.1 knows (λ q. nz (h.2 ∙ q))),
       ))
 
-  pub recheck_allows : (c word : ℕ) → i ≡ cells_from me.0.core.sizes + c → c < me.0.core.sizes.cells → phase_at me.0.core 0 ≡ Announced c word → MayRecheck me.0.core 0
-      → Allows (Held {S = S} z) slots id me i (λ n. n) (λ n after. Told me i n n (rechecked me.0.core 0 n) after (Rechecks me.0 n))
-  recheck_allows c word is lt phase may = load (λ n. rechecked me.0.core 0 n) (Rechecks me.0) (λ n. on) (λ w hs vs law at knows.
+  pub recheck_allows : (j c word : ℕ) → i ≡ cells_from me.0.core.sizes + c → c < me.0.core.sizes.cells → phase_at me.0.core j ≡ Announced c word → MayRecheck me.0.core j
+      → Allows (Held {S = S} z) slots id me i (λ n. n) (λ n after. Told me i n n (rechecked me.0.core j n) after (Rechecks me.0 j n))
+  recheck_allows j c word is lt phase may = load (λ n. rechecked me.0.core j n) (Rechecks me.0 j) (λ n. on) (λ w hs vs law at knows.
       let h = cell_here w hs vs law at c is lt in
-      let cell : announced_cell (phase_at me.0.core 0) ≡ c = ap announced_cell phase in
-      let found : get_or w.cells (announced_cell (phase_at me.0.core 0)) 0 ≡ get_or (flat w) i 0 = ap (λ (k : ℕ). get_or w.cells k 0) cell ∙ sym h.2 in
-      let first : 0 < z.announcements = law.sized.some_announcements in
-      let phase_is = phase_there z w hs vs id me.0.core law at on 0 first in
-      let two : 2 ≤ result_of word = (let P : Phase → Type 0 = λ p. IsNamed z p in subst P phase ((fits w hs vs law at).named 0 (phase_at me.0.core 0) phase_is)).2 in (
-        subst (λ (n : ℕ). Lawful z w hs (set vs id (rechecked me.0.core 0 n))) found (recheck_keeps z w hs vs id me.0.core law at on 0 may),
+      let cell : announced_cell (phase_at me.0.core j) ≡ c = ap announced_cell phase in
+      let found : get_or w.cells (announced_cell (phase_at me.0.core j)) 0 ≡ get_or (flat w) i 0 = ap (λ (k : ℕ). get_or w.cells k 0) cell ∙ sym h.2 in
+      let mine : j < z.announcements = subst (λ (y : Sizes). j < y.announcements) (size w hs vs law at) may.1 in
+      let phase_is = phase_there z w hs vs id me.0.core law at on j mine in
+      let two : 2 ≤ result_of word = (let P : Phase → Type 0 = λ p. IsNamed z p in subst P phase ((fits w hs vs law at).named j (phase_at me.0.core j) phase_is)).2 in (
+        subst (λ (n : ℕ). Lawful z w hs (set vs id (rechecked me.0.core j n))) found (recheck_keeps z w hs vs id me.0.core law at on j may),
         λ k e known c' word' phase' hit.
             let same : word ≡ word' = let q : Announced c word ≡ Announced c' word' = sym phase ∙ phase' in cc in
             let here : get_or w.cells c 0 ≡ word = sym h.2 ∙ (hit ∙ sym same) in
             let nz : word ≢ 0 = λ q. no_result word two q in
             let f : IsFilled w.nodes word = subst (λ (m : ℕ). IsFilled w.nodes m) here (cell_right w hs vs law at c h.1 (λ q. nz (sym here ∙ q))) in
-            let p : rechecked_phase (phase_at me.0.core 0) (get_or (flat w) i 0) ≡ Confirmed (result_of word) =
+            let p : rechecked_phase (phase_at me.0.core j) (get_or (flat w) i 0) ≡ Confirmed (result_of word) =
             ap (λ (p : Phase). rechecked_phase p (get_or (flat w) i 0)) phase ∙ rw (eq-eqb (get_or (flat w) i 0) word (hit ∙ sym same)) refl in
-            let there : get_elem? k.core.phases 0 ≡ some (Confirmed (result_of word)) =
-            ap (λ (v : View). get_elem? v.phases 0) e
-            ∙ (set_here me.0.core.phases 0 (rechecked_phase (phase_at me.0.core 0) (get_or (flat w) i 0)) (let n = (fits w hs vs law at).phases in omega arith) ∙ ap some p) in
+            let there : get_elem? k.core.phases j ≡ some (Confirmed (result_of word)) =
+            ap (λ (v : View). get_elem? v.phases j) e
+            ∙ (set_here me.0.core.phases j (rechecked_phase (phase_at me.0.core j) (get_or (flat w) i 0)) (let n = (fits w hs vs law at).phases in omega arith) ∙ ap some p) in
             subst (λ (m : ℕ). IsResult me.0 m (tree_of k (result_of m))) same
-            (filled_result w.nodes me.0 word (tree_of k (result_of word)) knows f (known (result_of word) two (confirmed_named k.core 0 (result_of word) there))),
+            (filled_result w.nodes me.0 word (tree_of k (result_of word)) knows f (known (result_of word) two (confirmed_named k.core j (result_of word) there))),
       ))
 
   -- the same, by the cell that the phase has
-  pub again_allows : (c : ℕ) → i ≡ cells_from me.0.core.sizes + c → c ≡ announced_cell (phase_at me.0.core 0) → c < me.0.core.sizes.cells → MayRecheck me.0.core 0
-      → Allows (Held {S = S} z) slots id me i (λ n. n) (λ n after. Told me i n n (rechecked me.0.core 0 n) after (Rechecks me.0 n))
-  again_allows c is cell lt may = let a = announced_as (phase_at me.0.core 0) may.2 in recheck_allows c a.0 is lt (a.1 ∙ ap (λ (k : ℕ). Announced k a.0) (sym cell)) may
+  pub again_allows : (j c : ℕ) → i ≡ cells_from me.0.core.sizes + c → c ≡ announced_cell (phase_at me.0.core j) → c < me.0.core.sizes.cells → MayRecheck me.0.core j
+      → Allows (Held {S = S} z) slots id me i (λ n. n) (λ n after. Told me i n n (rechecked me.0.core j n) after (Rechecks me.0 j n))
+  again_allows j c is cell lt may = let a = announced_as (phase_at me.0.core j) may.2 in recheck_allows j c a.0 is lt (a.1 ∙ ap (λ (k : ℕ). Announced k a.0) (sym cell)) may
 
-  pub announce_allows : (x : ℕ) → i ≡ word_at me.0.core.sizes me.0.core.number 0 → MayAnnounce me.0.core 0 x →
-      Allows (Held {S = S} z) slots id me i (λ _. x) (λ _ after. Stored me i x (announced me.0.core 0) after)
-  announce_allows x is may = store x (announced me.0.core 0) on (λ w hs vs law at.
+  pub announce_allows : (j x : ℕ) → i ≡ word_at me.0.core.sizes me.0.core.number j → MayAnnounce me.0.core j x →
+      Allows (Held {S = S} z) slots id me i (λ _. x) (λ _ after. Stored me i x (announced me.0.core (i - word_at me.0.core.sizes me.0.core.number 0)) after)
+  announce_allows j x is may = store x (announced me.0.core (i - word_at me.0.core.sizes me.0.core.number 0)) on (λ w hs vs law at.
       let f = fits w hs vs law at in
-      let here : i ≡ word_at z id 0 = is ∙ (ap (λ (y : Sizes). word_at y me.0.core.number 0) f.sizes ∙ ap (λ (n : ℕ). word_at z n 0) f.number) in
-      let lt : word_at z id 0 < announced_words z = below z id 0 (let views = law.sized.views in let b = at_below vs id me.0.core at in omega arith) law.sized.some_announcements in (
-        with_announced w (word_at z id 0) x,
+      let back : j ≡ i - word_at me.0.core.sizes me.0.core.number 0 =
+      word_after me.0.core.sizes me.0.core.number j ∙ ap (λ (n : ℕ). n - word_at me.0.core.sizes me.0.core.number 0) (sym is) in
+      let here : i ≡ word_at z id j = is ∙ (ap (λ (y : Sizes). word_at y me.0.core.number j) f.sizes ∙ ap (λ (n : ℕ). word_at z n j) f.number) in
+      let views = law.sized.views in
+      let b = at_below vs id me.0.core at in
+      let lt : word_at z id j < announced_words z = below z id j (omega arith) (subst (λ (y : Sizes). j < y.announcements) f.sizes may.1) in (
+        with_announced w (word_at z id j) x,
         ap (λ (k : ℕ). set (flat w) k x) here
-            ∙ set_announced z w hs vs law.sized (word_at z id 0) x lt,
+            ∙ set_announced z w hs vs law.sized (word_at z id j) x lt,
         refl,
-        announce_keeps z w hs vs id me.0.core law at on 0 x may,
+        subst (λ (n : ℕ). Lawful z (with_announced w (word_at z id j) x) hs (set vs id (announced me.0.core n))) back
+            (announce_keeps z w hs vs id me.0.core law at on j x may),
       ))
 
   pub scan_allows : i ≡ me.0.core.position → MayScan me.0.core → length me.0.core.held ≤ 2 ^ 39

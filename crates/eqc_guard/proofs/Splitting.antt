@@ -12,6 +12,7 @@ use Rattle.eqc_core.specs.Lawful.{IsNamed as IsPlaced}
 use Rattle.eqc_core.proofs.Names.{times-nil}
 use Rattle.eqc_core.specs.State.{IsWithinLimits}
 use Rattle.eqc_core.specs.Seating.{splitter}
+use Rattle.eqc_core.proofs.Phases.{idle-length}
 use Rattle.eqc_guard.specs.Known.{Known, IsKnown, IsNamed}
 use Rattle.eqc_guard.specs.Seats.{split_left, split_off}
 use Rattle.eqc_guard.specs.Splitting.{HasNumber}
@@ -38,6 +39,7 @@ split_left_known k known has = record {
   phases = known.phases;
   slots = known.slots;
   word = known.word;
+  each = known.each;
   retired = known.retired;
   read = known.read;
   draft = known.draft;
@@ -66,6 +68,7 @@ split_off_known z k limits same known has =
       phases = subst (λ (y : Sizes). (j : ℕ) (p : Phase) → get_elem? (idle y.announcements) j ≡ some p → IsPlaced y p) (sym same) all.phases;
       slots = λ x h. absurd (omega (arith, times-nil x));
       word = subst (λ (y : Sizes). 0 < length (idle y.announcements)) (sym same) all.word;
+      each = idle-length k.core.sizes.announcements;
       retired = omega arith;
       read = λ r e. absurd (cc);
       draft = λ d e. absurd (cc);
@@ -79,10 +82,10 @@ split_off_known z k limits same known has =
     has_some : 0 < k.core.sizes.workers
     has_some = subst (λ (y : Sizes). 0 < y.workers) (sym same) limits.some_workers
 
-module _ {S : Type 0} (seat_table table : TableId) (key sizes : Sizes) (me : Known × List (ℕ × S)) (number held : ℕ) (phase : Phase)
+module _ {S : Type 0} (seat_table table : TableId) (key sizes : Sizes) (me : Known × List (ℕ × S)) (number held : ℕ) (phases : List Phase)
     (retired noted : List ℕ) (position given : ℕ) (out : List ℕ) (draft : Option ℕ)
-    (is : IsSeated seat_table table key sizes me number held phase retired noted position given out draft) (has : HasNumber me.0.core) where
-  pub left_seated : IsSeated seat_table table key sizes (split_left me.0, me.1) number held phase retired noted position (given + 1) (out ++ given ∷ []) draft
+    (is : IsSeated seat_table table key sizes me number held phases retired noted position given out draft) (has : HasNumber me.0.core) where
+  pub left_seated : IsSeated seat_table table key sizes (split_left me.0, me.1) number held phases retired noted position (given + 1) (out ++ given ∷ []) draft
   left_seated =
       let old = is.worker in
       record {
@@ -91,7 +94,8 @@ module _ {S : Type 0} (seat_table table : TableId) (key sizes : Sizes) (me : Kno
         worker = record {
           words = old.words;
           limits = old.limits;
-          one_word = old.one_word;
+          few_words = old.few_words;
+          few_announced = old.few_announced;
           few_workers = old.few_workers;
           sizes = old.sizes;
           active = old.active;
@@ -110,7 +114,8 @@ module _ {S : Type 0} (seat_table table : TableId) (key sizes : Sizes) (me : Kno
         draft_is = is.draft_is;
       }
 
-  pub off_seated : (other : TableId) (key' : Sizes) → other ≡ seat_table → key' ≡ key → IsSeated {S = S} other other key' sizes (split_off me.0, []) given 0 Idle [] [] 0 0 [] None
+  pub off_seated : (other : TableId) (key' : Sizes) → other ≡ seat_table → key' ≡ key →
+      IsSeated {S = S} other other key' sizes (split_off me.0, []) given 0 (idle sizes.announcements) [] [] 0 0 [] None
   off_seated other key' same same_key =
       let old = is.worker in
       record {
@@ -119,7 +124,8 @@ module _ {S : Type 0} (seat_table table : TableId) (key sizes : Sizes) (me : Kno
         worker = record {
           words = ap (λ (t : TableId). t.words) (same ∙ is.one_table) ∙ old.words;
           limits = old.limits;
-          one_word = old.one_word;
+          few_words = old.few_words;
+          few_announced = old.few_announced;
           few_workers = old.few_workers;
           sizes = old.sizes;
           active = refl;
@@ -129,7 +135,7 @@ module _ {S : Type 0} (seat_table table : TableId) (key sizes : Sizes) (me : Kno
         carries = refl;
         number_is = is.given_is;
         held_is = refl;
-        phases_are = ap idle (ap (λ (y : Sizes). y.announcements) old.sizes ∙ old.one_word);
+        phases_are = ap idle (ap (λ (y : Sizes). y.announcements) old.sizes);
         retired_are = refl;
         noted_are = refl;
         position_is = refl;

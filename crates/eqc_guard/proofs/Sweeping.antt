@@ -15,6 +15,7 @@ use Rattle.eqc_guard.specs.Standing.{Standing, Steps}
 use Rattle.eqc_guard.specs.Sweeping.{IsSilent, AreNone, scanning, IsScanning, IsSwept, IsLetting, IsScanned}
 use Rattle.eqc_guard.proofs.Announced.{none_announced}
 use Rattle.eqc_guard.proofs.Learning.{held_named}
+use Rattle.eqc_guard.proofs.Snapshots.{all_stay, snapshots_on, steps_keep}
 use Rattle.eqc_guard.specs.Copying.{KeepsCells}
 use Rattle.eqc_guard.specs.Telling.{Copies}
 use Rattle.eqc_guard.proofs.Copying.{cells_stay, cells_on, load_keeps}
@@ -36,6 +37,7 @@ begins s known ready = record {
   core = refl;
   alone = λ silent ws e. no_length s.known.core.noted (let n = known.noted in omega arith);
   trees = λ x two h. refl;
+  snapshots = all_stay s.known;
   copy = cells_stay s.known;
   known = known;
 }
@@ -78,6 +80,7 @@ module _ (old mid next : Standing) (name : ℕ) (m : IsScanning old mid) (s : St
       trees = λ x two h.
           s.known.agrees x two (held_named mid.known.core x (there x h)) (subst (λ (v : View). 0 < times x (names_of v)) (sym on) (held_named (scan_on mid.known.core name) x (there x h)))
           ∙ m.trees x two h;
+      snapshots = snapshots_on old.known mid.known next.known m.snapshots (steps_keep mid next (scanned mid.known.core name) s (ap (λ (v : View). v.phases) on));
       copy = cells_on old.known mid.known next.known (ap (λ (v : View). v.sizes) m.core) m.copy (load_keeps mid.known next.known mid.known.core.position name copies);
       known = s.known.known;
     }
@@ -127,6 +130,7 @@ module _ (old mid next : Standing) (name : ℕ) (m : IsScanning old mid) (s : St
             let was : 0 < times x mid.known.core.held = subst (λ (v : View). 0 < times x v.held) (sym m.core) h in
             let is : 0 < times x (scan_end mid.known.core name).held = omega (arith, times-append x mid.known.core.held (ejected (note name mid.known.core.noted) mid.known.core.retired)) in
             s.known.agrees x two (held_named mid.known.core x was) (subst (λ (v : View). 0 < times x (names_of v)) (sym off) (held_named (scan_end mid.known.core name) x is)) ∙ m.trees x two h;
+        snapshots = snapshots_on old.known mid.known next.known m.snapshots (steps_keep mid next (scanned mid.known.core name) s (ap (λ (v : View). v.phases) off));
         copy = cells_on old.known mid.known next.known (ap (λ (v : View). v.sizes) m.core) m.copy (load_keeps mid.known next.known mid.known.core.position name copies);
         known = s.known.known;
       }
@@ -148,6 +152,7 @@ lets_all gone s known = record {
   names = λ x. refl;
   lengths = refl;
   trees = λ x two h. refl;
+  snapshots = all_stay s.known;
   copy = cells_stay s.known;
   known = known;
 }
@@ -181,6 +186,7 @@ module _ (gone rest : List ℕ) (x : ℕ) (swept mid next : Standing) (m : IsLet
     names = λ y. left y (ℕ_discrete x y);
     lengths = omega (arith, m.lengths, length-without_one x m.held there);
     trees = let_tree;
+    snapshots = snapshots_on swept.known mid.known next.known m.snapshots (steps_keep mid next (downed mid.known.core x) s refl);
     copy = cells_on swept.known mid.known next.known (ap (λ (v : View). v.sizes) m.core) m.copy keeps;
     known = s.known.known;
   }
@@ -219,6 +225,7 @@ scans gone old swept new known w m =
       few = w.few;
       alone = w.alone;
       trees = λ x two h. m.trees x two (omega (arith, same x)) ∙ w.trees x two h;
+      snapshots = snapshots_on old.known swept.known new.known w.snapshots m.snapshots;
       copy = cells_on old.known swept.known new.known (ap (λ (v : View). v.sizes) w.core) w.copy m.copy;
       known = m.known;
     }

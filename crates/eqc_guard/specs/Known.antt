@@ -110,8 +110,9 @@ pub record IsKnown (k : Known) : Type 0 where
   pub noted : length k.core.noted ≤ k.core.position
   -- a phase names a cell that is there
   pub phases : (j : ℕ) (p : Phase) → get_elem? k.core.phases j ≡ some p → IsPlaced k.core.sizes p
-  -- a worker has an announcement word
+  -- a worker has an announcement word, and one phase for each that it has
   pub word : 0 < length k.core.phases
+  pub each : length k.core.phases ≡ k.core.sizes.announcements
   -- constants are not counted, so they are not held
   pub slots : (x : ℕ) → 0 < times x k.core.held → 2 ≤ x
   -- at most twice as many names are retired as there are announcement words

@@ -1,5 +1,6 @@
 pub mod Coding
 pub mod Known
+pub mod Snapshots
 pub mod Telling
 pub mod Rule
 pub mod Copying

@@ -42,9 +42,9 @@ locks_from z = boxes_from z + 16 * z.workers
 abbrev pub all_words : Sizes → ℕ
 all_words z = boxes_from z + (16 * z.workers + 128)
 
--- the sizes of a forest, with one announcement word for each worker
+-- the sizes of a forest, with four announcement words for each worker
 abbrev pub sizes_of : ℕ → ℕ → ℕ → ℕ → Sizes
-sizes_of vars nodes cells workers = record { workers = workers; announcements = 1; names = nodes + 2; cells = cells; variables = vars }
+sizes_of vars nodes cells workers = record { workers = workers; announcements = 4; names = nodes + 2; cells = cells; variables = vars }
 
 -- the trees of the literals of n variables, from i on: variable i has the slot 2 + i
 abbrev pub literal_trees : ℕ → ℕ → List (ℕ × Tree)
@@ -72,7 +72,8 @@ pub record Held {S : Type 0} (z : Sizes) (s : State (HashMap ℕ ℕ S) Known) :
 pub record IsWorker {T : Type 0} (id : TableId) (z : Sizes) (me : Known × List T) : Type 0 where
   pub words : id.words ≡ all_words z
   pub limits : IsWithinLimits z
-  pub one_word : z.announcements ≡ 1
+  pub few_words : z.announcements ≤ 4
+  pub few_announced : announced_words z ≤ 256
   pub few_workers : z.workers ≤ 64
   pub sizes : me.0.core.sizes ≡ z
   pub active : me.0.core.active ≡ true

@@ -30,7 +30,7 @@ abbrev pub slots_out : {S : Type 0} → List (ℕ × S) → List ℕ
 slots_out {S} xs = map (λ (x : ℕ × S). x.0) xs
 
 -- what a worker's fields have to do with its seat: the slot of a stripe in hand is out with it
-pub record IsSeated {S : Type 0} (seat_table table : TableId) (key sizes : Sizes) (me : Known × List (ℕ × S)) (number held : ℕ) (phase : Phase)
+pub record IsSeated {S : Type 0} (seat_table table : TableId) (key sizes : Sizes) (me : Known × List (ℕ × S)) (number held : ℕ) (phases : List Phase)
     (retired noted : List ℕ) (position given : ℕ) (out : List ℕ) (draft : Option ℕ) : Type 0 where
   pub one_table : seat_table ≡ table
   pub one_key : key ≡ sizes
@@ -38,7 +38,7 @@ pub record IsSeated {S : Type 0} (seat_table table : TableId) (key sizes : Sizes
   pub carries : slots_out me.1 ≡ stripes_in me.0.core.hand
   pub number_is : number ≡ me.0.core.number
   pub held_is : held ≡ length me.0.core.held
-  pub phases_are : me.0.core.phases ≡ phase ∷ []
+  pub phases_are : me.0.core.phases ≡ phases
   pub retired_are : retired ≡ me.0.core.retired
   pub noted_are : noted ≡ me.0.core.noted
   pub position_is : position ≡ me.0.core.position

@@ -1,4 +1,4 @@
--- What a whole scan leaves. The cells stay: a worker that is alone has the same ones in its copy of the words, and where it announces nothing, nothing is retired any longer.
+-- What a whole scan leaves. Snapshots stay, and so do the cells: a worker that is alone has the same ones in its copy of the words, and where it announces nothing, nothing is retired any longer.
 use Rattle.std.specs.Prelude.{◌≡◌, ℕ, ◌+◌, ◌<◌, ◌≤◌, List, [], ◌++◌, length, Some}
 use mathlib.Core.Option.{some}
 use lib.ListN.{get_elem?}
@@ -8,6 +8,7 @@ use Rattle.eqc_core.specs.Words.{times, announced_words}
 use Rattle.eqc_core.specs.Moves.{IsQuiet, forget}
 use Rattle.eqc_guard.specs.Known.{Known, IsKnown, tree_of}
 use Rattle.eqc_guard.specs.Copying.{KeepsCells}
+use Rattle.eqc_guard.specs.Snapshots.{KeepsSnapshots}
 use Rattle.eqc_guard.specs.Standing.{Standing}
 
 -- none of the worker's announcement words but the first announces a name
@@ -30,6 +31,7 @@ pub record IsScanning (old mid : Standing) : Type 0 where
   pub core : mid.known.core ≡ scanning old.known.core position noted
   pub alone : AreNone old.known noted
   pub trees : (x : ℕ) → 2 ≤ x → 0 < times x old.known.core.held → tree_of mid.known x ≡ tree_of old.known x
+  pub snapshots : KeepsSnapshots old.known mid.known
   pub copy : KeepsCells old.known mid.known
   pub known : IsKnown mid.known
 
@@ -42,6 +44,7 @@ pub record IsSwept (ejected : List ℕ) (old new : Standing) : Type 0 where
   pub few : length retired ≤ announced_words old.known.core.sizes
   pub alone : AreNone old.known retired
   pub trees : (x : ℕ) → 2 ≤ x → 0 < times x old.known.core.held → tree_of new.known x ≡ tree_of old.known x
+  pub snapshots : KeepsSnapshots old.known new.known
   pub copy : KeepsCells old.known new.known
   pub known : IsKnown new.known
 
@@ -53,6 +56,7 @@ pub record IsLetting (gone rest : List ℕ) (swept mid : Standing) : Type 0 wher
   pub names : (x : ℕ) → times x held + times x gone ≡ times x swept.known.core.held + times x rest
   pub lengths : length held + length gone ≡ length swept.known.core.held + length rest
   pub trees : (x : ℕ) → 2 ≤ x → 0 < times x held → tree_of mid.known x ≡ tree_of swept.known x
+  pub snapshots : KeepsSnapshots swept.known mid.known
   pub copy : KeepsCells swept.known mid.known
   pub known : IsKnown mid.known
 
@@ -68,5 +72,6 @@ pub record IsScanned (old new : Standing) : Type 0 where
   pub few : length retired ≤ announced_words old.known.core.sizes
   pub alone : AreNone old.known retired
   pub trees : (x : ℕ) → 2 ≤ x → 0 < times x old.known.core.held → tree_of new.known x ≡ tree_of old.known x
+  pub snapshots : KeepsSnapshots old.known new.known
   pub copy : KeepsCells old.known new.known
   pub known : IsKnown new.known

@@ -59,9 +59,9 @@ pub record Shown (me : Known) (n : ℕ) : Type 0 where
 abbrev pub Looks : Known → ℕ → Known → Type 0
 Looks me n k = n ≢ 0 → Shown me n
 
--- what a second look tells: where it finds the word again, the result is right, and its tree is known
-abbrev pub Rechecks : Known → ℕ → Known → Type 0
-Rechecks me n k = (c word : ℕ) → phase_at me.core 0 ≡ Announced c word → n ≡ word → IsResult me word (tree_of k (result_of word))
+-- what a second look for the i-th announcement word tells: where it finds the word again, the result is right, and its tree is known
+abbrev pub Rechecks : Known → ℕ → ℕ → Known → Type 0
+Rechecks me i n k = (c word : ℕ) → phase_at me.core i ≡ Announced c word → n ≡ word → IsResult me word (tree_of k (result_of word))
 
 -- a load that leaves the view tells that each tree that the worker kept is the one that it knows
 abbrev pub Settles : Known → ℕ → Known → Type 0

@@ -1,6 +1,7 @@
 //! A new forest.
 ghost use Rattle.std.specs.Prelude.{◌≡◌, ◌+◌, ◌≤◌, ◌^◌, map, IfOk};
 ghost use Rattle.eqc_core.specs.State.{IsWithinLimits, slots_from};
+ghost use Rattle.eqc_core.specs.Words.{announced_words};
 ghost use Rattle.eqc_guard.specs.Rule.{beginner, sizes_of};
 
 use crate::origin::Origin;
@@ -18,7 +19,8 @@ use std::sync::Arc;
 // Worker 0 of a new forest.
 fn plant(alloc: Global, origin: Origin) -> Result<Worker, AllocError>
     requires limits { IsWithinLimits origin.sizes }
-    requires words { origin.sizes.announcements ≡ 1 }
+    requires words { origin.sizes.announcements ≤ 4 }
+    requires announced { announced_words origin.sizes ≤ 256 }
     requires workers { origin.sizes.workers ≤ 64 }
     requires few { origin.literals ≤ 16 }
     requires names { origin.literals + 2 ≤ origin.sizes.names }
@@ -40,14 +42,14 @@ fn plant(alloc: Global, origin: Origin) -> Result<Worker, AllocError>
     Ok(Worker::seated(alloc, table, seat, origin.sizes, 0, held, 1))
 }
 
-// The sizes of a forest, in which each worker has one announcement word.
+// The sizes of a forest, in which each worker has four announcement words.
 fn sizes_for(vars: u32, nodes: u32, cells: u32, workers: u32) -> Sizes
     requires { nodes ≤ 1048574 }
     ensures { result ≡ sizes_of vars nodes cells workers }
 {
     Sizes {
         workers,
-        announcements: 1,
+        announcements: 4,
         names: nodes + 2,
         cells,
         variables: vars,

@@ -12,9 +12,9 @@
 //!   and `Stepped` says that a step leaves the trees of what is named before and after it, and a
 //!   copy of the words where there was one
 //! - `worker`, with `specs/Standing.antt`: the step methods, splits and joins, and what callers see;
-//!   `specs/Splitting.antt`, `specs/Acquiring.antt`, `specs/Filling.antt`, `specs/Sweeping.antt` and
-//!   `specs/Closing.antt` have the words of its contracts. `names` has the lists of names of fixed
-//!   size that it keeps
+//!   `specs/Splitting.antt`, `specs/Snapshots.antt`, `specs/Acquiring.antt`, `specs/Filling.antt`,
+//!   `specs/Sweeping.antt` and `specs/Closing.antt` have the words of its contracts. `names` has the lists of names of fixed
+//!   size that it keeps, and `phases` the phases of its announcement words
 //! - in `worker`: `nodes`, with `specs/Making.antt`, the steps on slots and nodes; `stripes`, with
 //!   `specs/Locking.antt`, the locks of the unique table, whose maps alone leave their slots;
 //!   `boxes`, with `specs/Sharing.antt`, the steps on boxes, whose words are parcels (`parcel`)
@@ -34,6 +34,7 @@ pub mod forest;
 mod names;
 pub mod origin;
 pub mod parcel;
+mod phases;
 pub mod reference;
 pub mod rule;
 mod stock;

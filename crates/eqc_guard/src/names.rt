@@ -66,8 +66,8 @@ pub(crate) fn held_with_children(held: u64, low: u32, high: u32) -> u64
 
 // Keeps the result of a cell's old word for later.
 #[tactic(auto, unfolding(eqc_core::specs::Words::result_of))]
-pub(crate) fn retire(retired: &mut ArrayVec<u32, 128>, old: u64)
-    requires { length retired.old.items < 128 }
+pub(crate) fn retire(retired: &mut ArrayVec<u32, 512>, old: u64)
+    requires { length retired.old.items < 512 }
     ensures { retired.new.items ≡ retired.old.items ++ slots_of (result_of old ∷ []) }
 {
     let (_, _, _, result) = unpack_cell(old);
@@ -77,7 +77,7 @@ pub(crate) fn retire(retired: &mut ArrayVec<u32, 128>, old: u64)
 }
 
 // Takes the first such name out of the list, and says whether there was one.
-fn remove_first(names: &mut ArrayVec<u64, 64>, x: u64) -> bool
+fn remove_first<const N: usize>(names: &mut ArrayVec<u64, N>, x: u64) -> bool
     ensures found { IsTrue result ↔ (0 < times x names.old.items) }
     ensures others { names.new.items ≡ without x names.old.items }
     ensures none { result ≡ false → names.new.items ≡ names.old.items }
@@ -92,8 +92,8 @@ fn remove_first(names: &mut ArrayVec<u64, 64>, x: u64) -> bool
 }
 
 // Puts the other names behind these.
-pub(crate) fn append(names: &mut ArrayVec<u32, 128>, more: &[u32])
-    requires { length names.old.items + length more.now ≤ 128 }
+pub(crate) fn append(names: &mut ArrayVec<u32, 512>, more: &[u32])
+    requires { length names.old.items + length more.now ≤ 512 }
     ensures { names.new.items ≡ names.old.items ++ more.now }
 {
     let _fits = names.try_extend_from_slice(more);
@@ -117,8 +117,8 @@ pub(crate) fn take_numbers(out: &mut ArrayVec<u64, 64>, number: u32, from: u64, 
 }
 
 // Notes a name that an announcement word has.
-pub(crate) fn add_note(noted: &mut ArrayVec<u64, 64>, x: u64)
-    requires { length noted.old.items < 64 }
+pub(crate) fn add_note(noted: &mut ArrayVec<u64, 256>, x: u64)
+    requires { length noted.old.items < 256 }
     ensures { noted.new.items ≡ note x noted.old.items }
 {
     if x == 0 || noted.as_slice().contains(&x) {
@@ -129,9 +129,9 @@ pub(crate) fn add_note(noted: &mut ArrayVec<u64, 64>, x: u64)
 
 // One retired entry of each noted name stays, and the others are given.
 pub(crate) fn sort_out(
-    noted: &mut ArrayVec<u64, 64>,
-    retired: &mut ArrayVec<u32, 128>,
-) -> ArrayVec<u32, 128>
+    noted: &mut ArrayVec<u64, 256>,
+    retired: &mut ArrayVec<u32, 512>,
+) -> ArrayVec<u32, 512>
     ensures stay { retired.new.items ≡ kept noted.old.items retired.old.items }
     ensures go { result.items ≡ ejected noted.old.items retired.old.items }
 {

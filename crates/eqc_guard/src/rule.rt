@@ -1,7 +1,7 @@
 //! The rule of the table, and what each step tells.
 ghost use Rattle.std.specs.Prelude.{◌≡◌, ◌+◌, ◌-◌, ◌/◌, ◌%◌, ◌^◌, [], ◌∷◌, None};
 ghost use Rattle.eqc_core.specs.View.{fresh};
-ghost use Rattle.eqc_core.specs.Words.{announced_words};
+ghost use Rattle.eqc_core.specs.Words.{announced_words, word_at};
 ghost use Rattle.eqc_core.specs.Announcing.{looked, announced, rechecked};
 ghost use Rattle.eqc_core.specs.Counting.{upped, downed};
 ghost use Rattle.eqc_core.specs.Caching.{swapped};
@@ -33,25 +33,25 @@ impl TableRule<Stripe, View, Origin> for Rule {
     ghost first = { λ origin. beginner origin.sizes origin.literals };
 }
 
-/// A cell was read.
-pub struct Look;
+/// A cell was read, for the K-th announcement word of the worker.
+pub struct Look<const K: usize>;
 
-impl Play<Stripe, View> for Look {
-    ghost then = { λ s me n after. Told me s.word n n (looked me.0.core 0 (s.word - cells_from me.0.core.sizes) n) after (Looks me.0 n) };
+impl<const K: usize> Play<Stripe, View> for Look<K> {
+    ghost then = { λ s me n after. Told me s.word n n (looked me.0.core K (s.word - cells_from me.0.core.sizes) n) after (Looks me.0 n) };
 }
 
 /// An announcement was stored.
 pub struct Announce;
 
 impl Play<Stripe, View> for Announce {
-    ghost then = { λ s me n after. Stored me s.word s.first (announced me.0.core 0) after };
+    ghost then = { λ s me n after. Stored me s.word s.first (announced me.0.core (s.word - word_at me.0.core.sizes me.0.core.number 0)) after };
 }
 
-/// A cell was read again.
-pub struct Recheck;
+/// A cell was read again, for the K-th announcement word of the worker.
+pub struct Recheck<const K: usize>;
 
-impl Play<Stripe, View> for Recheck {
-    ghost then = { λ s me n after. Told me s.word n n (rechecked me.0.core 0 n) after (Rechecks me.0 n) };
+impl<const K: usize> Play<Stripe, View> for Recheck<K> {
+    ghost then = { λ s me n after. Told me s.word n n (rechecked me.0.core K n) after (Rechecks me.0 K n) };
 }
 
 /// A name was counted up.

@@ -10,7 +10,6 @@ mod stripes;
 
 use crate::fault::SplitFault;
 use crate::filled::{self, Filled};
-use crate::names;
 use crate::origin::Origin;
 use crate::reference::Ref;
 use crate::rule::{
@@ -19,6 +18,7 @@ use crate::rule::{
 };
 use crate::tally::Tally;
 use crate::view::View;
+use crate::{names, phases};
 use arrayvec::ArrayVec;
 use atomic_table::{Seat, Table};
 use eqc_core::{Phase, Sizes};
@@ -36,9 +36,10 @@ pub struct Worker {
     number: u32,
     // How many names are held.
     held: u64,
-    phase: Phase,
-    retired: ArrayVec<u32, 128>,
-    noted: ArrayVec<u64, 64>,
+    // One phase for each announcement word.
+    phases: ArrayVec<Phase, 4>,
+    retired: ArrayVec<u32, 512>,
+    noted: ArrayVec<u64, 256>,
     // The announcement word that the scan reads next.
     position: u32,
     // How many numbers were given, at worker 0.
@@ -62,13 +63,13 @@ impl Model for Worker {
 
     ghost view = { λ w. record { forest = w.seat.table_id; known = w.seat.me.0 } };
 
-    ghost invariant = { λ w. IsSeated w.seat.table_id (arc_value w.table).shared.table_id (arc_value w.table).shared.key.sizes w.sizes w.seat.me w.number w.held w.phase w.retired.items w.noted.items w.position w.given w.out.items w.draft };
+    ghost invariant = { λ w. IsSeated w.seat.table_id (arc_value w.table).shared.table_id (arc_value w.table).shared.key.sizes w.sizes w.seat.me w.number w.held w.phases.items w.retired.items w.noted.items w.position w.given w.out.items w.draft };
 }
 
 impl Worker {
     ghost use Rattle.eqc_tree.specs.Tree.{SameFunction};
     ghost use Rattle.std.specs.Prelude.{[], suc, false, if◌then◌else◌, List, Some, ◌-◌, ◌*◌, ◌%◌, ◌^◌, ◌≤◌, ◌↔◌, ◌++◌, length, ℕ, IsTrue, IfSome, None, IfOk, OnOk, OnErr, IfErr};
-    ghost use Rattle.eqc_core.specs.View.{phase_at};
+    ghost use Rattle.eqc_core.specs.View.{idle, phase_at};
     ghost use Rattle.eqc_core.specs.Words.{announced_words, word_at, first_of, second_of, result_of};
     ghost use Rattle.eqc_core.specs.Moves.{IsReady};
     ghost use Rattle.eqc_core.specs.Announcing.{MayLook, looked, MayAnnounce, announced, MayRecheck, rechecked, announced_cell};
@@ -84,8 +85,9 @@ impl Worker {
     ghost use Rattle.eqc_guard.specs.Closing.{above_zero, IsTallied};
     ghost use Rattle.eqc_guard.specs.Copying.{cell_in, KeepsCells};
     ghost use Rattle.eqc_guard.specs.Acquiring.{IsAt, IsAcquired, IsPassed};
+    ghost use Rattle.eqc_guard.specs.Snapshots.{IsFree};
     ghost use Rattle.eqc_guard.specs.Filling.{MaySwap, word_of};
-    ghost use Rattle.eqc_guard.specs.Sweeping.{IsSwept, IsScanned};
+    ghost use Rattle.eqc_guard.specs.Sweeping.{IsSilent, IsSwept, IsScanned};
     ghost use Rattle.eqc_guard.specs.Telling.{Copies, copied, HasFound, Looks, Rechecks, MayFill};
     ghost use Rattle.eqc_guard.specs.Making.{Ups};
 
@@ -99,7 +101,7 @@ impl Worker {
         held: u64,
         given: u32,
     ) -> Worker
-        requires { IsSeated seat.table_id (arc_value table).shared.table_id (arc_value table).shared.key.sizes sizes seat.me number held Phase.Idle [] [] 0 given [] None }
+        requires { IsSeated seat.table_id (arc_value table).shared.table_id (arc_value table).shared.key.sizes sizes seat.me number held (idle sizes.announcements) [] [] 0 given [] None }
         ensures forest { result.forest ≡ seat.table_id }
         ensures known { result.known ≡ seat.me.0 }
     {
@@ -109,7 +111,7 @@ impl Worker {
             sizes,
             number,
             held,
-            phase: Phase::Idle,
+            phases: phases::idle_phases(sizes.announcements),
             retired: ArrayVec::new(),
             noted: ArrayVec::new(),
             position: 0,
@@ -139,27 +141,44 @@ impl Worker {
         self.announcement_words() as usize + name as usize
     }
 
-    // The worker's announcement word.
+    // The worker's k-th announcement word.
     #[tactic(auto, unfolding(eqc_core::specs::Words::word_at))]
-    fn announcement_word(&self) -> usize
-        ensures { result ≡ word_at self.now.known.core.sizes self.now.known.core.number 0 }
+    fn announcement_word(&self, k: u32) -> usize
+        ensures { result ≡ word_at self.now.known.core.sizes self.now.known.core.number k }
     {
-        // A worker has one announcement word.
-        self.number as usize
+        self.number as usize * self.sizes.announcements as usize + k as usize
     }
 
-    /// Loads a cell's word.
-    pub fn look(&mut self, cell: u32) -> u64
-        requires { MayLook self.old.known.core 0 cell }
-        ensures step { Steps self.old (looked self.old.known.core 0 cell result) self.new }
+    // Loads a cell's word for the K-th announcement word.
+    fn look_by<const K: usize>(&mut self, cell: u32) -> u64
+        requires { MayLook self.old.known.core K cell }
+        ensures step { Steps self.old (looked self.old.known.core K cell result) self.new }
         ensures tells { Looks self.old.known result self.new.known }
         ensures copies { Copies self.old.known (cells_from self.old.known.core.sizes + cell) result result self.new.known }
         ensures counted { self.new.known.counted ≡ self.old.known.counted }
     {
         let word = self.cell_word(cell);
-        let found = self.table.shared.load::<Look>(&mut self.seat, word);
-        self.phase = Phase::Seen(cell, found);
+        let found = self.table.shared.load::<Look<K>>(&mut self.seat, word);
+        phases::set_phase(&mut self.phases, K, Phase::Seen(cell, found));
         found
+    }
+
+    /// Loads a cell's word for the k-th announcement word of the worker, counted from 0.
+    pub fn look(&mut self, k: u32, cell: u32) -> u64
+        requires { MayLook self.old.known.core k cell }
+        ensures step { Steps self.old (looked self.old.known.core k cell result) self.new }
+        ensures tells { Looks self.old.known result self.new.known }
+        ensures copies { Copies self.old.known (cells_from self.old.known.core.sizes + cell) result result self.new.known }
+        ensures counted { self.new.known.counted ≡ self.old.known.counted }
+    {
+        // Each worker has four announcement words at most.
+        let _words = self.sizes.announcements;
+        match k {
+            0 => self.look_by::<0>(cell),
+            1 => self.look_by::<1>(cell),
+            2 => self.look_by::<2>(cell),
+            _ => self.look_by::<3>(cell),
+        }
     }
 
     /// Loads a cell's word, and leaves all else as it is: nothing of the word may be announced.
@@ -173,18 +192,21 @@ impl Worker {
         self.table.shared.load::<Load>(&mut self.seat, at)
     }
 
-    /// Announces the result of the word that was seen, or, with 0, withdraws it.
-    pub fn announce(&mut self, x: u32)
-        requires { MayAnnounce self.old.known.core 0 x }
-        ensures step { Steps self.old (announced self.old.known.core 0) self.new }
-        ensures copies { self.new.known.copy ≡ copied self.old.known.copy (word_at self.old.known.core.sizes self.old.known.core.number 0) x }
+    /// Announces, by the k-th announcement word of the worker, the result of the word that was seen
+    /// for it, or, with 0, withdraws it.
+    pub fn announce(&mut self, k: u32, x: u32)
+        requires { MayAnnounce self.old.known.core k x }
+        ensures step { Steps self.old (announced self.old.known.core k) self.new }
+        ensures copies { self.new.known.copy ≡ copied self.old.known.copy (word_at self.old.known.core.sizes self.old.known.core.number k) x }
+        ensures cells { KeepsCells self.old.known self.new.known }
         ensures counted { self.new.known.counted ≡ self.old.known.counted }
     {
-        let word = self.announcement_word();
+        let phase = phases::phase_of(&self.phases, k as usize);
+        let word = self.announcement_word(k);
         self.table
             .shared
             .store::<Announce>(&mut self.seat, word, u64::from(x));
-        self.phase = self.phase.announced();
+        phases::set_phase(&mut self.phases, k as usize, phase.announced());
     }
 
     // Counts a name up that is known to stay, where fewer than 2^32 - 1 names are held.
@@ -267,32 +289,54 @@ impl Worker {
         self.count_down(number)
     }
 
-    /// Loads the cell again whose result is announced, and says whether it has the same word.
-    pub fn recheck(&mut self) -> bool
-        requires { MayRecheck self.old.known.core 0 }
-        ensures { (found : ℕ) × Steps self.old (rechecked self.old.known.core 0 found) self.new × Rechecks self.old.known found self.new.known × (IsTrue result ↔ HasFound (phase_at self.old.known.core 0) found) × Copies self.old.known (cells_from self.old.known.core.sizes + announced_cell (phase_at self.old.known.core 0)) found found self.new.known × (self.new.known.counted ≡ self.old.known.counted) }
+    /// Loads the cell again whose result the k-th announcement word of the worker has, and says
+    /// whether it has the same word.
+    pub fn recheck(&mut self, k: u32) -> bool
+        requires { MayRecheck self.old.known.core k }
+        ensures { (found : ℕ) × Steps self.old (rechecked self.old.known.core k found) self.new × Rechecks self.old.known k found self.new.known × (IsTrue result ↔ HasFound (phase_at self.old.known.core k) found) × Copies self.old.known (cells_from self.old.known.core.sizes + announced_cell (phase_at self.old.known.core k)) found found self.new.known × (self.new.known.counted ≡ self.old.known.counted) }
     {
-        let phase = self.phase;
+        let phase = phases::phase_of(&self.phases, k as usize);
         let Phase::Announced(cell, seen) = phase else {
             return false;
         };
-        let found = self.look_again(cell);
+        let found = self.look_again(k, cell);
         found == seen
     }
 
-    // Loads the cell again whose result is announced.
-    fn look_again(&mut self, cell: u32) -> u64
-        requires may { MayRecheck self.old.known.core 0 }
-        requires cell { cell ≡ announced_cell (phase_at self.old.known.core 0) }
+    // Loads the cell again whose result the k-th announcement word has.
+    fn look_again(&mut self, k: u32, cell: u32) -> u64
+        requires may { MayRecheck self.old.known.core k }
+        requires cell { cell ≡ announced_cell (phase_at self.old.known.core k) }
         requires there { cell < self.old.known.core.sizes.cells }
-        ensures step { Steps self.old (rechecked self.old.known.core 0 result) self.new }
-        ensures tells { Rechecks self.old.known result self.new.known }
+        ensures step { Steps self.old (rechecked self.old.known.core k result) self.new }
+        ensures tells { Rechecks self.old.known k result self.new.known }
         ensures copies { Copies self.old.known (cells_from self.old.known.core.sizes + cell) result result self.new.known }
         ensures counted { self.new.known.counted ≡ self.old.known.counted }
     {
+        // Each worker has four announcement words at most.
+        let _words = self.sizes.announcements;
+        match k {
+            0 => self.look_again_by::<0>(cell),
+            1 => self.look_again_by::<1>(cell),
+            2 => self.look_again_by::<2>(cell),
+            _ => self.look_again_by::<3>(cell),
+        }
+    }
+
+    // The same, for the K-th announcement word.
+    fn look_again_by<const K: usize>(&mut self, cell: u32) -> u64
+        requires may { MayRecheck self.old.known.core K }
+        requires cell { cell ≡ announced_cell (phase_at self.old.known.core K) }
+        requires there { cell < self.old.known.core.sizes.cells }
+        ensures step { Steps self.old (rechecked self.old.known.core K result) self.new }
+        ensures tells { Rechecks self.old.known K result self.new.known }
+        ensures copies { Copies self.old.known (cells_from self.old.known.core.sizes + cell) result result self.new.known }
+        ensures counted { self.new.known.counted ≡ self.old.known.counted }
+    {
+        let phase = phases::phase_of(&self.phases, K);
         let word = self.cell_word(cell);
-        let found = self.table.shared.load::<Recheck>(&mut self.seat, word);
-        self.phase = self.phase.rechecked(found);
+        let found = self.table.shared.load::<Recheck<K>>(&mut self.seat, word);
+        phases::set_phase(&mut self.phases, K, phase.rechecked(found));
         found
     }
 
@@ -310,7 +354,7 @@ impl Worker {
             .swap::<SwapCell>(&mut self.seat, place, word);
         self.held = names::held_after(self.held, word, old);
         names::retire(&mut self.retired, old);
-        self.phase = Phase::Idle;
+        phases::set_phase(&mut self.phases, 0, Phase::Idle);
         old
     }
 
@@ -331,7 +375,7 @@ impl Worker {
 
     /// Loads the next announcement word of a scan. After the last one, the names that were retired
     /// and are not kept any longer are held, and given.
-    pub fn scan_one(&mut self) -> Option<ArrayVec<u32, 128>>
+    pub fn scan_one(&mut self) -> Option<ArrayVec<u32, 512>>
         requires may { MayScan self.old.known.core }
         requires room { length self.old.known.core.held ≤ 2 ^ 39 }
         ensures step { (name : ℕ) × Steps self.old (scanned self.old.known.core name) self.new × Copies self.old.known self.old.known.core.position name name self.new.known }
@@ -409,7 +453,7 @@ impl Worker {
             sizes: _,
             number,
             held,
-            phase: _,
+            phases: _,
             retired,
             noted: _,
             position: _,
@@ -446,9 +490,9 @@ impl Worker {
         requires room { length self.old.known.core.held + length other.known.core.held ≤ 2 ^ 39 }
         ensures { IsAbsorbed self.old other self.new }
     {
-        // A worker has one announcement word.
-        let _phase = self.phase;
-        let _other_phase = other.phase;
+        // What is known of the view is known of the worker.
+        let _number = self.number;
+        let _other_number = other.number;
         let mut other = other;
         self.scan();
         other.scan();
@@ -514,14 +558,34 @@ impl Worker {
         counted
     }
 
+    /// An announcement word of the worker, which is not the first, that announces nothing: a snapshot
+    /// may be taken by it. There is none where each of them announces a name.
+    pub fn free_word(&self) -> Option<u32>
+        ensures some { IfSome result (λ k. IsFree self.now.known.core k) }
+        ensures none { result ≡ None → (k : ℕ) → IsFree self.now.known.core k → ⊥ }
+    {
+        phases::free_word(&self.phases, self.sizes.announcements)
+    }
+
+    // Whether none of its announcement words but the first announces a name.
+    fn is_silent(&self) -> bool
+        ensures { IsTrue result ↔ IsSilent self.now.known.core }
+    {
+        phases::are_silent(&self.phases)
+    }
+
     /// Closes the forest, and tells how many slots have a count above 0. Each is loaded once.
     ///
-    /// The error is the worker itself, as it was, where it is not alone.
+    /// The error is the worker itself, as it was, where it is not alone, or one of its announcement
+    /// words but the first announces a name.
     pub fn close(self) -> Result<Tally, Worker>
-        ensures closed { IfOk result (λ tally. IsAlone self.known.core × IsTallied tally.counted self.known) }
-        ensures kept { IfErr result (λ worker. (worker ≡ self) × (IsAlone self.known.core → ⊥)) }
+        ensures closed { IfOk result (λ tally. IsAlone self.known.core × IsSilent self.known.core × IsTallied tally.counted self.known) }
+        ensures kept { IfErr result (λ worker. (worker ≡ self) × (IsAlone self.known.core → IsSilent self.known.core → ⊥)) }
     {
         let mut worker = self;
+        if !worker.is_silent() {
+            return Err(worker);
+        }
         if !worker.alone() {
             return Err(worker);
         }
@@ -537,45 +601,45 @@ impl Worker {
     /// where that has a node as its result.
     pub fn acquire(&mut self, cell: u32) -> Option<u64>
         requires { MayLook self.old.known.core 0 cell }
-        ensures some { IfSome result (λ word. IsAcquired word self.old self.new) }
-        ensures none { result ≡ None → IsPassed self.old self.new }
+        ensures some { IfSome result (λ word. IsAcquired 0 word self.old self.new) }
+        ensures none { result ≡ None → IsPassed 0 self.old self.new }
         ensures found { (ws : List ℕ) → self.old.known.copy ≡ Some ws → IfSome result (λ word. word ≡ cell_in self.old.known ws cell) }
         ensures missed { result ≡ None → (ws : List ℕ) → self.old.known.copy ≡ Some ws → result_of (cell_in self.old.known ws cell) < 2 }
         ensures counted { self.new.known.counted ≡ self.old.known.counted }
     {
-        // A worker has one announcement word.
-        let _phase = self.phase;
-        let word = self.look(cell);
+        // What is known of the view is known of the worker.
+        let _number = self.number;
+        let word = self.look(0, cell);
         let (_, _, _, found) = unpack_cell(word);
         if found < 2 {
             return None;
         }
-        if self.confirm(found) {
+        if self.confirm(0, found) {
             Some(word)
         } else {
             None
         }
     }
 
-    /// Announces the result of the word that was seen, a node, and looks again: the second half of
-    /// `acquire`. Where the second look finds another word, nothing is announced. A worker that is
-    /// alone finds the word that its cell has.
-    pub fn confirm(&mut self, found: u32) -> bool
-        requires may { MayAnnounce self.old.known.core 0 found }
+    /// Announces, by the k-th announcement word of the worker, the result of the word that was seen
+    /// for it, a node, and looks again: the second half of `acquire`. Where the second look finds
+    /// another word, nothing is announced by it. A worker that is alone finds the word that its cell has.
+    pub fn confirm(&mut self, k: u32, found: u32) -> bool
+        requires may { MayAnnounce self.old.known.core k found }
         requires slot { 2 ≤ found }
-        ensures yes { IsTrue result → (c word : ℕ) → phase_at self.old.known.core 0 ≡ Phase.Seen c word → IsAcquired word self.old self.new }
-        ensures no { result ≡ false → IsAt Phase.Idle self.old self.new }
+        ensures yes { IsTrue result → (c word : ℕ) → phase_at self.old.known.core k ≡ Phase.Seen c word → IsAcquired k word self.old self.new }
+        ensures no { result ≡ false → IsAt k Phase.Idle self.old self.new }
         ensures cells { KeepsCells self.old.known self.new.known }
-        ensures alone { (ws : List ℕ) → self.old.known.copy ≡ Some ws → (c word : ℕ) → phase_at self.old.known.core 0 ≡ Phase.Seen c word → cell_in self.old.known ws c ≡ word → IsTrue result }
+        ensures alone { (ws : List ℕ) → self.old.known.copy ≡ Some ws → (c word : ℕ) → phase_at self.old.known.core k ≡ Phase.Seen c word → cell_in self.old.known ws c ≡ word → IsTrue result }
         ensures counted { self.new.known.counted ≡ self.old.known.counted }
     {
-        // A worker has one announcement word.
-        let _phase = self.phase;
-        self.announce(found);
-        if self.recheck() {
+        // What is known of the view is known of the worker.
+        let _number = self.number;
+        self.announce(k, found);
+        if self.recheck(k) {
             return true;
         }
-        self.release();
+        self.announce(k, 0);
         false
     }
 
@@ -587,9 +651,9 @@ impl Worker {
         ensures cells { KeepsCells self.old.known self.new.known }
         ensures counted { self.new.known.counted ≡ self.old.known.counted }
     {
-        // A worker has one announcement word, and its number is there.
-        let _phase = self.phase;
-        self.announce(0);
+        // What is known of the view is known of the worker.
+        let _number = self.number;
+        self.announce(0, 0);
     }
 
     /// The retired names, with repeats.
@@ -630,7 +694,7 @@ impl Worker {
 
     // Reads all announcement words, from the first on, and gives the names that are not kept any
     // longer, which are held.
-    fn sweep(&mut self) -> ArrayVec<u32, 128>
+    fn sweep(&mut self) -> ArrayVec<u32, 512>
         requires ready { IsReady self.old.known.core }
         requires may { MayScan self.old.known.core }
         requires room { length self.old.known.core.held ≤ 2 ^ 39 }

@@ -71,11 +71,11 @@ fn sizes_are_refused(rt: HostRuntime) {
 /// What is read of a core with 2 workers, 4 nodes and 1 cell: the cell, what worker 1 announces, the count of slot 2, and
 /// how often worker 0 holds it and has it retired.
 fn readings(core: &Core) -> [u64; 5]
-    requires { core.now.sizes ≡ record { workers = 2; announcements = 1; names = 6; cells = 1; variables = 4 } }
+    requires { core.now.sizes ≡ record { workers = 2; announcements = 4; names = 6; cells = 1; variables = 4 } }
 {
     [
         core.cell(0),
-        core.announced(1),
+        core.announced(1, 0),
         core.count(2),
         core.held(0, 2),
         core.retired(0, 2),
@@ -105,7 +105,7 @@ static STOCKED: &[Played<[u64; 5]>] = &[
     (
         "no such cell",
         &[],
-        &[(0, Step::Look(1))],
+        &[(0, Step::Look(0, 1))],
         Err(ReplayFault::Event(0)),
     ),
 ];
@@ -122,12 +122,18 @@ const MISSED: Steps = &[
     (0, Step::Up(2)),
     (0, Step::Up(2)),
     (0, Step::SwapCell(0, WORD)),
-    (1, Step::Look(0)),
+    (1, Step::Look(0, 0)),
     (0, Step::SwapCell(0, 0)),
     (0, Step::ScanOne),
     (0, Step::ScanOne),
-    (1, Step::Announce(2)),
-    (1, Step::Recheck),
+    (0, Step::ScanOne),
+    (0, Step::ScanOne),
+    (0, Step::ScanOne),
+    (0, Step::ScanOne),
+    (0, Step::ScanOne),
+    (0, Step::ScanOne),
+    (1, Step::Announce(0, 2)),
+    (1, Step::Recheck(0)),
 ];
 
 static AFTER_MISSED: &[Played<[u64; 5]>] = &[
@@ -136,7 +142,7 @@ static AFTER_MISSED: &[Played<[u64; 5]>] = &[
         "counted up",
         MISSED,
         &[(1, Step::Up(2))],
-        Err(ReplayFault::Event(11)),
+        Err(ReplayFault::Event(17)),
     ),
 ];
 
@@ -152,10 +158,16 @@ const CONFIRMED: Steps = &[
     (0, Step::Up(2)),
     (0, Step::Up(2)),
     (0, Step::SwapCell(0, WORD)),
-    (1, Step::Look(0)),
-    (1, Step::Announce(2)),
-    (1, Step::Recheck),
+    (1, Step::Look(0, 0)),
+    (1, Step::Announce(0, 2)),
+    (1, Step::Recheck(0)),
     (0, Step::SwapCell(0, 0)),
+    (0, Step::ScanOne),
+    (0, Step::ScanOne),
+    (0, Step::ScanOne),
+    (0, Step::ScanOne),
+    (0, Step::ScanOne),
+    (0, Step::ScanOne),
     (0, Step::ScanOne),
     (0, Step::ScanOne),
     (0, Step::Down(2)),
@@ -169,7 +181,7 @@ static AFTER_CONFIRMED: &[Played<[u64; 5]>] = &[
         "given back once more",
         CONFIRMED,
         &[(0, Step::Down(2))],
-        Err(ReplayFault::Event(14)),
+        Err(ReplayFault::Event(20)),
     ),
     (
         "counted up",
@@ -182,6 +194,44 @@ static AFTER_CONFIRMED: &[Played<[u64; 5]>] = &[
 #[test]
 fn a_name_that_is_confirmed_stays(rt: HostRuntime) {
     check_readings(&rt, AFTER_CONFIRMED);
+}
+
+/// A worker announces and confirms a name by its last announcement word.
+const LAST_WORD: Steps = &[
+    (0, Step::Split(1)),
+    (0, Step::Up(2)),
+    (0, Step::Up(2)),
+    (0, Step::Up(2)),
+    (0, Step::SwapCell(0, WORD)),
+    (1, Step::Look(3, 0)),
+    (1, Step::Announce(3, 2)),
+    (1, Step::Recheck(3)),
+    (0, Step::SwapCell(0, 0)),
+    (0, Step::ScanOne),
+    (0, Step::ScanOne),
+    (0, Step::ScanOne),
+    (0, Step::ScanOne),
+    (0, Step::ScanOne),
+    (0, Step::ScanOne),
+    (0, Step::ScanOne),
+    (0, Step::ScanOne),
+    (0, Step::Down(2)),
+    (0, Step::Down(2)),
+    (0, Step::Down(2)),
+];
+
+#[rattlefmt::skip]
+static AFTER_LAST_WORD: &[Played<[u64; 5]>] = &[
+    ("confirmed", LAST_WORD, &[], Ok([0, 0, 2, 0, 1])),
+    ("counted up", LAST_WORD, &[(1, Step::Up(2))], Ok([0, 0, 3, 0, 1])),
+    ("the first word looks", LAST_WORD, &[(1, Step::Look(0, 0)), (1, Step::Up(2))], Ok([0, 0, 3, 0, 1])),
+    ("joined", LAST_WORD, &[(0, Step::Join(1))], Err(ReplayFault::Event(20))),
+    ("no such word", LAST_WORD, &[(1, Step::Look(4, 0))], Err(ReplayFault::Event(20))),
+];
+
+#[test]
+fn a_name_that_the_last_word_confirms_stays(rt: HostRuntime) {
+    check_readings(&rt, AFTER_LAST_WORD);
 }
 
 /// The name that was missed is given back, its slot taken back, and claimed: the announcement of it isn't confirmed.
@@ -211,8 +261,8 @@ fn a_name_that_was_missed_is_taken_back(rt: HostRuntime) {
 /// A worker takes a stripe's lock, and then the slot of a name that another one has confirmed.
 #[rattlefmt::skip]
 static LOCKED: &[Played<[u64; 5]>] = &[
-    ("taken back", CONFIRMED, &[(0, Step::Lock(1, true)), (0, Step::Reclaim(2))], Err(ReplayFault::Event(15))),
-    ("claimed", CONFIRMED, &[(0, Step::Lock(1, true)), (0, Step::Claim(2, true))], Err(ReplayFault::Event(15))),
+    ("taken back", CONFIRMED, &[(0, Step::Lock(1, true)), (0, Step::Reclaim(2))], Err(ReplayFault::Event(21))),
+    ("claimed", CONFIRMED, &[(0, Step::Lock(1, true)), (0, Step::Claim(2, true))], Err(ReplayFault::Event(21))),
 ];
 
 #[test]
@@ -269,7 +319,7 @@ fn boxes_take_words_of_their_own_alone(rt: HostRuntime) {
 
 /// All readings of a core with 3 workers, 4 nodes and 2 cells, in one number.
 fn digest(core: &Core) -> u64
-    requires { core.now.sizes ≡ record { workers = 3; announcements = 1; names = 6; cells = 2; variables = 4 } }
+    requires { core.now.sizes ≡ record { workers = 3; announcements = 4; names = 6; cells = 2; variables = 4 } }
 {
     let mut sum: u64 = 7;
     for x in 2..6 {
@@ -279,7 +329,7 @@ fn digest(core: &Core) -> u64
         sum = sum.wrapping_mul(31).wrapping_add(core.cell(c));
     }
     for worker in 0..3 {
-        sum = sum.wrapping_mul(31).wrapping_add(core.announced(worker));
+        sum = sum.wrapping_mul(31).wrapping_add(core.announced(worker, 0));
         for x in 2..6 {
             sum = sum.wrapping_mul(31).wrapping_add(core.held(worker, x));
             sum = sum.wrapping_mul(31).wrapping_add(core.retired(worker, x));
@@ -312,48 +362,57 @@ const FIRST: Steps = &[
     (0, Step::Down(5)),
     (0, Step::Up(3)),
     (0, Step::Down(4)),
-    (0, Step::Look(1)),
+    (0, Step::Look(0, 1)),
     (0, Step::Up(3)),
     (0, Step::SwapCell(1, 1152924803144876035)),
-    (0, Step::Look(1)),
-    (0, Step::Announce(3)),
-    (0, Step::Announce(0)),
+    (0, Step::Look(0, 1)),
+    (0, Step::Announce(0, 3)),
+    (0, Step::Announce(0, 0)),
     (0, Step::Split(1)),
-    (0, Step::Look(0)),
-    (1, Step::Look(1)),
-    (0, Step::Look(1)),
-    (0, Step::Announce(3)),
-    (0, Step::Recheck),
+    (0, Step::Look(0, 0)),
+    (1, Step::Look(0, 1)),
+    (0, Step::Look(0, 1)),
+    (0, Step::Announce(0, 3)),
+    (0, Step::Recheck(0)),
     (0, Step::Up(3)),
     (0, Step::Up(3)),
-    (0, Step::Announce(0)),
+    (0, Step::Announce(0, 0)),
     (0, Step::SwapCell(0, 2305846307748577283)),
-    (1, Step::Announce(3)),
-    (1, Step::Recheck),
+    (1, Step::Announce(0, 3)),
+    (1, Step::Recheck(0)),
     (1, Step::Up(3)),
-    (1, Step::Announce(0)),
+    (1, Step::Announce(0, 0)),
     (1, Step::Down(3)),
     (0, Step::SwapCell(0, 0)),
+    (0, Step::ScanOne),
+    (0, Step::ScanOne),
+    (0, Step::ScanOne),
+    (0, Step::ScanOne),
+    (0, Step::ScanOne),
+    (0, Step::ScanOne),
+    (0, Step::ScanOne),
+    (0, Step::ScanOne),
+    (0, Step::ScanOne),
     (0, Step::ScanOne),
     (0, Step::ScanOne),
     (0, Step::ScanOne),
     (0, Step::SwapCell(0, 1152924803142778883)),
     (0, Step::Join(1)),
     (0, Step::Split(2)),
-    (2, Step::Look(1)),
-    (2, Step::Announce(3)),
-    (2, Step::Announce(0)),
-    (0, Step::Look(1)),
-    (0, Step::Announce(3)),
-    (0, Step::Recheck),
-    (2, Step::Look(0)),
+    (2, Step::Look(0, 1)),
+    (2, Step::Announce(0, 3)),
+    (2, Step::Announce(0, 0)),
+    (0, Step::Look(0, 1)),
+    (0, Step::Announce(0, 3)),
+    (0, Step::Recheck(0)),
+    (2, Step::Look(0, 0)),
     (0, Step::Up(3)),
 ];
 
 #[rattlefmt::skip]
 static AFTER_FIRST: &[Played<u64>] = &[
     ("the list", FIRST, &[], Ok(8636760986609832085)),
-    ("a forbidden step", FIRST, &[(1, Step::SwapCell(0, 3458764513822638082))], Err(ReplayFault::Event(40))),
+    ("a forbidden step", FIRST, &[(1, Step::SwapCell(0, 3458764513822638082))], Err(ReplayFault::Event(49))),
 ];
 
 #[test]
@@ -364,13 +423,13 @@ fn the_first_random_list_ends_as_elsewhere(rt: HostRuntime) {
 /// Another list by chance.
 const SECOND: Steps = &[
     (0, Step::Split(1)),
-    (1, Step::Look(1)),
+    (1, Step::Look(0, 1)),
     (0, Step::Down(2)),
     (0, Step::SwapCell(1, 0)),
     (0, Step::Join(1)),
-    (0, Step::Look(1)),
+    (0, Step::Look(0, 1)),
     (0, Step::Up(5)),
-    (0, Step::Look(0)),
+    (0, Step::Look(0, 0)),
     (0, Step::Up(4)),
     (0, Step::SwapCell(0, 2305848506771832837)),
     (0, Step::Up(3)),
@@ -380,27 +439,42 @@ const SECOND: Steps = &[
     (0, Step::ScanOne),
     (0, Step::ScanOne),
     (0, Step::ScanOne),
-    (0, Step::Look(0)),
+    (0, Step::ScanOne),
+    (0, Step::ScanOne),
+    (0, Step::ScanOne),
+    (0, Step::ScanOne),
+    (0, Step::ScanOne),
+    (0, Step::ScanOne),
+    (0, Step::ScanOne),
+    (0, Step::ScanOne),
+    (0, Step::ScanOne),
+    (0, Step::Look(0, 0)),
     (0, Step::Up(4)),
-    (0, Step::Announce(3)),
-    (0, Step::Announce(0)),
+    (0, Step::Announce(0, 3)),
+    (0, Step::Announce(0, 0)),
     (0, Step::SwapCell(1, 2305847407264399364)),
-    (0, Step::Look(0)),
-    (0, Step::Announce(3)),
+    (0, Step::Look(0, 0)),
+    (0, Step::Announce(0, 3)),
     (0, Step::Up(3)),
     (0, Step::Up(3)),
-    (0, Step::Recheck),
+    (0, Step::Recheck(0)),
     (0, Step::Up(3)),
-    (0, Step::Announce(0)),
-    (0, Step::Look(1)),
-    (0, Step::Announce(4)),
+    (0, Step::Announce(0, 0)),
+    (0, Step::Look(0, 1)),
+    (0, Step::Announce(0, 4)),
     (0, Step::Up(5)),
-    (0, Step::Announce(0)),
+    (0, Step::Announce(0, 0)),
     (0, Step::Up(3)),
     (0, Step::Up(3)),
-    (0, Step::Look(1)),
-    (0, Step::Look(0)),
+    (0, Step::Look(0, 1)),
+    (0, Step::Look(0, 0)),
     (0, Step::SwapCell(1, 4611689316962271235)),
+    (0, Step::ScanOne),
+    (0, Step::ScanOne),
+    (0, Step::ScanOne),
+    (0, Step::ScanOne),
+    (0, Step::ScanOne),
+    (0, Step::ScanOne),
     (0, Step::ScanOne),
     (0, Step::ScanOne),
 ];
@@ -408,7 +482,7 @@ const SECOND: Steps = &[
 #[rattlefmt::skip]
 static AFTER_SECOND: &[Played<u64>] = &[
     ("the list", SECOND, &[], Ok(3781607041970279465)),
-    ("a forbidden step", SECOND, &[(2, Step::SwapCell(0, 1152923703631151106))], Err(ReplayFault::Event(40))),
+    ("a forbidden step", SECOND, &[(2, Step::SwapCell(0, 1152923703631151106))], Err(ReplayFault::Event(55))),
 ];
 
 #[test]
@@ -419,6 +493,15 @@ fn the_second_random_list_ends_as_elsewhere(rt: HostRuntime) {
 /// A list by chance with steps on stripes, drafts and nodes.
 const THIRD: Steps = &[
     (0, Step::ReadNode(2)),
+    (0, Step::ScanOne),
+    (0, Step::ScanOne),
+    (0, Step::ScanOne),
+    (0, Step::ScanOne),
+    (0, Step::ScanOne),
+    (0, Step::ScanOne),
+    (0, Step::ScanOne),
+    (0, Step::ScanOne),
+    (0, Step::ScanOne),
     (0, Step::ScanOne),
     (0, Step::ScanOne),
     (0, Step::ScanOne),
@@ -434,10 +517,10 @@ const THIRD: Steps = &[
     (0, Step::Down(4)),
     (0, Step::Up(3)),
     (0, Step::Up(2)),
-    (0, Step::Look(0)),
+    (0, Step::Look(0, 0)),
     (0, Step::ReadNode(3)),
     (0, Step::Up(5)),
-    (0, Step::Look(1)),
+    (0, Step::Look(0, 1)),
     (0, Step::Unlock(1)),
     (0, Step::Lock(3, true)),
     (0, Step::ReadNode(5)),
@@ -452,10 +535,19 @@ const THIRD: Steps = &[
     (2, Step::ScanOne),
     (2, Step::ScanOne),
     (2, Step::ScanOne),
+    (2, Step::ScanOne),
+    (2, Step::ScanOne),
+    (2, Step::ScanOne),
+    (2, Step::ScanOne),
+    (2, Step::ScanOne),
+    (2, Step::ScanOne),
+    (2, Step::ScanOne),
+    (2, Step::ScanOne),
+    (2, Step::ScanOne),
     (0, Step::Lock(2, true)),
     (0, Step::Down(5)),
     (0, Step::Unlock(2)),
-    (2, Step::Look(1)),
+    (2, Step::Look(0, 1)),
     (0, Step::Claim(2, false)),
     (2, Step::Unlock(3)),
     (2, Step::Lock(1, true)),
@@ -464,14 +556,14 @@ const THIRD: Steps = &[
     (2, Step::Lock(4, true)),
     (2, Step::Reclaim(5)),
     (0, Step::Claim(5, true)),
-    (2, Step::Look(1)),
-    (0, Step::Look(1)),
-    (2, Step::Announce(2)),
-    (2, Step::Recheck),
+    (2, Step::Look(0, 1)),
+    (0, Step::Look(0, 1)),
+    (2, Step::Announce(0, 2)),
+    (2, Step::Recheck(0)),
     (0, Step::Down(4)),
     (0, Step::Lock(3, true)),
     (0, Step::WriteNode(2, 1, 0)),
-    (2, Step::Announce(0)),
+    (2, Step::Announce(0, 0)),
     (0, Step::Reclaim(4)),
     (0, Step::Claim(3, false)),
     (2, Step::Unlock(4)),
@@ -483,7 +575,7 @@ const THIRD: Steps = &[
 #[rattlefmt::skip]
 static AFTER_THIRD: &[Played<u64>] = &[
     ("the list", THIRD, &[], Ok(15425200296797180857)),
-    ("a forbidden step", THIRD, &[(0, Step::SwapCell(1, 2305848506771832837))], Err(ReplayFault::Event(60))),
+    ("a forbidden step", THIRD, &[(0, Step::SwapCell(1, 2305848506771832837))], Err(ReplayFault::Event(78))),
 ];
 
 #[test]
@@ -495,14 +587,14 @@ fn the_third_random_list_ends_as_elsewhere(rt: HostRuntime) {
 const FOURTH: Steps = &[
     (0, Step::Lock(3, true)),
     (0, Step::Up(2)),
-    (0, Step::Look(1)),
+    (0, Step::Look(0, 1)),
     (0, Step::Split(2)),
     (2, Step::SwapCell(0, 0)),
     (2, Step::SwapCell(1, 0)),
     (0, Step::Unlock(3)),
     (0, Step::Join(2)),
     (0, Step::Down(3)),
-    (0, Step::Look(1)),
+    (0, Step::Look(0, 1)),
     (0, Step::Lock(2, true)),
     (0, Step::Reclaim(3)),
     (0, Step::Claim(3, true)),
@@ -515,16 +607,25 @@ const FOURTH: Steps = &[
     (0, Step::SwapCell(1, 1152922604120571906)),
     (0, Step::Down(5)),
     (0, Step::Reclaim(3)),
-    (0, Step::Look(1)),
+    (0, Step::Look(0, 1)),
     (0, Step::Claim(3, true)),
     (0, Step::WriteNode(1, 1, 0)),
-    (0, Step::Announce(2)),
+    (0, Step::Announce(0, 2)),
     (0, Step::Split(1)),
     (1, Step::Lock(4, true)),
     (1, Step::Reclaim(5)),
-    (0, Step::Announce(0)),
+    (0, Step::Announce(0, 0)),
     (1, Step::Claim(5, true)),
     (1, Step::WriteNode(3, 1, 0)),
+    (0, Step::ScanOne),
+    (0, Step::ScanOne),
+    (0, Step::ScanOne),
+    (0, Step::ScanOne),
+    (0, Step::ScanOne),
+    (0, Step::ScanOne),
+    (0, Step::ScanOne),
+    (0, Step::ScanOne),
+    (0, Step::ScanOne),
     (0, Step::ScanOne),
     (0, Step::ScanOne),
     (0, Step::ScanOne),
@@ -536,7 +637,7 @@ const FOURTH: Steps = &[
     (1, Step::Claim(3, false)),
     (0, Step::WriteNode(1, 0, 1)),
     (0, Step::Down(3)),
-    (0, Step::Look(1)),
+    (0, Step::Look(0, 1)),
     (0, Step::Unlock(2)),
     (0, Step::Down(5)),
     (0, Step::Claim(4, false)),
@@ -550,7 +651,16 @@ const FOURTH: Steps = &[
     (1, Step::SwapCell(0, 0)),
     (0, Step::ScanOne),
     (0, Step::ScanOne),
+    (0, Step::ScanOne),
+    (0, Step::ScanOne),
+    (0, Step::ScanOne),
+    (0, Step::ScanOne),
+    (0, Step::ScanOne),
+    (0, Step::ScanOne),
     (1, Step::Lock(2, true)),
+    (0, Step::ScanOne),
+    (0, Step::ScanOne),
+    (0, Step::ScanOne),
     (0, Step::ScanOne),
     (1, Step::Claim(2, false)),
 ];
@@ -558,7 +668,7 @@ const FOURTH: Steps = &[
 #[rattlefmt::skip]
 static AFTER_FOURTH: &[Played<u64>] = &[
     ("the list", FOURTH, &[], Ok(4023163620145408469)),
-    ("a forbidden step", FOURTH, &[(1, Step::SwapCell(0, 4611688217452740608))], Err(ReplayFault::Event(60))),
+    ("a forbidden step", FOURTH, &[(1, Step::SwapCell(0, 4611688217452740608))], Err(ReplayFault::Event(78))),
 ];
 
 #[test]

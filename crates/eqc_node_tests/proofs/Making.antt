@@ -32,13 +32,13 @@ use Rattle.eqc_arena.proofs.Resting.{AreQuiet, rest_begins, rest_now}
 use Rattle.eqc_node_tests.specs.Making.{references_of, announces, Rests, IsMaking}
 
 -- the references cover what is held
-abbrev AreCovered : List Ref → List ℕ → Type 0
+abbrev pub AreCovered : List Ref → List ℕ → Type 0
 AreCovered refs held = (x : ℕ) → 2 ≤ x → references_of x refs ≤ times x held
 
-one : ℕ → Ref → ℕ
+unfoldable pub one : ℕ → Ref → ℕ
 one x r = cond (eqb r.number x) 1 0
 
-one_more : (x : ℕ) (r : Ref) (refs : List Ref) → references_of x (refs ++ r ∷ []) ≡ references_of x refs + cond (eqb r.number x) 1 0
+pub one_more : (x : ℕ) (r : Ref) (refs : List Ref) → references_of x (refs ++ r ∷ []) ≡ references_of x refs + cond (eqb r.number x) 1 0
 unfolding one
 one_more x r refs = omega (arith, sum_by-append (one x) refs (r ∷ []), sum_by-cons (one x) r [])
 
@@ -79,14 +79,14 @@ none_after old mid new (Ok r) t u = tt
 none_after old mid new (Err e) t u = still t (here t u)
 
 -- a phase that announces no name is quiet, and the other way round
-silent_quiet : (p : Phase) → announces p ≡ 0 → IsQuiet p
+pub silent_quiet : (p : Phase) → announces p ≡ 0 → IsQuiet p
 silent_quiet Idle e = tt
 silent_quiet (Seen c word) e = tt
 silent_quiet (Announced c word) e = absurd (omega arith)
 silent_quiet (Confirmed x) e = absurd (omega arith)
 silent_quiet (Missed x) e = absurd (omega arith)
 
-quiet_silent : (p : Phase) → IsQuiet p → announces p ≡ 0
+pub quiet_silent : (p : Phase) → IsQuiet p → announces p ≡ 0
 quiet_silent Idle q = refl
 quiet_silent (Seen c word) q = refl
 quiet_silent (Announced c word) q = absurd q
@@ -103,12 +103,12 @@ are_silent [] all = refl
 are_silent (o ∷ ps) all = omega (arith, sum_by-cons announces o ps, quiet_silent o (all 0 o refl), are_silent ps (λ k p at. all (suc k) p at))
 
 -- a worker that is at rest may look at the first cell
-quiet_first : (ps : List Phase) → sum_by announces ps ≡ 0 → IsQuiet (get_or ps 0 Idle)
+pub quiet_first : (ps : List Phase) → sum_by announces ps ≡ 0 → IsQuiet (get_or ps 0 Idle)
 quiet_first [] e = tt
 quiet_first (o ∷ ps) e = silent_quiet o (omega (arith, sum_by-cons announces o ps))
 
 pub may_look : (v : ℕ) (refs : List Ref) (s : Standing) → IsMaking v refs s → MayLook s.known.core 0 0
-may_look v refs s m = (m.rests.place, omega (arith, m.one_word), m.cells, quiet_first s.known.core.phases m.rests.silent)
+may_look v refs s m = (m.rests.place, omega (arith, m.four_words), m.cells, quiet_first s.known.core.phases m.rests.silent)
 
 pub at_rest : (v : View) → Rests v → IsAtRest v
 at_rest v r = record { ready = r.place; quiet = are_quiet v.phases r.silent; no_draft = r.no_draft; no_hand = r.no_hand }
@@ -126,7 +126,7 @@ rests_then {gone} {came} {old} {new} r t = record {
 pub makes_still : (v : ℕ) (refs : List Ref) (old new : Standing) → IsMaking v refs old → Exchanges [] [] old new → IsMaking v refs new
 makes_still v refs old new m t = record {
   rests = rests_then m.rests t;
-  one_word = ap (λ (u : View). u.sizes.announcements) t.core ∙ m.one_word;
+  four_words = ap (λ (u : View). u.sizes.announcements) t.core ∙ m.four_words;
   cells = subst (λ (u : View). 0 < u.sizes.cells) (sym t.core) m.cells;
   few = subst (λ (u : View). v ≤ u.sizes.variables) (sym t.core) m.few;
   covered = λ y two. omega (arith, m.covered y two, names_now t y);
@@ -136,7 +136,7 @@ makes_still v refs old new m t = record {
 pub makes_more : (v : ℕ) (r : Ref) (refs more : List Ref) (old new : Standing) → IsMaking v refs old → Exchanges [] (slots_of (r.number ∷ [])) old new → more ≡ refs ++ r ∷ [] → IsMaking v more new
 makes_more v r refs more old new m t is = record {
   rests = rests_then m.rests t;
-  one_word = ap (λ (u : View). u.sizes.announcements) t.core ∙ m.one_word;
+  four_words = ap (λ (u : View). u.sizes.announcements) t.core ∙ m.four_words;
   cells = subst (λ (u : View). 0 < u.sizes.cells) (sym t.core) m.cells;
   few = subst (λ (u : View). v ≤ u.sizes.variables) (sym t.core) m.few;
   covered = λ y two.
@@ -150,7 +150,7 @@ pub makes_fewer : (v i : ℕ) (r : Ref) (refs left : List Ref) (old new : Standi
 unfolding one
 makes_fewer v i r refs left old new m t lt e is = record {
   rests = rests_then m.rests t;
-  one_word = ap (λ (u : View). u.sizes.announcements) t.core ∙ m.one_word;
+  four_words = ap (λ (u : View). u.sizes.announcements) t.core ∙ m.four_words;
   cells = subst (λ (u : View). 0 < u.sizes.cells) (sym t.core) m.cells;
   few = subst (λ (u : View). v ≤ u.sizes.variables) (sym t.core) m.few;
   covered = λ y two.
@@ -175,7 +175,7 @@ module _ (v : ℕ) (refs others : List Ref) (old other new : Standing) (m : IsMa
   with_covered : (all : List Ref) → AreCovered all new.known.core.held → IsMaking v all new
   with_covered all covered = record {
     rests = rests_both;
-    one_word = ap (λ (u : View). u.sizes.announcements) t.core ∙ m.one_word;
+    four_words = ap (λ (u : View). u.sizes.announcements) t.core ∙ m.four_words;
     cells = subst (λ (u : View). 0 < u.sizes.cells) (sym t.core) m.cells;
     few = subst (λ (u : View). v ≤ u.sizes.variables) (sym t.core) m.few;
     covered = covered;
@@ -196,7 +196,7 @@ silent_set [] p q e = e
 silent_set (o ∷ ps) p q e = omega (arith, sum_by-cons announces o ps, sum_by-cons announces p ps, quiet_silent p q)
 
 -- a lookup found nothing, or something
-pub makes_passed : (v : ℕ) (refs : List Ref) (old new : Standing) → IsMaking v refs old → IsPassed old new → IsMaking v refs new
+pub makes_passed : (v : ℕ) (refs : List Ref) (old new : Standing) → IsMaking v refs old → IsPassed 0 old new → IsMaking v refs new
 makes_passed v refs old new m p = record {
   rests = record {
     place = ap (λ (u : View). u.position) p.stands.core ∙ m.rests.place;
@@ -204,7 +204,7 @@ makes_passed v refs old new m p = record {
     no_draft = ap (λ (u : View). u.draft) p.stands.core ∙ m.rests.no_draft;
     no_hand = ap (λ (u : View). u.hand) p.stands.core ∙ m.rests.no_hand;
   };
-  one_word = ap (λ (u : View). u.sizes.announcements) p.stands.core ∙ m.one_word;
+  four_words = ap (λ (u : View). u.sizes.announcements) p.stands.core ∙ m.four_words;
   cells = subst (λ (u : View). 0 < u.sizes.cells) (sym p.stands.core) m.cells;
   few = subst (λ (u : View). v ≤ u.sizes.variables) (sym p.stands.core) m.few;
   covered = subst (λ (u : View). AreCovered refs u.held) (sym p.stands.core) m.covered;
@@ -218,7 +218,7 @@ makes_hit v f g op r refs more old new m h is = record {
     no_draft = ap (λ (u : View). u.draft) h.core ∙ m.rests.no_draft;
     no_hand = ap (λ (u : View). u.hand) h.core ∙ m.rests.no_hand;
   };
-  one_word = ap (λ (u : View). u.sizes.announcements) h.core ∙ m.one_word;
+  four_words = ap (λ (u : View). u.sizes.announcements) h.core ∙ m.four_words;
   cells = subst (λ (u : View). 0 < u.sizes.cells) (sym h.core) m.cells;
   few = subst (λ (u : View). v ≤ u.sizes.variables) (sym h.core) m.few;
   covered = subst (λ (u : View). AreCovered more u.held) (sym h.core) (λ y two.
@@ -228,7 +228,7 @@ makes_hit v f g op r refs more old new m h is = record {
 
 -- the result of a word that was seen was counted up
 pub makes_taken : (v cell word : ℕ) (r : Ref) (refs more : List Ref) (old mid new : Standing) → IsMaking v refs old →
-    IsAt (Seen cell word) old mid → IsTaken r.number mid new → more ≡ refs ++ r ∷ [] → IsMaking v more new
+    IsAt 0 (Seen cell word) old mid → IsTaken r.number mid new → more ≡ refs ++ r ∷ [] → IsMaking v more new
 makes_taken v cell word r refs more old mid new m looks t is =
     let n : IsMaking v refs mid = makes_passed v refs old mid m (record { phase = Seen cell word; quiet = tt; stands = looks }) in
     record {
@@ -238,7 +238,7 @@ makes_taken v cell word r refs more old mid new m looks t is =
         no_draft = ap (λ (u : View). u.draft) t.core ∙ n.rests.no_draft;
         no_hand = ap (λ (u : View). u.hand) t.core ∙ n.rests.no_hand;
       };
-      one_word = ap (λ (u : View). u.sizes.announcements) t.core ∙ n.one_word;
+      four_words = ap (λ (u : View). u.sizes.announcements) t.core ∙ n.four_words;
       cells = subst (λ (u : View). 0 < u.sizes.cells) (sym t.core) n.cells;
       few = subst (λ (u : View). v ≤ u.sizes.variables) (sym t.core) n.few;
       covered = subst (λ (u : View). AreCovered more u.held) (sym t.core) (λ y two.

@@ -29,7 +29,7 @@ pub record Rests (v : View) : Type 0 where
 -- a worker is at rest in a forest of at least so many variables that has cells, and holds what the references are of
 pub record IsMaking (variables : ℕ) (references : List Ref) (s : Standing) : Type 0 where
   pub rests : Rests s.known.core
-  pub one_word : s.known.core.sizes.announcements ≡ 1
+  pub four_words : s.known.core.sizes.announcements ≡ 4
   pub cells : 0 < s.known.core.sizes.cells
   pub few : variables ≤ s.known.core.sizes.variables
   pub covered : (x : ℕ) → 2 ≤ x → references_of x references ≤ times x s.known.core.held

@@ -133,7 +133,7 @@ fn taken(rt: &(impl Abort + Wait), worker: &mut Worker, x: u32, other: &mut Make
     ensures taken { IsTaken x worker.old worker.new }
     ensures other { other.new.worker.forest ≡ other.old.worker.forest }
 {
-    if !worker.confirm(x) {
+    if !worker.confirm(0, x) {
         panic!(rt; "the cell has another word");
     }
     give_up(rt, other, x);
@@ -153,7 +153,7 @@ fn take(rt: &(impl Abort + Wait), maker: &mut Maker, x: u32, other: &mut Maker)
 {
     // What the worker knows is in order.
     let _cells = maker.worker.cells();
-    let word = maker.worker.look(0);
+    let word = maker.worker.look(0, 0);
     let (_, _, _, found) = unpack_cell(word);
     if found != x || x < 2 {
         panic!(rt; "the cell has another result");

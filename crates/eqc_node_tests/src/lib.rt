@@ -1,7 +1,7 @@
 //! The tests of the nodes of the store that threads share.
 //!
-//! - `arenas` and `random_nodes`, of `eqc_arena`
-//! - `makers`, what makes its calls; `ends`, what ends a test
+//! - `arenas` and `random_nodes`, of `eqc_arena`; `snapshots`, of what the cache's snapshots leave of nodes
+//! - `makers`, what makes its calls, and `peekers`, where snapshots are out; `ends`, what ends a test
 #![tactic(auto)]
 
 #[cfg(test)]
@@ -11,4 +11,8 @@ mod ends;
 #[cfg(test)]
 mod makers;
 #[cfg(test)]
+mod peekers;
+#[cfg(test)]
 mod random_nodes;
+#[cfg(test)]
+mod snapshots;

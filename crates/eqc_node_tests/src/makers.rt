@@ -24,7 +24,7 @@ use std::process::Abort;
 use std::sync::Wait;
 
 /// So many names are held at most where a call asks for room.
-const MOST_HELD: u64 = 1 << 30;
+pub const MOST_HELD: u64 = 1 << 30;
 
 /// A worker, its references and those of the constants, and how many variables it may ask for.
 pub struct Maker {
@@ -386,6 +386,18 @@ impl Maker {
             },
             Ok(_) => panic!(rt; "nobody else is out"),
         }
+    }
+
+    /// The worker and its references alone.
+    pub fn into_parts(self) -> (Worker, Vec<Ref>)
+        ensures { IsMaking self.variables result.1.items result.0 }
+    {
+        let Maker {
+            worker,
+            references,
+            variables: _,
+        } = self;
+        (worker, references)
     }
 
     /// Gives all references back.

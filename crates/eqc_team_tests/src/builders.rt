@@ -227,6 +227,23 @@ impl Builder {
             .same(at(rt, references, f), at(rt, references, g))
     }
 
+    /// Whether the operation of the references at two places has the function of a third, where a cell has its result.
+    pub fn cached_is(
+        &mut self,
+        rt: &impl Abort,
+        op: Op,
+        f: usize,
+        g: usize,
+        r: usize,
+    ) -> Option<bool>
+        ensures { forest_of self.new.member ≡ forest_of self.old.member }
+    {
+        let references = self.references.as_slice();
+        let f = at(rt, references, f);
+        let g = at(rt, references, g);
+        self.member.cached_is(op, f, g, at(rt, references, r))
+    }
+
     /// Takes in another member of the forest, which is not worker 0, with its references: they come behind these, from the
     /// place on that is told.
     pub fn absorb(&mut self, rt: &impl Abort, other: Builder) -> usize

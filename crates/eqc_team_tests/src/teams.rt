@@ -54,6 +54,38 @@ fn a_member_tells_of_its_nodes_at_least(rt: HostRuntime) {
     same(&rt, lone.close(&rt), 0, "close");
 }
 
+#[test]
+fn a_result_that_was_just_made_is_compared_in_a_cell(rt: HostRuntime) {
+    let (mut lone, _) = first(&rt, 2, 8, 8, 1, 0);
+    let x = place_of(&rt, &mut lone, Wanted::Literal(0));
+    let y = place_of(&rt, &mut lone, Wanted::Literal(1));
+    let r = place_of(&rt, &mut lone, Wanted::Applied(Op::And, x, y));
+    let is = lone.cached_is(&rt, Op::And, x, y, r);
+    same(&rt, is, Some(true), "the result");
+    let is = lone.cached_is(&rt, Op::And, x, y, x);
+    same(&rt, is, Some(false), "an operand");
+    let is = lone.cached_is(&rt, Op::Xor, x, y, r);
+    same(&rt, is, None, "nobody asked for it");
+    same(&rt, lone.close(&rt), 0, "close");
+}
+
+#[test]
+fn a_result_of_another_member_is_compared_in_a_shared_cell(rt: HostRuntime) {
+    let (mut lead, mut waiting) = first(&rt, 2, 8, 8, 2, 0);
+    let mut second = next(&rt, &lead, &mut waiting);
+    place_of(&rt, &mut lead, Wanted::Literal(0));
+    place_of(&rt, &mut lead, Wanted::Literal(1));
+    place_of(&rt, &mut second, Wanted::Literal(0));
+    place_of(&rt, &mut second, Wanted::Literal(1));
+    let is = second.cached_is(&rt, Op::And, 0, 1, 0);
+    same(&rt, is, None, "before it is made");
+    place_of(&rt, &mut lead, Wanted::Applied(Op::And, 0, 1));
+    let is = second.cached_is(&rt, Op::And, 0, 1, 0);
+    same(&rt, is, Some(false), "an operand");
+    lead.absorb(&rt, second);
+    same(&rt, lead.close(&rt), 0, "close");
+}
+
 /// The exclusive or of these variables, from the first one on, of which the result alone stays: at the place that is told.
 pub fn parity(
     rt: &(impl Abort + Wait),

@@ -93,16 +93,16 @@ left_constant refs rest held i r covered lt is = subst (λ (l : List Ref). AreCo
     omega (arith, covered y two, sum_by-swap_remove (one y) refs i r lt))
 
 -- a step that leaves the references: the phase and the place of the scan may be others
-pub stands_as : (p q : Phase) (i j : ℕ) (v u : View) → IsAt p i v → u.sizes ≡ v.sizes → u.phases ≡ q ∷ [] → u.position ≡ j → u.draft ≡ v.draft → u.hand ≡ v.hand → IsAt q j u
+pub stands_as : (p q : Phase) (i j : ℕ) (v u : View) → IsAt p i v → u.sizes ≡ v.sizes → u.phases ≡ q ∷ Idle ∷ Idle ∷ Idle ∷ [] → u.position ≡ j → u.draft ≡ v.draft → u.hand ≡ v.hand → IsAt q j u
 stands_as p q i j v u at sizes phases place draft hand = record {
-  one_word = ap {B = ℕ} (λ z. z.announcements) sizes ∙ at.one_word;
+  four_words = ap {B = ℕ} (λ z. z.announcements) sizes ∙ at.four_words;
   phases = phases;
   place = place;
   no_draft = draft ∙ at.no_draft;
   no_hand = hand ∙ at.no_hand;
 }
 
-pub phases_set : (p q : Phase) (i : ℕ) (v : View) → IsAt p i v → set v.phases 0 q ≡ q ∷ []
+pub phases_set : (p q : Phase) (i : ℕ) (v : View) → IsAt p i v → set v.phases 0 q ≡ q ∷ Idle ∷ Idle ∷ Idle ∷ []
 phases_set p q i v at = ap (λ (l : List Phase). set l 0 q) at.phases
 
 pub phase_is : (p : Phase) (i : ℕ) (v : View) → IsAt p i v → phase_at v 0 ≡ p

@@ -1,6 +1,7 @@
 -- What the tests know of a worker that they drive step by step.
 use Rattle.std.specs.Prelude.{◌≡◌, ℕ, ◌<◌, ◌≤◌, List, [], ◌∷◌, None, cond, eqb, sum_by}
 use Rattle.eqc_core.specs.declared.phase.Phase.{Phase}
+use Rattle.eqc_core.specs.declared.phase.Phase.TheVariants.{Idle}
 use Rattle.eqc_core.specs.View.{View}
 use Rattle.eqc_core.specs.Words.{times}
 use Rattle.eqc_core.specs.Counting.{upped}
@@ -18,10 +19,10 @@ references_of x refs = sum_by (λ (r : Ref). cond (eqb r.number x) 1 0) refs
 abbrev pub AreCovered : List Ref → List ℕ → Type 0
 AreCovered refs held = (x : ℕ) → 2 ≤ x → references_of x refs ≤ times x held
 
--- how far a worker is: its phase, its scan, and that it has neither a draft nor a stripe
+-- how far a worker is: the phase of its first announcement word, its scan, and that the other words are idle and it has neither a draft nor a stripe
 pub record IsAt (phase : Phase) (position : ℕ) (v : View) : Type 0 where
-  pub one_word : v.sizes.announcements ≡ 1
-  pub phases : v.phases ≡ phase ∷ []
+  pub four_words : v.sizes.announcements ≡ 4
+  pub phases : v.phases ≡ phase ∷ Idle ∷ Idle ∷ Idle ∷ []
   pub place : v.position ≡ position
   pub no_draft : v.draft ≡ None
   pub no_hand : v.hand ≡ None

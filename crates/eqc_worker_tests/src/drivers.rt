@@ -139,7 +139,7 @@ impl Driver {
         if self.position != 0 || !is_quiet(self.phase) || cell >= self.worker.cells() {
             return None;
         }
-        let word = self.worker.look(cell);
+        let word = self.worker.look(0, cell);
         self.phase = Phase::Seen(cell, word);
         Some(word)
     }
@@ -156,7 +156,7 @@ impl Driver {
         if self.position != 0 || x < 2 {
             return None;
         }
-        self.worker.announce(x);
+        self.worker.announce(0, x);
         self.phase = Phase::Announced(cell, word);
         Some(x)
     }
@@ -184,7 +184,7 @@ impl Driver {
             return None;
         }
         let (_, _, _, x) = unpack_cell(word);
-        if self.worker.recheck() {
+        if self.worker.recheck(0) {
             self.phase = Phase::Confirmed(x);
             return Some(true);
         }
@@ -202,7 +202,7 @@ impl Driver {
         }
         let Some(word) = self.worker.acquire(cell) else {
             // So the phase is known again.
-            let word = self.worker.look(cell);
+            let word = self.worker.look(0, cell);
             self.phase = Phase::Seen(cell, word);
             return None;
         };
@@ -390,7 +390,7 @@ impl Driver {
         let x = &self.references[i];
         store(&mut self.worker, Op::And, x, x, x);
         // So the phase is known again.
-        let word = self.worker.look(0);
+        let word = self.worker.look(0, 0);
         self.phase = Phase::Seen(0, word);
         true
     }
@@ -404,7 +404,7 @@ impl Driver {
         }
         let x = &self.references[i];
         let found = lookup(&mut self.worker, Op::And, x, x);
-        let word = self.worker.look(0);
+        let word = self.worker.look(0, 0);
         self.phase = Phase::Seen(0, word);
         let reference = found?;
         let number = reference.number();
@@ -420,7 +420,7 @@ impl Driver {
             return false;
         }
         clear(&mut self.worker);
-        let word = self.worker.look(0);
+        let word = self.worker.look(0, 0);
         self.phase = Phase::Seen(0, word);
         true
     }
@@ -491,7 +491,7 @@ impl Driver {
     pub fn rest(&mut self, rt: &impl Abort)
         ensures { self.new.worker.forest ≡ self.old.worker.forest }
     {
-        for _ in 0..64 {
+        for _ in 0..256 {
             if self.position != 0 {
                 self.scan_one(rt);
             }

@@ -36,15 +36,15 @@ fn load(rt: &impl Abort, driver: &mut Driver, kind: u32, cell: u32) -> Taken
 {
     match kind {
         0 => match driver.look(cell) {
-            Some(_) => Taken::One(Step::Look(cell)),
+            Some(_) => Taken::One(Step::Look(0, cell)),
             None => Taken::Nothing,
         },
         1 => match driver.announce() {
-            Some(x) => Taken::One(Step::Announce(x)),
+            Some(x) => Taken::One(Step::Announce(0, x)),
             None => Taken::Nothing,
         },
         2 => match driver.recheck() {
-            Some(_) => Taken::One(Step::Recheck),
+            Some(_) => Taken::One(Step::Recheck(0)),
             None => Taken::Nothing,
         },
         3 => match driver.up_confirmed(rt) {
@@ -52,7 +52,7 @@ fn load(rt: &impl Abort, driver: &mut Driver, kind: u32, cell: u32) -> Taken
             None => Taken::Nothing,
         },
         _ => if driver.release() {
-            Taken::One(Step::Announce(0))
+            Taken::One(Step::Announce(0, 0))
         } else {
             Taken::Nothing
         },
@@ -235,7 +235,7 @@ fn times(driver: &Driver, x: u32) -> u64 {
 
 /// Compares what a worker has with what it has in the machine.
 fn compare(rt: &impl Abort, core: &Core, driver: &Driver, worker: u32, list: u32)
-    requires sizes { core.now.sizes ≡ record { workers = 3; announcements = 1; names = 6; cells = 2; variables = 4 } }
+    requires sizes { core.now.sizes ≡ record { workers = 3; announcements = 4; names = 6; cells = 2; variables = 4 } }
     requires there { worker < 3 }
 {
     for x in 2..6 {
@@ -307,11 +307,11 @@ fn after(rt: &(impl Abort + AllocGlobal), core: &Core, events: &[Event]) -> Core
 
 /// Writes down that a worker scans, and gives back what comes out of the scan.
 fn write_scan(rt: &(impl Abort + AllocGlobal), core: &Core, events: &mut Vec<Event>, worker: u32)
-    requires sizes { core.now.sizes ≡ record { workers = 3; announcements = 1; names = 6; cells = 2; variables = 4 } }
+    requires sizes { core.now.sizes ≡ record { workers = 3; announcements = 4; names = 6; cells = 2; variables = 4 } }
     requires there { worker < 3 }
 {
     let before = after(rt, core, events);
-    for _ in 0..3 {
+    for _ in 0..12 {
         write_down(rt, events, worker, Taken::One(Step::ScanOne));
     }
     let scanned = after(rt, core, events);
@@ -329,7 +329,7 @@ fn write_scan(rt: &(impl Abort + AllocGlobal), core: &Core, events: &mut Vec<Eve
 fn come_to_rest(rt: &impl Abort, driver: &mut Driver, worker: u32, events: &mut Vec<Event>)
     ensures { driver.new.worker.forest ≡ driver.old.worker.forest }
 {
-    for _ in 0..3 {
+    for _ in 0..12 {
         if driver.position != 0 {
             let taken = change(rt, driver, 4, 0, 0);
             write_down(rt, events, worker, taken);
@@ -349,7 +349,7 @@ fn take_in(
     from: u32,
     events: &mut Vec<Event>,
 )
-    requires sizes { core.now.sizes ≡ record { workers = 3; announcements = 1; names = 6; cells = 2; variables = 4 } }
+    requires sizes { core.now.sizes ≡ record { workers = 3; announcements = 4; names = 6; cells = 2; variables = 4 } }
     requires there { (number < 3) × (from < 3) }
     requires forest { b.worker.forest ≡ a.old.worker.forest }
     ensures { a.new.worker.forest ≡ a.old.worker.forest }
@@ -375,7 +375,7 @@ fn compare_two(
     events: &mut Vec<Event>,
     list: u32,
 )
-    requires sizes { core.now.sizes ≡ record { workers = 3; announcements = 1; names = 6; cells = 2; variables = 4 } }
+    requires sizes { core.now.sizes ≡ record { workers = 3; announcements = 4; names = 6; cells = 2; variables = 4 } }
     requires there { number < 3 }
     requires forest { b.worker.forest ≡ a.worker.forest }
 {

@@ -120,7 +120,6 @@ impl Machine {
     }
 
     pub(crate) fn may_join(&self, worker: &Worker, from: u32) -> bool
-        requires { self.now.sizes.announcements ≡ 1 }
         ensures { IsTrue result ↔ MayJoin (active_view self.now.sizes worker.now) from (view_at (state_of self.now).views from) }
     {
         let place = from as usize;

@@ -13,34 +13,37 @@ impl Machine {
     ghost use Rattle.eqc_core.specs.View.{view_at, phase_at};
     ghost use Rattle.eqc_core.specs.Announcing.{announced_cell};
 
-    pub(crate) fn look(&mut self, id: usize, c: u32)
+    pub(crate) fn look(&mut self, id: usize, k: u32, c: u32)
         requires turn { IsTurn self.old id }
-        requires may { May (state_of self.old) (view_at (state_of self.old).views id) (Look c) }
-        ensures { state_of self.new ≡ after (state_of self.old) (record { worker = id; step = Look c }) }
+        requires may { May (state_of self.old) (view_at (state_of self.old).views id) (Look k c) }
+        ensures { state_of self.new ≡ after (state_of self.old) (record { worker = id; step = Look k c }) }
     {
         let found = self.cells[c as usize];
         let worker = &mut self.workers[id];
-        worker.look(c, found);
+        worker.look(k, c, found);
     }
 
-    pub(crate) fn announce(&mut self, id: usize, x: u32)
+    pub(crate) fn announce(&mut self, id: usize, k: u32, x: u32)
         requires turn { IsTurn self.old id }
-        ensures { state_of self.new ≡ after (state_of self.old) (record { worker = id; step = Announce x }) }
+        requires may { May (state_of self.old) (view_at (state_of self.old).views id) (Announce k x) }
+        ensures { state_of self.new ≡ after (state_of self.old) (record { worker = id; step = Announce k x }) }
     {
+        let place = self.sizes.word_at(id as u32, k);
         let worker = &mut self.workers[id];
-        worker.announce();
-        self.announced[id] = x;
+        worker.announce(k);
+        self.announced[place as usize] = x;
     }
 
-    fn recheck(&mut self, id: usize, c: u32)
+    fn recheck(&mut self, id: usize, k: u32, c: u32)
         requires turn { IsTurn self.old id }
-        requires cell { c ≡ announced_cell (phase_at (view_at (state_of self.old).views id) 0) }
+        requires word { k < self.old.sizes.announcements }
+        requires cell { c ≡ announced_cell (phase_at (view_at (state_of self.old).views id) k) }
         requires there { c < self.old.sizes.cells }
-        ensures { state_of self.new ≡ after (state_of self.old) (record { worker = id; step = Recheck }) }
+        ensures { state_of self.new ≡ after (state_of self.old) (record { worker = id; step = Recheck k }) }
     {
         let found = self.cells[c as usize];
         let worker = &mut self.workers[id];
-        worker.recheck(found);
+        worker.recheck(k, found);
     }
 
     pub(crate) fn up(&mut self, id: usize, x: u32) -> Result<(), AllocError>
@@ -100,7 +103,8 @@ impl Machine {
         ensures { OnOk result (state_of self.new ≡ after (state_of self.old) (record { worker = id; step = Split to })) }
     {
         worker::grow(&mut self.workers, alloc, to as usize + 1)?;
-        self.workers[to as usize] = Worker::fresh(alloc, to);
+        let fresh = Worker::fresh(alloc, to, self.sizes.announcements)?;
+        self.workers[to as usize] = fresh;
         let worker = &mut self.workers[id];
         worker.split_off(to)?;
         Ok(())
@@ -120,15 +124,15 @@ impl Machine {
         Ok(())
     }
 
-    // A second look at the cell whose result is announced.
-    pub(crate) fn recheck_own(&mut self, id: usize)
+    // A second look at the cell whose result the k-th announcement word has.
+    pub(crate) fn recheck_own(&mut self, id: usize, k: u32)
         requires turn { IsTurn self.old id }
-        requires may { May (state_of self.old) (view_at (state_of self.old).views id) Recheck }
-        ensures { state_of self.new ≡ after (state_of self.old) (record { worker = id; step = Recheck }) }
+        requires may { May (state_of self.old) (view_at (state_of self.old).views id) (Recheck k) }
+        ensures { state_of self.new ≡ after (state_of self.old) (record { worker = id; step = Recheck k }) }
     {
-        let cell = self.workers[id].phase.cell();
-        if let Some(c) = cell {
-            self.recheck(id, c);
+        let phase = self.workers[id].phase_at(k);
+        if let Some(c) = phase.cell() {
+            self.recheck(id, k, c);
         }
     }
 }

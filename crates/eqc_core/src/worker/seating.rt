@@ -1,8 +1,8 @@
 //! The steps by which numbers become workers and are taken in again.
 
-use crate::multiset;
 use crate::sizes::Sizes;
 use crate::worker::Worker;
+use crate::{multiset, phase};
 use std::alloc::AllocError;
 
 impl Worker {
@@ -30,11 +30,10 @@ impl Worker {
         if self.hand.is_some() {
             return false;
         }
-        self.position == 0 && self.phase.is_quiet()
+        self.position == 0 && phase::are_quiet(&self.phases)
     }
 
     pub(crate) fn may_join(&self, sizes: Sizes, from: u32, other: &Worker) -> bool
-        requires { sizes.announcements ≡ 1 }
         ensures { IsTrue result ↔ MayJoin (active_view sizes self.now) from (view_of sizes other.now) }
     {
         if self.position != 0 || from == self.number || from == 0 {
@@ -46,8 +45,9 @@ impl Worker {
         if !other.is_at_rest() {
             return false;
         }
+        // At most twice as many names are retired as there are announcement words.
         let retired = self.retired.len() as u64 + other.retired.len() as u64;
-        if retired > 2 * sizes.announced_words() {
+        if (retired + 1) / 2 > sizes.announced_words() {
             return false;
         }
         true

@@ -1,7 +1,7 @@
 use Rattle.std.proofs.Common.{ℕ, List, ◌∙◌, sym, subst}
 use Rattle.eqc_tree.specs.Holding.{IsNew}
 use Rattle.eqc_apply.specs.Extending.{holding_of}
-use Rattle.eqc_apply.proofs.Teams.{splits, lead_left, new_member, number_left, sizes_left, sizes_split, given_left, number_split}
+use Rattle.eqc_apply.proofs.Teams.{splits, off_has, lead_left, new_member, number_left, sizes_left, sizes_split, given_left, number_split}
 use Rattle.eqc_apply.proofs.members.next_member.Goals as goal
 
 pub invariant_of-lead : goal.invariant_of-lead
@@ -25,3 +25,8 @@ returns-in-Ok-clause-lead c = λ n z g h.
       number_split g l.names.worker.known c.in-Ok.worker.known s.other_known h.given_is,
       sizes_split l.names.worker.known c.in-Ok.worker.known s.other_known ∙ h.sizes_are,
     )
+
+pub invariant_of-result : goal.invariant_of-result
+invariant_of-result c =
+    let l = c.args.lead.now in
+    record { once = off_has l.names.variables l.names.counts.items c.new.result.items l.names.worker c.in-Ok.worker c.in-Ok.ensures.split.other_known c.new.ensures.items l.names.once }

@@ -15,7 +15,7 @@ use Rattle.eqc_cache.proofs.finding.seek.Goals as goal
 
 pub returns-in_err-found-clause-miss : goal.returns-in_err-found-clause-miss
 returns-in_err-found-clause-miss c = λ e.
-    record { phase = Seen c.args.cell c.look-word.result; quiet = tt; stands = starts c.args.worker.now c.look-word.new.self (Seen c.args.cell c.look-word.result) c.look-word.ensures.step }
+    record { phase = Seen c.args.cell c.look-word.result; quiet = tt; stands = starts 0 c.args.worker.now c.look-word.new.self (Seen c.args.cell c.look-word.result) c.look-word.ensures.step }
 
 pub returns-then-found-lt2-clause-hit : goal.returns-then-found-lt2-clause-hit
 unfolding result_of
@@ -24,7 +24,7 @@ returns-then-found-lt2-clause-hit c =
     let s1 = c.look-word.new.self in
     let word = c.look-word.result in
     let cell = c.args.cell in
-    let at = starts c.args.worker.now c.look-word.new.self (Seen c.args.cell c.look-word.result) c.look-word.ensures.step in
+    let at = starts 0 c.args.worker.now c.look-word.new.self (Seen c.args.cell c.look-word.result) c.look-word.ensures.step in
     let is = c.in_ok-found.ensures.entry.0 in
     let tag : operation_of c.look-word.result ≡ tag_of c.args.op = is.0 in
     let first : first_of c.look-word.result ≡ c.args.first = is.1 in
@@ -38,7 +38,7 @@ returns-then-found-lt2-clause-hit c =
 pub take-requires-clause-may : goal.take-requires-clause-may
 unfolding result_of
 take-requires-clause-may c =
-    let at = starts c.args.worker.now c.look-word.new.self (Seen c.args.cell c.look-word.result) c.look-word.ensures.step in
+    let at = starts 0 c.args.worker.now c.look-word.new.self (Seen c.args.cell c.look-word.result) c.look-word.ensures.step in
     may_announce c.args.worker.now c.look-word.new.self c.args.cell c.look-word.result c.in_ok-found.found at c.requires.may.0 c.requires.may.1
     (let n = c.if-found-lt2.false in omega arith) c.in_ok-found.ensures.entry.1
 
@@ -49,7 +49,7 @@ returns-clause-hit c =
     let s1 = c.look-word.new.self in
     let word = c.look-word.result in
     let cell = c.args.cell in
-    let at = starts c.args.worker.now c.look-word.new.self (Seen c.args.cell c.look-word.result) c.look-word.ensures.step in
+    let at = starts 0 c.args.worker.now c.look-word.new.self (Seen c.args.cell c.look-word.result) c.look-word.ensures.step in
     let is = c.in_ok-found.ensures.entry.0 in
     let tag : operation_of c.look-word.result ≡ tag_of c.args.op = is.0 in
     let first : first_of c.look-word.result ≡ c.args.first = is.1 in
@@ -60,8 +60,8 @@ returns-clause-hit c =
 
 pub returns-clause-miss : goal.returns-clause-miss
 returns-clause-miss c = λ e.
-    let at = starts c.args.worker.now c.look-word.new.self (Seen c.args.cell c.look-word.result) c.look-word.ensures.step in
-    record { phase = Idle; quiet = tt; stands = joins c.args.worker.now c.look-word.new.self c.take.new.worker (Seen c.args.cell c.look-word.result) Idle at (c.take.ensures.miss e) }
+    let at = starts 0 c.args.worker.now c.look-word.new.self (Seen c.args.cell c.look-word.result) c.look-word.ensures.step in
+    record { phase = Idle; quiet = tt; stands = joins 0 c.args.worker.now c.look-word.new.self c.take.new.worker (Seen c.args.cell c.look-word.result) Idle at (c.take.ensures.miss e) }
 
 -- what the look leaves of the cells
 pub returns-in_err-found-clause-cells : goal.returns-in_err-found-clause-cells
@@ -104,7 +104,7 @@ returns-clause-missed c = λ none. ⊎_elim
     (λ limit. let held : length c.look-word.new.self.known.core.held ≡ length c.args.worker.now.known.core.held = ap {B = ℕ} (λ (v : View). length v.held) c.look-word.ensures.step.known.core in
     inl (omega arith))
     (λ other. inr (λ ws has entry.
-    let at = starts c.args.worker.now c.look-word.new.self (Seen c.args.cell c.look-word.result) c.look-word.ensures.step in
+    let at = starts 0 c.args.worker.now c.look-word.new.self (Seen c.args.cell c.look-word.result) c.look-word.ensures.step in
     let read = read_stays c.args.worker.now.known c.look-word.new.self.known _ c.look-word.result ws c.look-word.ensures.copies has in
     let sizes : c.look-word.new.self.known.core.sizes ≡ c.args.worker.now.known.core.sizes = ap (λ (v : View). v.sizes) c.look-word.ensures.step.known.core in
     other ws read.0 c.args.cell c.look-word.result (phase_now c.args.worker.now c.look-word.new.self (Seen c.args.cell c.look-word.result) at)

@@ -15,15 +15,15 @@ unfolding result_of
 taken-reference-requires-clause-may g c =
     let s = c.args.maker.now in
     let word = c.look-word.result in
-    let seen = starts s.worker c.look-word.new.self (Seen 0 word) c.look-word.ensures.step in
+    let seen = starts 0 s.worker c.look-word.new.self (Seen 0 word) c.look-word.ensures.step in
     let is : c.args.x ≡ result_of word = sym c.if-found-x.false ∙ (λ i. (c.unpack_cell-found.ensures.fields i).3) in
-    may_announce s.worker c.look-word.new.self 0 word c.args.x seen s.making.rests.place (omega (arith, s.making.one_word)) c.if-x-lt2.false is
+    may_announce s.worker c.look-word.new.self 0 word c.args.x seen s.making.rests.place (omega (arith, s.making.four_words)) c.if-x-lt2.false is
 
 pub invariant_of-maker : goal.invariant_of-maker
 invariant_of-maker g c =
     let s = c.args.maker.now in
     let word = c.look-word.result in
-    let seen = starts s.worker c.look-word.new.self (Seen 0 word) c.look-word.ensures.step in
+    let seen = starts 0 s.worker c.look-word.new.self (Seen 0 word) c.look-word.ensures.step in
     let reference = c.taken-reference.result in
     let new = c.taken-reference.new.worker in
     let is = subst (λ (n : ℕ). IsTaken n c.look-word.new.self new) (sym c.taken-reference.ensures.name) c.taken-reference.ensures.taken in

@@ -23,9 +23,9 @@ returns c =
     let v = view_at vs c.args.id in
     let n : c.args.to ≢ c.args.id = λ e. (let q : true ≡ false = sym c.requires.turn.active ∙ ap (λ (t : View). t.active) (ap (λ i. view_at vs i) (sym e) ∙ c.requires.may.3) in cc) in
     let grew = c.in_ok-grow.ensures m.sizes ∙ ap (grown vs) (add-one c.args.to) in
-    let new = fresh_is m.sizes c.fresh.result c.args.to c.fresh.ensures.active (c.fresh.ensures.view m.sizes c.requires.turn.kept.one_word) in
+    let new = fresh_is m.sizes c.in_ok-fresh.fresh c.args.to c.in_ok-fresh.ensures.active (c.in_ok-fresh.ensures.view m.sizes refl) in
     let t =
-    split_views m.sizes m.workers.items c.grow.new.workers.items c.args.id c.args.to c.index_mut-worker.result.now c.fresh.result
+    split_views m.sizes m.workers.items c.grow.new.workers.items c.args.id c.args.to c.index_mut-worker.result.now c.in_ok-fresh.fresh
     c.split_off.new.self c.requires.turn.there n grew new c.index_mut-worker.ensures.value c.requires.turn.active c.in_ok-split_off.ensures in
     let sizes = ap (λ (z : Sizes). set (set (grown vs (suc c.args.to)) c.args.to (fresh z c.args.to)) c.args.id (splitter v c.args.to)) (sym (turn_sizes m c.args.id c.requires.turn)) in
     stepped (state_of m) (words_of m) (words_of m) _ _ refl (t ∙ sizes)

@@ -3,11 +3,17 @@ use Rattle.std.proofs.lemmas.List.{get_or_read}
 use Rattle.eqc_core.specs.View.{view_at}
 use Rattle.eqc_core.specs.Machine.{state_of}
 use Rattle.eqc_core.specs.Caching.{swapped}
-use Rattle.eqc_core.proofs.Stored.{turned, stepped, cell_there}
+use Rattle.eqc_core.proofs.Stored.{turned, stepped, cell_there, phases_there}
 use Rattle.eqc_core.proofs.machine.Machine.swap_cell.Goals as goal
 
 pub index-old-requires : goal.index-old-requires
 index-old-requires c = let h = cell_there c.args.self.now c.args.id c.args.c c.requires.turn c.requires.may.1 in omega arith
+
+pub swap_cell-requires : goal.swap_cell-requires
+swap_cell-requires c =
+    let h = phases_there c.args.self.now c.args.id c.index_mut-worker.result.now c.requires.turn c.index_mut-worker.ensures.value in
+    let some_words = c.requires.turn.kept.lawful.sized.some_announcements in
+    omega arith
 
 pub returns : goal.returns
 returns c =

@@ -6,13 +6,13 @@ use Rattle.eqc_guard.proofs.worker.Worker.absorb.Goals as goal
 
 pub scan-requires-clause-may : goal.scan-requires-clause-may
 scan-requires-clause-may c =
-    let one : c.args.self.now.known.core.phases ≡ c.self.inside.phase ∷ [] = subst (λ (s : Standing). s.known.core.phases ≡ c.self.inside.phase ∷ []) c.self.view_is c.self.invariant.phases_are in
-    quiet_here c.args.self.now.known.core c.self.inside.phase one c.requires.rest
+    let known : IsKnown c.args.self.now.known = subst (λ (s : Standing). IsKnown s.known) c.self.view_is c.self.invariant.worker.known in
+    quiet_here c.args.self.now.known known c.requires.rest
 
 pub scan-requires-2-clause-may : goal.scan-requires-2-clause-may
 scan-requires-2-clause-may c =
-    let one : c.args.other.known.core.phases ≡ c.other.inside.phase ∷ [] = subst (λ (s : Standing). s.known.core.phases ≡ c.other.inside.phase ∷ []) c.other.view_is c.other.invariant.phases_are in
-    quiet_here c.args.other.known.core c.other.inside.phase one c.requires.other_rest
+    let known : IsKnown c.args.other.known = subst (λ (s : Standing). IsKnown s.known) c.other.view_is c.other.invariant.worker.known in
+    quiet_here c.args.other.known known c.requires.other_rest
 
 pub returns : goal.returns
 returns c =

@@ -1,4 +1,4 @@
-use Rattle.std.proofs.Common.{◌≡◌, ◌<◌, ◌+◌, ℕ, [], ◌∷◌, true, false, get_or, sym, ap, subst, ◌∙◌, arith}
+use Rattle.std.proofs.Common.{length, ◌≡◌, ◌<◌, ◌+◌, ℕ, [], ◌∷◌, true, false, get_or, sym, ap, subst, ◌∙◌, arith}
 use Rattle.eqc_core.specs.declared.phase.Phase.{Phase}
 use Rattle.eqc_core.specs.declared.phase.Phase.TheVariants.{Idle, Seen}
 use Rattle.eqc_core.specs.View.{View}
@@ -13,14 +13,14 @@ use Rattle.eqc_guard.proofs.worker.Worker.acquire.Goals as goal
 
 pub returns-then-found-lt2-clause-none : goal.returns-then-found-lt2-clause-none
 returns-then-found-lt2-clause-none c =
-    λ e. record { phase = Seen c.args.cell c.look-word.result; quiet = tt; stands = starts c.args.self.now c.look-word.new.self (Seen c.args.cell c.look-word.result) c.look-word.ensures.step }
+    λ e. record { phase = Seen c.args.cell c.look-word.result; quiet = tt; stands = starts 0 c.args.self.now c.look-word.new.self (Seen c.args.cell c.look-word.result) c.look-word.ensures.step }
 
 pub confirm-requires-clause-may : goal.confirm-requires-clause-may
 unfolding result_of
 confirm-requires-clause-may c =
-    let at = starts c.args.self.now c.look-word.new.self (Seen c.args.cell c.look-word.result) c.look-word.ensures.step in
-    let one : c.args.self.now.known.core.phases ≡ c.self.inside.phase ∷ [] = subst (λ (s : Standing). s.known.core.phases ≡ c.self.inside.phase ∷ []) c.self.view_is c.self.invariant.phases_are in
-    let seen = phase_is c.args.self.now c.look-word.new.self c.self.inside.phase (Seen c.args.cell c.look-word.result) one at in
+    let at = starts 0 c.args.self.now c.look-word.new.self (Seen c.args.cell c.look-word.result) c.look-word.ensures.step in
+    let some_word : 0 < length c.args.self.now.known.core.phases = subst (λ (s : Standing). 0 < length s.known.core.phases) c.self.view_is c.self.invariant.worker.known.word in
+    let seen = phase_is 0 c.args.self.now c.look-word.new.self (Seen c.args.cell c.look-word.result) some_word at in
     let found : c.unpack_cell-found.result.3 ≡ result_of c.look-word.result = λ i. (c.unpack_cell-found.ensures.fields i).3 in
     let many = c.if-found-lt2.false in (
       subst (λ (v : View). v.position ≡ 0) (sym at.core) c.requires.0,
@@ -30,15 +30,15 @@ confirm-requires-clause-may c =
 
 pub returns-then-confirm-clause-some : goal.returns-then-confirm-clause-some
 returns-then-confirm-clause-some c =
-    let at = starts c.args.self.now c.look-word.new.self (Seen c.args.cell c.look-word.result) c.look-word.ensures.step in
-    let one : c.args.self.now.known.core.phases ≡ c.self.inside.phase ∷ [] = subst (λ (s : Standing). s.known.core.phases ≡ c.self.inside.phase ∷ []) c.self.view_is c.self.invariant.phases_are in
-    let seen = phase_is c.args.self.now c.look-word.new.self c.self.inside.phase (Seen c.args.cell c.look-word.result) one at in
-    looked_at c.args.self.now c.look-word.new.self c.confirm.new.self c.look-word.result c.args.cell at (c.confirm.ensures.yes c.if-confirm.true c.args.cell c.look-word.result seen)
+    let at = starts 0 c.args.self.now c.look-word.new.self (Seen c.args.cell c.look-word.result) c.look-word.ensures.step in
+    let some_word : 0 < length c.args.self.now.known.core.phases = subst (λ (s : Standing). 0 < length s.known.core.phases) c.self.view_is c.self.invariant.worker.known.word in
+    let seen = phase_is 0 c.args.self.now c.look-word.new.self (Seen c.args.cell c.look-word.result) some_word at in
+    looked_at 0 c.args.self.now c.look-word.new.self c.confirm.new.self c.look-word.result c.args.cell at (c.confirm.ensures.yes c.if-confirm.true c.args.cell c.look-word.result seen)
 
 pub returns-else-confirm-clause-none : goal.returns-else-confirm-clause-none
 returns-else-confirm-clause-none c = λ e.
-    let at = starts c.args.self.now c.look-word.new.self (Seen c.args.cell c.look-word.result) c.look-word.ensures.step in
-    record { phase = Idle; quiet = tt; stands = joins c.args.self.now c.look-word.new.self c.confirm.new.self (Seen c.args.cell c.look-word.result) Idle at (c.confirm.ensures.no c.if-confirm.false) }
+    let at = starts 0 c.args.self.now c.look-word.new.self (Seen c.args.cell c.look-word.result) c.look-word.ensures.step in
+    record { phase = Idle; quiet = tt; stands = joins 0 c.args.self.now c.look-word.new.self c.confirm.new.self (Seen c.args.cell c.look-word.result) Idle at (c.confirm.ensures.no c.if-confirm.false) }
 
 -- the word is the one that the copy has
 pub returns-then-confirm-clause-found : goal.returns-then-confirm-clause-found
@@ -54,9 +54,9 @@ returns-then-found-lt2-clause-missed c = λ e ws has.
 -- and a worker that is alone finds it again
 pub returns-else-confirm-clause-missed : goal.returns-else-confirm-clause-missed
 returns-else-confirm-clause-missed c = λ e ws has.
-    let at = starts c.args.self.now c.look-word.new.self (Seen c.args.cell c.look-word.result) c.look-word.ensures.step in
-    let one : c.args.self.now.known.core.phases ≡ c.self.inside.phase ∷ [] = subst (λ (s : Standing). s.known.core.phases ≡ c.self.inside.phase ∷ []) c.self.view_is c.self.invariant.phases_are in
-    let seen = phase_is c.args.self.now c.look-word.new.self c.self.inside.phase (Seen c.args.cell c.look-word.result) one at in
+    let at = starts 0 c.args.self.now c.look-word.new.self (Seen c.args.cell c.look-word.result) c.look-word.ensures.step in
+    let some_word : 0 < length c.args.self.now.known.core.phases = subst (λ (s : Standing). 0 < length s.known.core.phases) c.self.view_is c.self.invariant.worker.known.word in
+    let seen = phase_is 0 c.args.self.now c.look-word.new.self (Seen c.args.cell c.look-word.result) some_word at in
     let read = read_stays c.args.self.now.known c.look-word.new.self.known _ c.look-word.result ws c.look-word.ensures.copies has in
     let sizes : c.look-word.new.self.known.core.sizes ≡ c.args.self.now.known.core.sizes = ap (λ (v : View). v.sizes) c.look-word.ensures.step.known.core in
     let yes = c.confirm.ensures.alone ws read.0 c.args.cell c.look-word.result seen (ap {B = ℕ} (λ (z : Sizes). get_or ws (cells_from z + c.args.cell) 0) sizes ∙ read.1) in

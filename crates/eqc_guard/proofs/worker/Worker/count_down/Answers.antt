@@ -61,9 +61,9 @@ invariant_of-self c =
     let l : w.held - 1 ≡ length (downed me.0.core (c.count_word-word.result - announced_words me.0.core.sizes)).held = (down_length me.0.core c.args.x w.held is.held_is may).1
     ∙ ap (λ (k : ℕ). length (downed me.0.core k).held) back in
     let told = c.fetch_sub-found.ensures.2 in
-    seated_after w.seat.table_id (arc_value w.table).shared.table_id (arc_value w.table).shared.key.sizes w.sizes me w.number w.held w.phase
+    seated_after w.seat.table_id (arc_value w.table).shared.table_id (arc_value w.table).shared.key.sizes w.sizes me w.number w.held w.phases.items
     w.retired.items w.noted.items w.position w.given w.out.items w.draft is
     c.fetch_sub-found.new.seat.table_id c.fetch_sub-found.new.seat.me
-    (downed me.0.core (c.count_word-word.result - announced_words me.0.core.sizes)) (w.held - 1) w.phase w.retired.items w.noted.items w.position
+    (downed me.0.core (c.count_word-word.result - announced_words me.0.core.sizes)) (w.held - 1) w.phases.items w.retired.items w.noted.items w.position
     w.given w.out.items w.draft
     c.fetch_sub-found.ensures.0 told.0 told.1 refl is.worker.active refl refl l is.phases_are is.retired_are is.noted_are is.position_is is.given_is is.out_is is.draft_is

@@ -31,7 +31,7 @@ seated-requires c =
     let same : (arc_value c.args.table).shared.table_id ≡ w.seat.table_id = subst (λ (s : Standing). (arc_value c.args.table).shared.table_id ≡ s.forest) v c.requires.table in
     let size : (arc_value c.args.table).shared.key.sizes ≡ me.0.core.sizes = subst (λ (s : Standing). (arc_value c.args.table).shared.key.sizes ≡ s.known.core.sizes) v c.requires.key in
     let seated =
-    off_seated w.seat.table_id (arc_value w.table).shared.table_id (arc_value w.table).shared.key.sizes w.sizes me w.number w.held w.phase
+    off_seated w.seat.table_id (arc_value w.table).shared.table_id (arc_value w.table).shared.key.sizes w.sizes me w.number w.held w.phases.items
     w.retired.items w.noted.items w.position w.given w.out.items w.draft is has
     (arc_value c.args.table).shared.table_id (arc_value c.args.table).shared.key.sizes same (size ∙ (is.worker.sizes ∙ sym is.one_key)) in
     rw (told.3, told.4, sym same) seated
@@ -45,6 +45,6 @@ invariant_of-self c =
     let has : HasNumber me.0.core = subst (λ (s : Standing). HasNumber s.known.core) v c.requires.number in
     let told = c.split_seat-seat.ensures in
     let seated =
-    left_seated w.seat.table_id (arc_value w.table).shared.table_id (arc_value w.table).shared.key.sizes w.sizes me w.number w.held w.phase
+    left_seated w.seat.table_id (arc_value w.table).shared.table_id (arc_value w.table).shared.key.sizes w.sizes me w.number w.held w.phases.items
     w.retired.items w.noted.items w.position w.given w.out.items w.draft is has in
     rw (told.0, told.2, c.push.ensures.items, c.from.ensures) seated

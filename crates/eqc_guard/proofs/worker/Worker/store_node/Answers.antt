@@ -57,9 +57,9 @@ invariant_of-self c =
     (drafted_length me.0 c.args.var c.args.low c.args.high w.held c.held_with_node-self-inside.result is.worker.known may is.held_is c.held_with_node-self-inside.ensures) in
     let carried : slots_out c.store.new.seat.me.1 ≡ (hand_of me.0.core.hand).stripe ∷ [] = ap slots_out told.1
     ∙ (is.carries ∙ (ap stripes_in hand ∙ ap (λ (o : Option Hand). (hand_of o).stripe ∷ []) (sym hand))) in
-    seated_with w.seat.table_id (arc_value w.table).shared.table_id (arc_value w.table).shared.key.sizes w.sizes me w.number w.held w.phase
+    seated_with w.seat.table_id (arc_value w.table).shared.table_id (arc_value w.table).shared.key.sizes w.sizes me w.number w.held w.phases.items
     w.retired.items w.noted.items w.position w.given w.out.items w.draft is
-    c.store.new.seat.table_id c.store.new.seat.me (drafted me.0.core c.pack_node-word.result) c.held_with_node-self-inside.result w.phase
+    c.store.new.seat.table_id c.store.new.seat.me (drafted me.0.core c.pack_node-word.result) c.held_with_node-self-inside.result w.phases.items
     w.retired.items w.noted.items w.position w.given w.out.items None
     c.store.ensures.0 told.0.core told.0.known carried refl is.worker.active refl l is.phases_are is.retired_are is.noted_are is.position_is is.given_is is.out_is refl
 

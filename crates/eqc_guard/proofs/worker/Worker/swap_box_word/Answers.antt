@@ -37,8 +37,8 @@ invariant_of-self c =
     let told = c.swap-old.ensures.2 in
     let l : c.held_with_box-self-inside.result ≡ length (boxed me.0.core c.swap-old.result c.args.word).held =
     boxed_length me.0.core w.held c.held_with_box-self-inside.result c.swap-old.result c.args.word may.held is.held_is c.held_with_box-self-inside.ensures in
-    seated_after w.seat.table_id (arc_value w.table).shared.table_id (arc_value w.table).shared.key.sizes w.sizes me w.number w.held w.phase
+    seated_after w.seat.table_id (arc_value w.table).shared.table_id (arc_value w.table).shared.key.sizes w.sizes me w.number w.held w.phases.items
     w.retired.items w.noted.items w.position w.given w.out.items w.draft is
-    c.swap-old.new.seat.table_id c.swap-old.new.seat.me (boxed me.0.core c.swap-old.result c.args.word) c.held_with_box-self-inside.result w.phase
+    c.swap-old.new.seat.table_id c.swap-old.new.seat.me (boxed me.0.core c.swap-old.result c.args.word) c.held_with_box-self-inside.result w.phases.items
     w.retired.items w.noted.items w.position w.given w.out.items w.draft
     c.swap-old.ensures.0 told.0 told.1 refl is.worker.active refl refl l is.phases_are is.retired_are is.noted_are is.position_is is.given_is is.out_is is.draft_is

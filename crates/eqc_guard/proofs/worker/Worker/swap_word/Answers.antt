@@ -40,11 +40,11 @@ invariant_of-self c =
     let old : ℕ = c.swap-old.result in
     let l : c.held_after-self-inside.result ≡ length (swapped me.0.core c.swap-old.result c.args.word).held =
     swap_length me.0.core w.held c.held_after-self-inside.result c.swap-old.result c.args.word may.held is.held_is c.held_after-self-inside.ensures in
-    let p : (swapped me.0.core c.swap-old.result c.args.word).phases ≡ Idle ∷ [] = ap (λ (ps : List Phase). set ps 0 Idle) is.phases_are in
+    let p : (swapped me.0.core c.swap-old.result c.args.word).phases ≡ c.set_phase.new.phases.items = ap (λ (ps : List Phase). set ps 0 Idle) is.phases_are ∙ sym c.set_phase.ensures in
     let r : c.retire.new.retired.items ≡ (swapped me.0.core c.swap-old.result c.args.word).retired = c.retire.ensures
     ∙ ap (λ (xs : List ℕ). xs ++ slots_of (result_of c.swap-old.result ∷ [])) is.retired_are in
-    seated_after w.seat.table_id (arc_value w.table).shared.table_id (arc_value w.table).shared.key.sizes w.sizes me w.number w.held w.phase
+    seated_after w.seat.table_id (arc_value w.table).shared.table_id (arc_value w.table).shared.key.sizes w.sizes me w.number w.held w.phases.items
     w.retired.items w.noted.items w.position w.given w.out.items w.draft is
-    c.swap-old.new.seat.table_id c.swap-old.new.seat.me (swapped me.0.core c.swap-old.result c.args.word) c.held_after-self-inside.result Idle
+    c.swap-old.new.seat.table_id c.swap-old.new.seat.me (swapped me.0.core c.swap-old.result c.args.word) c.held_after-self-inside.result c.set_phase.new.phases.items
     c.retire.new.retired.items w.noted.items w.position w.given w.out.items w.draft
     c.swap-old.ensures.0 told.0 told.1 refl is.worker.active refl refl l p r is.noted_are is.position_is is.given_is is.out_is is.draft_is

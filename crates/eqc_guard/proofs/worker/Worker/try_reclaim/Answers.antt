@@ -53,10 +53,10 @@ invariant_of-self-2 c =
     c.held_with_children-self-inside.ensures ∙ ((λ j. is.held_is j + length (slots_of (low j ∷ high j ∷ []))) ∙ sym (length-append me.0.core.held (slots_of (children c.args.word)))) in
     let carried : slots_out c.compare_exchange-count.new.seat.me.1 ≡ (hand_of me.0.core.hand).stripe ∷ [] = ap slots_out told.1
     ∙ (is.carries ∙ (ap stripes_in hand ∙ ap (λ (o : Option Hand). (hand_of o).stripe ∷ []) (sym hand))) in
-    seated_with w.seat.table_id (arc_value w.table).shared.table_id (arc_value w.table).shared.key.sizes w.sizes me w.number w.held w.phase
+    seated_with w.seat.table_id (arc_value w.table).shared.table_id (arc_value w.table).shared.key.sizes w.sizes me w.number w.held w.phases.items
     w.retired.items w.noted.items w.position w.given w.out.items w.draft is
     c.compare_exchange-count.new.seat.table_id c.compare_exchange-count.new.seat.me (taken_back me.0.core c.args.x c.args.word)
-    c.held_with_children-self-inside.result w.phase w.retired.items w.noted.items w.position w.given w.out.items w.draft
+    c.held_with_children-self-inside.result w.phases.items w.retired.items w.noted.items w.position w.given w.out.items w.draft
     c.compare_exchange-count.ensures.0 told.0.core told.0.known carried refl is.worker.active refl l is.phases_are is.retired_are is.noted_are is.position_is is.given_is is.out_is is.draft_is
 
 pub returns-clause-won : goal.returns-clause-won

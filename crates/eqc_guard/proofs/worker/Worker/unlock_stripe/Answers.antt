@@ -51,8 +51,8 @@ invariant_of-self c =
     let same : out.0 ≡ me.0 = λ j. (e.3 j).0 in
     let carried : out.1 ≡ (c.args.stripe, c.args.map) ∷ [] = (λ j. (e.3 j).1) ∙ (λ j. (c.args.stripe, c.args.map) ∷ rest (one.1 j)) in
     let told = c.store.ensures.2 in
-    seated_with w.seat.table_id (arc_value w.table).shared.table_id (arc_value w.table).shared.key.sizes w.sizes me w.number w.held w.phase
+    seated_with w.seat.table_id (arc_value w.table).shared.table_id (arc_value w.table).shared.key.sizes w.sizes me w.number w.held w.phases.items
     w.retired.items w.noted.items w.position w.given w.out.items w.draft is
-    c.store.new.seat.table_id c.store.new.seat.me (unlocked me.0.core) w.held w.phase w.retired.items w.noted.items w.position w.given w.out.items w.draft
+    c.store.new.seat.table_id c.store.new.seat.me (unlocked me.0.core) w.held w.phases.items w.retired.items w.noted.items w.position w.given w.out.items w.draft
     (c.store.ensures.0 ∙ e.0) (told.0.core ∙ ap (λ (k : Known). unlocked k.core) same) told.0.known (ap slots_out (told.1 ∙ ap rest carried)) refl
     is.worker.active refl is.held_is is.phases_are is.retired_are is.noted_are is.position_is is.given_is is.out_is is.draft_is
