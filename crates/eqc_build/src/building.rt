@@ -2,16 +2,16 @@
 ghost use Rattle.std.specs.Prelude.{◌≡◌, ◌≢◌, ℕ, List, ◌+◌, ◌<◌, length, [], ◌∷◌, IfOk, IfErr, OnOk, OnErr, IsSome, Some, map, slice_index};
 ghost use Rattle.eqc_tree.specs.Holding.{Keeps};
 ghost use Rattle.eqc_cover.specs.Making.{Makes};
-ghost use Rattle.eqc_build.specs.Building.{IsBuilt, AreReady, Adds, Advances, Moves, reference_of};
+ghost use Rattle.eqc_build.specs.Building.{IsBuilt, AreReady, Advances, Moves, reference_of};
 ghost use Rattle.eqc_build.specs.Steps.{steps_in, uses_of, value_at};
 ghost use Rattle.eqc_build.specs.Demand.{AreCounted, IsOfUse};
 ghost use Rattle.eqc_build.specs.Schedule.{moment, end_of};
 ghost use Rattle.eqc_build.specs.Turns.{AreKept, IsTurn};
 
 use crate::demand::count;
-use crate::kept::{Kept, release};
 use crate::plan::Plan;
 use crate::schedule::moment;
+use crate::step_diagrams::{StepDiagrams, release};
 use crate::steps::{StepDriver, Steps, Uses};
 use crate::table::{Table, put, reference_at};
 use crate::wanted::wanted;
@@ -66,35 +66,13 @@ fn step_diagram<R, D: Diagrams<R>>(
     }
 }
 
-/// Puts the diagram of a step into the table.
-fn build_step<R, D: Diagrams<R>>(
-    alloc: Global,
-    rt: &R,
-    d: &mut D,
-    covers: &mut Covers,
-    steps: &Steps<'_>,
-    table: &mut Table<D::Ref>,
-    step: u32,
-) -> Result<(), Stop>
-    requires within { step < steps_in steps.now.pair }
-    requires kept { AreKept D.entry steps.now.pair (D.holding d.old) table.old }
-    requires ready { AreReady table.old (uses_of steps.now step) }
-    ensures ok { OnOk result (Adds D.entry steps.now.pair (D.holding d.old) table.old (D.holding d.new) table.new step) }
-    ensures stop { OnErr result (Keeps (D.holding d.old) (D.holding d.new)) }
-    ensures table { OnErr result (table.new ≡ table.old) }
-    ensures only { IfErr result (λ s. s ≢ Stop.Threads) }
-{
-    let reference = step_diagram(alloc, rt, d, covers, steps, table, step)?;
-    put(d, table, step, reference)
-}
-
 /// Puts the diagram of a step into the table, at a moment, and gives back what is used there for the last time.
 fn advance<R, D: Diagrams<R>>(
     alloc: Global,
     rt: &R,
     d: &mut D,
     plan: &Plan<'_>,
-    kept: &mut Kept<D::Ref>,
+    kept: &mut StepDiagrams<D::Ref>,
     step: u32,
     at: u64,
 ) -> Result<(), Stop>
@@ -110,15 +88,9 @@ fn advance<R, D: Diagrams<R>>(
     ensures used { OnErr result (kept.new.used.items ≡ kept.old.used.items) }
     ensures only { IfErr result (λ s. s ≢ Stop.Threads) }
 {
-    build_step(
-        alloc,
-        rt,
-        d,
-        &mut kept.covers,
-        &plan.steps,
-        &mut kept.table,
-        step,
-    )?;
+    let covers = &mut kept.covers;
+    let reference = step_diagram(alloc, rt, d, covers, &plan.steps, &kept.table, step)?;
+    put(d, &mut kept.table, step, reference)?;
     count(&mut kept.used, &plan.steps.uses(step));
     release(d, plan, kept, &plan.steps.uses(step), at);
     Ok(())
@@ -142,35 +114,39 @@ fn note_due(
     }
 }
 
-/// Brings the diagrams of these steps into the table, where they aren't there yet, in their turn, counted from 1. Turns come in
-/// rising order. Each step that they need is made once, unless it is kept, and no other, and what it uses is counted. A step
-/// stays where a later turn needs it as a goal, or for a step that wasn't made, and is else given back after its last use.
-pub fn complete<R, D: Diagrams<R>>(
-    alloc: Global,
-    rt: &R,
-    d: &mut D,
-    plan: &Plan<'_>,
-    kept: &mut Kept<D::Ref>,
-    goals: &[u32],
-    turn: u32,
-) -> Result<(), Stop>
-    requires turn { IsTurn plan.now goals.now turn }
-    requires kept { AreKept D.entry plan.now.steps.pair (D.holding d.old) kept.old.table }
-    ensures moves { Moves D.entry (D.holding d.old) kept.old.table (D.holding d.new) kept.new.table }
-    ensures built { IsBuilt D.entry plan.now.steps.pair kept.new.table }
-    ensures ready { OnOk result (AreReady kept.new.table goals.now) }
-    ensures kept { (s : ℕ) → IsOfUse plan.now kept.new.used.items s (end_of plan.now.steps turn) → IsSome (reference_of kept.old.table s) → IsSome (reference_of kept.new.table s) }
-    ensures counted { (made : List ℕ) × AreCounted plan.now.steps made kept.old.used.items kept.new.used.items }
-    ensures only { IfErr result (λ s. s ≢ Stop.Threads) }
-{
-    let Ok(mut steps) = wanted(alloc, plan, &kept.table, &mut kept.until, goals, turn) else {
-        return Err(Stop::Memory);
-    };
-    let end = moment(turn, plan.steps.len());
-    while let Some(step) = steps.pop() {
-        note_due(&mut kept.due, plan.last.at(step), step, end)?;
-        note_due(&mut kept.due, plan.demand.root_end(step), step, end)?;
-        advance(alloc, rt, d, plan, kept, step, moment(turn, step + 1))?;
+impl<X> StepDiagrams<X> {
+    /// Builds the diagrams of these steps, where they aren't there yet, in their turn, counted from 1. Turns come in rising order.
+    /// Each step that they need is made once, unless it is kept, and no other, and what it uses is counted. A step stays where a
+    /// later turn needs it as a goal, or for a step that wasn't made, and is else given back after its last use.
+    ///
+    /// The errors are those of the diagrams, 71, 72 and 73, and 72 where memory is refused. What was built by then stays.
+    pub fn complete<R, D: Diagrams<R, Ref = X>>(
+        &mut self,
+        alloc: Global,
+        rt: &R,
+        d: &mut D,
+        plan: &Plan<'_>,
+        goals: &[u32],
+        turn: u32,
+    ) -> Result<(), Stop>
+        requires turn { IsTurn plan.now goals.now turn }
+        requires kept { AreKept D.entry plan.now.steps.pair (D.holding d.old) self.old.table }
+        ensures moves { Moves D.entry (D.holding d.old) self.old.table (D.holding d.new) self.new.table }
+        ensures built { IsBuilt D.entry plan.now.steps.pair self.new.table }
+        ensures ready { OnOk result (AreReady self.new.table goals.now) }
+        ensures kept { (s : ℕ) → IsOfUse plan.now self.new.used.items s (end_of plan.now.steps turn) → IsSome (reference_of self.old.table s) → IsSome (reference_of self.new.table s) }
+        ensures counted { (made : List ℕ) × AreCounted plan.now.steps made self.old.used.items self.new.used.items }
+        ensures only { IfErr result (λ s. s ≢ Stop.Threads) }
+    {
+        let Ok(mut steps) = wanted(alloc, plan, &self.table, &mut self.until, goals, turn) else {
+            return Err(Stop::Memory);
+        };
+        let end = moment(turn, plan.steps.len());
+        while let Some(step) = steps.pop() {
+            note_due(&mut self.due, plan.last.at(step), step, end)?;
+            note_due(&mut self.due, plan.demand.root_end(step), step, end)?;
+            advance(alloc, rt, d, plan, self, step, moment(turn, step + 1))?;
+        }
+        Ok(())
     }
-    Ok(())
 }

@@ -14,7 +14,7 @@ use std::alloc::{AllocError, Global};
 /// What outputs need steps for. Members that share the outputs of a pair share it. Where nothing is listed, all that is known of
 /// a step is the last moment at which it is used.
 #[derive(Drop)]
-pub struct Demand {
+pub(crate) struct Demand {
     /// How often each step is used by others that an output needs; 4,294,967,295 stands for more than is counted.
     pub(crate) uses: Vec<u32>,
     /// The end of the last output of which each step is a signal that is compared, 0 where it is none.

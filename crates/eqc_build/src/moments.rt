@@ -8,7 +8,7 @@ use std::marker::Model;
 /// The last moment at which each step of a pair is used, 0 where no output needs it. Contracts see a list with a place for each
 /// step. Members that share the outputs of a pair share it.
 #[derive(Drop)]
-pub struct Moments {
+pub(crate) struct Moments {
     noted: Noted,
 }
 

@@ -51,7 +51,7 @@ fn raise_goals(last: &mut Vec<u64>, goals: &[u32], at: u64)
 }
 
 /// Whether an output is marked.
-pub fn is_marked(marks: &[bool], output: usize) -> bool
+pub(crate) fn is_marked(marks: &[bool], output: usize) -> bool
     ensures { result ≡ is_marked marks.now output }
 {
     marks.get(output).copied().unwrap_or(false)

@@ -12,7 +12,7 @@ use std::alloc::{AllocError, Global};
 use std::marker::Model;
 
 /// The references of the steps of a pair. Contracts see a list with a place for each step.
-pub struct Table<X> {
+pub(crate) struct Table<X> {
     entries: Entries<X>,
 }
 
@@ -160,7 +160,7 @@ impl<X> Table<X> {
 }
 
 /// The reference of a step that has one.
-pub fn reference_at<X>(table: &Table<X>, s: u32) -> &X
+pub(crate) fn reference_at<X>(table: &Table<X>, s: u32) -> &X
     requires within { s < length table.now }
     requires some { IsSome (reference_of table.now s) }
     ensures { reference_of table.now s ≡ Some result.now }

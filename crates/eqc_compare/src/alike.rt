@@ -1,12 +1,12 @@
 //! What structures tell of a pair: outputs whose two signals have one structure are equal, whatever it computes, and of steps of
 //! one structure one needs to be made.
 ghost use Rattle.std.specs.Prelude.{◌≡◌, ℕ, ◌+◌, ◌<◌, ◌≤◌, ◌++◌, [], None, true, false, IsTrue, length, map, slice_index, IfOk, OnOk};
+ghost use Rattle.eqc_build.specs.Turns.{is_marked};
 ghost use Rattle.eqc_class.specs.Classes.{AreClasses};
 ghost use Rattle.eqc_pair.specs.PairOf.{first_variables, second_variables};
 ghost use Rattle.eqc_compare.specs.Comparing.{told_at, is_chosen_at};
 ghost use Rattle.eqc_compare.specs.Alike.{AreEqual, AreFirst, AreSettled, IsKnown, TellAlike, TellShared};
 
-use eqc_build::is_marked;
 use eqc_class::{SignalClasses, classes};
 use eqc_pair::{Pair, recall_laws};
 use std::alloc::{AllocError, Global};
@@ -126,6 +126,13 @@ pub fn alike_or_nothing(alloc: Global, pair: &Pair<'_>) -> Alike
         Ok(alike) => alike,
         Err(_) => Alike::nothing(alloc),
     }
+}
+
+/// Whether an output is marked, by its position in the first netlist. One without a mark is not.
+pub fn is_marked(marks: &[bool], output: usize) -> bool
+    ensures { result ≡ is_marked marks.now output }
+{
+    marks.get(output).copied().unwrap_or(false)
 }
 
 /// Whether nothing is to be told of an output: it is not chosen, or it is marked. Those that are marked are equal.

@@ -6,9 +6,7 @@ ghost use Rattle.eqc_build.specs.Turns.{AreKept, IsTurn, MovesKept};
 ghost use Rattle.eqc_compare.specs.Verdict.{allows_none};
 ghost use Rattle.eqc_compare.specs.Comparing.{assumption_of, netlist_of};
 
-use eqc_build::{
-    Kept, Plan, Steps, complete, give_back_kept, nothing_kept_of_few, plan_below, reference_at,
-};
+use eqc_build::{Plan, StepDiagrams, Steps, plan_below};
 use eqc_cover::is_false;
 use eqc_pair::Pair;
 use eqc_tree::{Diagrams, References, Stop};
@@ -20,7 +18,7 @@ fn is_never_true<R, D: Diagrams<R>>(
     rt: &R,
     d: &mut D,
     plan: &Plan<'_>,
-    kept: &mut Kept<D::Ref>,
+    kept: &mut StepDiagrams<D::Ref>,
     step: u32,
 ) -> Result<bool, Stop>
     requires turn { IsTurn plan.now (step ∷ []) 1 }
@@ -29,8 +27,8 @@ fn is_never_true<R, D: Diagrams<R>>(
     ensures moves { MovesKept D.entry plan.now.steps.pair (D.holding d.old) kept.old.table (D.holding d.new) kept.new.table }
     ensures only { IfErr result (λ s. s ≢ Stop.Threads) }
 {
-    complete(alloc, rt, d, plan, kept, &[step], 1)?;
-    Ok(is_false(d, reference_at(&kept.table, step)))
+    kept.complete(alloc, rt, d, plan, &[step], 1)?;
+    Ok(is_false(d, kept.get(step)))
 }
 
 /// The same, from no references to none.
@@ -47,9 +45,9 @@ fn is_never_built<R, D: Diagrams<R>>(
     ensures kept { Keeps (D.holding d.old) (D.holding d.new) }
     ensures only { IfErr result (λ s. s ≢ Stop.Threads) }
 {
-    let mut kept = nothing_kept_of_few(alloc, plan.steps.len() as usize);
+    let mut kept = StepDiagrams::for_few(alloc, plan);
     let never = is_never_true(alloc, rt, d, plan, &mut kept, step);
-    give_back_kept(d, kept);
+    kept.give_back(d);
     never
 }
 

@@ -9,15 +9,12 @@ ghost use Rattle.eqc_build.specs.Turns.{IsTurn, AreTurns, AreKept, IsComparable,
 ghost use Rattle.eqc_compare.specs.Alike.{AreSettled, IsKnown};
 ghost use Rattle.eqc_compare.specs.Comparing.{netlist_of, assumption_of, differs_at, values_differ_at, SaysDifference, IsDifferenceAt, AreTold, IsOutcome};
 
-use crate::alike::Alike;
+use crate::alike::{Alike, is_marked};
 use crate::allowing::allows_none;
 use crate::gate::{Gate, NoGate};
 use crate::outcome::{Difference, Outcome};
 use crate::schedule::Schedule;
-use eqc_build::{
-    Kept, Plan, Steps, Table, clear, complete, give_back_kept, is_marked, nothing_built,
-    nothing_kept_of_few, plan_below, reference_at, release_due,
-};
+use eqc_build::{Plan, StepDiagrams, Steps, plan_below};
 use eqc_cover::{is_false, least_over};
 use eqc_pair::Pair;
 use eqc_tree::{Diagrams, Op, References, Stop};
@@ -28,20 +25,20 @@ fn values_difference<R, D: Diagrams<R>>(
     rt: &R,
     d: &mut D,
     steps: &Steps<'_>,
-    table: &Table<D::Ref>,
+    kept: &StepDiagrams<D::Ref>,
     output: usize,
 ) -> Result<D::Ref, Stop>
     requires output { output < length steps.now.pair.first.outputs }
-    requires kept { AreKept D.entry steps.now.pair (D.holding d.old) table.now }
-    requires ready { AreReady table.now (goals_of steps.now output) }
+    requires kept { AreKept D.entry steps.now.pair (D.holding d.old) kept.now.table }
+    requires ready { AreReady kept.now.table (goals_of steps.now output) }
     ensures ok { IfOk result (λ r. Gains (D.holding d.old) (D.holding d.new) (D.entry r) (values_differ_at steps.now.pair output)) }
     ensures stop { OnErr result (Keeps (D.holding d.old) (D.holding d.new)) }
     ensures only { IfErr result (λ s. s ≢ Stop.Threads) }
 {
     let _count = steps.len();
     let roots = steps.roots(output);
-    let first = reference_at(table, roots[0]);
-    d.apply(rt, Op::Xor, first, reference_at(table, roots[1]))
+    let first = kept.get(roots[0]);
+    d.apply(rt, Op::Xor, first, kept.get(roots[1]))
 }
 
 /// The diagram that is true where an output differs: under an assumption where that allows the assignment, too.
@@ -49,22 +46,22 @@ fn output_difference<R, D: Diagrams<R>>(
     rt: &R,
     d: &mut D,
     steps: &Steps<'_>,
-    table: &Table<D::Ref>,
+    kept: &StepDiagrams<D::Ref>,
     output: usize,
 ) -> Result<D::Ref, Stop>
     requires output { output < length steps.now.pair.first.outputs }
-    requires kept { AreKept D.entry steps.now.pair (D.holding d.old) table.now }
-    requires ready { AreReady table.now (goals_of steps.now output) }
+    requires kept { AreKept D.entry steps.now.pair (D.holding d.old) kept.now.table }
+    requires ready { AreReady kept.now.table (goals_of steps.now output) }
     ensures ok { IfOk result (λ r. Gains (D.holding d.old) (D.holding d.new) (D.entry r) (differs_at steps.now.pair output)) }
     ensures stop { OnErr result (Keeps (D.holding d.old) (D.holding d.new)) }
     ensures only { IfErr result (λ s. s ≢ Stop.Threads) }
 {
     let _count = steps.len();
-    let difference = values_difference(rt, d, steps, table, output)?;
+    let difference = values_difference(rt, d, steps, kept, output)?;
     let Some(root) = steps.assumed_root() else {
         return Ok(difference);
     };
-    let allowed = d.apply(rt, Op::And, reference_at(table, root), &difference);
+    let allowed = d.apply(rt, Op::And, kept.get(root), &difference);
     d.give_back(difference);
     allowed
 }
@@ -103,17 +100,17 @@ fn difference<R, D: Diagrams<R>>(
     rt: &R,
     d: &mut D,
     steps: &Steps<'_>,
-    table: &Table<D::Ref>,
+    kept: &StepDiagrams<D::Ref>,
     output: usize,
 ) -> Result<Option<Vec<bool>>, Stop>
     requires output { output < length steps.now.pair.first.outputs }
-    requires kept { AreKept D.entry steps.now.pair (D.holding d.old) table.now }
-    requires ready { AreReady table.now (goals_of steps.now output) }
+    requires kept { AreKept D.entry steps.now.pair (D.holding d.old) kept.now.table }
+    requires ready { AreReady kept.now.table (goals_of steps.now output) }
     ensures found { IfOk result (IsDifferenceAt steps.now.pair output) }
     ensures kept { Keeps (D.holding d.old) (D.holding d.new) }
     ensures only { IfErr result (λ s. s ≢ Stop.Threads) }
 {
-    let difference = output_difference(rt, d, steps, table, output)?;
+    let difference = output_difference(rt, d, steps, kept, output)?;
     least_of_difference(alloc, rt, d, steps.pair(), output, difference)
 }
 
@@ -124,7 +121,7 @@ fn compare_turn<R, D: Diagrams<R>>(
     rt: &R,
     d: &mut D,
     plan: &Plan<'_>,
-    kept: &mut Kept<D::Ref>,
+    kept: &mut StepDiagrams<D::Ref>,
     output: usize,
     turn: u32,
 ) -> Result<Option<Vec<bool>>, Stop>
@@ -134,9 +131,9 @@ fn compare_turn<R, D: Diagrams<R>>(
     ensures only { IfErr result (λ s. s ≢ Stop.Threads) }
 {
     let goals = plan.steps.goals(output);
-    complete(alloc, rt, d, plan, kept, goals.as_slice(), turn)?;
-    let found = difference(alloc, rt, d, &plan.steps, &kept.table, output);
-    release_due(d, plan, kept, turn);
+    kept.complete(alloc, rt, d, plan, goals.as_slice(), turn)?;
+    let found = difference(alloc, rt, d, &plan.steps, kept, output);
+    kept.release_due(d, plan, turn);
     found
 }
 
@@ -146,7 +143,7 @@ pub fn compare_kept<R, D: Diagrams<R>>(
     rt: &R,
     d: &mut D,
     plan: &Plan<'_>,
-    kept: &mut Kept<D::Ref>,
+    kept: &mut StepDiagrams<D::Ref>,
     output: usize,
     turn: u32,
     again: bool,
@@ -156,7 +153,7 @@ pub fn compare_kept<R, D: Diagrams<R>>(
     ensures moves { MovesKept D.entry plan.now.steps.pair (D.holding d.old) kept.old.table (D.holding d.new) kept.new.table }
     ensures only { IfErr result (λ s. s ≢ Stop.Threads) }
 {
-    let keeps = again && !kept.due.is_empty();
+    let keeps = again && kept.are_waiting();
     let found = compare_turn(alloc, rt, d, plan, kept, output, turn);
     if !keeps {
         return found;
@@ -165,7 +162,7 @@ pub fn compare_kept<R, D: Diagrams<R>>(
         return found;
     };
     let _count = plan.steps.len();
-    clear(d, kept);
+    kept.clear(d);
     compare_turn(alloc, rt, d, plan, kept, output, turn)
 }
 
@@ -177,7 +174,7 @@ fn compare_in_turn<R, D: Diagrams<R>, G: Gate<R>>(
     d: &mut D,
     schedule: &Schedule<'_>,
     again: bool,
-    kept: &mut Kept<D::Ref>,
+    kept: &mut StepDiagrams<D::Ref>,
     gate: &G,
 ) -> Result<Vec<Difference>, Stop>
     requires turns { AreTurns schedule.now.plan schedule.now.settled.items }
@@ -209,34 +206,13 @@ fn compare_in_turn<R, D: Diagrams<R>, G: Gate<R>>(
     Ok(found)
 }
 
-/// The same, from no references to none.
-fn compare_alone<R, D: Diagrams<R>, G: Gate<R>>(
-    alloc: Global,
-    rt: &R,
-    d: &mut D,
-    schedule: &Schedule<'_>,
-    again: bool,
-    gate: &G,
-) -> Result<Vec<Difference>, Stop>
-    requires variables { length schedule.now.plan.steps.pair.first.inputs ≤ (D.holding d.old).variables }
-    requires turns { AreTurns schedule.now.plan schedule.now.settled.items }
-    requires settled { AreSettled schedule.now.plan.steps.pair schedule.now.settled.items }
-    ensures found { IfOk result (λ found. AreTold schedule.now.plan.steps.pair schedule.now.every found.items) }
-    ensures kept { Keeps (D.holding d.old) (D.holding d.new) }
-    ensures only { IfErr result (λ s. s ≢ Stop.Threads) }
-{
-    let Ok(mut kept) = nothing_built::<D>(alloc, schedule.plan.steps.pair()) else {
-        return Err(Stop::Memory);
-    };
-    let found = compare_in_turn(alloc, rt, d, schedule, again, &mut kept, gate);
-    give_back_kept(d, kept);
-    found
-}
-
 /// Compares the chosen outputs of a pair on this thread, where this is known of it: the report of `compare_outputs`, with less
 /// work. Outputs that are known to be equal are not compared, and a step that is chosen is built in place of those that it is
 /// chosen for. The gate is told of each comparison before it begins. Where the store is full and `again` is set, an output is compared
-/// once more without what was built for later ones. All references are given back.
+/// once more without what was built for later ones.
+///
+/// The errors are those of the diagrams, 71, 72 and 73, and 72 where memory is refused. All references are given back, whatever the
+/// answer.
 pub fn compare_known<R, D: Diagrams<R>, G: Gate<R>>(
     alloc: Global,
     rt: &R,
@@ -259,14 +235,19 @@ pub fn compare_known<R, D: Diagrams<R>, G: Gate<R>>(
     let Ok(schedule) = Schedule::of(alloc, pair, every, alike) else {
         return Err(Stop::Memory);
     };
-    let found = compare_alone(alloc, rt, d, &schedule, again, gate)?;
-    Ok(Outcome::Compared(found))
+    let Ok(mut kept) = StepDiagrams::for_each(alloc, pair) else {
+        return Err(Stop::Memory);
+    };
+    let found = compare_in_turn(alloc, rt, d, &schedule, again, &mut kept, gate);
+    kept.give_back(d);
+    Ok(Outcome::Compared(found?))
 }
 
 /// Compares the chosen outputs of a pair: those that differ, by their positions in the first netlist and in their order, each
 /// with the least assignment under which it does; without `every` the first of them alone, and what lies behind it isn't looked
 /// at. Whether the assumption allows none is asked first. Each signal that an output depends on is built once for each netlist,
-/// unless the store is full, and the assumption's signals once. All references are given back.
+/// unless the store is full, and the assumption's signals once. The errors are those of `compare_known`. All references are given
+/// back, whatever the answer.
 pub fn compare_outputs<R, D: Diagrams<R>>(
     alloc: Global,
     rt: &R,
@@ -298,9 +279,9 @@ fn compare_once<R, D: Diagrams<R>>(
     ensures kept { Keeps (D.holding d.old) (D.holding d.new) }
     ensures only { IfErr result (λ s. s ≢ Stop.Threads) }
 {
-    let mut kept = nothing_kept_of_few(alloc, plan.steps.len() as usize);
+    let mut kept = StepDiagrams::for_few(alloc, plan);
     let found = compare_turn(alloc, rt, d, plan, &mut kept, output, 1);
-    give_back_kept(d, kept);
+    kept.give_back(d);
     found
 }
 

@@ -18,7 +18,7 @@ mod least;
 mod outcome;
 mod schedule;
 
-pub use alike::{Alike, alike_or_nothing, is_settled};
+pub use alike::{Alike, alike_or_nothing, is_marked, is_settled};
 pub use allowing::allows_none;
 pub use compare::{compare_kept, compare_known, compare_output, compare_outputs};
 pub use gate::{Gate, NoGate, Progress, Stage};

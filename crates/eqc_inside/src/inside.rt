@@ -6,8 +6,8 @@ ghost use Rattle.eqc_compare.specs.Alike.{AreEqual, IsKnown};
 ghost use Rattle.eqc_compare.specs.Comparing.{difference_at};
 ghost use Rattle.eqc_inside.specs.Inside.{HaveOneLiteral, TellEqual, literal_of};
 
-use eqc_build::{Steps, is_marked};
-use eqc_compare::{Alike, Progress};
+use eqc_build::Steps;
+use eqc_compare::{Alike, Progress, is_marked};
 use eqc_gates::{literals, needed};
 use eqc_pair::Pair;
 use eqc_sweep::{Comparison, Effort, Sweep};

@@ -12,8 +12,8 @@ ghost use Rattle.eqc_inside.specs.Searching.{IsAnswerOf, IsSearched, IsWitnessAt
 
 use crate::asking::{Answer, ask_all, questions_of};
 use crate::inside::{Inside, NONE, literal_of};
-use eqc_build::{Steps, is_marked};
-use eqc_compare::{Alike, Difference, Outcome, Progress, is_settled};
+use eqc_build::Steps;
+use eqc_compare::{Alike, Difference, Outcome, Progress, is_marked, is_settled};
 use eqc_pair::Pair;
 use eqc_sweep::{Comparison, Sweep};
 use eqc_witness::{Witness, least_witness};

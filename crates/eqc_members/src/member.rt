@@ -5,7 +5,7 @@ ghost use Rattle.eqc_compare.specs.Alike.{IsSchedule};
 ghost use Rattle.eqc_compare.specs.Comparing.{IsDifferenceAt};
 
 use crate::task::Task;
-use eqc_build::{Kept, give_back_kept, nothing_built};
+use eqc_build::StepDiagrams;
 use eqc_compare::compare_kept;
 use eqc_pair::Pair;
 use eqc_tree::{Diagrams, References, Stop};
@@ -14,7 +14,7 @@ use std::alloc::Global;
 /// The diagrams of a member, from its first draw to its last, and those of steps that later outputs need.
 pub(crate) struct Member<D: References> {
     pub diagrams: D,
-    pub kept: Kept<D::Ref>,
+    pub kept: StepDiagrams<D::Ref>,
 }
 
 /// A member over diagrams.
@@ -27,7 +27,7 @@ pub(crate) fn begin<D: References + Drop>(
     ensures kept { IfOk result (λ m. AreKept D.entry pair.now (D.holding m.diagrams) m.kept.table) }
     ensures only { IfErr result (λ s. s ≡ Stop.Memory) }
 {
-    match nothing_built::<D>(alloc, pair) {
+    match StepDiagrams::for_each(alloc, pair) {
         Ok(kept) => Ok(Member { diagrams, kept }),
         Err(_) => Err(Stop::Memory),
     }
@@ -61,6 +61,6 @@ pub(crate) fn end<D: References>(member: Member<D>, pair: &Pair<'_>) -> D
     requires { AreKept D.entry pair.now (D.holding member.diagrams) member.kept.table }
 {
     let Member { mut diagrams, kept } = member;
-    give_back_kept(&mut diagrams, kept);
+    kept.give_back(&mut diagrams);
     diagrams
 }

@@ -1,6 +1,6 @@
 use Rattle.std.proofs.Common.{◌≡◌}
 use Rattle.eqc_build.specs.Building.{Releases}
-use Rattle.eqc_build.proofs.kept.release.Given as goal
+use Rattle.eqc_build.proofs.step_diagrams.release.Given as goal
 
 abbrev pub invariant-loop-k : goal.invariant-loop-k
 invariant-loop-k g l =

@@ -1,6 +1,6 @@
 use Rattle.std.proofs.Common.{arith}
 use Rattle.eqc_build.proofs.TableLaws.{released_more}
-use Rattle.eqc_build.proofs.kept.release.Goals as goal
+use Rattle.eqc_build.proofs.step_diagrams.release.Goals as goal
 
 pub loop-k-preserved : goal.loop-k-preserved
 loop-k-preserved g c =
