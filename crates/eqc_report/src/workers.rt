@@ -49,8 +49,8 @@ fn check_known<R: Threads + Wait + Sync, D: Diagrams<R> + Send + Drop, G: Gate<R
 /// found a difference compares no later output. One that has drawn its last helps the others. The call may wait, since it waits
 /// for all members, and for the gate.
 ///
-/// The errors are those of the members' diagrams, 71, 72 and 73; 72 also where memory is refused, or where 32 bits don't
-/// number the members or the outputs; and 74 where a thread could not be started. Where several came it is one of them.
+/// The errors are those of the members' diagrams, 71, 72 and 73; 72 also where memory is refused; and 74 where a thread could not
+/// be started. Where several came it is one of them.
 pub fn check_with<R: Threads + Wait + Sync, D: Diagrams<R> + Send + Drop, G: Gate<R> + Sync>(
     rt: &R,
     alloc: Global,
