@@ -56,12 +56,6 @@ fn read_more<R: Read>(
     }
 }
 
-fn new_block(alloc: Global) -> Result<Vec<u8>, AllocError>
-    ensures { IfOk result (λ block. vec_len block ≡ BLOCK) }
-{
-    vec![in alloc; 0; BLOCK]
-}
-
 /// Reads a text until its end or its 16,777,217th byte, in blocks. A read that fails isn't tried again.
 pub(crate) fn read_text<R: Read>(alloc: Global, reader: &mut R) -> Result<Vec<u8>, StreamFault>
     ensures text { IfOk result (λ text. IfSome (R.remaining reader.old) (λ bytes. text.items ≡ bytes_read bytes)) }
@@ -69,7 +63,7 @@ pub(crate) fn read_text<R: Read>(alloc: Global, reader: &mut R) -> Result<Vec<u8
     ensures most { IfOk result (λ text. vec_len text ≤ 16777217) }
 {
     let mut stage = Stage::Open;
-    let mut block = new_block(alloc)?;
+    let mut block = vec![in alloc; 0; BLOCK]?;
     let mut text = Vec::new(alloc);
     'reads: while text.len() < MOST_READ {
         if !read_more(reader, &mut stage, &mut block, &mut text)? {

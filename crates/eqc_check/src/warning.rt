@@ -56,19 +56,13 @@ fn contains(library: &Library, m: usize, name: &[u8]) -> bool
         .any(|instance| name == instance.model.as_bytes())
 }
 
-/// Whether a name is among these.
-fn is_among(names: &[&[u8]], name: &[u8]) -> bool
-    ensures { result ≡ list_any (λ other. bytes_eq name.now other.now) names.now }
-{
-    names.iter().any(|other| name == *other)
-}
-
 /// Whether model `m` contains the one of this name and is none of those that are compared.
 fn is_container(library: &Library, compared: &[&[u8]], m: usize, name: &[u8]) -> bool
     requires { m < length library.now }
     ensures { result ≡ is_container (map (λ n. n.now) compared.now) name.now (slice_index_or library.now m no_model) }
 {
-    contains(library, m, name) && !is_among(compared, library.name(m))
+    let container = library.name(m);
+    contains(library, m, name) && !compared.iter().any(|other| container == *other)
 }
 
 /// The first model that contains the one of this name and is none of those that are compared.

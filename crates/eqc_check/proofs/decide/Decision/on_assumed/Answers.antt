@@ -10,7 +10,7 @@ returns-in-Ok-clause-report g c =
     let given = given_of c.args.self.now.case.now in
     let p = c.in-Ok.pair in
     let is = c.in-Ok.ensures.pair in
-    reported c.compare.result _ _ c.compare.ensures
+    reported c.check_alike.result _ _ (rw (c.comparison.ensures.pair, c.comparison.ensures.options) at c.check_alike.ensures)
     (pair_compared given p c.args.pair.first c.args.pair.second (Some c.args.assumed.now) (ap (λ (x : PairOf). x.first) is)
     (ap (λ (x : PairOf). x.second) is) (ap (λ (x : PairOf). x.assumes) is) (ap (λ (x : PairOf). x.chosen) is ∙ c.requires.outputs)
     ∙ assumption_taken given c.args.pair.first c.args.pair.second c.args.assumed.now c.in-Ok.ensures.taken)
@@ -18,5 +18,5 @@ returns-in-Ok-clause-report g c =
 pub returns-in-Ok-clause-stop : goal.returns-in-Ok-clause-stop
 returns-in-Ok-clause-stop g c =
     let given = given_of c.args.self.now.case.now in
-    stop_alike c.compare.result _ _ (compared_stop given (netlist_of c.args.pair.first) (netlist_of c.args.pair.second) (Some (netlist_of c.args.assumed.now)) c.compare.result)
+    stop_alike c.check_alike.result _ _ (compared_stop given (netlist_of c.args.pair.first) (netlist_of c.args.pair.second) (Some (netlist_of c.args.assumed.now)) c.check_alike.result)
     (assumption_taken given c.args.pair.first c.args.pair.second c.args.assumed.now c.in-Ok.ensures.taken)

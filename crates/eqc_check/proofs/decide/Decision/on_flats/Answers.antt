@@ -20,7 +20,7 @@ returns-in-None-clause-report g c =
     let taken : pair_refusal f k given.outputs given.order ≡ None = sym (ap₂ (pair_refusal f k) outputs order) ∙ c.in-Ok.ensures.taken in
     let unasked : assumed_answer given (netlist_of f) (netlist_of k) given.assume ≡ compared given (netlist_of f) (netlist_of k) None =
     ap (λ a. assumed_answer given (netlist_of f) (netlist_of k) (items_of a)) (sym asks ∙ c.in-None.is) in
-    reported c.compare.result _ _ c.compare.ensures
+    reported c.check_alike.result _ _ (rw (c.comparison.ensures.pair, c.comparison.ensures.options) at c.check_alike.ensures)
     (pair_compared given c.in-Ok.pair f k None c.in-Ok.ensures.netlists.0 c.in-Ok.ensures.netlists.1 c.in-Ok.ensures.chosen.0 (c.in-Ok.ensures.chosen.1 ∙ outputs)
     ∙ (sym unasked ∙ behind_pair f k given taken))
 
@@ -36,7 +36,7 @@ returns-in-None-clause-stop g c =
     let taken : pair_refusal f k given.outputs given.order ≡ None = sym (ap₂ (pair_refusal f k) outputs order) ∙ c.in-Ok.ensures.taken in
     let unasked : assumed_answer given (netlist_of f) (netlist_of k) given.assume ≡ compared given (netlist_of f) (netlist_of k) None =
     ap (λ a. assumed_answer given (netlist_of f) (netlist_of k) (items_of a)) (sym asks ∙ c.in-None.is) in
-    stop_alike c.compare.result _ _ (compared_stop given (netlist_of f) (netlist_of k) None c.compare.result) (sym unasked ∙ behind_pair f k given taken)
+    stop_alike c.check_alike.result _ _ (compared_stop given (netlist_of f) (netlist_of k) None c.check_alike.result) (sym unasked ∙ behind_pair f k given taken)
 
 pub returns-in-Some-clause-stop : goal.returns-in-Some-clause-stop
 returns-in-Some-clause-stop g c =
