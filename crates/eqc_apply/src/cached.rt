@@ -1,10 +1,11 @@
 //! Whether a result that a cell has is a given function: asked without a count.
-ghost use Rattle.std.specs.Prelude.{◌≡◌, ◌↔◌, ℕ, Bool, IsTrue, IfSome};
+ghost use Rattle.std.specs.Prelude.{◌≡◌, ◌↔◌, ℕ, Bool, IsTrue, IfSome, IsSome};
 ghost use Rattle.eqc_tree.specs.Operation.{operate};
 ghost use Rattle.eqc_tree.specs.Holding.{IsHeld as IsIn, Keeps, says};
 ghost use Rattle.eqc_core.specs.Announcing.{MayLook};
 ghost use Rattle.eqc_guard.specs.Known.{IsHeld};
 ghost use Rattle.eqc_cache.specs.Peeking.{Passes};
+ghost use Rattle.eqc_plain.specs.Placing.{HasAt};
 ghost use Rattle.eqc_plain.specs.Spending.{Spends};
 ghost use Rattle.eqc_apply.specs.Before.{IsWorker};
 ghost use Rattle.eqc_apply.specs.Combining.{Compares};
@@ -62,7 +63,8 @@ impl Held {
 
 impl Applier {
     /// Whether the operation of `f` and `g` has the function of `r`, where a cell has its result: one of
-    /// the worker's own, or one that all workers share. There is no answer where neither has it.
+    /// the worker's own, or one that all workers share. There is an answer where the worker's own cell
+    /// has it, and none where neither has it.
     ///
     /// The names in the worker's own cells are held, and a result in a shared one is read under its
     /// announcement. So no count goes up or down, no name comes or goes, and others that ask for the
@@ -72,6 +74,7 @@ impl Applier {
         requires g { IsIn (holding_in self.old.names) (entry_of g.now) }
         requires r { IsIn (holding_in self.old.names) (entry_of r.now) }
         ensures same { IfSome result (λ same. IsTrue same ↔ ((a : ℕ → Bool) → operate op (says (entry_of f.now) a) (says (entry_of g.now) a) ≡ says (entry_of r.now) a)) }
+        ensures own { (x : ℕ) → HasAt self.old.cells.cells.items op f.now.name g.now.name x → IsSome result }
         ensures kept { Keeps (holding_in self.old.names) (holding_in self.new.names) }
         ensures worker { IsWorker self.old.names.worker self.new.names.worker }
         ensures counted { self.new.names.worker.known.counted ≡ self.old.names.worker.known.counted }

@@ -4,6 +4,7 @@ pub mod Extending
 pub mod Referring
 pub mod Terminal
 pub mod Cells
+pub mod Placing
 pub mod Meaning
 pub mod Combining
 pub mod Cache

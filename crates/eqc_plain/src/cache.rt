@@ -1,6 +1,7 @@
 //! The operation cache, or computed table: results of operations, each in one cell, which a later result may take.
-ghost use Rattle.std.specs.Prelude.{◌≡◌, ◌<◌, ◌^◌, length, IfSome};
+ghost use Rattle.std.specs.Prelude.{◌≡◌, ◌<◌, ◌^◌, ℕ, length, IfSome, None};
 ghost use Rattle.eqc_plain.specs.Cells.{IsKept, MayHave, HasNoMore};
+ghost use Rattle.eqc_plain.specs.Placing.{place_of, HasAt};
 
 use crate::terminal::ordered_operands;
 use eqc_tree::{Op, pack_cell, unpack_cell};
@@ -35,19 +36,22 @@ impl Cache {
     }
 
     /// The cell of a word, by its operation and operands.
+    #[tactic(auto, unfolding(crate::specs::Placing::place_of))]
     fn place(&self, word: u64) -> usize
         requires { 0 < length self.now.cells.items }
-        ensures { result < length self.now.cells.items }
+        ensures within { result < length self.now.cells.items }
+        ensures place { result ≡ place_of (length self.now.cells.items) word }
     {
         let mixed = (word >> 20).wrapping_mul(0x9E37_79B9_7F4A_7C15) >> 32;
         mixed as usize & (self.cells.len() - 1)
     }
 
-    /// The result that is kept for an operation.
+    /// The result that is kept for an operation. There is one where the operation's cell has it.
     pub fn find(&self, op: Op, f: u32, g: u32) -> Option<u32>
         requires f { f < 2 ^ 20 }
         requires g { g < 2 ^ 20 }
-        ensures { IfSome result (IsKept self.now.cells.items op f g) }
+        ensures found { IfSome result (IsKept self.now.cells.items op f g) }
+        ensures none { result ≡ None → (r : ℕ) → HasAt self.now.cells.items op f g r → ⊥ }
     {
         if self.cells.is_empty() {
             return None;

@@ -1,5 +1,6 @@
 //! The terminal cases of operations, for which no node is read, and the order of operands under which a result is cached.
-ghost use Rattle.std.specs.Prelude.{ℕ, ◌<◌, IfSome, IfNone};
+ghost use Rattle.std.specs.Prelude.{◌≡◌, ℕ, ◌<◌, IfSome, IfNone};
+ghost use Rattle.eqc_plain.specs.Placing.{in_order};
 ghost use Rattle.eqc_plain.specs.Terminal.{Decides, AreOperands};
 
 use eqc_tree::Op;
@@ -87,7 +88,8 @@ fn decide_and_not(f: u32, g: u32) -> Option<u32>
 /// The operands in the order in which their result is kept: an operation that commutes has the
 /// smaller number first.
 pub fn ordered_operands(op: Op, f: u32, g: u32) -> (u32, u32)
-    ensures { AreOperands op f g result.0 result.1 }
+    ensures operands { AreOperands op f g result.0 result.1 }
+    ensures order { result ≡ in_order op f g }
 {
     if f <= g {
         return (f, g);

@@ -21,7 +21,7 @@ find-requires-clause-g c =
 pub returns-in-Some-clause-same : goal.returns-in-Some-clause-same
 returns-in-Some-clause-same c =
     let n = c.args.self.now.names in
-    let right = found n.variables n.worker.known c.args.self.now.cells.cells.items c.args.op c.args.f.now.name c.args.g.now.name (Some c.in-Some.x) c.args.self.now.cached c.in-Some.ensures in
+    let right = found n.variables n.worker.known c.args.self.now.cells.cells.items c.args.op c.args.f.now.name c.args.g.now.name (Some c.in-Some.x) c.args.self.now.cached c.in-Some.ensures.found in
     says_compares c.args.op n c.args.f.now.at.value c.args.g.now.at.value c.args.r.now.at.value c.args.f.now.name c.args.g.now.name c.args.r.now.name
     c.requires.f c.requires.g c.requires.r (nat_eq c.in-Some.x c.args.r.now.name)
     (number_compares n.variables n.worker.known c.args.op c.args.f.now.name c.args.g.now.name c.in-Some.x c.args.r.now.name c.recall_laws.ensures right
@@ -53,6 +53,10 @@ pub returns-clause-same : goal.returns-clause-same
 returns-clause-same c =
     says_if c.args.op c.args.self.now.names c.args.f.now.at.value c.args.g.now.at.value c.args.r.now.at.value c.args.f.now.name c.args.g.now.name c.args.r.now.name
     c.requires.f c.requires.g c.requires.r c.is_shared.result c.is_shared.ensures.same
+
+-- where they are asked, the own cell has no result
+pub returns-clause-own : goal.returns-clause-own
+returns-clause-own c = λ x has. absurd (c.in_default.ensures.none refl x has)
 
 pub returns-clause-kept : goal.returns-clause-kept
 returns-clause-kept c = stays_keeps c.args.self.now.names c.is_shared.new.self (extends_stays c.args.self.now.names c.is_shared.new.self c.is_shared.ensures.names)

@@ -12,4 +12,4 @@ find-requires-clause-g c = held_small c.args.self.now.names.worker.known c.args.
 pub returns-in-Some-clause-right : goal.returns-in-Some-clause-right
 returns-in-Some-clause-right c =
     let n = c.args.self.now.names in
-    found n.variables n.worker.known c.args.self.now.cells.cells.items c.args.op c.args.f c.args.g (Some c.in-Some.x) c.args.self.now.cached c.in-Some.ensures
+    found n.variables n.worker.known c.args.self.now.cells.cells.items c.args.op c.args.f c.args.g (Some c.in-Some.x) c.args.self.now.cached c.in-Some.ensures.found

@@ -11,4 +11,4 @@ returns-in-Some-clause-right c =
 pub returns-clause-right : goal.returns-clause-right
 returns-clause-right c =
     let s = c.args.self.now.store in
-    found_right (meaning_of s.variables s.nodes) c.args.self.now.cache.cells.items c.args.op c.args.f c.args.g c.find.result c.args.self.now.cached c.find.ensures
+    found_right (meaning_of s.variables s.nodes) c.args.self.now.cache.cells.items c.args.op c.args.f c.args.g c.find.result c.args.self.now.cached c.find.ensures.found
