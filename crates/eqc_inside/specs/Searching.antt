@@ -1,5 +1,5 @@
 -- What is found of a pair in the graph of its steps, without a diagram.
-use Rattle.std.specs.Prelude.{◌≡◌, ℕ, ◌<◌, Bool, List, [], length, slice_index_or, ⊤}
+use Rattle.std.specs.Prelude.{◌≡◌, ℕ, ◌<◌, Bool, true, List, [], length, slice_index_or, ⊤}
 use Rattle.eqc_graph.specs.declared.node.Node.{Node}
 use Rattle.eqc_sweep.specs.Sweeping.{HasValue}
 use Rattle.eqc_witness.specs.declared.witness.Witness.{Witness}
@@ -7,7 +7,7 @@ use Rattle.eqc_witness.specs.declared.witness.Witness.TheVariants.{Unknown}
 use Rattle.eqc_witness.specs.Witnesses.{IsFoundOf}
 use Rattle.eqc_pair.specs.PairOf.{PairOf}
 use Rattle.eqc_compare.specs.Verdict.{allows_none, differs_under}
-use Rattle.eqc_compare.specs.Comparing.{netlist_of, assumption_of, allowed_at, differs_at, IsOutcome}
+use Rattle.eqc_compare.specs.Comparing.{netlist_of, assumption_of, allowed_at, differs_at, is_chosen_at, IsOutcome}
 use Rattle.eqc_inside.specs.declared.asking.Question.{Question}
 use Rattle.eqc_inside.specs.declared.asking.Answer.{Answer}
 use Rattle.eqc_inside.specs.declared.searching.Searched.{Searched}
@@ -38,8 +38,8 @@ pub record IsQuestionOf (p : PairOf) (nodes : List Node) (q : Question) : Type 0
 abbrev pub IsAnswerOf : PairOf → Answer → Type 0
 IsAnswerOf p a = IsWitnessAt p a.output a.witness
 
--- what is found of a pair: what its comparison has to find; or an output that may differ; or nothing
+-- what is found of a pair: what its comparison has to find; or an output that is chosen and may differ; or nothing
 abbrev pub IsSearched : PairOf → Bool → Searched → Type 0
 IsSearched p every (Found outcome) = IsOutcome p every outcome
-IsSearched p every (Open output seen) = (output < length p.first.outputs) × IsWitnessAt p output (Unknown seen)
+IsSearched p every (Open output seen) = (output < length p.first.outputs) × (is_chosen_at p output ≡ true) × IsWitnessAt p output (Unknown seen)
 IsSearched p every Unasked = ⊤
