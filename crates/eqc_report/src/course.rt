@@ -82,25 +82,6 @@ fn in_room<R: Threads + Wait + Sync, P: Progress<R> + Sync>(
     }
 }
 
-/// The report by diagrams alone: on one thread first, however many workers there are, since most comparisons take less time than
-/// a forest to begin. Not so with few nodes, which a forest has as fast, and uses again.
-fn by_diagrams<R: Threads + Wait + Sync, P: Progress<R> + Sync>(
-    comparison: &Comparison<'_, R, P>,
-    alike: &Alike,
-) -> Result<Report, Stop>
-    requires options { options_code comparison.now.options.now ≡ None }
-    requires known { IsKnown comparison.now.pair.now alike.now }
-    ensures report { IfOk result (λ report. report_of report ≡ pair_report comparison.now.options.now.every comparison.now.pair.now) }
-{
-    if comparison.options.nodes >= SWEPT_NODES {
-        match in_room(comparison, Room::First, alike) {
-            Err(Stop::NodeLimit) => {}
-            report => return report,
-        }
-    }
-    in_room(comparison, Room::Whole, alike)
-}
-
 /// Notes an output that differs under an assignment that was seen. Where memory is refused for it nothing is noted.
 fn note_seen(alloc: Global, pair: &Pair<'_>, left: &mut Undecided, output: usize, values: Vec<bool>)
     requires within { output < length pair.now.first.outputs }
@@ -206,8 +187,9 @@ fn by_sweeping<R: Threads + Wait + Sync, P: Progress<R> + Sync>(
     }
 }
 
-/// The report by all that there is. Most comparisons end in the first room.
-fn by_all<R: Threads + Wait + Sync, P: Progress<R> + Sync>(
+/// The report where the first room didn't do: by the diagrams of all workers alone where there are few nodes or no conflicts, and
+/// else by all that there is.
+fn behind_first<R: Threads + Wait + Sync, P: Progress<R> + Sync>(
     comparison: &Comparison<'_, R, P>,
     alike: &mut Alike,
     left: &mut Undecided,
@@ -216,17 +198,16 @@ fn by_all<R: Threads + Wait + Sync, P: Progress<R> + Sync>(
     requires known { IsKnown comparison.now.pair.now alike.old }
     ensures report { IfOk result (λ report. report_of report ≡ pair_report comparison.now.options.now.every comparison.now.pair.now) }
 {
-    match in_room(comparison, Room::First, alike) {
-        Err(Stop::NodeLimit) => {}
-        report => return report,
-    }
     let Comparison {
         rt,
         alloc,
         pair,
+        options,
         watch,
-        ..
     } = *comparison;
+    if options.nodes < SWEPT_NODES || options.conflicts == 0 {
+        return in_room(comparison, Room::Whole, alike);
+    }
     watch.stage(rt, Stage::Sweeping);
     match Inside::of(rt, alloc, pair, alike, watch) {
         Ok(inside) => {
@@ -256,13 +237,17 @@ pub fn check_alike<R: Threads + Wait + Sync, P: Progress<R> + Sync>(
     requires { options_code comparison.now.options.now ≡ None }
     ensures report { IfOk result (λ report. report_of report ≡ pair_report comparison.now.options.now.every comparison.now.pair.now) }
 {
-    let options = comparison.options;
     comparison.watch.stage(comparison.rt, Stage::Structure);
     let mut alike = alike_or_nothing(comparison.alloc, comparison.pair);
-    let report = if options.nodes < SWEPT_NODES || options.conflicts == 0 {
-        by_diagrams(comparison, &alike)
+    // Most comparisons take less time on one thread than a forest to begin. Few nodes a forest has as fast, and uses again.
+    let first = if comparison.options.nodes < SWEPT_NODES {
+        Err(Stop::NodeLimit)
     } else {
-        by_all(comparison, &mut alike, left)
+        in_room(comparison, Room::First, &alike)
+    };
+    let report = match first {
+        Err(Stop::NodeLimit) => behind_first(comparison, &mut alike, left),
+        report => report,
     };
     if report.is_err() {
         left.add_unmarked(comparison.pair, &alike.equal);
