@@ -2,7 +2,7 @@
 ghost use Rattle.std.specs.Prelude.{◌≡◌, ◌≤◌, None, length, vec_len, IfOk, IfErr};
 ghost use Rattle.std.specs.List.{All};
 ghost use Rattle.eqc_tree.specs.Holding.{Holding};
-ghost use Rattle.eqc_compare.specs.Alike.{IsKnown};
+ghost use Rattle.eqc_compare.specs.Alike.{AreEqual, IsKnown};
 ghost use Rattle.eqc_report.specs.PairReport.{pair_report};
 ghost use Rattle.eqc_report.specs.ReportView.{report_of};
 ghost use Rattle.eqc_report.specs.Options.{options_code};
@@ -12,7 +12,7 @@ use crate::options::Options;
 use crate::report::Report;
 use crate::watched::{Watched, all_watched};
 use eqc_apply::{Allowance, Applier, team_with};
-use eqc_compare::{Alike, Gate, Progress, compare_known};
+use eqc_compare::{Alike, Gate, Progress, compare_known, is_settled};
 use eqc_members::{Patience, compare_by_members};
 use eqc_pair::Pair;
 use eqc_plain::Plain;
@@ -114,6 +114,39 @@ fn first_store(alloc: Global, pair: &Pair<'_>, options: &Options) -> Result<Plai
     Plain::with_turns(alloc, inputs, nodes, Some(FIRST_TURNS))
 }
 
+/// How many of so many workers are needed where they share no operations: as many as there are outputs to compare. Who draws none
+/// does nothing, and for its sake the others would put results into the shared cells.
+fn needed_workers(pair: &Pair<'_>, equal: &[bool], workers: u32) -> u32
+    requires equal { AreEqual pair.now equal.now }
+    requires some { 1 ≤ workers }
+    ensures some { 1 ≤ result }
+    ensures most { result ≤ workers }
+{
+    let mut open = 0;
+    for output in 0..pair.first().outputs().len() {
+        if open < workers && !is_settled(pair, equal, output) {
+            open += 1;
+        }
+    }
+    open.max(1).min(workers)
+}
+
+/// The options without the workers that aren't needed for a pair of which these outputs are known to be equal.
+fn needed_options(pair: &Pair<'_>, equal: &[bool], options: &Options) -> Options
+    requires equal { AreEqual pair.now equal.now }
+    requires options { options_code options.now ≡ None }
+    ensures options { options_code result ≡ None }
+{
+    if options.forks > 0 {
+        return *options;
+    }
+    let workers = needed_workers(pair, equal, options.workers);
+    Options {
+        workers,
+        ..*options
+    }
+}
+
 /// The team of workers that the options ask for, with a variable for each input of a pair: they share one forest, and as many
 /// levels of an operation as there are forks, and each of them may take so many turns.
 fn team_for(
@@ -180,8 +213,8 @@ fn turns_for(options: &Options) -> u64
     }
 }
 
-/// The report by the team that the options ask for, where this is known of the pair, or why it stopped. It is given up as the
-/// turns of one of its workers are spent. The watch is told as in the first room.
+/// The report by the team that the options ask for, without workers that aren't needed, where this is known of the pair, or why it
+/// stopped. It is given up as the turns of one of its workers are spent. The watch is told as in the first room.
 pub(crate) fn check_by_team<R: Threads + Wait + Sync, P: Progress<R> + Sync>(
     comparison: &Comparison<'_, R, P>,
     alike: Alike,
@@ -198,7 +231,8 @@ pub(crate) fn check_by_team<R: Threads + Wait + Sync, P: Progress<R> + Sync>(
         watch,
     } = *comparison;
     let turns = turns_for(options);
-    let team = team_for(alloc, pair, options, Some(turns))?;
+    let needed = needed_options(pair, &alike.equal, options);
+    let team = team_for(alloc, pair, &needed, Some(turns))?;
     let members = all_watched(alloc, team, watch)?;
     let patience = Patience::of_forks(options.forks);
     check_known(
