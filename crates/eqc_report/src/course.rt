@@ -224,11 +224,11 @@ fn by_all<R: Threads + Wait + Sync, P: Progress<R> + Sync>(
         rt,
         alloc,
         pair,
+        options,
         watch,
-        ..
     } = *comparison;
     watch.stage(rt, Stage::Sweeping);
-    match Inside::of(rt, alloc, pair, alike, watch) {
+    match Inside::of(rt, alloc, pair, alike, options.every, watch) {
         Ok(inside) => {
             let mut inside = inside;
             by_sweeping(comparison, &mut inside, alike, left)
