@@ -1,7 +1,7 @@
 //! Which steps of a pair enter its graph, and how they do.
 ghost use Rattle.std.specs.Prelude.{◌≡◌, ◌≤◌, length, IfOk};
-ghost use Rattle.eqc_build.specs.Steps.{AreSteps};
 ghost use Rattle.eqc_compare.specs.Alike.{IsKnown};
+ghost use Rattle.eqc_inside.specs.Inside.{IsInside};
 
 use crate::inside::Inside;
 use crate::searching::difference_literal;
@@ -47,6 +47,33 @@ fn unmark_behind(marks: &mut Vec<bool>, last: usize)
     }
 }
 
+/// The literals that are true where outputs differ, and the outputs: without those whose steps have none. Fails where memory is
+/// refused.
+fn differences(
+    alloc: Global,
+    steps: &Steps<'_>,
+    sweep: &mut Sweep,
+    literals: &[Option<u32>],
+    wanted: &[bool],
+) -> Result<(Vec<u32>, Vec<usize>), AllocError>
+    requires inside { IsInside steps.now sweep.old literals.now }
+    requires outputs { length wanted.now ≤ length steps.now.pair.first.outputs }
+    ensures { IsInside steps.now sweep.new literals.now }
+{
+    let mut found = Vec::new(alloc);
+    let mut outputs = Vec::new(alloc);
+    for output in 0..wanted.len() {
+        if !wanted[output] {
+            continue;
+        }
+        if let Some(literal) = difference_literal(steps, sweep, literals, output)? {
+            found.push(literal)?;
+            outputs.push(output)?;
+        }
+    }
+    Ok((found, outputs))
+}
+
 impl<'a> Inside<'a> {
     /// Enters the steps of a pair that some outputs need. `told` is told of each step. Fails where memory is refused.
     fn entered<F: Fn(u32)>(
@@ -56,10 +83,9 @@ impl<'a> Inside<'a> {
         effort: Effort,
         told: &F,
     ) -> Result<Inside<'a>, AllocError>
-        requires steps { AreSteps steps }
         requires outputs { length outputs.now ≤ length steps.pair.first.outputs }
         requires told { F.IsAlwaysCallable told.now }
-        ensures { IfOk result (λ inside. inside ≡ steps.pair) }
+        ensures { IfOk result (λ inside. inside ≡ steps.entry.pair) }
     {
         let marks = needed(alloc, &steps, outputs)?;
         let mut sweep = Sweep::new(alloc, effort)?;
@@ -74,46 +100,43 @@ impl<'a> Inside<'a> {
         })
     }
 
-    /// The literals that are true where outputs of a row differ, and the outputs: without those whose steps have none. Fails where
-    /// memory is refused.
-    fn differences(
-        &mut self,
-        alloc: Global,
-        wanted: &[bool],
-    ) -> Result<(Vec<u32>, Vec<usize>), AllocError>
-        ensures { self.new ≡ self.old }
-    {
-        let mut found = Vec::new(alloc);
-        let mut outputs = Vec::new(alloc);
-        let count = self.steps.pair().first().outputs().len();
-        for output in 0..wanted.len().min(count) {
-            if !wanted[output] {
-                continue;
-            }
-            let steps = &self.steps;
-            if let Some(literal) = difference_literal(
-                steps,
-                &mut self.sweep,
-                &self.literals,
-                output,
-            )? {
-                found.push(literal)?;
-                outputs.push(output)?;
-            }
-        }
-        Ok((found, outputs))
-    }
-
     /// The first of some outputs that is seen to differ under pseudo-random values, if one is: others may differ before it. Fails
     /// where memory is refused.
     fn first_seen(&mut self, alloc: Global, wanted: &[bool]) -> Result<Option<usize>, AllocError>
+        requires { length wanted.now ≤ length self.old.first.outputs }
         ensures { self.new ≡ self.old }
     {
-        let (found, outputs) = self.differences(alloc, wanted)?;
+        let steps = &self.steps;
+        let (found, outputs) = differences(alloc, steps, &mut self.sweep, &self.literals, wanted)?;
         let Some(place) = first_shown(alloc, self.sweep.graph(), &found)? else {
             return Ok(None);
         };
         Ok(outputs.get(place).copied())
+    }
+
+    /// Marks the chosen outputs that are not marked, where this is known of the pair: unless `every` one that differs is looked for,
+    /// without those behind the first that is seen to differ. Fails where memory is refused.
+    fn wanted(
+        alloc: Global,
+        pair: &'a Pair<'a>,
+        alike: &Alike,
+        every: bool,
+    ) -> Result<Vec<bool>, AllocError>
+        requires { IsKnown pair.now alike.now }
+        ensures { IfOk result (λ wanted. length wanted.items ≡ length pair.now.first.outputs) }
+    {
+        let mut wanted = unmarked(alloc, pair, &alike.equal)?;
+        if every {
+            return Ok(wanted);
+        }
+        let steps = Steps::of(pair, alike.chosen.clone()?);
+        let ignored = |_step: u32| {};
+        let mut all = Inside::entered(alloc, steps, &wanted, Effort::none(), &ignored)?;
+        let Some(last) = all.first_seen(alloc, &wanted)? else {
+            return Ok(wanted);
+        };
+        unmark_behind(&mut wanted, last);
+        Ok(wanted)
     }
 
     /// Enters the steps of a pair that its chosen outputs need which are not marked, where this is known of it: a step that is chosen
@@ -131,15 +154,7 @@ impl<'a> Inside<'a> {
         requires { IsKnown pair.now alike.now }
         ensures { IfOk result (λ inside. inside ≡ pair.now) }
     {
-        let mut outputs = unmarked(alloc, pair, &alike.equal)?;
-        if !every {
-            let steps = Steps::of(pair, alike.chosen.clone()?);
-            let ignored = |_step: u32| {};
-            let mut all = Inside::entered(alloc, steps, &outputs, Effort::none(), &ignored)?;
-            if let Some(last) = all.first_seen(alloc, &outputs)? {
-                unmark_behind(&mut outputs, last);
-            }
-        }
+        let outputs = Inside::wanted(alloc, pair, alike, every)?;
         let steps = Steps::of(pair, alike.chosen.clone()?);
         let count = steps.len() as usize;
         let told = |step: u32| watch.step(rt, step as usize, count);
