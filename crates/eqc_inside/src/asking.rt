@@ -67,12 +67,14 @@ pub(crate) fn questions_of(
     Ok(all)
 }
 
-/// What is found of an output by a search with so many conflicts and so much work beside them. Fails where memory is refused.
+/// What is found of an output by a search with so many conflicts and so much work beside them, where these are earlier assignments
+/// that are tried. Fails where memory is refused.
 fn ask(
     alloc: Global,
     pair: &Pair<'_>,
     graph: &Graph,
     question: &Question,
+    earlier: &[Vec<bool>],
     conflicts: u64,
     work: u64,
 ) -> Result<Answer, AllocError>
@@ -92,6 +94,7 @@ fn ask(
         *literal,
         pair.variables(),
         seen,
+        earlier,
         &mut left,
         &mut rest,
     )?;
@@ -110,6 +113,7 @@ fn ask_each(
     pair: &Pair<'_>,
     graph: &Graph,
     questions: &[Question],
+    earlier: &[Vec<bool>],
     conflicts: u64,
     work: u64,
 ) -> Result<Vec<Answer>, AllocError>
@@ -118,7 +122,7 @@ fn ask_each(
 {
     let mut all = Vec::with_capacity(alloc, questions.len())?;
     for question in questions {
-        all.push(ask(alloc, pair, graph, question, conflicts, work)?)?;
+        all.push(ask(alloc, pair, graph, question, earlier, conflicts, work)?)?;
     }
     Ok(all)
 }
@@ -133,6 +137,7 @@ pub(crate) fn ask_all<R: Threads + Sync>(
     pair: &Pair<'_>,
     graph: &Graph,
     questions: &[Question],
+    earlier: &[Vec<bool>],
     conflicts: u64,
     work: u64,
     threads: u32,
@@ -141,7 +146,7 @@ pub(crate) fn ask_all<R: Threads + Sync>(
     ensures { IfOk result (λ all. All (IsAnswerOf pair.now) all.items) }
 {
     if threads < 2 || questions.len() < 2 {
-        return ask_each(alloc, pair, graph, questions, conflicts, work);
+        return ask_each(alloc, pair, graph, questions, earlier, conflicts, work);
     }
     let (some, others) = questions.split_at(questions.len() / 2);
     let here = threads / 2;
@@ -149,11 +154,15 @@ pub(crate) fn ask_all<R: Threads + Sync>(
     let front = move || -> Result<Vec<Answer>, AllocError>
         requires { IsSync R.row × All (IsQuestionOf pair.now graph.now) some.now }
         ensures { IfOk result (λ all. All (IsAnswerOf pair.entry.now) all.items) }
-    { ask_all(rt, alloc, pair, graph, some, conflicts, work, here) };
+    { ask_all(rt, alloc, pair, graph, some, earlier, conflicts, work, here) };
     let back = move || -> Result<Vec<Answer>, AllocError>
         requires { IsSync R.row × All (IsQuestionOf pair.now graph.now) others.now }
         ensures { IfOk result (λ all. All (IsAnswerOf pair.entry.now) all.items) }
-    { ask_all(rt, alloc, pair, graph, others, conflicts, work, there) };
+    {
+        ask_all(
+            rt, alloc, pair, graph, others, earlier, conflicts, work, there,
+        )
+    };
     let (front, back) = join(rt, front, back);
     let mut all = front?;
     let mut others = back?;

@@ -8,9 +8,9 @@ ghost use Rattle.eqc_inside.specs.Inside.{HaveOneLiteral, TellEqual, literal_of}
 
 use eqc_build::Steps;
 use eqc_compare::{Alike, Progress, is_marked};
-use eqc_gates::{literals, needed};
 use eqc_pair::Pair;
 use eqc_sweep::{Comparison, Effort, Sweep};
+use eqc_witness::first_shown;
 use std::alloc::{AllocError, Global};
 use std::marker::Model;
 
@@ -26,6 +26,8 @@ pub struct Inside<'a> {
     pub(crate) literals: Vec<Option<u32>>,
     /// The work that the searches for differences may do beside their conflicts, all together, yet.
     pub(crate) work: u64,
+    /// The least assignments that were found, as values of the first netlist's inputs.
+    pub(crate) earlier: Vec<Vec<bool>>,
 }
 
 impl<'a> Model for Inside<'a> {
@@ -37,19 +39,6 @@ impl<'a> Model for Inside<'a> {
     ghost view = { λ a. a.steps.pair };
 
     ghost invariant = { λ a. IsInside a.steps a.sweep a.literals.items };
-}
-
-/// How much work the searches for differences may do beside their conflicts, all together: so much for each node of the graph and
-/// for the graph as a whole, and never more than so much, whatever the netlist.
-const EACH_NODE: u64 = 20_000;
-
-const WHOLE: u64 = 10_000_000;
-
-const AT_MOST: u64 = 100_000_000;
-
-/// The work for a graph of so many nodes.
-fn work_for(nodes: u32) -> u64 {
-    (u64::from(nodes) * EACH_NODE + WHOLE).min(AT_MOST)
 }
 
 /// The literal of a step, or none.
@@ -165,48 +154,7 @@ fn outputs_of_one_literal(
     Ok(more)
 }
 
-/// Marks the chosen outputs that are not marked. Fails where memory is refused.
-fn unmarked(alloc: Global, pair: &Pair<'_>, marks: &[bool]) -> Result<Vec<bool>, AllocError>
-    ensures size { IfOk result (λ wanted. length wanted.items ≡ length pair.now.first.outputs) }
-{
-    let outputs = pair.first().outputs().len();
-    let mut wanted = Vec::with_capacity(alloc, outputs)?;
-    for output in 0..outputs {
-        wanted.push(pair.is_chosen(output) && !is_marked(marks, output))?;
-    }
-    Ok(wanted)
-}
-
 impl<'a> Inside<'a> {
-    /// Enters the steps of a pair that its chosen outputs need which are not marked, where this is known of it: a step that is chosen
-    /// in place of others is entered for them. It takes time and memory in proportion to the steps and their rows. The watch is
-    /// told of each step. Fails where memory is refused.
-    pub fn of<R, P: Progress<R>>(
-        rt: &R,
-        alloc: Global,
-        pair: &'a Pair<'a>,
-        alike: &Alike,
-        watch: &P,
-    ) -> Result<Inside<'a>, AllocError>
-        requires { IsKnown pair.now alike.now }
-        ensures { IfOk result (λ inside. inside ≡ pair.now) }
-    {
-        let steps = Steps::of(pair, alike.chosen.clone()?);
-        let count = steps.len() as usize;
-        let outputs = unmarked(alloc, pair, &alike.equal)?;
-        let marks = needed(alloc, &steps, &outputs)?;
-        let mut sweep = Sweep::new(alloc, Effort::usual())?;
-        let told = |step: u32| watch.step(rt, step as usize, count);
-        let literals = literals(alloc, &steps, &marks, &mut sweep, &told)?;
-        let work = work_for(sweep.graph().len());
-        Ok(Inside {
-            steps,
-            sweep,
-            literals,
-            work,
-        })
-    }
-
     /// What is known of the pair, with what the literals tell. Fails where memory is refused.
     pub fn known(&self, alloc: Global, alike: &Alike) -> Result<Alike, AllocError>
         requires { IsKnown self.now alike.now }

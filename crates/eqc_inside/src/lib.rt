@@ -4,11 +4,12 @@
 //! What literals of the graph tell is said in `specs/Inside.antt`, what is found by them in `specs/Searching.antt`, and what a
 //! comparison has to find in `eqc_compare`. Read the modules in this order:
 //!
-//! - `inside`, the graph, and the outputs and steps that are equal by it
+//! - `inside`, the graph, and the outputs and steps that are equal by it; `entering`, what enters it
 //! - `searching`, outputs that differ, with their least assignments, and `asking`, several of them at once by several threads
 #![tactic(auto)]
 
 mod asking;
+mod entering;
 mod inside;
 mod searching;
 

@@ -118,6 +118,7 @@ fn witness_of(
     sweep: &mut Sweep,
     output: usize,
     literal: u32,
+    earlier: &[Vec<bool>],
     conflicts: &mut u64,
     work: &mut u64,
 ) -> Result<Witness, AllocError>
@@ -133,6 +134,7 @@ fn witness_of(
         literal,
         pair.variables(),
         &seen,
+        earlier,
         conflicts,
         work,
     )
@@ -188,6 +190,7 @@ fn is_never_allowed(
         literal,
         variables,
         &seen,
+        &[],
         &mut left,
         &mut work,
     )?;
@@ -251,6 +254,7 @@ impl<'a> Inside<'a> {
                     &mut self.sweep,
                     output,
                     literal,
+                    &self.earlier,
                     conflicts,
                     &mut work,
                 )?;
@@ -277,6 +281,18 @@ impl<'a> Inside<'a> {
         }
     }
 
+    /// Notes the least assignment of an output, if it was found, for those that are asked for after it. Where memory is refused for
+    /// it nothing is noted.
+    fn note(&mut self, found: &Witness)
+        ensures { self.new ≡ self.old }
+    {
+        if let Witness::Least(values) = found {
+            if let Ok(values) = values.clone() {
+                let _ = self.earlier.push(values);
+            }
+        }
+    }
+
     /// What is found of the next outputs from one on that are chosen and not marked, one for each thread, the last one first.
     /// Fails where memory is refused.
     fn ask_ahead<R: Threads + Sync>(
@@ -295,8 +311,11 @@ impl<'a> Inside<'a> {
         let open = open_outputs(alloc, pair, marks, from, threads as usize)?;
         let questions = questions_of(alloc, &self.steps, &mut self.sweep, &self.literals, &open)?;
         let graph = self.sweep.graph();
+        let earlier = &self.earlier;
         let work = self.work;
-        ask_all(rt, alloc, pair, graph, &questions, conflicts, work, threads)
+        ask_all(
+            rt, alloc, pair, graph, &questions, earlier, conflicts, work, threads,
+        )
     }
 
     /// What is found of an output: with several threads the next ones are asked for beside it, and what is found of these is
@@ -364,6 +383,7 @@ impl<'a> Inside<'a> {
                 rt, alloc, marks, output, &mut left, threads, &mut ahead,
             )?;
             conflicts.take_used(left);
+            self.note(&witness);
             match witness {
                 Witness::Never => mark(alike, output),
                 Witness::Unknown(seen) => return Ok(Searched::Open(output, seen)),

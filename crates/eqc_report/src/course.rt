@@ -209,7 +209,7 @@ fn behind_first<R: Threads + Wait + Sync, P: Progress<R> + Sync>(
         return in_room(comparison, Room::Whole, alike);
     }
     watch.stage(rt, Stage::Sweeping);
-    match Inside::of(rt, alloc, pair, alike, watch) {
+    match Inside::of(rt, alloc, pair, alike, options.every, watch) {
         Ok(inside) => {
             let mut inside = inside;
             by_sweeping(comparison, &mut inside, alike, left)

@@ -1,10 +1,11 @@
 //! An assignment that begins with given values.
-ghost use Rattle.std.specs.Prelude.{◌≡◌, ◌≤◌, length, IfOk};
+ghost use Rattle.std.specs.Prelude.{◌≡◌, ◌≤◌, length, IfOk, IfSome};
 ghost use Rattle.eqc_clause.specs.Clauses.{IsSound};
 ghost use Rattle.eqc_witness.specs.Cones.{holds_under};
-ghost use Rattle.eqc_witness.specs.Completing.{IsCompletion};
+ghost use Rattle.eqc_witness.specs.Completing.{Completes, IsCompletion};
 
 use crate::cone::Cone;
+use crate::trials::Trials;
 use eqc_search::{Answer, Budget, Search};
 use std::alloc::{AllocError, Global};
 
@@ -31,6 +32,7 @@ pub(crate) struct Means {
     pub(crate) given: Budget,
     /// What is left of that.
     pub(crate) budget: Budget,
+    pub(crate) trials: Trials,
 }
 
 impl Means {
@@ -80,8 +82,30 @@ fn found_by(
     }
 }
 
+/// Values that begin with the first ones and make the root true, if some are found without a search. Fails where memory is
+/// refused.
+fn tried(
+    alloc: Global,
+    cone: &Cone,
+    first: &[bool],
+    guess: &[bool],
+    trials: &mut Trials,
+) -> Result<Option<Vec<bool>>, AllocError>
+    requires { length first.now ≤ cone.now.positions }
+    ensures { IfOk result (λ found. IfSome found (λ values. Completes cone.now.positions (holds_under cone.now.graph cone.now.root) first.now values.items)) }
+{
+    if first.is_empty() {
+        return Ok(None);
+    }
+    match trials.beginning_with(alloc, cone, first, guess)? {
+        Some(values) => cone.confirmed(alloc, first, &values),
+        None => Ok(None),
+    }
+}
+
 /// Finds values of the positions that begin with the first ones and make the root true, or that there are none. Tries the
-/// guess first, with the first values in place of its own. Fails where memory is refused.
+/// guess first, with the first values in place of its own, and some others where there are first values. Fails where memory is
+/// refused.
 pub(crate) fn complete(
     alloc: Global,
     cone: &Cone,
@@ -96,6 +120,9 @@ pub(crate) fn complete(
     ensures found { IfOk result (IsCompletion cone.now.positions (holds_under cone.now.graph cone.now.root) first.now) }
 {
     if let Some(values) = cone.confirmed(alloc, first, guess)? {
+        return Ok(Completion::Found(values));
+    }
+    if let Some(values) = tried(alloc, cone, first, guess, &mut means.trials)? {
         return Ok(Completion::Found(values));
     }
     let assumptions = cone.assumptions(alloc, first)?;

@@ -8,6 +8,7 @@ ghost use Rattle.eqc_witness.specs.Witnesses.{IsFoundOf, IsWitness};
 use crate::Witness;
 use crate::completion::{Completion, Means, complete};
 use crate::cone::Cone;
+use crate::trials::{Trials, is_less};
 use eqc_graph::Graph;
 use eqc_search::{Budget, Search};
 use std::alloc::{AllocError, Global};
@@ -51,9 +52,13 @@ fn conflicts_left(given: Budget, left: Budget, nodes: u32) -> u64 {
 }
 
 /// The work that was done beside the conflicts, for a cone of so many nodes.
-fn work_beside(given: Budget, left: Budget, nodes: u32) -> u64 {
+fn work_beside(means: &Means, nodes: u32) -> u64 {
+    let (given, left) = (means.given, means.budget);
     let conflicts = given.conflicts.saturating_sub(left.conflicts);
-    let work = given.work.saturating_sub(left.work);
+    let work = given
+        .work
+        .saturating_sub(left.work)
+        .saturating_add(means.trials.work());
     work.saturating_sub(conflicts.saturating_mul(FREE))
         .saturating_add(u64::from(nodes) * READ)
 }
@@ -102,6 +107,52 @@ fn lowered(alloc: Global, values: &[bool], position: usize) -> Result<Vec<bool>,
     Ok(first)
 }
 
+/// Other values in place of some under which a cone's root is true, where they are less and it is so under them too. Fails where
+/// memory is refused.
+fn lesser(
+    alloc: Global,
+    cone: &Cone,
+    values: Vec<bool>,
+    others: &[bool],
+) -> Result<Vec<bool>, AllocError>
+    requires long { length values.items ≡ cone.now.positions }
+    requires holds { holds_under cone.now.graph cone.now.root values.items ≡ true }
+    requires others { length others.now ≡ cone.now.positions }
+    ensures long { IfOk result (λ values. length values.items ≡ cone.now.positions) }
+    ensures holds { IfOk result (λ values. holds_under cone.now.graph cone.now.root values.items ≡ true) }
+{
+    if !is_less(others, &values) {
+        return Ok(values);
+    }
+    match cone.confirmed(alloc, &[], others)? {
+        Some(lower) => Ok(lower),
+        None => Ok(values),
+    }
+}
+
+/// Values under which a cone's root is true, from some under which it is: less ones, where some are seen near these, or near the
+/// last of earlier ones. Fails where memory is refused.
+fn lesser_near(
+    alloc: Global,
+    cone: &Cone,
+    values: Vec<bool>,
+    earlier: &[Vec<bool>],
+    trials: &mut Trials,
+) -> Result<Vec<bool>, AllocError>
+    requires long { length values.items ≡ cone.now.positions }
+    requires holds { holds_under cone.now.graph cone.now.root values.items ≡ true }
+    ensures long { IfOk result (λ values. length values.items ≡ cone.now.positions) }
+    ensures holds { IfOk result (λ values. holds_under cone.now.graph cone.now.root values.items ≡ true) }
+{
+    let mut others = values.clone()?;
+    if let Some(last) = earlier.last() {
+        others = trials.near(alloc, cone, last, others)?;
+    }
+    let base = others.clone()?;
+    let others = trials.near(alloc, cone, &base, others)?;
+    lesser(alloc, cone, values, &others)
+}
+
 /// The least values under which a cone's root is true, from some under which it is: each that is true is tried at false, with
 /// those before it as they are. Fails where memory is refused.
 fn least_from(
@@ -130,20 +181,23 @@ fn least_from(
     Ok(Witness::Least(values))
 }
 
-/// The least values under which a cone's root is true. Tries a guess first. Fails where memory is refused.
+/// The least values under which a cone's root is true. Tries a guess first, and earlier values. Fails where memory is refused.
 fn least_of(
     alloc: Global,
     cone: &Cone,
-    guess: &[bool],
+    guess: Vec<bool>,
+    earlier: &[Vec<bool>],
     means: &mut Means,
 ) -> Result<Witness, AllocError>
-    requires guess { length guess.now ≡ cone.now.positions }
+    requires guess { length guess.items ≡ cone.now.positions }
     requires sound { IsSound cone.now.graph means.old.search }
     ensures { IfOk result (IsFoundOf cone.now.positions (holds_under cone.now.graph cone.now.root)) }
 {
-    match complete(alloc, cone, &[], guess, means)? {
+    let guess = means.trials.best_of(alloc, cone, guess, earlier)?;
+    match complete(alloc, cone, &[], &guess, means)? {
         Completion::Found(values) => {
             means.see();
+            let values = lesser_near(alloc, cone, values, earlier, &mut means.trials)?;
             least_from(alloc, cone, values, means)
         }
         Completion::Nothing => Ok(Witness::Never),
@@ -156,7 +210,9 @@ fn least_of(
 /// under which it is true, if one was seen.
 ///
 /// `variables` has the variable of each position; where one stands twice, its first position counts. Of a literal that
-/// depends on others less may be found. `seen` are variables and their values in an assignment that is tried first; what isn't there is false, and nothing is promised of it.
+/// depends on others less may be found. `seen` are variables and their values in an assignment that is tried first; what isn't there is
+/// false, and nothing is promised of it. `earlier` are assignments that are tried too, as values of the positions: those of literals like
+/// this one, the nearest last. The less what is tried, the sooner the least is found.
 /// `conflicts` are those that all questions together may have: without any, nothing is found. Those that there were are taken away,
 /// and at least one for each two thousand literals that were visited and nodes below the literal. `work` is what may be done beside
 /// these conflicts: without any, nothing is found. What was done is taken away, and may be more, since no search is given up for it.
@@ -168,6 +224,7 @@ pub fn least_witness(
     literal: u32,
     variables: &[u16],
     seen: &[(u32, bool)],
+    earlier: &[Vec<bool>],
     conflicts: &mut u64,
     work: &mut u64,
 ) -> Result<Witness, AllocError>
@@ -186,10 +243,11 @@ pub fn least_witness(
         search: Search::new(alloc),
         given,
         budget: given,
+        trials: Trials::new(alloc, &cone)?,
     };
-    let found = least_of(alloc, &cone, &guess, &mut means);
+    let found = least_of(alloc, &cone, guess, earlier, &mut means);
     let nodes = cone.graph.len();
     *conflicts = conflicts_left(means.given, means.budget, nodes);
-    *work = work.saturating_sub(work_beside(means.given, means.budget, nodes));
+    *work = work.saturating_sub(work_beside(&means, nodes));
     found
 }

@@ -6,6 +6,7 @@
 //!
 //! - `witness`, what is found, with `specs/Witnesses.antt`
 //! - `least`, the public call, position by position; `completion`, an assignment that begins with given values
+//! - `trials`, assignments that are tried before the search is asked, by `simulation`; `shown`, literals that are seen true by it
 //! - `cone`, the graph below the literal, over positions; `below`, what belongs to it; `copying`, its nodes;
 //!   `evaluation`, its value. What they promise stands in `specs/Cones.antt`
 //!
@@ -19,7 +20,11 @@ mod cone;
 mod copying;
 mod evaluation;
 mod least;
+mod shown;
+mod simulation;
+mod trials;
 mod witness;
 
 pub use least::least_witness;
+pub use shown::first_shown;
 pub use witness::Witness;

@@ -4,7 +4,7 @@ ghost use Rattle.eqc_graph.specs.Graph.{IsBelow};
 
 use crate::ends::same;
 use eqc_graph::{Graph, Node, node_of};
-use eqc_witness::{Witness, least_witness};
+use eqc_witness::{Witness, first_shown, least_witness};
 use std::alloc::AllocError;
 use std::process::Abort;
 
@@ -101,7 +101,7 @@ static LIMITS: &[Limit] = &[
     ("parities that differ", APART, &[], 10_000, Found::Never),
     ("without conflicts", APART, &[], 0, Found::Unknown(None)),
     ("the first variable alone", FIRST_OR_APART, &[], 10_000, Found::Least(0b1000000)),
-    ("what was seen is true", FIRST_OR_APART, &[(0, true), (6, true)], 1, Found::Unknown(Some(0b1000001))),
+    ("less than what was seen", FIRST_OR_APART, &[(0, true), (6, true)], 1, Found::Unknown(Some(0b1000000))),
     ("nothing is asked without conflicts", FIRST_OR_APART, &[(0, true), (6, true)], 0, Found::Unknown(None)),
 ];
 
@@ -163,6 +163,23 @@ fn witness_in(
     seen: &[(u32, bool)],
     conflicts: u64,
 ) -> Result<Found, AllocError> {
+    witness_after(rt, nodes, literal, variables, seen, &[], conflicts)
+}
+
+/// The same, where these are earlier assignments.
+fn witness_after(
+    rt: &(impl Abort + AllocGlobal),
+    nodes: &[Node],
+    literal: u32,
+    variables: &[u16],
+    seen: &[(u32, bool)],
+    rows: &[&[bool]],
+    conflicts: u64,
+) -> Result<Found, AllocError> {
+    let mut earlier = Vec::new(rt.alloc());
+    for row in rows {
+        earlier.push(Vec::from_slice(rt.alloc(), row)?)?;
+    }
     let mut graph = Graph::new(rt.alloc())?;
     push_all(rt, &mut graph, nodes)?;
     if node_of(literal) >= graph.len() {
@@ -176,6 +193,7 @@ fn witness_in(
         literal,
         variables,
         seen,
+        &earlier,
         &mut left,
         &mut work,
     )?;
@@ -213,6 +231,7 @@ fn found_in_chain(
         literal,
         variables,
         &[],
+        &[],
         &mut left,
         &mut rest,
     )?;
@@ -225,6 +244,46 @@ fn least_assignments_are_found(rt: HostRuntime) {
         let witness = witness_in(&rt, NODES, *literal, variables, seen, 100);
         same(&rt, witness, Ok(*wanted), case);
     }
+}
+
+#[rattlefmt::skip]
+static EARLIER: &[(&'static str, u32, &'static [&'static [bool]], Found)] = &[
+    ("the least itself", 8, &[&[false, true, false]], Found::Least(0b010)),
+    ("a larger one", 8, &[&[true, false, true]], Found::Least(0b010)),
+    ("one that is wrong", 8, &[&[true, true, true]], Found::Least(0b010)),
+    ("the least before others", 10, &[&[false, false, true], &[true, true, true], &[false, true, false]], Found::Least(0b001)),
+    ("of fewer positions", 10, &[&[true], &[]], Found::Least(0b001)),
+    ("of more positions", 10, &[&[true, true, true, true, true, true, true, true, true]], Found::Least(0b001)),
+    ("of what is never so", 14, &[&[true, false, false]], Found::Never),
+];
+
+#[test]
+fn earlier_assignments_are_tried(rt: HostRuntime) {
+    for (case, literal, rows, wanted) in EARLIER {
+        let witness = witness_after(&rt, NODES, *literal, &[0, 1, 2], &[], rows, 100);
+        same(&rt, witness, Ok(*wanted), case);
+    }
+}
+
+/// The first of some literals of `NODES` that is seen true.
+fn shown(rt: &(impl Abort + AllocGlobal), literals: &[u32]) -> Result<Option<usize>, AllocError> {
+    let mut graph = Graph::new(rt.alloc())?;
+    push_all(rt, &mut graph, NODES)?;
+    first_shown(rt.alloc(), &graph, literals)
+}
+
+#[test]
+fn literals_are_seen_true(rt: HostRuntime) {
+    same(&rt, shown(&rt, &[0, 14, 10, 8]), Ok(Some(2)), "the third");
+    same(&rt, shown(&rt, &[1, 0]), Ok(Some(0)), "what is always true");
+    same(&rt, shown(&rt, &[0, 14]), Ok(None), "what is never true");
+    same(&rt, shown(&rt, &[]), Ok(None), "no literals");
+    same(
+        &rt,
+        shown(&rt, &[1_000_000, 9]),
+        Ok(Some(1)),
+        "a literal that isn't there",
+    );
 }
 
 #[test]

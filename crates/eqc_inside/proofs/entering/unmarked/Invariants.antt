@@ -1,5 +1,5 @@
 use Rattle.std.proofs.Common.{◌≡◌, length}
-use Rattle.eqc_inside.proofs.inside.unmarked.Given as goal
+use Rattle.eqc_inside.proofs.entering.unmarked.Given as goal
 
 abbrev pub invariant-loop-output : goal.invariant-loop-output
 invariant-loop-output l = length l.wanted.items ≡ l.output

@@ -1,0 +1,163 @@
+//! Which steps of a pair enter its graph, and how they do.
+ghost use Rattle.std.specs.Prelude.{◌≡◌, ◌≤◌, length, IfOk};
+ghost use Rattle.eqc_compare.specs.Alike.{IsKnown};
+ghost use Rattle.eqc_inside.specs.Inside.{IsInside};
+
+use crate::inside::Inside;
+use crate::searching::difference_literal;
+use eqc_build::Steps;
+use eqc_compare::{Alike, Progress, is_marked};
+use eqc_gates::{literals, needed};
+use eqc_pair::Pair;
+use eqc_sweep::{Effort, Sweep};
+use eqc_witness::first_shown;
+use std::alloc::{AllocError, Global};
+
+/// How much work the searches for differences may do beside their conflicts, all together: so much for each node of the graph and
+/// for the graph as a whole, and never more than so much, whatever the netlist.
+const EACH_NODE: u64 = 20_000;
+
+const WHOLE: u64 = 10_000_000;
+
+const AT_MOST: u64 = 100_000_000;
+
+/// The work for a graph of so many nodes.
+fn work_for(nodes: u32) -> u64 {
+    (u64::from(nodes) * EACH_NODE + WHOLE).min(AT_MOST)
+}
+
+/// Marks the chosen outputs that are not marked. Fails where memory is refused.
+fn unmarked(alloc: Global, pair: &Pair<'_>, marks: &[bool]) -> Result<Vec<bool>, AllocError>
+    ensures size { IfOk result (λ wanted. length wanted.items ≡ length pair.now.first.outputs) }
+{
+    let outputs = pair.first().outputs().len();
+    let mut wanted = Vec::with_capacity(alloc, outputs)?;
+    for output in 0..outputs {
+        wanted.push(pair.is_chosen(output) && !is_marked(marks, output))?;
+    }
+    Ok(wanted)
+}
+
+/// Takes the marks away behind a place.
+fn unmark_behind(marks: &mut Vec<bool>, last: usize)
+    ensures { length marks.new.items ≡ length marks.old.items }
+{
+    for output in last.saturating_add(1)..marks.len() {
+        marks[output] = false;
+    }
+}
+
+/// The literals that are true where outputs differ, and the outputs: without those whose steps have none. Fails where memory is
+/// refused.
+fn differences(
+    alloc: Global,
+    steps: &Steps<'_>,
+    sweep: &mut Sweep,
+    literals: &[Option<u32>],
+    wanted: &[bool],
+) -> Result<(Vec<u32>, Vec<usize>), AllocError>
+    requires inside { IsInside steps.now sweep.old literals.now }
+    requires outputs { length wanted.now ≤ length steps.now.pair.first.outputs }
+    ensures { IsInside steps.now sweep.new literals.now }
+{
+    let mut found = Vec::new(alloc);
+    let mut outputs = Vec::new(alloc);
+    for output in 0..wanted.len() {
+        if !wanted[output] {
+            continue;
+        }
+        if let Some(literal) = difference_literal(steps, sweep, literals, output)? {
+            found.push(literal)?;
+            outputs.push(output)?;
+        }
+    }
+    Ok((found, outputs))
+}
+
+impl<'a> Inside<'a> {
+    /// Enters the steps of a pair that some outputs need. `told` is told of each step. Fails where memory is refused.
+    fn entered<F: Fn(u32)>(
+        alloc: Global,
+        steps: Steps<'a>,
+        outputs: &[bool],
+        effort: Effort,
+        told: &F,
+    ) -> Result<Inside<'a>, AllocError>
+        requires outputs { length outputs.now ≤ length steps.pair.first.outputs }
+        requires told { F.IsAlwaysCallable told.now }
+        ensures { IfOk result (λ inside. inside ≡ steps.entry.pair) }
+    {
+        let marks = needed(alloc, &steps, outputs)?;
+        let mut sweep = Sweep::new(alloc, effort)?;
+        let literals = literals(alloc, &steps, &marks, &mut sweep, told)?;
+        let work = work_for(sweep.graph().len());
+        Ok(Inside {
+            steps,
+            sweep,
+            literals,
+            work,
+            earlier: Vec::new(alloc),
+        })
+    }
+
+    /// The first of some outputs that is seen to differ under pseudo-random values, if one is: others may differ before it. Fails
+    /// where memory is refused.
+    fn first_seen(&mut self, alloc: Global, wanted: &[bool]) -> Result<Option<usize>, AllocError>
+        requires { length wanted.now ≤ length self.old.first.outputs }
+        ensures { self.new ≡ self.old }
+    {
+        let steps = &self.steps;
+        let (found, outputs) = differences(alloc, steps, &mut self.sweep, &self.literals, wanted)?;
+        let Some(place) = first_shown(alloc, self.sweep.graph(), &found)? else {
+            return Ok(None);
+        };
+        Ok(outputs.get(place).copied())
+    }
+
+    /// Marks the chosen outputs that are not marked, where this is known of the pair: unless `every` one that differs is looked for,
+    /// without those behind the first that is seen to differ. Fails where memory is refused.
+    fn wanted(
+        alloc: Global,
+        pair: &'a Pair<'a>,
+        alike: &Alike,
+        every: bool,
+    ) -> Result<Vec<bool>, AllocError>
+        requires { IsKnown pair.now alike.now }
+        ensures { IfOk result (λ wanted. length wanted.items ≡ length pair.now.first.outputs) }
+    {
+        let mut wanted = unmarked(alloc, pair, &alike.equal)?;
+        if every {
+            return Ok(wanted);
+        }
+        let steps = Steps::of(pair, alike.chosen.clone()?);
+        let ignored = |_step: u32| {};
+        let mut all = Inside::entered(alloc, steps, &wanted, Effort::none(), &ignored)?;
+        let Some(last) = all.first_seen(alloc, &wanted)? else {
+            return Ok(wanted);
+        };
+        unmark_behind(&mut wanted, last);
+        Ok(wanted)
+    }
+
+    /// Enters the steps of a pair that its chosen outputs need which are not marked, where this is known of it: a step that is chosen
+    /// in place of others is entered for them. Unless `every` output that differs is looked for, those behind the first that is seen
+    /// to differ aren't needed. It takes time and memory in proportion to the steps and their rows. The watch is told of each step.
+    /// Fails where memory is refused.
+    pub fn of<R, P: Progress<R>>(
+        rt: &R,
+        alloc: Global,
+        pair: &'a Pair<'a>,
+        alike: &Alike,
+        every: bool,
+        watch: &P,
+    ) -> Result<Inside<'a>, AllocError>
+        requires { IsKnown pair.now alike.now }
+        ensures { IfOk result (λ inside. inside ≡ pair.now) }
+    {
+        let outputs = Inside::wanted(alloc, pair, alike, every)?;
+        let steps = Steps::of(pair, alike.chosen.clone()?);
+        let count = steps.len() as usize;
+        let told = |step: u32| watch.step(rt, step as usize, count);
+        Inside::entered(alloc, steps, &outputs, Effort::usual(), &told)
+    }
+}
