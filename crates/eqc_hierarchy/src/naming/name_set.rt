@@ -70,6 +70,13 @@ impl<'a> NameSet<'a> {
         place < names.len() && name == names[place].get()
     }
 
+    /// Whether a name stands at a place, which may be any number, as far as it is looked for there.
+    fn stands_in_row(&self, name: &[u8], place: usize) -> bool
+        ensures { IsTrue result → position (λ other. bytes_eq name.now other) self.now ≡ Some place }
+    {
+        self.in_row && self.stands_at(name, place)
+    }
+
     /// Puts the name of these bytes in, unless it is there, and answers whether it was not. Fails where memory is refused.
     pub fn insert_bytes(&mut self, name: &'a [u8]) -> Result<bool, AllocError>
         ensures fresh { IfOk result (λ fresh. fresh ≡ not (is_named self.old name.now)) }
@@ -127,7 +134,7 @@ impl<'a> NameSet<'a> {
             return Ok(last);
         }
         let next = near.wrapping_add(1);
-        if self.in_row && self.stands_at(bytes, next as usize) {
+        if self.stands_in_row(bytes, next as usize) {
             return Ok(next);
         }
         let place = self.place(name)?;
