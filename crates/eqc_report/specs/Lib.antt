@@ -5,5 +5,6 @@ pub mod Spooling
 pub mod Report
 pub mod ReportView
 pub mod PairReport
+pub mod Seen
 pub mod Written
 pub mod Evaluation

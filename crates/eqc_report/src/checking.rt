@@ -36,7 +36,9 @@ pub(crate) fn shown(
 ) -> Result<Difference, AllocError>
     requires within { output < length first.now.outputs }
     requires size { length values.items ≡ length first.now.inputs }
-    ensures { IfOk result (λ d. difference_of first.now.inputs d ≡ record {
+    ensures name { IfOk result (λ d. d.name ≡ slice_index_or first.now.outputs output []) }
+    ensures values { IfOk result (λ d. d.values ≡ values) }
+    ensures report { IfOk result (λ d. difference_of first.now.inputs d ≡ record {
       output = slice_index_or first.now.outputs output [];
       inputs = zip first.now.inputs values.items;
       first = first_value (netlist_of first.now) (slice_index_or first.now.outputs output []) values.items;

@@ -1,10 +1,13 @@
 //! The course of a run's comparison: equal structure, diagrams on one thread, equal signals inside the netlists, a search for the
 //! outputs that differ, diagrams by all workers, and at last a longer search for the outputs that are left.
-ghost use Rattle.std.specs.Prelude.{◌≡◌, ◌<◌, None, length, IfOk};
+ghost use Rattle.std.specs.Prelude.{◌≡◌, ◌<◌, None, true, length, slice_index_or, [], IfOk};
+ghost use Rattle.eqc_compare.specs.Verdict.{differs_under};
+ghost use Rattle.eqc_compare.specs.Comparing.{netlist_of, assumption_of, is_chosen_at};
 ghost use Rattle.eqc_compare.specs.Alike.{IsKnown};
 ghost use Rattle.eqc_report.specs.PairReport.{pair_report};
 ghost use Rattle.eqc_report.specs.ReportView.{report_of};
 ghost use Rattle.eqc_report.specs.Options.{options_code};
+ghost use Rattle.eqc_report.specs.Seen.{IsLeftOf};
 
 use crate::checking::{copied, found_report, shown};
 use crate::options::Options;
@@ -85,7 +88,10 @@ fn in_room<R: Threads + Wait + Sync, P: Progress<R> + Sync>(
 /// Notes an output that differs under an assignment that was seen. Where memory is refused for it nothing is noted.
 fn note_seen(alloc: Global, pair: &Pair<'_>, left: &mut Undecided, output: usize, values: Vec<bool>)
     requires within { output < length pair.now.first.outputs }
+    requires chosen { is_chosen_at pair.now output ≡ true }
     requires size { length values.items ≡ length pair.now.first.inputs }
+    requires differs { differs_under (netlist_of pair.now.first) (netlist_of pair.now.second) (assumption_of pair.now) (slice_index_or pair.now.first.outputs output []) values.items ≡ true }
+    ensures { IsLeftOf pair.now left.old → IsLeftOf pair.now left.new }
 {
     if let Ok(difference) = shown(alloc, pair.first(), output, values)
         && let Ok(inputs) = copied(alloc, pair.first().inputs())
@@ -108,6 +114,7 @@ fn by_search<R: Threads + Wait + Sync, P: Progress<R> + Sync>(
     ensures inside { inside.new ≡ inside.old }
     ensures known { IsKnown comparison.now.pair.now alike.new }
     ensures report { IfOk result (λ report. report_of report ≡ pair_report comparison.now.options.now.every comparison.now.pair.now) }
+    ensures seen { IsLeftOf comparison.now.pair.now left.old → IsLeftOf comparison.now.pair.now left.new }
 {
     let Comparison {
         rt,
@@ -158,6 +165,7 @@ fn by_sweeping<R: Threads + Wait + Sync, P: Progress<R> + Sync>(
     requires inside { inside.old ≡ comparison.now.pair.now }
     requires known { IsKnown comparison.now.pair.now alike.old }
     ensures report { IfOk result (λ report. report_of report ≡ pair_report comparison.now.options.now.every comparison.now.pair.now) }
+    ensures seen { IsLeftOf comparison.now.pair.now left.old → IsLeftOf comparison.now.pair.now left.new }
 {
     if let Ok(more) = inside.known(comparison.alloc, alike) {
         *alike = more;
@@ -197,6 +205,7 @@ fn behind_first<R: Threads + Wait + Sync, P: Progress<R> + Sync>(
     requires options { options_code comparison.now.options.now ≡ None }
     requires known { IsKnown comparison.now.pair.now alike.old }
     ensures report { IfOk result (λ report. report_of report ≡ pair_report comparison.now.options.now.every comparison.now.pair.now) }
+    ensures seen { IsLeftOf comparison.now.pair.now left.old → IsLeftOf comparison.now.pair.now left.new }
 {
     let Comparison {
         rt,
@@ -227,15 +236,16 @@ fn behind_first<R: Threads + Wait + Sync, P: Progress<R> + Sync>(
 ///
 /// The options are in their ranges. With 0 conflicts, only diagrams are made; with fewer than 1,024 nodes, only by all workers. The
 /// call may wait, as `check` may. The watch is told of each stage as it begins, and how far it is; of each comparison by diagrams
-/// it is told before that begins. Where it is given up, the outputs that are left are added to those in `left`. The errors are
-/// the node limit 71, also where operations took too many turns, want of memory 72, the limit of references 73, and 74 where a thread
-/// could not be started.
+/// it is told before that begins. Where it is given up, the outputs that are left are added to those in `left`, with what was seen of
+/// one that differs. The errors are the node limit 71, also where operations took too many turns, want of memory 72, the limit of
+/// references 73, and 74 where a thread could not be started.
 pub fn check_alike<R: Threads + Wait + Sync, P: Progress<R> + Sync>(
     comparison: &Comparison<'_, R, P>,
     left: &mut Undecided,
 ) -> Result<Report, Stop>
     requires { options_code comparison.now.options.now ≡ None }
     ensures report { IfOk result (λ report. report_of report ≡ pair_report comparison.now.options.now.every comparison.now.pair.now) }
+    ensures seen { IsLeftOf comparison.now.pair.now left.old → IsLeftOf comparison.now.pair.now left.new }
 {
     comparison.watch.stage(comparison.rt, Stage::Structure);
     let mut alike = alike_or_nothing(comparison.alloc, comparison.pair);

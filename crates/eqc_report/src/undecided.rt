@@ -1,5 +1,6 @@
 //! The outputs that are left where a comparison is given up.
-ghost use Rattle.std.specs.Prelude.{◌≡◌, vec_len, is_some, false};
+ghost use Rattle.std.specs.Prelude.{◌≡◌, vec_len, is_some, false, Some};
+ghost use Rattle.std.specs.Option.{option_copied};
 
 use crate::report::Difference;
 use eqc_blif::Name;
@@ -42,7 +43,9 @@ impl Undecided {
     }
 
     /// Takes one more name. Where memory is refused for it, it is only counted.
-    fn add(&mut self, name: &[u8]) {
+    fn add(&mut self, name: &[u8])
+        ensures { self.new.seen ≡ self.old.seen }
+    {
         self.count = self.count.saturating_add(1);
         if self.names.len() < KEPT
             && let Ok(name) = name.to_vec(self.alloc)
@@ -52,7 +55,9 @@ impl Undecided {
     }
 
     /// Takes the names of the chosen outputs of a pair that are not marked.
-    pub(crate) fn add_unmarked(&mut self, pair: &Pair<'_>, marks: &[bool]) {
+    pub(crate) fn add_unmarked(&mut self, pair: &Pair<'_>, marks: &[bool])
+        ensures { self.new.seen ≡ self.old.seen }
+    {
         for (output, name) in pair.first().outputs().iter().enumerate() {
             if pair.is_chosen(output) && !marks.get(output).copied().unwrap_or(false) {
                 self.add(name.as_bytes());
@@ -61,23 +66,31 @@ impl Undecided {
     }
 
     /// Takes what was seen of an output that differs.
-    pub(crate) fn see(&mut self, seen: Seen) {
+    pub(crate) fn see(&mut self, seen: Seen)
+        ensures { self.new.seen ≡ Some seen }
+    {
         self.seen = Some(seen);
     }
 
     /// An output that is left undecided though it differs, under an allowed assignment that was seen: maybe not the least, and
     /// maybe an output before it differs too. None where none was seen.
-    pub fn seen(&self) -> Option<&Seen> {
+    pub fn seen(&self) -> Option<&Seen>
+        ensures { option_copied result ≡ self.now.seen }
+    {
         self.seen.as_ref()
     }
 
     /// The names of the first, at most ten.
-    pub fn names(&self) -> &[Vec<u8>] {
+    pub fn names(&self) -> &[Vec<u8>]
+        ensures { result.now ≡ self.now.names.items }
+    {
         self.names.as_slice()
     }
 
     /// How many there are, with those that `names` leaves out.
-    pub fn count(&self) -> usize {
+    pub fn count(&self) -> usize
+        ensures { result ≡ self.now.count }
+    {
         self.count
     }
 }
