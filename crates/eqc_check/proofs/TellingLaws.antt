@@ -90,14 +90,25 @@ pub two_warned : (names : NamesOf) (first second : List ℕ) (m n : MainOf) → 
 two_warned names first second m n e h = sym (rw (e, h) refl)
 
 -- what is told answers what is given, and warns of it
-pub told_answers : (given : GivenOf) (told : Told) → Tells given (Ok told) → Answers (texts_answer given) (report_of told.report)
+told_answers : (given : GivenOf) (told : Told) → Tells given (Ok told) → Answers (texts_answer given) (report_of told.report)
 told_answers given told tells = rw tells.0 as_wanted
 
-pub stop_answers : (given : GivenOf) (stop : Stop) (told : Told) → Tells given (Err stop) → told.report ≡ kind.Stopped stop → Answers (texts_answer given) (report_of told.report)
+stop_answers : (given : GivenOf) (stop : Stop) (told : Told) → Tells given (Err stop) → told.report ≡ kind.Stopped stop → Answers (texts_answer given) (report_of told.report)
 stop_answers given stop told tells is = rw is (was_stopped stop tells)
 
-pub stop_warns : (given : GivenOf) (stop : Stop) (told : Told) → told.report ≡ kind.Stopped stop → WarnsOf given (report_of told.report) told.warnings
+stop_warns : (given : GivenOf) (stop : Stop) (told : Told) → told.report ≡ kind.Stopped stop → WarnsOf given (report_of told.report) told.warnings
 stop_warns given stop told is = λ compares. absurd (subst (λ (r : Report). IsComparison (report_of r)) is compares)
+
+-- and so does the stop that came in its place
+pub told_or_stopped : (given : GivenOf) (answer : Result Told Stop) (told : Told) → Tells given answer → IfOk answer (λ x. told ≡ x)
+    → IfErr answer (λ stop. told.report ≡ kind.Stopped stop) → Answers (texts_answer given) (report_of told.report)
+told_or_stopped given (Ok x) told tells is _ = subst (λ (t : Told). Answers (texts_answer given) (report_of t.report)) (sym is) (told_answers given x tells)
+told_or_stopped given (Err stop) told tells _ is = stop_answers given stop told tells is
+
+pub warned_or_stopped : (given : GivenOf) (answer : Result Told Stop) (told : Told) → Tells given answer → IfOk answer (λ x. told ≡ x)
+    → IfErr answer (λ stop. told.report ≡ kind.Stopped stop) → WarnsOf given (report_of told.report) told.warnings
+warned_or_stopped given (Ok x) told tells is _ = subst (λ (t : Told). WarnsOf given (report_of t.report) t.warnings) (sym is) tells.1
+warned_or_stopped given (Err stop) told tells _ is = stop_warns given stop told is
 
 -- ---- the choice of a model
 

@@ -7,13 +7,12 @@ ghost use Rattle.eqc_blif.specs.Reading.{outcome};
 ghost use Rattle.eqc_hierarchy.specs.Codes.{flat_code};
 ghost use Rattle.eqc_flat.specs.Flattened.{IsFlatOf};
 ghost use Rattle.eqc_check.specs.Refusing.{IsRefused, flat_answer, flat_assumed};
-ghost use Rattle.eqc_report.specs.PairReport.{pair_report};
 ghost use Rattle.eqc_compare.specs.Comparing.{netlist_of};
 ghost use Rattle.eqc_report.specs.ReportView.{report_of};
 ghost use Rattle.eqc_report.specs.Options.{options_code};
-ghost use Rattle.eqc_check.specs.Answer.{MainOf, first_found, assumption_found, assumption_answer, models_answer, texts_answer, Answers, MayStop};
+ghost use Rattle.eqc_check.specs.Answer.{MainOf, first_found, assumption_found, assumption_answer, models_answer, texts_answer, MayStop};
 ghost use Rattle.eqc_check.specs.Sources.{given_of, IsSecond};
-ghost use Rattle.eqc_check.specs.Telling.{IsToldRefusal, IsToldWith, Tells, WarnsOf};
+ghost use Rattle.eqc_check.specs.Telling.{IsToldRefusal, IsToldWith, Tells};
 
 use crate::choice::{Main, choose, read_main};
 use crate::given::{Case, bytes_of};
@@ -45,6 +44,17 @@ impl Told {
             warnings: Warnings::none(),
         }
     }
+
+    /// What is told, or the stop that came in its place.
+    pub fn of(answer: Result<Told, Stop>) -> Told
+        ensures told { IfOk answer (λ told. result ≡ told) }
+        ensures stop { IfErr answer (λ stop. result.report ≡ Report.Stopped stop) }
+    {
+        match answer {
+            Ok(told) => told,
+            Err(stop) => Told::alone(Report::Stopped(stop)),
+        }
+    }
 }
 
 /// A case that is decided on.
@@ -56,23 +66,35 @@ struct Decision<'x, R, P> {
     watch: &'x P,
 }
 
-impl<'x, R: Threads + Wait + Sync, P: Progress<R> + Sync> Decision<'x, R, P> {
-    /// The report behind the reading of the first text and the choice of its model.
-    fn on_texts(&self, left: &mut Undecided) -> Result<Told, Stop>
-        requires options { options_code self.now.case.now.options ≡ None }
-        ensures { Tells (given_of self.now.case.now) result }
-    {
-        let case = self.case;
-        let first = match read_main(self.alloc, &case.first, case.names.first, 0) {
-            Ok(first) => first,
-            Err(refusal) => return told_refusal(Side::First, refusal),
-        };
-        match &case.second {
-            None => self.on_one(&first, left),
-            Some(second) => self.on_two(&first, second, left),
-        }
+/// The report on what was read, with the warnings where it is a comparison, or the stop in its place. Where a comparison is given
+/// up, the outputs that are left are taken. The watch is told how far the comparison is.
+pub(crate) fn decide<R: Threads + Wait + Sync, P: Progress<R> + Sync>(
+    rt: &R,
+    alloc: Global,
+    case: &Case<'_>,
+    left: &mut Undecided,
+    watch: &P,
+) -> Result<Told, Stop>
+    requires options { options_code case.now.options ≡ None }
+    ensures { Tells (given_of case.now) result }
+{
+    let decision = Decision {
+        rt,
+        alloc,
+        case,
+        watch,
+    };
+    let first = match read_main(alloc, &case.first, case.names.first, 0) {
+        Ok(first) => first,
+        Err(refusal) => return told_refusal(Side::First, refusal),
+    };
+    match &case.second {
+        None => decision.on_one(&first, left),
+        Some(second) => decision.on_two(&first, second, left),
     }
+}
 
+impl<'x, R: Threads + Wait + Sync, P: Progress<R> + Sync> Decision<'x, R, P> {
     /// The report behind the choice of the second model in a single text.
     fn on_one(&self, first: &Main, left: &mut Undecided) -> Result<Told, Stop>
         requires options { options_code self.now.case.now.options ≡ None }
@@ -136,7 +158,8 @@ impl<'x, R: Threads + Wait + Sync, P: Progress<R> + Sync> Decision<'x, R, P> {
         }
     }
 
-    /// The report behind the flattening of the second model, whatever model the first flat netlist is of.
+    /// The report behind the flattening of the second model, whatever model the first flat netlist is of. It stands apart for its
+    /// proof's sake: with two flat netlists in one function, each with an exit where there is none, that takes many times longer.
     fn on_second(
         &self,
         first: &Flat<'_>,
@@ -173,7 +196,7 @@ impl<'x, R: Threads + Wait + Sync, P: Progress<R> + Sync> Decision<'x, R, P> {
         let order = bytes_of(&case.order);
         match pair_choosing(self.alloc, first, second, case.outputs.names, order) {
             Ok(pair) => match &case.assume {
-                None => self.compare(&pair, left),
+                None => check_alike(&self.comparison(&pair), left),
                 Some(text) => self.on_assumption(pair, text, left),
             },
             Err(Refused { side, line, code }) => refused(side, Refusal { line, code }),
@@ -234,7 +257,7 @@ impl<'x, R: Threads + Wait + Sync, P: Progress<R> + Sync> Decision<'x, R, P> {
         ensures stop { IfErr result (MayStop (flat_assumed (given_of self.now.case.now) pair.entry.first pair.entry.second assumed.now)) }
     {
         match pair.assuming(self.alloc, assumed) {
-            Ok(pair) => self.compare(&pair, left),
+            Ok(pair) => check_alike(&self.comparison(&pair), left),
             Err(refusal) => {
                 let Refused { side, line, code } = refusal;
                 refused(side, Refusal { line, code })
@@ -242,19 +265,18 @@ impl<'x, R: Threads + Wait + Sync, P: Progress<R> + Sync> Decision<'x, R, P> {
         }
     }
 
-    /// The report behind all checks.
-    fn compare(&self, pair: &Pair<'_>, left: &mut Undecided) -> Result<Report, Stop>
-        requires options { options_code self.now.case.now.options ≡ None }
-        ensures { IfOk result (λ report. report_of report ≡ pair_report self.now.case.now.options.every pair.now) }
+    /// The comparison behind all checks.
+    fn comparison<'y>(&'y self, pair: &'y Pair<'_>) -> Comparison<'y, R, P>
+        ensures pair { result.pair.now ≡ pair.now }
+        ensures options { result.options.now ≡ self.now.case.now.options }
     {
-        let comparison = Comparison {
+        Comparison {
             rt: self.rt,
             alloc: self.alloc,
             pair,
             options: &self.case.options,
             watch: self.watch,
-        };
-        check_alike(&comparison, left)
+        }
     }
 }
 
@@ -287,30 +309,5 @@ fn with_warnings(
     match warnings {
         Ok(warnings) => Ok(Told { report, warnings }),
         Err(_) => Err(Stop::Memory),
-    }
-}
-
-/// The report on what was read, with the warnings where it is a comparison. Where that is given up, the outputs that are left
-/// are taken. The watch is told how far the comparison is.
-pub(crate) fn decide<R: Threads + Wait + Sync, P: Progress<R> + Sync>(
-    rt: &R,
-    alloc: Global,
-    case: &Case<'_>,
-    left: &mut Undecided,
-    watch: &P,
-) -> Told
-    requires options { options_code case.now.options ≡ None }
-    ensures report { Answers (texts_answer (given_of case.now)) (report_of result.report) }
-    ensures warned { WarnsOf (given_of case.now) (report_of result.report) result.warnings }
-{
-    let decision = Decision {
-        rt,
-        alloc,
-        case,
-        watch,
-    };
-    match decision.on_texts(left) {
-        Ok(told) => told,
-        Err(stop) => Told::alone(Report::Stopped(stop)),
     }
 }

@@ -66,25 +66,6 @@ fn tell_hierarchy<T: Diagnostics>(
     }
 }
 
-/// Tells of two netlists that make no pair with these names of outputs and an order text, and answers whether it did. Fails
-/// where memory is refused.
-fn tell_pair<T: Diagnostics>(
-    alloc: Global,
-    first: &Flat<'_>,
-    second: &Flat<'_>,
-    outputs: &[&[u8]],
-    order: Option<&[u8]>,
-    told: &mut T,
-) -> Result<bool, AllocError> {
-    match explain_pair(alloc, first, second, outputs, order)? {
-        Some(finding) => {
-            told.pair(&finding);
-            Ok(true)
-        }
-        None => Ok(false),
-    }
-}
-
 /// Tells of two models whose comparison is refused. Fails where memory is refused.
 fn tell_models<T: Diagnostics>(
     alloc: Global,
@@ -133,7 +114,8 @@ fn tell_flats<T: Diagnostics>(
     told: &mut T,
 ) -> Result<(), AllocError> {
     let order = bytes_of(&case.order);
-    if tell_pair(alloc, first, second, case.outputs.names, order, told)? {
+    if let Some(finding) = explain_pair(alloc, first, second, case.outputs.names, order)? {
+        told.pair(&finding);
         return Ok(());
     }
     match &case.assume {

@@ -56,6 +56,7 @@ fn read_more<R: Read>(
     }
 }
 
+/// A block of zeros. It is made apart for the proof's sake: whatever meets its 65,536 bytes there writes them out.
 fn new_block(alloc: Global) -> Result<Vec<u8>, AllocError>
     ensures { IfOk result (λ block. vec_len block ≡ BLOCK) }
 {

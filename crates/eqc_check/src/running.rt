@@ -3,7 +3,7 @@ ghost use Rattle.std.specs.Prelude.{◌≡◌, ◌≢◌, IfOk, IfErr, OnErr, Ok
 ghost use Rattle.eqc_report.specs.ReportView.{report_of};
 ghost use Rattle.eqc_report.specs.Options.{options_code};
 ghost use Rattle.eqc_report.specs.Written.{IsWritten, IsCutShort};
-ghost use Rattle.eqc_check.specs.Running.{unnamed, IsReport, IsReportFor, IsAnswered, IsCutOff};
+ghost use Rattle.eqc_check.specs.Running.{unnamed, IsReportFor, IsAnswered, IsCutOff};
 ghost use Rattle.eqc_check.specs.Warning.{warnings_at, IsWarned, WarnsOfKnown};
 
 use crate::choice::{ModelNames, OutputNames};
@@ -53,37 +53,6 @@ impl<'a> Reported<'a> {
     }
 }
 
-/// The report of a run whose options are in their ranges, with the warnings where it is a comparison.
-fn read_report<'a, RT: Threads + Wait + Sync, R: Read + Drop, P: Progress<RT> + Sync>(
-    rt: &RT,
-    alloc: Global,
-    given: Given<'a, R>,
-    watch: &P,
-) -> Result<Reported<'a>, FailedRead>
-    requires options { options_code given.options ≡ None }
-    ensures report { IfOk result (λ reported. IsReport R.remaining given.entry (report_of reported.told.report)) }
-    ensures warned { IfOk result (λ reported. WarnsOfKnown R.remaining given.entry (report_of reported.told.report) reported.told.warnings) }
-{
-    watch.stage(rt, Stage::Reading);
-    let case = match read_given(alloc, given) {
-        Ok(case) => case,
-        Err(
-            Unread {
-                side,
-                fault: StreamFault::Failed(error),
-            },
-        ) => return Err(FailedRead { side, error }),
-        Err(_) => return Ok(Reported::alone(alloc, Report::Stopped(Stop::Memory))),
-    };
-    let mut left = Undecided::none(alloc);
-    let told = decide(rt, alloc, &case, &mut left, watch);
-    Ok(Reported {
-        told,
-        left,
-        case: Some(case),
-    })
-}
-
 /// The report of a run with its warnings: a refusal of its options before any text is read, else that on its texts.
 fn report_for<'a, RT: Threads + Wait + Sync, R: Read + Drop, P: Progress<RT> + Sync>(
     rt: &RT,
@@ -96,16 +65,31 @@ fn report_for<'a, RT: Threads + Wait + Sync, R: Read + Drop, P: Progress<RT> + S
     ensures read { OnErr result (options_code given.entry.options ≡ None) }
 {
     match options_fault(&given.options) {
-        Some(code) => Ok(Reported::alone(
-            alloc,
-            Report::Refused(Refused {
-                side: Side::Options,
-                line: 0,
-                code,
-            }),
-        )),
-        None => read_report(rt, alloc, given, watch),
+        None => {}
+        Some(code) => {
+            let (side, line) = (Side::Options, 0);
+            let refused = Refused { side, line, code };
+            return Ok(Reported::alone(alloc, Report::Refused(refused)));
+        }
     }
+    watch.stage(rt, Stage::Reading);
+    let case = match read_given(alloc, given) {
+        Ok(case) => case,
+        Err(
+            Unread {
+                side,
+                fault: StreamFault::Failed(error),
+            },
+        ) => return Err(FailedRead { side, error }),
+        Err(_) => return Ok(Reported::alone(alloc, Report::Stopped(Stop::Memory))),
+    };
+    let mut left = Undecided::none(alloc);
+    let told = Told::of(decide(rt, alloc, &case, &mut left, watch));
+    Ok(Reported {
+        told,
+        left,
+        case: Some(case),
+    })
 }
 
 /// A run whose report was written: the kind of the report, and what is to be warned of.
@@ -133,64 +117,7 @@ fn tell<T: Diagnostics>(alloc: Global, reported: &Reported<'_>, told: &mut T) {
     }
 }
 
-/// Tells of a text that could not be read, if that is wanted.
-fn tell_unread<T: Diagnostics>(failed: &FailedRead, told: Option<&mut T>) -> RunFault
-    ensures { result ≡ RunFault.Read }
-{
-    if let Some(told) = told {
-        told.unread(failed.side, &failed.error);
-    }
-    RunFault::Read
-}
-
-/// Tells of a report that could not be written whole, if that is wanted.
-fn tell_unwritten<T: Diagnostics>(error: &io::Error, told: Option<&mut T>) -> RunFault
-    ensures { result ≡ RunFault.Write }
-{
-    if let Some(told) = told {
-        told.unwritten(error);
-    }
-    RunFault::Write
-}
-
 /// Writes what a run reports, and then tells why it is a refusal or a stop, or could not be written, if that is wanted.
-fn write_told<W: Write, T: Diagnostics>(
-    alloc: Global,
-    reported: &Reported<'_>,
-    out: &mut W,
-    told: Option<&mut T>,
-) -> Result<Status, RunFault>
-    ensures written { IfOk result (λ status. IsWritten (report_of reported.now.told.report) (W.contents out.old) (W.contents out.new) status) }
-    ensures part { OnErr result (IsCutShort (report_of reported.now.told.report) (W.contents out.old) (W.contents out.new)) }
-    ensures write { IfErr result (λ fault. fault ≡ RunFault.Write) }
-{
-    match write_or_stop(alloc, &reported.told.report, out) {
-        Ok(status) => {
-            if let Some(told) = told {
-                tell(alloc, reported, told);
-            }
-            Ok(status)
-        }
-        Err(error) => Err(tell_unwritten(&error, told)),
-    }
-}
-
-/// The end of a run whose report was written, or was not.
-fn ended(written: Result<Status, RunFault>, warnings: Warnings) -> Result<Finished, RunFault>
-    ensures status { IfOk result (λ finished. written ≡ Ok finished.status) }
-    ensures warned { IfOk result (λ finished. finished.warnings ≡ warnings_at finished.status warnings) }
-    ensures fault { IfErr result (λ fault. written ≡ Err fault) }
-{
-    match written {
-        Ok(status) => Ok(Finished {
-            status,
-            warnings: warnings.at(status),
-        }),
-        Err(fault) => Err(fault),
-    }
-}
-
-/// Writes what a run reports, tells of it if that is wanted, and ends the run.
 fn finish<W: Write, T: Diagnostics>(
     alloc: Global,
     reported: Reported<'_>,
@@ -202,8 +129,21 @@ fn finish<W: Write, T: Diagnostics>(
     ensures part { OnErr result (IsCutShort (report_of reported.entry.told.report) (W.contents out.old) (W.contents out.new)) }
     ensures write { IfErr result (λ fault. fault ≡ RunFault.Write) }
 {
-    let written = write_told(alloc, &reported, out, told);
-    ended(written, reported.told.warnings)
+    match write_or_stop(alloc, &reported.told.report, out) {
+        Ok(status) => {
+            if let Some(told) = told {
+                tell(alloc, &reported, told);
+            }
+            let warnings = reported.told.warnings.at(status);
+            Ok(Finished { status, warnings })
+        }
+        Err(error) => {
+            if let Some(told) = told {
+                told.unwritten(&error);
+            }
+            Err(RunFault::Write)
+        }
+    }
 }
 
 /// Compares two netlists and writes the report, as `run_models` does. Why it is a refusal or a stop, or could not be made
@@ -235,7 +175,12 @@ pub fn run_explained<
     watch.stage(rt, Stage::Writing);
     match reported {
         Ok(reported) => finish(alloc, reported, out, told),
-        Err(failed) => Err(tell_unread(&failed, told)),
+        Err(failed) => {
+            if let Some(told) = told {
+                told.unread(failed.side, &failed.error);
+            }
+            Err(RunFault::Read)
+        }
     }
 }
 

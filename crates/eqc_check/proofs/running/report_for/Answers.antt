@@ -1,0 +1,30 @@
+use Rattle.std.proofs.Common.{◌≡◌, ◌∙◌, sym, subst, None}
+use Rattle.eqc_check.specs.Answer.{IsComparison}
+use Rattle.eqc_check.specs.Sources.{given_of}
+use Rattle.eqc_report.specs.Options.{options_code}
+use Rattle.eqc_report.specs.ReportView.{report_of}
+use Rattle.eqc_report.specs.declared.report.Report.{Report}
+use Rattle.eqc_check.proofs.RunLaws.{memory_reports, read_reports, read_warns}
+use Rattle.eqc_check.proofs.TellingLaws.{told_or_stopped, warned_or_stopped}
+use Rattle.eqc_check.proofs.running.report_for.Goals as goal
+
+pub returns-in-Err : goal.returns-in-Err
+returns-in-Err g c =
+    let within : options_code c.args.given.options ≡ None = sym c.options_fault.ensures ∙ c.in-None.is in
+    record {
+      report = rw (within, c.alone-in-Err.ensures) (memory_reports g.R.Read.remaining c.args.given);
+      warned = λ compares. absurd (subst (λ (r : Report). IsComparison (report_of r)) c.alone-in-Err.ensures compares);
+      read = tt;
+    }
+
+pub returns-clause-report : goal.returns-clause-report
+returns-clause-report g c =
+    let within : options_code c.args.given.options ≡ None = sym c.options_fault.ensures ∙ c.in-None.is in
+    rw within
+    (read_reports g.R.Read.remaining c.args.given c.in-Ok.case _ c.in-Ok.ensures
+    (told_or_stopped (given_of c.in-Ok.case) c.decide.result c.of-told.result c.decide.ensures c.of-told.ensures.told c.of-told.ensures.stop))
+
+pub returns-clause-warned : goal.returns-clause-warned
+returns-clause-warned g c =
+    read_warns g.R.Read.remaining c.args.given c.in-Ok.case _ _ c.in-Ok.ensures
+    (warned_or_stopped (given_of c.in-Ok.case) c.decide.result c.of-told.result c.decide.ensures c.of-told.ensures.told c.of-told.ensures.stop)
