@@ -120,6 +120,7 @@ def calling(name, called, columns, inputs, instances, seed=3):
 def instances():
     """The name, the columns, the rows of the cover, and how many instances it has."""
     yield "no dashes, 20 columns, 5000 rows", 20, dashed(20, 5_000, 0), 40
+    yield "no dashes, 20 columns, 5000 rows", 20, dashed(20, 5_000, 0), 400
     yield "random, 16 columns, 300 rows", 16, dashed(16, 300, 0.33), 40
     yield "random, 10 columns, 40 rows", 10, dashed(10, 40, 0.5), 4_000
     yield "no dashes, 8 columns, 200 rows", 8, dashed(8, 200, 0), 1_000
