@@ -15,7 +15,6 @@ use Rattle.eqc_core.specs.Words.{Words, announced_words, word_at, times, cell_na
 use Rattle.eqc_core.specs.Tables.{Homes}
 use Rattle.eqc_core.specs.Trees.{IsFilled, IsRight, IsTree}
 use Rattle.eqc_core.specs.Lawful.{IsNamed, Fits, Lawful}
-use Rattle.eqc_core.specs.State.{IsWithinLimits}
 use Rattle.eqc_core.specs.Moves.{with_announced, with_count, with_cell, without_each}
 use Rattle.eqc_core.specs.Announcing.{MayLook, looked, MayAnnounce, announced, announced_cell, IsAnnounced, MayRecheck, rechecked, rechecked_phase}
 use Rattle.eqc_core.specs.Counting.{MayUp, upped, MayDown, downed}
