@@ -25,8 +25,8 @@ use Rattle.eqc_core.proofs.Claiming.{tabled_owners}
 use Rattle.eqc_core.proofs.Known.{held_counted}
 use Rattle.eqc_core.proofs.Collecting.{least_is_dead, no_dead_is_empty, empty_is_free, counted_tabled}
 use Rattle.eqc_guard.specs.Closing.{above_zero, IsTallied}
-use Rattle.eqc_guard.specs.Known.{Known, IsCopy, IsKnown, apart, flat}
-use Rattle.eqc_guard.specs.Rule.{nodes_from, cells_from, boxes_from, locks_from}
+use Rattle.eqc_guard.specs.Known.{Known, IsCopy, IsKnown, apart, spread, flat}
+use Rattle.eqc_guard.specs.Rule.{counts_from, nodes_from, cells_from, boxes_from, locks_from}
 use Rattle.eqc_guard.specs.Standing.{Standing, Steps}
 use Rattle.eqc_guard.specs.Telling.{Copies, copied}
 use Rattle.eqc_guard.specs.Making.{taken_back}
@@ -34,7 +34,7 @@ use Rattle.eqc_guard.specs.Locking.{MayHome}
 use Rattle.eqc_guard.specs.Sweeping.{IsSilent, IsScanned}
 use Rattle.eqc_guard.proofs.Closing.{read_stays}
 use Rattle.eqc_guard.proofs.Copying.{below}
-use Rattle.eqc_guard.proofs.Laid.{get_count, get_node, get_cell, get_behind}
+use Rattle.eqc_guard.proofs.Laid.{get_count, get_node, get_cell, get_behind, spread_length}
 use Rattle.eqc_cache.specs.Placing.{AreEmpty}
 use Rattle.eqc_cache.specs.Storing.{IsAsBefore}
 use Rattle.eqc_arena.proofs.Entries.{stood_behind, elem_get, in_both, entry_in_hand}
@@ -45,8 +45,9 @@ use Rattle.eqc_arena.specs.Emptying.{count_in, node_in, IsCounted, HasNoCounts, 
 get_box : (z : Sizes) (w : Words) (b : ℕ) → length w.announced ≡ announced_words z → length w.counts ≡ z.names → length w.nodes ≡ z.names →
     length w.cells ≡ z.cells → b < length w.boxes → get_or (flat w) (cells_from z + (z.cells + b)) 0 ≡ get_or w.boxes b 0
 get_box z w b announced counts nodes cells lt =
-    ap (λ (i : ℕ). get_or (flat w) i 0) (let e : announced_words z + (z.names + z.names) + (z.cells + b) ≡ announced_words z + (z.names + (z.names + (z.cells + b))) = omega arith in e)
-    ∙ (get_behind w.announced (w.counts ++ (w.nodes ++ (w.cells ++ (w.boxes ++ apart w.locks)))) (announced_words z) (z.names + (z.names + (z.cells + b))) 0 announced
+    ap (λ (i : ℕ). get_or (flat w) i 0) (let e : counts_from z + (z.names + z.names) + (z.cells + b) ≡ counts_from z + (z.names + (z.names + (z.cells + b))) = omega arith in e)
+    ∙ (get_behind (spread w.announced) (w.counts ++ (w.nodes ++ (w.cells ++ (w.boxes ++ apart w.locks)))) (counts_from z) (z.names + (z.names + (z.cells + b))) 0
+    (spread_length w.announced ∙ ap (λ (n : ℕ). 2 * n) announced)
     ∙ (get_behind w.counts (w.nodes ++ (w.cells ++ (w.boxes ++ apart w.locks))) z.names (z.names + (z.cells + b)) 0 counts
     ∙ (get_behind w.nodes (w.cells ++ (w.boxes ++ apart w.locks)) z.names (z.cells + b) 0 nodes
     ∙ (get_behind w.cells (w.boxes ++ apart w.locks) z.cells b 0 cells
@@ -58,7 +59,7 @@ module _ (k : Known) (ws : List ℕ) (c : IsCopy k ws) where
   state_in = record { sizes = k.core.sizes; words = c.words; homes = c.homes; views = c.views }
 
   counts_are : (x : ℕ) → x < k.core.sizes.names → count_in k.core.sizes ws x ≡ get_or c.words.counts x 0
-  counts_are x lt = ap (λ (l : List ℕ). get_or l (announced_words k.core.sizes + x) 0) c.laid ∙ get_count k.core.sizes c.words c.homes c.views c.lawful.sized x lt
+  counts_are x lt = ap (λ (l : List ℕ). get_or l (counts_from k.core.sizes + x) 0) c.laid ∙ get_count k.core.sizes c.words c.homes c.views c.lawful.sized x lt
 
   nodes_are : (x : ℕ) → x < k.core.sizes.names → node_in k.core.sizes ws x ≡ get_or c.words.nodes x 0
   nodes_are x lt = ap (λ (l : List ℕ). get_or l (nodes_from k.core.sizes + x) 0) c.laid ∙ get_node k.core.sizes c.words c.homes c.views c.lawful.sized x lt
@@ -197,8 +198,8 @@ no_wane z taken ws = record { counts = λ x lt. omega arith; same = λ e x lt. r
 -- a word behind the boxes is set
 lock_wanes : (z : Sizes) (taken : ℕ) (ws : List ℕ) (s y : ℕ) → Wanes z taken ws (set ws (locks_from z + s) y)
 lock_wanes z taken ws s y = record {
-  counts = λ x lt. let e = get_or-set_other ws (locks_from z + s) (announced_words z + x) y 0 (λ q. absurd (omega arith)) in omega arith;
-  same = λ e x lt. get_or-set_other ws (locks_from z + s) (announced_words z + x) y 0 (λ q. absurd (omega arith));
+  counts = λ x lt. let e = get_or-set_other ws (locks_from z + s) (counts_from z + x) y 0 (λ q. absurd (omega arith)) in omega arith;
+  same = λ e x lt. get_or-set_other ws (locks_from z + s) (counts_from z + x) y 0 (λ q. absurd (omega arith));
   nodes = λ x lt. get_or-set_other ws (locks_from z + s) (nodes_from z + x) y 0 (λ q. absurd (omega arith));
   blank = λ c lt. get_or-set_other ws (locks_from z + s) (cells_from z + c) y 0 (λ q. absurd (omega arith));
 }
@@ -211,12 +212,12 @@ set_falls (x ∷ xs) (suc i) zero y le = omega arith
 set_falls (x ∷ xs) (suc i) (suc j) y le = set_falls xs i j y le
 
 -- a count falls
-count_wanes : (z : Sizes) (taken : ℕ) (ws : List ℕ) (y n : ℕ) → 0 < taken → y < z.names → n ≤ count_in z ws y → Wanes z taken ws (set ws (announced_words z + y) n)
+count_wanes : (z : Sizes) (taken : ℕ) (ws : List ℕ) (y n : ℕ) → 0 < taken → y < z.names → n ≤ count_in z ws y → Wanes z taken ws (set ws (counts_from z + y) n)
 count_wanes z taken ws y n some_taken small le = record {
-  counts = λ x lt. set_falls ws (announced_words z + y) (announced_words z + x) n le;
+  counts = λ x lt. set_falls ws (counts_from z + y) (counts_from z + x) n le;
   same = λ e x lt. absurd (omega arith);
-  nodes = λ x lt. get_or-set_other ws (announced_words z + y) (nodes_from z + x) n 0 (λ q. absurd (omega arith));
-  blank = λ c lt. get_or-set_other ws (announced_words z + y) (cells_from z + c) n 0 (λ q. absurd (omega arith));
+  nodes = λ x lt. get_or-set_other ws (counts_from z + y) (nodes_from z + x) n 0 (λ q. absurd (omega arith));
+  blank = λ c lt. get_or-set_other ws (counts_from z + y) (cells_from z + c) n 0 (λ q. absurd (omega arith));
 }
 
 module _ (z : Sizes) (taken : ℕ) (ws left : List ℕ) (w : Wanes z taken ws left) where
@@ -327,18 +328,18 @@ falls_by_one m lt = omega arith
 
 -- a slot that is held is given back
 one_given : (n s taken i x : ℕ) (xs : List ℕ) (t : Entries) (old new : Standing) → IsTrying (x ∷ xs) n s taken i t old.known → 0 < taken → 2 ≤ x → Steps old (downed old.known.core x) new
-    → (m : ℕ) → Copies old.known (announced_words old.known.core.sizes + x) m ((m + (2 ^ 64 - 1)) % 2 ^ 64) new.known → IsTrying xs n s taken i t new.known
+    → (m : ℕ) → Copies old.known (counts_from old.known.core.sizes + x) m ((m + (2 ^ 64 - 1)) % 2 ^ 64) new.known → IsTrying xs n s taken i t new.known
 one_given n s taken i x xs t old new tr some_taken two step m copies =
     let b = tr.between in
     let c = b.known.state b.words b.copy in
     let held : 0 < times x old.known.core.held = subst (λ (l : List ℕ). 0 < times x l) (sym b.holds) (omega (arith, times-same x x xs refl)) in
     let lt = below old.known x b.known two held in
     let above = held_counted old.known.core.sizes c.words c.homes c.views c.lawful c.id x old.known.core c.mine held in
-    let found : get_or b.words (announced_words old.known.core.sizes + x) 0 ≡ m = copies.seen b.words b.copy in
+    let found : get_or b.words (counts_from old.known.core.sizes + x) 0 ≡ m = copies.seen b.words b.copy in
     let counted : 0 < m = let e = counts_are old.known b.words c x lt in omega arith in
     let le = falls_by_one m counted in
-    carries_tried (x ∷ xs) n s taken old.known b taken (λ e. e) xs new.known (set b.words (announced_words old.known.core.sizes + x) ((m + (2 ^ 64 - 1)) % 2 ^ 64))
-    (copies.copy ∙ ap (λ (o : Option (List ℕ)). copied o (announced_words old.known.core.sizes + x) ((m + (2 ^ 64 - 1)) % 2 ^ 64)) b.copy)
+    carries_tried (x ∷ xs) n s taken old.known b taken (λ e. e) xs new.known (set b.words (counts_from old.known.core.sizes + x) ((m + (2 ^ 64 - 1)) % 2 ^ 64))
+    (copies.copy ∙ ap (λ (o : Option (List ℕ)). copied o (counts_from old.known.core.sizes + x) ((m + (2 ^ 64 - 1)) % 2 ^ 64)) b.copy)
     (count_wanes old.known.core.sizes taken b.words x ((m + (2 ^ 64 - 1)) % 2 ^ 64) some_taken lt (subst (λ (k : ℕ). (m + (2 ^ 64 - 1)) % 2 ^ 64 ≤ k) (sym found) le))
     (rests xs old.known new.known (downed old.known.core x) step.known.core refl (ap (without x) b.holds ∙ without_first x xs) refl refl refl step.known.known)
     i t tr.tried
@@ -349,7 +350,7 @@ one_given n s taken i x xs t old new tr some_taken two step m copies =
 -- so is a child that may be a constant, which takes no step
 pub trying_given : (n s taken i x : ℕ) (xs : List ℕ) (t : Entries) (old new : Standing) → IsTrying (slots_of (x ∷ xs)) n s taken i t old.known →
     0 < taken → (x < 2 → new ≡ old) → (2 ≤ x → Steps old (downed old.known.core x) new)
-    → (2 ≤ x → (m : ℕ) × Copies old.known (announced_words old.known.core.sizes + x) m ((m + (2 ^ 64 - 1)) % 2 ^ 64) new.known) → IsTrying (slots_of xs) n s taken i t new.known
+    → (2 ≤ x → (m : ℕ) × Copies old.known (counts_from old.known.core.sizes + x) m ((m + (2 ^ 64 - 1)) % 2 ^ 64) new.known) → IsTrying (slots_of xs) n s taken i t new.known
 trying_given n s taken i x xs t old new tr some_taken constant step copies = elim (two_cases x) [
   | inl q ↦
       subst (λ (st : Standing). IsTrying (slots_of xs) n s taken i t st.known) (sym (constant q.1))
@@ -375,13 +376,13 @@ module _ (n s taken i j : ℕ) (t : Entries) (h k : ℕ) (u : Entries) (word x :
 
   -- another owner has it: its variable is greater
   pub trying_lost : (count : ℕ) → ((e : ℕ × ℕ) → get_elem? t i ≡ some e → (word, x) ≡ e) → count ≢ 1 → Steps old old.known.core new →
-      Copies old.known (announced_words old.known.core.sizes + x) count (if eqb count 1 then 0 else count) new.known →
+      Copies old.known (counts_from old.known.core.sizes + x) count (if eqb count 1 then 0 else count) new.known →
       IsTrying [] n s taken i t new.known
   trying_lost count is shared step copies =
       let b = tr.between in
-      let load : Copies old.known (announced_words old.known.core.sizes + x) count count new.known =
-      subst (λ (q : Bool). Copies old.known (announced_words old.known.core.sizes + x) count (if q then 0 else count) new.known) (ne_eqb count 1 shared) copies in
-      let stays = read_stays old.known new.known (announced_words old.known.core.sizes + x) count b.words load b.copy in
+      let load : Copies old.known (counts_from old.known.core.sizes + x) count count new.known =
+      subst (λ (q : Bool). Copies old.known (counts_from old.known.core.sizes + x) count (if q then 0 else count) new.known) (ne_eqb count 1 shared) copies in
+      let stays = read_stays old.known new.known (counts_from old.known.core.sizes + x) count b.words load b.copy in
       let other : count_in old.known.core.sizes b.words x ≢ 1 = λ one. shared (sym stays.1 ∙ one) in
       let later = shared_is_later n s taken old.known b x entry_is.0 other in
       let past : IsPast n taken word (count_in old.known.core.sizes b.words x) = (subst (λ (w : ℕ). n < variable_of w) entry_is.1 later, λ e. other) in
@@ -399,14 +400,14 @@ module _ (n s taken i j : ℕ) (t : Entries) (h k : ℕ) (u : Entries) (word x :
 
   -- only its table had it: it is taken back, and out of the map, and its children are held
   pub trying_won : (more low high count : ℕ) (d : ℕ × ℕ) → 0 < more → count ≡ 1 → low ≡ low_of word → high ≡ high_of word → Steps old (taken_back old.known.core x word) new
-      → Copies old.known (announced_words old.known.core.sizes + x) count (if eqb count 1 then 0 else count) new.known → IsTrying (slots_of (low ∷ high ∷ [])) n s more i (swap_remove t i d) new.known
+      → Copies old.known (counts_from old.known.core.sizes + x) count (if eqb count 1 then 0 else count) new.known → IsTrying (slots_of (low ∷ high ∷ [])) n s more i (swap_remove t i d) new.known
   trying_won more low high count d some_taken one a z step copies =
       let b = tr.between in
-      let swap : Copies old.known (announced_words old.known.core.sizes + x) count 0 new.known =
-      subst (λ (q : Bool). Copies old.known (announced_words old.known.core.sizes + x) count (if q then 0 else count) new.known) (eq-eqb count 1 one) copies in
+      let swap : Copies old.known (counts_from old.known.core.sizes + x) count 0 new.known =
+      subst (λ (q : Bool). Copies old.known (counts_from old.known.core.sizes + x) count (if q then 0 else count) new.known) (eq-eqb count 1 one) copies in
       let held : old.known.core.held ++ slots_of (children word) ≡ slots_of (low ∷ high ∷ []) = (λ k. b.holds k ++ slots_of (sym a k ∷ sym z k ∷ [])) in
-      carries_tried [] n s taken old.known b more (λ e. absurd (omega arith)) (slots_of (low ∷ high ∷ [])) new.known (set b.words (announced_words old.known.core.sizes + x) 0)
-      (swap.copy ∙ ap (λ (o : Option (List ℕ)). copied o (announced_words old.known.core.sizes + x) 0) b.copy)
+      carries_tried [] n s taken old.known b more (λ e. absurd (omega arith)) (slots_of (low ∷ high ∷ [])) new.known (set b.words (counts_from old.known.core.sizes + x) 0)
+      (swap.copy ∙ ap (λ (o : Option (List ℕ)). copied o (counts_from old.known.core.sizes + x) 0) b.copy)
       (count_wanes old.known.core.sizes more b.words x 0 some_taken entry_is.0.1 (omega arith))
       (rests (slots_of (low ∷ high ∷ [])) old.known new.known (taken_back old.known.core x word) step.known.core refl held refl refl refl step.known.known)
       i (swap_remove t i d)

@@ -6,7 +6,7 @@ use Rattle.eqc_core.specs.View.{View, Hand, hand_of, phase_at}
 use Rattle.eqc_core.specs.Announcing.{MayLook}
 use Rattle.eqc_guard.specs.Sweeping.{IsScanned}
 use Rattle.eqc_cache.specs.Storing.{IsAsBefore}
-use Rattle.eqc_core.specs.Words.{announced_words, slots_of, low_of, high_of}
+use Rattle.eqc_core.specs.Words.{slots_of, low_of, high_of}
 use Rattle.eqc_core.specs.Tables.{Entries}
 use Rattle.eqc_core.specs.Moves.{IsReady, IsQuiet}
 use Rattle.eqc_core.specs.Counting.{downed}
@@ -16,6 +16,7 @@ use Rattle.eqc_guard.specs.Standing.{Standing, Steps}
 use Rattle.eqc_guard.specs.Telling.{Copies}
 use Rattle.eqc_guard.specs.Making.{taken_back}
 use Rattle.eqc_guard.specs.Locking.{MayHome}
+use Rattle.eqc_guard.specs.Rule.{counts_from}
 use Rattle.eqc_arena.specs.Changing.{MayBegin, Changes, Exchanges}
 use Rattle.eqc_arena.specs.Taking.{GivesChild, TriesEntry}
 use Rattle.eqc_arena.specs.Emptying.{IsTrying}
@@ -66,7 +67,7 @@ module _ (word x low high : ℕ) (w0 w1 w2 w3 : Standing) (step : Steps w0 (take
 
   -- an entry of the stripe h in hand was taken back, in a turn that tries these
   module _ (count found n s i j h k : ℕ) (t u : Entries) (one : count ≡ 1)
-      (copies : Copies w0.known (announced_words w0.known.core.sizes + x) count (if eqb count 1 then 0 else count) w1.known)
+      (copies : Copies w0.known (counts_from w0.known.core.sizes + x) count (if eqb count 1 then 0 else count) w1.known)
       (gives : GivesChild low w1 w2) (gives_2 : GivesChild high w2 w3)
       (home : MayHome w0.known.core h u) (at : slice_get u k ≡ Some (word, x)) (next : j ≤ i + 1) where
     pub tries_won : IsTrying [] n s found j t w0.known → IsTrying [] n s (found + 1) i (swap_remove t i (word, x)) w3.known
@@ -120,7 +121,7 @@ module _ (x word place m : ℕ) (old mid new : Standing) (two : 2 ≤ x) (held :
       let t = reads x word old mid read in
       after_still t (gives x mid new t.known slot_held (λ small. absurd (omega arith)) (λ le. down))
 
-  pub slot_gives : Copies old.known place word word mid.known → Copies mid.known (announced_words mid.known.core.sizes + x) m ((m + (2 ^ 64 - 1)) % 2 ^ 64) new.known → GivesChild x old new
+  pub slot_gives : Copies old.known place word word mid.known → Copies mid.known (counts_from mid.known.core.sizes + x) m ((m + (2 ^ 64 - 1)) % 2 ^ 64) new.known → GivesChild x old new
   slot_gives first second n s taken i xs t some_taken tr =
       trying_given n s taken i x xs t mid new (trying_read (slots_of (x ∷ xs)) n s taken i x word place t old mid tr read first) some_taken
       (λ small. absurd (omega arith)) (λ le. down) (λ le. (m, second))

@@ -3,16 +3,16 @@ use Rattle.std.specs.Prelude.{◌≡◌, ◌≢◌, ℕ, ◌+◌, ◌*◌, ◌<�
 use mathlib.Core.Option.{some}
 use lib.ListN.{get_elem?}
 use Rattle.eqc_core.specs.declared.sizes.Sizes.{Sizes}
-use Rattle.eqc_core.specs.Words.{announced_words, variable_of, stripe_of}
+use Rattle.eqc_core.specs.Words.{variable_of, stripe_of}
 use Rattle.eqc_core.specs.Tables.{Entries}
 use Rattle.eqc_core.specs.Moves.{IsReady}
 use Rattle.eqc_guard.specs.Known.{Known, IsKnown}
 use Rattle.eqc_guard.specs.Sweeping.{IsSilent}
-use Rattle.eqc_guard.specs.Rule.{nodes_from, cells_from, boxes_from}
+use Rattle.eqc_guard.specs.Rule.{counts_from, nodes_from, cells_from, boxes_from}
 
 -- the words of a slot's count and of its node, in a copy of the words
 abbrev pub count_in : Sizes → List ℕ → ℕ → ℕ
-count_in z ws x = get_or ws (announced_words z + x) 0
+count_in z ws x = get_or ws (counts_from z + x) 0
 
 abbrev pub node_in : Sizes → List ℕ → ℕ → ℕ
 node_in z ws x = get_or ws (nodes_from z + x) 0

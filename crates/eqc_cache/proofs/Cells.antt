@@ -4,10 +4,9 @@ use native.Mathlib.Decide.{ℕ_discrete, dec_le}
 use Rattle.eqc_tree.specs.declared.operation.Op.{Op}
 use Rattle.eqc_core.specs.declared.sizes.Sizes.{Sizes}
 use Rattle.eqc_core.specs.View.{View}
-use Rattle.eqc_core.specs.Words.{announced_words}
 use Rattle.eqc_core.specs.Counting.{downed}
 use Rattle.eqc_guard.specs.Known.{Known, IsHeld, IsKnown}
-use Rattle.eqc_guard.specs.Rule.{cells_from}
+use Rattle.eqc_guard.specs.Rule.{counts_from, cells_from}
 use Rattle.eqc_guard.specs.Standing.{Standing, Steps}
 use Rattle.eqc_guard.specs.Telling.{Copies}
 use Rattle.eqc_guard.specs.Copying.{cell_in, KeepsCells, SetsCell}
@@ -36,7 +35,7 @@ one_empty n a b c same first then ws e =
 
 -- a reference is given back
 pub down_keeps : (x : ℕ) (s next : Standing) → IsKnown s.known → IsHeld s.known.core x → (x < 2 → next ≡ s) → (2 ≤ x → Steps s (downed s.known.core x) next)
-    → (2 ≤ x → (n : ℕ) × Copies s.known (announced_words s.known.core.sizes + x) n ((n + (2 ^ 64 - 1)) % 2 ^ 64) next.known) →
+    → (2 ≤ x → (n : ℕ) × Copies s.known (counts_from s.known.core.sizes + x) n ((n + (2 ^ 64 - 1)) % 2 ^ 64) next.known) →
     KeepsCells s.known next.known × (next.known.core.sizes ≡ s.known.core.sizes)
 down_keeps x s next known held same step copies = go (dec_le 2 x)
   where

@@ -1,7 +1,5 @@
 -- What a worker knows that took another in, after both scanned.
-use Rattle.std.proofs.Common.{◌≡◌, ℕ, ◌*◌, ◌<◌, ◌≤◌, List, [], ◌∷◌, ◌++◌, length, get_or, Option, length-append, sym, ap, subst, ◌∙◌, arith}
-use lib.ListN.{get_elem?}
-use Rattle.eqc_core.specs.declared.phase.Phase.{Phase}
+use Rattle.std.proofs.Common.{◌≡◌, ℕ, ◌*◌, ◌<◌, ◌≤◌, [], ◌++◌, length, Option, length-append, sym, ap, subst, ◌∙◌, arith}
 use Rattle.eqc_core.specs.declared.phase.Phase.TheVariants.{Idle}
 use Rattle.eqc_core.specs.View.{View, Read, phase_at}
 use Rattle.eqc_core.specs.Words.{announced_words, times}

@@ -44,12 +44,12 @@ module _ (k : Known) (ws : List ℕ) (quiet : IsQuiet (phase_at k.core 0)) (sile
   there_none id (yes past) = c.lawful.seated.beyond id j past lt
   there_none id (no n) = view_none id (get_at c.views id unused (omega arith)) (view_at c.views id).active refl
 
-pub none_announced : (k : Known) (ws : List ℕ) (i : ℕ) → IsKnown k → IsQuiet (phase_at k.core 0) → IsSilent k.core → k.copy ≡ Some ws → i < announced_words k.core.sizes → get_or ws i 0 ≡ 0
+pub none_announced : (k : Known) (ws : List ℕ) (i : ℕ) → IsKnown k → IsQuiet (phase_at k.core 0) → IsSilent k.core → k.copy ≡ Some ws → i < announced_words k.core.sizes → get_or ws (2 * i) 0 ≡ 0
 none_announced k ws i known quiet silent has lt =
     let c = known.state ws has in
     let z : Sizes = k.core.sizes in
     let part : i % k.core.sizes.announcements < k.core.sizes.announcements = mod-lt i c.lawful.sized.some_announcements in
-    ap (λ (l : List ℕ). get_or l i 0) c.laid
+    ap (λ (l : List ℕ). get_or l (2 * i) 0) c.laid
     ∙ (get_announced k.core.sizes c.words c.homes c.views c.lawful.sized i lt
     ∙ (ap (λ (n : ℕ). get_or c.words.announced n 0) (sym (whose_word k.core.sizes i))
     ∙ there_none k ws quiet silent c (i % k.core.sizes.announcements) part (i / k.core.sizes.announcements) (dec_le (length c.views) (i / k.core.sizes.announcements))))

@@ -5,7 +5,7 @@ use Rattle.std.proofs.lemmas.List.{set-get_or}
 use mathlib.Core.Option.{some}
 use Rattle.eqc_core.specs.declared.sizes.Sizes.{Sizes}
 use Rattle.eqc_core.specs.View.{View}
-use Rattle.eqc_core.specs.Words.{Words, announced_words}
+use Rattle.eqc_core.specs.Words.{Words}
 use Rattle.eqc_core.specs.Tables.{Homes}
 use Rattle.eqc_core.specs.Lawful.{IsSized, Lawful}
 use Rattle.eqc_guard.specs.Closing.{above_zero, IsTallied}
@@ -13,6 +13,7 @@ use Rattle.eqc_guard.specs.Known.{flat, Known, IsCopy, IsKnown}
 use Rattle.eqc_guard.specs.Standing.{Standing}
 use Rattle.eqc_guard.specs.Splitting.{IsCopied}
 use Rattle.eqc_guard.specs.Telling.{Copies, copied}
+use Rattle.eqc_guard.specs.Rule.{counts_from}
 use Rattle.eqc_guard.proofs.Laid.{get_count}
 
 -- a load leaves the copy, and finds its word
@@ -24,11 +25,11 @@ read_stays k after i found ws c has =
     )
 
 -- the count words in a row are those by kind
-counts_in : (z : Sizes) (w : Words) (hs : Homes) (vs : List View) (n : ℕ) → IsSized z w hs vs → n + 2 ≤ z.names → above_zero (flat w) (announced_words z + 2) n ≡ above_zero w.counts 2 n
+counts_in : (z : Sizes) (w : Words) (hs : Homes) (vs : List View) (n : ℕ) → IsSized z w hs vs → n + 2 ≤ z.names → above_zero (flat w) (counts_from z + 2) n ≡ above_zero w.counts 2 n
 counts_in z w hs vs zero sized few = refl
 counts_in z w hs vs (suc n) sized few =
-    let here : get_or (flat w) (announced_words z + 2 + n) 0 ≡ get_or w.counts (2 + n) 0 =
-    ap (λ (k : ℕ). get_or (flat w) k 0) (let e : announced_words z + 2 + n ≡ announced_words z + (2 + n) = omega arith in e) ∙ get_count z w hs vs sized (2 + n) (omega arith) in
+    let here : get_or (flat w) (counts_from z + 2 + n) 0 ≡ get_or w.counts (2 + n) 0 =
+    ap (λ (k : ℕ). get_or (flat w) k 0) (let e : counts_from z + 2 + n ≡ counts_from z + (2 + n) = omega arith in e) ∙ get_count z w hs vs sized (2 + n) (omega arith) in
     λ i. counts_in z w hs vs n sized (omega arith) i + (if ltb 0 (here i) then 1 else 0)
 
 -- a copy that was taken now is of the view before
@@ -60,7 +61,7 @@ counts_none ws i m n counted is none next =
 
 -- the tally is that of the state
 pub tallies : (old mid : Standing) (counted : ℕ) → IsCopied old mid → IsKnown mid.known
-    → ((ws : List ℕ) → mid.known.copy ≡ Some ws → counted ≡ above_zero ws (announced_words mid.known.core.sizes + 2) (mid.known.core.sizes.names - 2)) → IsTallied counted old.known
+    → ((ws : List ℕ) → mid.known.copy ≡ Some ws → counted ≡ above_zero ws (counts_from mid.known.core.sizes + 2) (mid.known.core.sizes.names - 2)) → IsTallied counted old.known
 tallies old mid counted c known is =
     let same = c.step.known.core in
     let state = copy_before old.known mid.known c.words same (known.state c.words c.copy) in
@@ -71,7 +72,7 @@ tallies old mid counted c known is =
       state = state;
       same = c.same;
       exact = is c.words c.copy
-          ∙ (ap (λ (v : View). above_zero c.words (announced_words v.sizes + 2) (v.sizes.names - 2)) same
-          ∙ (ap (λ (ws : List ℕ). above_zero ws (announced_words old.known.core.sizes + 2) (old.known.core.sizes.names - 2)) state.laid
+          ∙ (ap (λ (v : View). above_zero c.words (counts_from v.sizes + 2) (v.sizes.names - 2)) same
+          ∙ (ap (λ (ws : List ℕ). above_zero ws (counts_from old.known.core.sizes + 2) (old.known.core.sizes.names - 2)) state.laid
           ∙ counts_in old.known.core.sizes state.words state.homes state.views (old.known.core.sizes.names - 2) sized (omega arith)));
     }

@@ -3,11 +3,11 @@ use Rattle.std.proofs.Common.{◌≡◌, ℕ, ◌+◌, ◌*◌, ◌<◌, ◌≤�
 use Rattle.std.proofs.lemmas.List.{get_or-set_same, get_or-set_other}
 use Rattle.eqc_core.specs.declared.sizes.Sizes.{Sizes}
 use Rattle.eqc_core.specs.View.{View}
-use Rattle.eqc_core.specs.Words.{announced_words, times, word_at}
+use Rattle.eqc_core.specs.Words.{times, word_at}
 use Rattle.eqc_core.proofs.Places.{below as word_there}
 use Rattle.eqc_guard.specs.Known.{Known, IsKnown, KeepsCopy}
 use Rattle.atomic_table.specs.Seated.{TableId}
-use Rattle.eqc_guard.specs.Rule.{cells_from, boxes_from, all_words, IsWorker}
+use Rattle.eqc_guard.specs.Rule.{counts_from, cells_from, boxes_from, all_words, IsWorker}
 use Rattle.eqc_guard.specs.Standing.{Standing, Steps}
 use Rattle.eqc_guard.specs.Copying.{cell_in, KeepsCells, SetsCell, box_in, SetsBox}
 use Rattle.eqc_guard.specs.Telling.{Copies, copied}
@@ -42,8 +42,8 @@ pub load_keeps : (k after : Known) (i found : ℕ) → Copies k i found found af
 load_keeps k after i found c ws e = let r = read_stays k after i found ws c e in (ws, r.0, λ n. refl)
 
 -- a count, of a name that is there
-pub count_keeps : (k after : Known) (x found left : ℕ) → x < k.core.sizes.names → Copies k (announced_words k.core.sizes + x) found left after → KeepsCells k after
-count_keeps k after x found left there c = set_keeps k after (announced_words k.core.sizes + x) left (omega arith) c.copy
+pub count_keeps : (k after : Known) (x found left : ℕ) → x < k.core.sizes.names → Copies k (counts_from k.core.sizes + x) found left after → KeepsCells k after
+count_keeps k after x found left there c = set_keeps k after (counts_from k.core.sizes + x) left (omega arith) c.copy
 
 pub below : (k : Known) (x : ℕ) → IsKnown k → 2 ≤ x → 0 < times x k.core.held → x < k.core.sizes.names
 below k x known two h = known.below x two (held_named k.core x h)
@@ -111,7 +111,7 @@ stays_set a b c n word same first then ws e =
     )
 
 -- an announcement word stands before the cells
-pub word_before : (z : Sizes) (number k : ℕ) → k < z.announcements → number < z.workers → word_at z number k < cells_from z
+pub word_before : (z : Sizes) (number k : ℕ) → k < z.announcements → number < z.workers → 2 * word_at z number k < cells_from z
 word_before z number k lt there = let b = word_there z number k there lt in omega arith
 
 pub number_there : {T : Type 0} (id : TableId) (z : Sizes) (me : Known × List T) → IsWorker id z me → me.0.core.number < me.0.core.sizes.workers

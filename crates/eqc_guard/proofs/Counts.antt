@@ -1,5 +1,5 @@
 -- How many names a worker holds after a step, and that what it steps on is there.
-use Rattle.std.proofs.Common.{◌≡◌, ◌≢◌, ℕ, ◌+◌, ◌-◌, ◌<◌, ◌≤◌, List, [], ◌∷◌, length, get_or, true, Option, Some, None, length-append, refl, sym, ap, subst, ◌∙◌, arith, inl, inr}
+use Rattle.std.proofs.Common.{◌≡◌, ℕ, ◌+◌, ◌-◌, ◌<◌, ◌≤◌, List, [], ◌∷◌, length, true, Option, Some, None, length-append, refl, sym, ap, subst, ◌∙◌, arith, inl, inr}
 use mathlib.Core.Option.{some}
 use native.Mathlib.Decide.{ℕ_discrete, dec_le}
 use lib.ListN.{get_elem?}
@@ -15,7 +15,6 @@ use Rattle.eqc_core.specs.Caching.{swapped}
 use Rattle.eqc_core.proofs.Lists.{get_at}
 use Rattle.eqc_core.proofs.Names.{times-same, times-other, times-without, times-without_other, times-slots_of, slots_of_slots, length-without_one}
 use Rattle.eqc_guard.specs.Known.{Known, IsKnown, IsHeld, Stepped}
-use Rattle.eqc_guard.specs.Rule.{IsWorker}
 use Rattle.eqc_guard.specs.Standing.{IsSeated, slots_out, stripes_in}
 use Rattle.eqc_guard.proofs.Learning.{held_named}
 

@@ -13,7 +13,7 @@ use Rattle.eqc_tree.specs.Tree.{Tree, False, True, Node, StartsAbove}
 use Rattle.eqc_tree.specs.Word.{node_word}
 use Rattle.eqc_core.specs.declared.sizes.Sizes.{Sizes}
 use Rattle.eqc_core.specs.View.{View, Hand, draft_of, hand_of}
-use Rattle.eqc_core.specs.Words.{Words, announced_words, times, children, variable_of, low_of, high_of, slots_of}
+use Rattle.eqc_core.specs.Words.{Words, times, children, variable_of, low_of, high_of, slots_of}
 use Rattle.eqc_core.specs.Tables.{Homes, IsName, tabled}
 use Rattle.eqc_core.specs.Trees.{IsTree, variable_at}
 use Rattle.eqc_core.specs.Lawful.{Lawful}
@@ -30,7 +30,7 @@ use Rattle.eqc_core.proofs.Reclaiming.{reclaim_keeps}
 use Rattle.eqc_guard.specs.Known.{flat, Known, Knows, IsKnown, IsHeld, IsNamed, Stepped, names_of, tree_of}
 use Rattle.eqc_guard.specs.Telling.{Told, Stored, Nothing, Copies}
 use Rattle.eqc_guard.specs.Making.{Claims, spotted, node_tree, drafted, Writes, MayMake, Reads, IsEntry, taken_back, Reclaims}
-use Rattle.eqc_guard.specs.Rule.{Held, homes_of, nodes_from}
+use Rattle.eqc_guard.specs.Rule.{counts_from, Held, homes_of, nodes_from}
 use Rattle.eqc_guard.proofs.Laid.{set_count, get_count, set_node, get_node}
 use Rattle.eqc_guard.proofs.Learning.{names_is, held_named, named_tree, held_tree}
 use Rattle.eqc_guard.proofs.Counts.{slots_held, length-without_all}
@@ -94,7 +94,7 @@ module _ {S : Type 0} (z : Sizes) (slots id i : ℕ) (me : Me (HashMap ℕ ℕ S
       let here : i ≡ nodes_from z + x = is ∙ ap (λ (y : Sizes). nodes_from y + x) (size z slots id i me on w hs vs law at) in
       (here, ap (λ (k : ℕ). get_or (flat w) k 0) here ∙ get_node z w hs vs law.sized x lt)
 
-  module _ (x : ℕ) (is : i ≡ announced_words me.0.core.sizes + x) where
+  module _ (x : ℕ) (is : i ≡ counts_from me.0.core.sizes + x) where
     found : (w : Words) (hs : Homes) (vs : List View) → Lawful z w hs vs → get_elem? vs id ≡ some me.0.core → x < me.0.core.sizes.names → get_or (flat w) i 0 ≡ get_or w.counts x 0
     found w hs vs law at lt = let h = count_here z slots id i me on w hs vs law at x is lt in ap (λ (k : ℕ). get_or (flat w) k 0) h.0 ∙ get_count z w hs vs law.sized x h.1
 
@@ -138,9 +138,9 @@ module _ {S : Type 0} (z : Sizes) (slots id i : ℕ) (me : Me (HashMap ℕ ℕ S
           λ k stepped copies known counted. (stepped, refl, copies, tt, counted),
         )
 
-    pub claim_allows : MayClaim me.0.core x → Allows (Held {S = S} z) slots id me i (λ n. either (eqb n 0) 2 n) (λ n after. Claims me i (i - announced_words me.0.core.sizes) n after)
+    pub claim_allows : MayClaim me.0.core x → Allows (Held {S = S} z) slots id me i (λ n. either (eqb n 0) 2 n) (λ n after. Claims me i (i - counts_from me.0.core.sizes) n after)
     claim_allows may =
-        let back : x ≡ i - announced_words me.0.core.sizes = omega arith in
+        let back : x ≡ i - counts_from me.0.core.sizes = omega arith in
         subst (λ (y : ℕ). Allows (Held {S = S} z) slots id me i (λ n. either (eqb n 0) 2 n) (λ n after. Claims me i y n after)) back (claim_at may)
 
     -- a load that notes the slot, or leaves the view
@@ -149,9 +149,9 @@ module _ {S : Type 0} (z : Sizes) (slots id i : ℕ) (me : Me (HashMap ℕ ℕ S
     spot_keeps w hs vs law at true = subst (λ (us : List View). Lawful z w hs us) (sym (set_again vs id me.0.core at)) law
     spot_keeps w hs vs law at false = claim_lost_keeps z w hs vs id me.0.core law at on x
 
-    pub spot_allows : Allows (Held {S = S} z) slots id me i (λ n. n) (λ n after. Told me i n n (spotted me.0.core (i - announced_words me.0.core.sizes) n) after (Nothing n))
+    pub spot_allows : Allows (Held {S = S} z) slots id me i (λ n. n) (λ n after. Told me i n n (spotted me.0.core (i - counts_from me.0.core.sizes) n) after (Nothing n))
     spot_allows =
-        let back : x ≡ i - announced_words me.0.core.sizes = omega arith in
+        let back : x ≡ i - counts_from me.0.core.sizes = omega arith in
         subst (λ (y : ℕ). Allows (Held {S = S} z) slots id me i (λ n. n) (λ n after. Told me i n n (spotted me.0.core y n) after (Nothing n))) back
         (load z slots id i me on (λ n. spotted me.0.core x n) Nothing (λ n. on) (λ w hs vs law at knows. (spot_keeps w hs vs law at (eqb (get_or (flat w) i 0) 0), λ k core known. tt)))
 
@@ -280,7 +280,7 @@ module _ {S : Type 0} (z : Sizes) (slots id i : ℕ) (me : Me (HashMap ℕ ℕ S
               subst (λ (p : ℕ × ℕ). IsTree (set w.nodes x (node_word variable low high)) (tree_of me.0 p.0) p.1) (λ j. (sym f.high_is j, (sym f.high_is ∙ ap high_of (sym here)) j)) ht,
             )
 
-  module _ (x word : ℕ) (is : i ≡ announced_words me.0.core.sizes + x) (known : IsKnown me.0) (entry : IsEntry me.0.core word x) where
+  module _ (x word : ℕ) (is : i ≡ counts_from me.0.core.sizes + x) (known : IsKnown me.0) (entry : IsEntry me.0.core word x) where
     abbrev h : Hand
     h = entry.0
 
@@ -338,40 +338,40 @@ module _ {S : Type 0} (z : Sizes) (slots id i : ℕ) (me : Me (HashMap ℕ ℕ S
         )
 
     pub reclaim_allows : IsReady me.0.core → length me.0.core.held ≤ 2 ^ 39 →
-        Allows (Held {S = S} z) slots id me i (λ n. either (eqb n 1) 0 n) (λ n after. Reclaims me i (i - announced_words me.0.core.sizes) n after)
+        Allows (Held {S = S} z) slots id me i (λ n. either (eqb n 1) 0 n) (λ n after. Reclaims me i (i - counts_from me.0.core.sizes) n after)
     reclaim_allows ready few =
-        let back : x ≡ i - announced_words me.0.core.sizes = omega arith in
+        let back : x ≡ i - counts_from me.0.core.sizes = omega arith in
         subst (λ (y : ℕ). Allows (Held {S = S} z) slots id me i (λ n. either (eqb n 1) 0 n) (λ n after. Reclaims me i y n after)) back (reclaim_at ready few)
 
 -- what a try to claim tells, by what it found
-pub claim_won : {T : Type 0} (me : Known × List T) (i x n : ℕ) (after : Known × List T) → i ≡ announced_words me.0.core.sizes + x → n ≡ 0 →
-    Claims me i (i - announced_words me.0.core.sizes) n after → Told me i n 2 (claimed me.0.core x) after (Nothing n)
+pub claim_won : {T : Type 0} (me : Known × List T) (i x n : ℕ) (after : Known × List T) → i ≡ counts_from me.0.core.sizes + x → n ≡ 0 →
+    Claims me i (i - counts_from me.0.core.sizes) n after → Told me i n 2 (claimed me.0.core x) after (Nothing n)
 claim_won me i x n after is zero_count c =
-    let back : i - announced_words me.0.core.sizes ≡ x = omega arith in
+    let back : i - counts_from me.0.core.sizes ≡ x = omega arith in
     subst (λ (y : ℕ). Told me i n 2 (claimed me.0.core y) after (Nothing n)) back
     (subst
     (λ (b : Bool).
-    MatchBool b (Told me i n 2 (claimed me.0.core (i - announced_words me.0.core.sizes)) after (Nothing n))
-    (Told me i n n (found_taken me.0.core (i - announced_words me.0.core.sizes)) after (Nothing n)))
+    MatchBool b (Told me i n 2 (claimed me.0.core (i - counts_from me.0.core.sizes)) after (Nothing n))
+    (Told me i n n (found_taken me.0.core (i - counts_from me.0.core.sizes)) after (Nothing n)))
     (eq-eqb n 0 zero_count) c)
 
-pub claim_lost : {T : Type 0} (me : Known × List T) (i x n : ℕ) (after : Known × List T) → i ≡ announced_words me.0.core.sizes + x → n ≢ 0 →
-    Claims me i (i - announced_words me.0.core.sizes) n after → Told me i n n (found_taken me.0.core x) after (Nothing n)
+pub claim_lost : {T : Type 0} (me : Known × List T) (i x n : ℕ) (after : Known × List T) → i ≡ counts_from me.0.core.sizes + x → n ≢ 0 →
+    Claims me i (i - counts_from me.0.core.sizes) n after → Told me i n n (found_taken me.0.core x) after (Nothing n)
 claim_lost me i x n after is some_count c =
-    let back : i - announced_words me.0.core.sizes ≡ x = omega arith in
+    let back : i - counts_from me.0.core.sizes ≡ x = omega arith in
     subst (λ (y : ℕ). Told me i n n (found_taken me.0.core y) after (Nothing n)) back
     (subst
     (λ (b : Bool).
-    MatchBool b (Told me i n 2 (claimed me.0.core (i - announced_words me.0.core.sizes)) after (Nothing n))
-    (Told me i n n (found_taken me.0.core (i - announced_words me.0.core.sizes)) after (Nothing n)))
+    MatchBool b (Told me i n 2 (claimed me.0.core (i - counts_from me.0.core.sizes)) after (Nothing n))
+    (Told me i n n (found_taken me.0.core (i - counts_from me.0.core.sizes)) after (Nothing n)))
     (ne_eqb n 0 some_count) c)
 
 -- what a try to take a node back tells, by what it found
-pub reclaim_won : {T : Type 0} (me : Known × List T) (i x word n : ℕ) (after : Known × List T) → i ≡ announced_words me.0.core.sizes + x → n ≡ 1 →
-    IsEntry me.0.core word x → Reclaims me i (i - announced_words me.0.core.sizes) n after
+pub reclaim_won : {T : Type 0} (me : Known × List T) (i x word n : ℕ) (after : Known × List T) → i ≡ counts_from me.0.core.sizes + x → n ≡ 1 →
+    IsEntry me.0.core word x → Reclaims me i (i - counts_from me.0.core.sizes) n after
     → Told me i n 0 (taken_back me.0.core x word) after (Nothing n)
 reclaim_won me i x word n after is one entry c =
-    let back : i - announced_words me.0.core.sizes ≡ x = omega arith in
+    let back : i - counts_from me.0.core.sizes ≡ x = omega arith in
     let r : Reclaims me i x n after = subst (λ (y : ℕ). Reclaims me i y n after) back c in
     subst
     (λ (b : Bool). MatchBool b ((m : ℕ) → IsEntry me.0.core m x → Told me i n 0 (taken_back me.0.core x m) after (Nothing n)) (Told me i n n me.0.core after (Nothing n)))

@@ -1,5 +1,5 @@
 -- Each step of the first pass is allowed by the rule, whatever the table is when its word changes.
-use Rattle.std.proofs.Common.{◌≡◌, ◌≢◌, ◌⊎◌, ℕ, suc, ◌+◌, ◌-◌, ◌%◌, ◌^◌, ◌<◌, ◌≤◌, List, [], ◌∷◌, length, set, get_or, ltb, Bool, true, false, if◌then◌else◌, eq-eqb, refl, sym, ap, subst, ◌∙◌, arith, inl, inr, ⊎_elim, length-append}
+use Rattle.std.proofs.Common.{◌≡◌, ◌≢◌, ◌⊎◌, ℕ, suc, ◌+◌, ◌-◌, ◌*◌, ◌/◌, ◌%◌, ◌^◌, ◌<◌, ◌≤◌, List, [], ◌∷◌, length, set, get_or, ltb, Bool, true, false, if◌then◌else◌, eq-eqb, refl, sym, ap, subst, ◌∙◌, arith, inl, inr, ⊎_elim, length-append}
 use Rattle.std.specs.HashMap.{HashMap}
 use Rattle.std.proofs.Math.Nat.{mod-eq_of_lt}
 use Rattle.std.proofs.lemmas.List.{set-get_or}
@@ -15,7 +15,6 @@ use Rattle.eqc_core.specs.Words.{Words, announced_words, word_at, times, cell_na
 use Rattle.eqc_core.specs.Tables.{Homes}
 use Rattle.eqc_core.specs.Trees.{IsFilled, IsRight, IsTree}
 use Rattle.eqc_core.specs.Lawful.{IsNamed, Fits, Lawful}
-use Rattle.eqc_core.specs.State.{IsWithinLimits}
 use Rattle.eqc_core.specs.Moves.{with_announced, with_count, with_cell, without_each}
 use Rattle.eqc_core.specs.Announcing.{MayLook, looked, MayAnnounce, announced, announced_cell, IsAnnounced, MayRecheck, rechecked, rechecked_phase}
 use Rattle.eqc_core.specs.Counting.{MayUp, upped, MayDown, downed}
@@ -35,7 +34,7 @@ use Rattle.eqc_core.proofs.Scanning.{scan_keeps}
 use Rattle.eqc_guard.specs.Known.{flat, Known, Knows, IsHeld, tree_of}
 use Rattle.eqc_guard.specs.Telling.{Takes, Told, Counts, Stored, Nothing, IsResult, IsRightHere, Looks, Rechecks, Shown, MayFill}
 use Rattle.eqc_guard.specs.Making.{node_tree, IsEntry, Ups}
-use Rattle.eqc_guard.specs.Rule.{Held, homes_of, cells_from}
+use Rattle.eqc_guard.specs.Rule.{counts_from, Held, homes_of, cells_from}
 use Rattle.eqc_guard.proofs.Laid.{set_announced, get_announced, set_count, get_count, set_cell, get_cell}
 use Rattle.eqc_guard.proofs.Learning.{confirmed_named, held_named, held_tree, known_right, filled_result}
 use Rattle.eqc_guard.proofs.Stepping.{allows}
@@ -65,7 +64,7 @@ pub own_word_there : (z : Sizes) (v : View) (k : ℕ) → v.sizes ≡ z → v.nu
 own_word_there z v k is lt word = subst (λ (y : Sizes). word_at y v.number k < announced_words z) (sym is) (below z v.number k lt (subst (λ (y : Sizes). k < y.announcements) is word))
 
 -- they stand one after the other
-pub word_after : (z : Sizes) (number k : ℕ) → k ≡ word_at z number k - word_at z number 0
+pub word_after : (z : Sizes) (number k : ℕ) → k ≡ (2 * word_at z number k - 2 * word_at z number 0) / 2
 unfolding word_at
 word_after z number k = omega arith
 
@@ -121,8 +120,8 @@ module _ {S : Type 0} (z : Sizes) (slots id i : ℕ) (me : Me (HashMap ℕ ℕ S
     size = fits.sizes
 
     -- the count word that the worker steps on
-    pub count_here : (x : ℕ) → i ≡ announced_words me.0.core.sizes + x → x < me.0.core.sizes.names → (i ≡ announced_words z + x) × (x < z.names)
-    count_here x is lt = (is ∙ ap (λ (y : Sizes). announced_words y + x) size, subst (λ (y : Sizes). x < y.names) size lt)
+    pub count_here : (x : ℕ) → i ≡ counts_from me.0.core.sizes + x → x < me.0.core.sizes.names → (i ≡ counts_from z + x) × (x < z.names)
+    count_here x is lt = (is ∙ ap (λ (y : Sizes). counts_from y + x) size, subst (λ (y : Sizes). x < y.names) size lt)
 
     cell_here : (c : ℕ) → i ≡ cells_from me.0.core.sizes + c → c < me.0.core.sizes.cells → (i ≡ cells_from z + c) × (c < z.cells) × (get_or (flat w) i 0 ≡ get_or w.cells c 0)
     cell_here c is lt =
@@ -180,13 +179,13 @@ module _ {S : Type 0} (z : Sizes) (slots id i : ℕ) (me : Me (HashMap ℕ ℕ S
           length-slots_of (operands old),
         )
 
-  pub up_allows : (x : ℕ) → i ≡ announced_words me.0.core.sizes + x → MayUp me.0.core x
+  pub up_allows : (x : ℕ) → i ≡ counts_from me.0.core.sizes + x → MayUp me.0.core x
       → Allows (Held {S = S} z) slots id me i (λ n. (n + 1) % 2 ^ 64)
-      (λ n after. Counts me i n ((n + 1) % 2 ^ 64) (upped me.0.core (i - announced_words me.0.core.sizes)) after (Ups me.0 (i - announced_words me.0.core.sizes)))
+      (λ n after. Counts me i n ((n + 1) % 2 ^ 64) (upped me.0.core (i - counts_from me.0.core.sizes)) after (Ups me.0 (i - counts_from me.0.core.sizes)))
   up_allows x is may =
-      plain suc (λ n. (n + 1) % 2 ^ 64) (λ n. upped me.0.core (i - announced_words me.0.core.sizes)) (λ n. Ups me.0 (i - announced_words me.0.core.sizes)) (λ n. on) (λ w hs vs law at knows small.
+      plain suc (λ n. (n + 1) % 2 ^ 64) (λ n. upped me.0.core (i - counts_from me.0.core.sizes)) (λ n. Ups me.0 (i - counts_from me.0.core.sizes)) (λ n. on) (λ w hs vs law at knows small.
       let h = count_here w hs vs law at x is may.2 in
-      let back : x ≡ i - announced_words me.0.core.sizes = omega arith in
+      let back : x ≡ i - counts_from me.0.core.sizes = omega arith in
       let found : get_or (flat w) i 0 ≡ get_or w.counts x 0 = ap (λ (k : ℕ). get_or (flat w) k 0) h.0 ∙ get_count z w hs vs law.sized x h.1 in
       let next : (get_or (flat w) i 0 + 1) % 2 ^ 64 ≡ get_or w.counts x 0 + 1 = ap (λ (n : ℕ). (n + 1) % 2 ^ 64) found ∙ mod-eq_of_lt (count_fits z w hs vs x law may.1 h.1) in
       let room : length (upped me.0.core x).held ≤ 2 ^ 40 = let few = may.3 in omega (arith, length-append me.0.core.held (x ∷ [])) in (
@@ -194,15 +193,15 @@ module _ {S : Type 0} (z : Sizes) (slots id i : ℕ) (me : Me (HashMap ℕ ℕ S
         ap (λ (n : ℕ). set (flat w) i n) next ∙ (ap (λ (k : ℕ). set (flat w) k (get_or w.counts x 0 + 1)) h.0 ∙ set_count z w hs vs law.sized x (get_or w.counts x 0 + 1) h.1),
         refl,
         subst (λ (k : ℕ). Lawful z (with_count w x (get_or w.counts x 0 + 1)) hs (set vs id (upped me.0.core k))) back (up_keeps z w hs vs id me.0.core law at on x may room),
-        λ k e known word entry low high. entry_tree w hs vs law at knows (i - announced_words me.0.core.sizes) word (let two = may.1 in omega arith) entry low high k e known,
+        λ k e known word entry low high. entry_tree w hs vs law at knows (i - counts_from me.0.core.sizes) word (let two = may.1 in omega arith) entry low high k e known,
       ))
 
-  pub down_allows : (x : ℕ) → i ≡ announced_words me.0.core.sizes + x → MayDown me.0.core x
+  pub down_allows : (x : ℕ) → i ≡ counts_from me.0.core.sizes + x → MayDown me.0.core x
       → Allows (Held {S = S} z) slots id me i (λ n. (n + (2 ^ 64 - 1)) % 2 ^ 64)
-      (λ n after. Counts me i n ((n + (2 ^ 64 - 1)) % 2 ^ 64) (downed me.0.core (i - announced_words me.0.core.sizes)) after (Nothing n))
-  down_allows x is may = plain suc (λ n. (n + (2 ^ 64 - 1)) % 2 ^ 64) (λ n. downed me.0.core (i - announced_words me.0.core.sizes)) Nothing (λ n. on) (λ w hs vs law at knows small.
+      (λ n after. Counts me i n ((n + (2 ^ 64 - 1)) % 2 ^ 64) (downed me.0.core (i - counts_from me.0.core.sizes)) after (Nothing n))
+  down_allows x is may = plain suc (λ n. (n + (2 ^ 64 - 1)) % 2 ^ 64) (λ n. downed me.0.core (i - counts_from me.0.core.sizes)) Nothing (λ n. on) (λ w hs vs law at knows small.
       let h = count_here w hs vs law at x is may.2 in
-      let back : x ≡ i - announced_words me.0.core.sizes = omega arith in
+      let back : x ≡ i - counts_from me.0.core.sizes = omega arith in
       let found : get_or (flat w) i 0 ≡ get_or w.counts x 0 = ap (λ (k : ℕ). get_or (flat w) k 0) h.0 ∙ get_count z w hs vs law.sized x h.1 in
       let some_counts = held_counted z w hs vs law id x me.0.core at may.3 in
       let next : (get_or (flat w) i 0 + (2 ^ 64 - 1)) % 2 ^ 64 ≡ get_or w.counts x 0 - 1 = ap (λ (n : ℕ). (n + (2 ^ 64 - 1)) % 2 ^ 64) found
@@ -252,13 +251,13 @@ module _ {S : Type 0} (z : Sizes) (slots id i : ℕ) (me : Me (HashMap ℕ ℕ S
       → Allows (Held {S = S} z) slots id me i (λ n. n) (λ n after. Told me i n n (rechecked me.0.core j n) after (Rechecks me.0 j n))
   again_allows j c is cell lt may = let a = announced_as (phase_at me.0.core j) may.2 in recheck_allows j c a.0 is lt (a.1 ∙ ap (λ (k : ℕ). Announced k a.0) (sym cell)) may
 
-  pub announce_allows : (j x : ℕ) → i ≡ word_at me.0.core.sizes me.0.core.number j → MayAnnounce me.0.core j x →
-      Allows (Held {S = S} z) slots id me i (λ _. x) (λ _ after. Stored me i x (announced me.0.core (i - word_at me.0.core.sizes me.0.core.number 0)) after)
-  announce_allows j x is may = store x (announced me.0.core (i - word_at me.0.core.sizes me.0.core.number 0)) on (λ w hs vs law at.
+  pub announce_allows : (j x : ℕ) → i ≡ 2 * word_at me.0.core.sizes me.0.core.number j → MayAnnounce me.0.core j x →
+      Allows (Held {S = S} z) slots id me i (λ _. x) (λ _ after. Stored me i x (announced me.0.core ((i - 2 * word_at me.0.core.sizes me.0.core.number 0) / 2)) after)
+  announce_allows j x is may = store x (announced me.0.core ((i - 2 * word_at me.0.core.sizes me.0.core.number 0) / 2)) on (λ w hs vs law at.
       let f = fits w hs vs law at in
-      let back : j ≡ i - word_at me.0.core.sizes me.0.core.number 0 =
-      word_after me.0.core.sizes me.0.core.number j ∙ ap (λ (n : ℕ). n - word_at me.0.core.sizes me.0.core.number 0) (sym is) in
-      let here : i ≡ word_at z id j = is ∙ (ap (λ (y : Sizes). word_at y me.0.core.number j) f.sizes ∙ ap (λ (n : ℕ). word_at z n j) f.number) in
+      let back : j ≡ (i - 2 * word_at me.0.core.sizes me.0.core.number 0) / 2 =
+      word_after me.0.core.sizes me.0.core.number j ∙ ap (λ (n : ℕ). (n - 2 * word_at me.0.core.sizes me.0.core.number 0) / 2) (sym is) in
+      let here : i ≡ 2 * word_at z id j = is ∙ (ap (λ (y : Sizes). 2 * word_at y me.0.core.number j) f.sizes ∙ ap (λ (n : ℕ). 2 * word_at z n j) f.number) in
       let views = law.sized.views in
       let b = at_below vs id me.0.core at in
       let lt : word_at z id j < announced_words z = below z id j (omega arith) (subst (λ (y : Sizes). j < y.announcements) f.sizes may.1) in (
@@ -270,7 +269,7 @@ module _ {S : Type 0} (z : Sizes) (slots id i : ℕ) (me : Me (HashMap ℕ ℕ S
             (announce_keeps z w hs vs id me.0.core law at on j x may),
       ))
 
-  pub scan_allows : i ≡ me.0.core.position → MayScan me.0.core → length me.0.core.held ≤ 2 ^ 39
+  pub scan_allows : i ≡ 2 * me.0.core.position → MayScan me.0.core → length me.0.core.held ≤ 2 ^ 39
       → Allows (Held {S = S} z) slots id me i (λ n. n) (λ n after. Told me i n n (scanned me.0.core n) after (Nothing n))
   scan_allows is may room = load (λ n. scanned me.0.core n) Nothing (λ n. scans_on me.0.core n ∙ on) (λ w hs vs law at knows.
       let lt = (fits w hs vs law at).place in

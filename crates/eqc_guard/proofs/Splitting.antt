@@ -5,7 +5,6 @@ use lib.ListN.{get_elem?}
 use Rattle.atomic_table.specs.Seated.{TableId}
 use Rattle.eqc_core.specs.declared.sizes.Sizes.{Sizes}
 use Rattle.eqc_core.specs.declared.phase.Phase.{Phase}
-use Rattle.eqc_core.specs.declared.phase.Phase.TheVariants.{Idle}
 use Rattle.eqc_core.specs.View.{View, idle, fresh}
 use Rattle.eqc_core.specs.Words.{announced_words}
 use Rattle.eqc_core.specs.Lawful.{IsNamed as IsPlaced}

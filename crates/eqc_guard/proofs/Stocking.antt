@@ -13,13 +13,18 @@ use Rattle.eqc_core.specs.State.{repeated, literal, literals, slots_from, stripe
 use Rattle.eqc_core.proofs.Literals.{literal_variable, literal_low, literal_high}
 use Rattle.eqc_core.proofs.Stocks.{literals-push, slots-push, homes-push}
 use Rattle.eqc_guard.specs.declared.reference.Ref.{Ref}
-use Rattle.eqc_guard.specs.Known.{apart, flat}
+use Rattle.eqc_guard.specs.Known.{apart, spread, flat}
 use Rattle.eqc_guard.specs.Rule.{all_words, homes_of}
-use Rattle.eqc_guard.proofs.Laid.{apart_length}
+use Rattle.eqc_guard.proofs.Laid.{apart_length, spread_length}
 
 repeated_more : (x m n : ℕ) → repeated x m ++ repeated x n ≡ repeated x (m + n)
 repeated_more x zero n = let e : n ≡ 0 + n = omega arith in ap (λ (k : ℕ). repeated x k) e
 repeated_more x (suc m) n = let e : suc (m + n) ≡ suc m + n = omega arith in ap (λ (l : List ℕ). x ∷ l) (repeated_more x m n) ∙ ap (λ (k : ℕ). repeated x k) e
+
+-- zeros that are spread are zeros
+spread_zeros : (n : ℕ) → spread (repeated 0 n) ≡ repeated 0 (2 * n)
+spread_zeros zero = refl
+spread_zeros (suc n) = let e : suc (suc (2 * n)) ≡ 2 * suc n = omega arith in ap (λ (l : List ℕ). 0 ∷ 0 ∷ l) (spread_zeros n) ∙ ap (λ (k : ℕ). repeated 0 k) e
 
 replicated : (x n : ℕ) → replicate n x ≡ repeated x n
 replicated x zero = refl
@@ -53,12 +58,12 @@ nine a z t r l c b =
 
 -- the words of the opening state, kind by kind
 pub words_laid : (z : Sizes) (n rest cells : ℕ) → rest ≡ z.names - (n + 2) → cells ≡ z.cells
-    → (((((((([] ++ repeated 0 (announced_words z)) ++ repeated 0 2) ++ repeated 2 n) ++ repeated 0 rest) ++ repeated 0 2) ++ literals 0 n) ++ repeated 0 rest) ++ repeated 0 cells) ++ repeated
+    → (((((((([] ++ repeated 0 (2 * announced_words z)) ++ repeated 0 2) ++ repeated 2 n) ++ repeated 0 rest) ++ repeated 0 2) ++ literals 0 n) ++ repeated 0 rest) ++ repeated 0 cells) ++ repeated
     0 (16 * z.workers + 128)
     ≡ flat (opening z n).words
 words_laid z n rest cells er ec =
-    nine (repeated 0 (announced_words z)) (repeated 0 2) (repeated 2 n) (repeated 0 rest) (literals 0 n) (repeated 0 cells) (repeated 0 (16 * z.workers + 128))
-    ∙ (λ i. repeated 0 (announced_words z)
+    nine (repeated 0 (2 * announced_words z)) (repeated 0 2) (repeated 2 n) (repeated 0 rest) (literals 0 n) (repeated 0 cells) (repeated 0 (16 * z.workers + 128))
+    ∙ (λ i. sym (spread_zeros (announced_words z)) i
     ++ ((0 ∷ 0 ∷ repeated 2 n ++ repeated 0 (er i)) ++ ((0 ∷ 0 ∷ literals 0 n ++ repeated 0 (er i)) ++ (repeated 0 (ec i) ++ sym (repeated_more 0 (16 * z.workers) 128) i))))
 
 -- as many words as a lawful state has
@@ -66,12 +71,13 @@ pub flat_length : (z : Sizes) (w : Words) (hs : Homes) (vs : List View) → IsSi
 flat_length z w hs vs sized =
     omega (
       arith,
-      length-append w.announced (w.counts ++ (w.nodes ++ (w.cells ++ (w.boxes ++ apart w.locks)))),
+      length-append (spread w.announced) (w.counts ++ (w.nodes ++ (w.cells ++ (w.boxes ++ apart w.locks)))),
       length-append w.counts (w.nodes ++ (w.cells ++ (w.boxes ++ apart w.locks))),
       length-append w.nodes (w.cells ++ (w.boxes ++ apart w.locks)),
       length-append w.cells (w.boxes ++ apart w.locks),
       length-append w.boxes (apart w.locks),
       apart_length w.locks,
+      spread_length w.announced,
       sized.announced,
       sized.counts,
       sized.nodes,

@@ -1,5 +1,5 @@
 -- A whole scan, step by step.
-use Rattle.std.proofs.Common.{◌≡◌, ℕ, ◌+◌, ◌-◌, ◌<◌, ◌≤◌, List, [], ◌∷◌, ◌++◌, length, Bool, if◌then◌else◌, Option, Some, None, length-append, refl, sym, ap, subst, ◌∙◌, arith, inl, inr}
+use Rattle.std.proofs.Common.{◌≡◌, ℕ, ◌+◌, ◌*◌, ◌-◌, ◌<◌, ◌≤◌, List, [], ◌∷◌, ◌++◌, length, Bool, if◌then◌else◌, Option, Some, None, length-append, refl, sym, ap, subst, ◌∙◌, arith, inl, inr}
 use Rattle.std.proofs.lemmas.Bool.{lt-ltb, le-ltb}
 use Rattle.eqc_core.specs.View.{View, Read, phase_at}
 use Rattle.eqc_core.specs.Words.{times, announced_words}
@@ -43,7 +43,7 @@ begins s known ready = record {
 }
 
 -- the scan of a worker that is alone, and announces nothing, reads no name
-pub reads_none : (old mid next : Standing) (name : ℕ) → IsScanning old mid → IsQuiet (phase_at old.known.core 0) → Copies mid.known mid.known.core.position name name next.known
+pub reads_none : (old mid next : Standing) (name : ℕ) → IsScanning old mid → IsQuiet (phase_at old.known.core 0) → Copies mid.known (2 * mid.known.core.position) name name next.known
     → IsSilent old.known.core → (ws : List ℕ) → old.known.copy ≡ Some ws → name ≡ 0
 reads_none old mid next name m quiet copies silent ws e =
     let t = m.copy ws e in
@@ -61,7 +61,7 @@ kept_none [] = refl
 kept_none (x ∷ xs) = rw (le-ltb 0 (times x []) (omega (arith, times-nil x))) (kept_none xs)
 
 module _ (old mid next : Standing) (name : ℕ) (m : IsScanning old mid) (s : Steps mid (scanned mid.known.core name) next)
-    (copies : Copies mid.known mid.known.core.position name name next.known)
+    (copies : Copies mid.known (2 * mid.known.core.position) name name next.known)
     (zero : IsSilent old.known.core → (ws : List ℕ) → old.known.copy ≡ Some ws → name ≡ 0) where
   there : (x : ℕ) → 0 < times x old.known.core.held → 0 < times x mid.known.core.held
   there x h = subst (λ (v : View). 0 < times x v.held) (sym m.core) h
@@ -81,7 +81,7 @@ module _ (old mid next : Standing) (name : ℕ) (m : IsScanning old mid) (s : St
           s.known.agrees x two (held_named mid.known.core x (there x h)) (subst (λ (v : View). 0 < times x (names_of v)) (sym on) (held_named (scan_on mid.known.core name) x (there x h)))
           ∙ m.trees x two h;
       snapshots = snapshots_on old.known mid.known next.known m.snapshots (steps_keep mid next (scanned mid.known.core name) s (ap (λ (v : View). v.phases) on));
-      copy = cells_on old.known mid.known next.known (ap (λ (v : View). v.sizes) m.core) m.copy (load_keeps mid.known next.known mid.known.core.position name copies);
+      copy = cells_on old.known mid.known next.known (ap (λ (v : View). v.sizes) m.core) m.copy (load_keeps mid.known next.known (2 * mid.known.core.position) name copies);
       known = s.known.known;
     }
 
@@ -97,7 +97,7 @@ cancel [] b c e = e
 cancel (x ∷ a) b c e = cancel a b c (ap tail e)
 
 module _ (old mid next : Standing) (name : ℕ) (m : IsScanning old mid) (s : Steps mid (scanned mid.known.core name) next)
-    (copies : Copies mid.known mid.known.core.position name name next.known)
+    (copies : Copies mid.known (2 * mid.known.core.position) name name next.known)
     (zero : IsSilent old.known.core → (ws : List ℕ) → old.known.copy ≡ Some ws → name ≡ 0)
     (end : announced_words mid.known.core.sizes ≤ mid.known.core.position + 1) where
   off : scanned mid.known.core name ≡ scan_end mid.known.core name
@@ -131,7 +131,7 @@ module _ (old mid next : Standing) (name : ℕ) (m : IsScanning old mid) (s : St
             let is : 0 < times x (scan_end mid.known.core name).held = omega (arith, times-append x mid.known.core.held (ejected (note name mid.known.core.noted) mid.known.core.retired)) in
             s.known.agrees x two (held_named mid.known.core x was) (subst (λ (v : View). 0 < times x (names_of v)) (sym off) (held_named (scan_end mid.known.core name) x is)) ∙ m.trees x two h;
         snapshots = snapshots_on old.known mid.known next.known m.snapshots (steps_keep mid next (scanned mid.known.core name) s (ap (λ (v : View). v.phases) off));
-        copy = cells_on old.known mid.known next.known (ap (λ (v : View). v.sizes) m.core) m.copy (load_keeps mid.known next.known mid.known.core.position name copies);
+        copy = cells_on old.known mid.known next.known (ap (λ (v : View). v.sizes) m.core) m.copy (load_keeps mid.known next.known (2 * mid.known.core.position) name copies);
         known = s.known.known;
       }
 

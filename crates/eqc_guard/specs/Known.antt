@@ -82,9 +82,14 @@ abbrev pub apart : List ℕ → List ℕ
 apart [] = []
 apart (x ∷ xs) = x ∷ 0 ∷ 0 ∷ 0 ∷ 0 ∷ 0 ∷ 0 ∷ 0 ∷ apart xs
 
+-- each announcement word is followed by one that nothing uses, so that those of a worker fill a cache line
+abbrev pub spread : List ℕ → List ℕ
+spread [] = []
+spread (x ∷ xs) = x ∷ 0 ∷ spread xs
+
 -- the words in a row, kind by kind
 abbrev pub flat : Words → List ℕ
-flat w = w.announced ++ (w.counts ++ (w.nodes ++ (w.cells ++ (w.boxes ++ apart w.locks))))
+flat w = spread w.announced ++ (w.counts ++ (w.nodes ++ (w.cells ++ (w.boxes ++ apart w.locks))))
 
 -- a copy of the words is a lawful state, in which nobody else is active
 pub record IsCopy (k : Known) (ws : List ℕ) : Type 0 where

@@ -25,12 +25,15 @@ homes_of hs = map entries_at hs
 abbrev pub cores : List Known → List View
 cores ks = map (λ (k : Known). k.core) ks
 
--- where the words of each kind begin; announcements come first
+-- where the words of each kind begin; announcements come first, and the i-th of them is the word 2 * i
+abbrev pub counts_from : Sizes → ℕ
+counts_from z = 2 * announced_words z
+
 abbrev pub nodes_from : Sizes → ℕ
-nodes_from z = announced_words z + z.names
+nodes_from z = counts_from z + z.names
 
 abbrev pub cells_from : Sizes → ℕ
-cells_from z = announced_words z + (z.names + z.names)
+cells_from z = counts_from z + (z.names + z.names)
 
 abbrev pub boxes_from : Sizes → ℕ
 boxes_from z = cells_from z + z.cells

@@ -1,7 +1,7 @@
 //! The rule of the table, and what each step tells.
-ghost use Rattle.std.specs.Prelude.{◌≡◌, ◌+◌, ◌-◌, ◌/◌, ◌%◌, ◌^◌, [], ◌∷◌, None};
+ghost use Rattle.std.specs.Prelude.{◌≡◌, ◌+◌, ◌-◌, ◌*◌, ◌/◌, ◌%◌, ◌^◌, [], ◌∷◌, None};
 ghost use Rattle.eqc_core.specs.View.{fresh};
-ghost use Rattle.eqc_core.specs.Words.{announced_words, word_at};
+ghost use Rattle.eqc_core.specs.Words.{word_at};
 ghost use Rattle.eqc_core.specs.Announcing.{looked, announced, rechecked};
 ghost use Rattle.eqc_core.specs.Counting.{upped, downed};
 ghost use Rattle.eqc_core.specs.Caching.{swapped};
@@ -14,7 +14,7 @@ ghost use Rattle.eqc_guard.specs.Telling.{Copied, Told, Counts, Stored, Nothing,
 ghost use Rattle.eqc_guard.specs.Making.{Claims, spotted, Writes, Reads, Reclaims, Ups};
 ghost use Rattle.eqc_guard.specs.Locking.{Locks, Unlocks};
 ghost use Rattle.eqc_guard.specs.Sharing.{Receives};
-ghost use Rattle.eqc_guard.specs.Rule.{Held, beginner, nodes_from, cells_from, locks_from};
+ghost use Rattle.eqc_guard.specs.Rule.{Held, beginner, counts_from, nodes_from, cells_from, locks_from};
 
 use crate::origin::Origin;
 use crate::view::View;
@@ -44,7 +44,7 @@ impl<const K: usize> Play<Stripe, View> for Look<K> {
 pub struct Announce;
 
 impl Play<Stripe, View> for Announce {
-    ghost then = { λ s me n after. Stored me s.word s.first (announced me.0.core (s.word - word_at me.0.core.sizes me.0.core.number 0)) after };
+    ghost then = { λ s me n after. Stored me s.word s.first (announced me.0.core ((s.word - 2 * word_at me.0.core.sizes me.0.core.number 0) / 2)) after };
 }
 
 /// A cell was read again, for the K-th announcement word of the worker.
@@ -58,14 +58,14 @@ impl<const K: usize> Play<Stripe, View> for Recheck<K> {
 pub struct Up;
 
 impl Play<Stripe, View> for Up {
-    ghost then = { λ s me n after. Counts me s.word n ((n + 1) % 2 ^ 64) (upped me.0.core (s.word - announced_words me.0.core.sizes)) after (Ups me.0 (s.word - announced_words me.0.core.sizes)) };
+    ghost then = { λ s me n after. Counts me s.word n ((n + 1) % 2 ^ 64) (upped me.0.core (s.word - counts_from me.0.core.sizes)) after (Ups me.0 (s.word - counts_from me.0.core.sizes)) };
 }
 
 /// A name was counted down.
 pub struct Down;
 
 impl Play<Stripe, View> for Down {
-    ghost then = { λ s me n after. Counts me s.word n ((n + (2 ^ 64 - 1)) % 2 ^ 64) (downed me.0.core (s.word - announced_words me.0.core.sizes)) after (Nothing n) };
+    ghost then = { λ s me n after. Counts me s.word n ((n + (2 ^ 64 - 1)) % 2 ^ 64) (downed me.0.core (s.word - counts_from me.0.core.sizes)) after (Nothing n) };
 }
 
 /// A cell was swapped.
@@ -125,14 +125,14 @@ impl Play<Stripe, View> for ScanOne {
 pub struct Claim;
 
 impl Play<Stripe, View> for Claim {
-    ghost then = { λ s me n after. Claims me s.word (s.word - announced_words me.0.core.sizes) n after };
+    ghost then = { λ s me n after. Claims me s.word (s.word - counts_from me.0.core.sizes) n after };
 }
 
 /// A count was read: a slot that has one is noted as taken.
 pub struct Spot;
 
 impl Play<Stripe, View> for Spot {
-    ghost then = { λ s me n after. Told me s.word n n (spotted me.0.core (s.word - announced_words me.0.core.sizes) n) after (Nothing n) };
+    ghost then = { λ s me n after. Told me s.word n n (spotted me.0.core (s.word - counts_from me.0.core.sizes) n) after (Nothing n) };
 }
 
 /// A draft was given up.
@@ -160,7 +160,7 @@ impl Play<Stripe, View> for ReadNode {
 pub struct Reclaim;
 
 impl Play<Stripe, View> for Reclaim {
-    ghost then = { λ s me n after. Reclaims me s.word (s.word - announced_words me.0.core.sizes) n after };
+    ghost then = { λ s me n after. Reclaims me s.word (s.word - counts_from me.0.core.sizes) n after };
 }
 
 /// A stripe was tried to be locked.

@@ -19,6 +19,10 @@ const STRIPES: u32 = 16;
 // different stripes take no line from each other.
 pub(crate) const APART: u32 = 8;
 
+// How many words it is from one announcement word to the next: the four of a worker fill a cache line, so that workers that
+// announce take no line from each other.
+pub(crate) const ASIDE: u32 = 2;
+
 // Puts a word n times behind the others.
 fn extend_with(words: &mut Vec<u64>, word: u64, n: u32) -> Result<(), AllocError>
     ensures { OnOk result (words.new.items ≡ words.old.items ++ repeated word n) }
@@ -46,7 +50,7 @@ fn count_words(sizes: &Sizes) -> usize
     let workers = sizes.workers as usize;
     let names = sizes.names as usize;
     let announced = workers * sizes.announcements as usize;
-    let cells = announced + (names + names) + sizes.cells as usize;
+    let cells = ASIDE as usize * announced + (names + names) + sizes.cells as usize;
     cells + (16 * workers + (APART * STRIPES) as usize)
 }
 
@@ -59,7 +63,7 @@ pub(crate) fn first_words(alloc: Global, sizes: &Sizes, n: u32) -> Result<Vec<u6
 {
     let mut words = Vec::with_capacity(alloc, count_words(sizes))?;
     let free = sizes.names - (n + 2);
-    extend_with(&mut words, 0, sizes.workers * sizes.announcements)?;
+    extend_with(&mut words, 0, ASIDE * (sizes.workers * sizes.announcements))?;
     // The constants have no count and no node word.
     extend_with(&mut words, 0, 2)?;
     extend_with(&mut words, 2, n)?;

@@ -16,6 +16,7 @@ use crate::rule::{
     Alone, Announce, Down, JoinUp, Load, Look, Recheck, Rule, ScanOne, Settle, SplitOff, Stripe,
     SwapCell, Up,
 };
+use crate::stock::ASIDE;
 use crate::tally::Tally;
 use crate::view::View;
 use crate::{names, phases};
@@ -77,7 +78,7 @@ impl Worker {
     ghost use Rattle.eqc_core.specs.Caching.{swapped};
     ghost use Rattle.eqc_core.specs.Scanning.{MayScan, scanned};
     ghost use Rattle.eqc_guard.specs.Known.{IsHeld, IsKnown, tree_of};
-    ghost use Rattle.eqc_guard.specs.Rule.{cells_from};
+    ghost use Rattle.eqc_guard.specs.Rule.{counts_from, cells_from};
     ghost use Rattle.eqc_guard.specs.Standing.{Steps};
     ghost use Rattle.eqc_guard.specs.Seats.{MayTake};
     ghost use Rattle.eqc_core.specs.Seating.{IsAtRest};
@@ -124,29 +125,38 @@ impl Worker {
         }
     }
 
+    // How many words stand before the counts.
+    pub(crate) fn before_counts(&self) -> u32
+        ensures { result ≡ counts_from self.now.known.core.sizes }
+    {
+        let sizes = self.sizes;
+        ASIDE * (sizes.workers * sizes.announcements)
+    }
+
     // The word of a cell.
     fn cell_word(&self, cell: u32) -> usize
         requires { cell < self.now.known.core.sizes.cells }
         ensures { result ≡ cells_from self.now.known.core.sizes + cell }
     {
         let names = self.sizes.names as usize;
-        self.announcement_words() as usize + (names + names) + cell as usize
+        self.before_counts() as usize + (names + names) + cell as usize
     }
 
     // The word of a count.
     fn count_word(&self, name: u32) -> usize
         requires { name < self.now.known.core.sizes.names }
-        ensures { result ≡ announced_words self.now.known.core.sizes + name }
+        ensures { result ≡ counts_from self.now.known.core.sizes + name }
     {
-        self.announcement_words() as usize + name as usize
+        self.before_counts() as usize + name as usize
     }
 
     // The worker's k-th announcement word.
     #[tactic(auto, unfolding(eqc_core::specs::Words::word_at))]
     fn announcement_word(&self, k: u32) -> usize
-        ensures { result ≡ word_at self.now.known.core.sizes self.now.known.core.number k }
+        ensures { result ≡ 2 * word_at self.now.known.core.sizes self.now.known.core.number k }
     {
-        self.number as usize * self.sizes.announcements as usize + k as usize
+        let place = self.number as usize * self.sizes.announcements as usize + k as usize;
+        ASIDE as usize * place
     }
 
     // Loads a cell's word for the K-th announcement word.
@@ -197,7 +207,7 @@ impl Worker {
     pub fn announce(&mut self, k: u32, x: u32)
         requires { MayAnnounce self.old.known.core k x }
         ensures step { Steps self.old (announced self.old.known.core k) self.new }
-        ensures copies { self.new.known.copy ≡ copied self.old.known.copy (word_at self.old.known.core.sizes self.old.known.core.number k) x }
+        ensures copies { self.new.known.copy ≡ copied self.old.known.copy (2 * word_at self.old.known.core.sizes self.old.known.core.number k) x }
         ensures cells { KeepsCells self.old.known self.new.known }
         ensures counted { self.new.known.counted ≡ self.old.known.counted }
     {
@@ -214,7 +224,7 @@ impl Worker {
         requires { MayUp self.old.known.core x }
         ensures step { Steps self.old (upped self.old.known.core x) self.new }
         ensures tells { Ups self.old.known x self.new.known }
-        ensures copies { (n : ℕ) × Copies self.old.known (announced_words self.old.known.core.sizes + x) n ((n + 1) % 2 ^ 64) self.new.known }
+        ensures copies { (n : ℕ) × Copies self.old.known (counts_from self.old.known.core.sizes + x) n ((n + 1) % 2 ^ 64) self.new.known }
         ensures counted { self.new.known.counted ≡ suc self.old.known.counted }
     {
         let word = self.count_word(x);
@@ -231,7 +241,7 @@ impl Worker {
         ensures name { IfOk result (λ r. r.number ≡ x) }
         ensures step { OnOk result (Steps self.old (upped self.old.known.core x) self.new) }
         ensures tells { OnOk result (Ups self.old.known x self.new.known) }
-        ensures copies { OnOk result ((n : ℕ) × Copies self.old.known (announced_words self.old.known.core.sizes + x) n ((n + 1) % 2 ^ 64) self.new.known) }
+        ensures copies { OnOk result ((n : ℕ) × Copies self.old.known (counts_from self.old.known.core.sizes + x) n ((n + 1) % 2 ^ 64) self.new.known) }
         ensures room { OnOk result (length self.old.known.core.held < 2 ^ 32 - 1) }
         ensures still { OnErr result (self.new ≡ self.old) }
         ensures full { OnErr result (2 ^ 32 - 1 ≤ length self.old.known.core.held) }
@@ -251,7 +261,7 @@ impl Worker {
         requires slot { 2 ≤ x }
         requires held { IsHeld self.old.known.core x }
         ensures step { Steps self.old (downed self.old.known.core x) self.new }
-        ensures copies { Copies self.old.known (announced_words self.old.known.core.sizes + x) result ((result + (2 ^ 64 - 1)) % 2 ^ 64) self.new.known }
+        ensures copies { Copies self.old.known (counts_from self.old.known.core.sizes + x) result ((result + (2 ^ 64 - 1)) % 2 ^ 64) self.new.known }
         ensures counted { self.new.known.counted ≡ suc self.old.known.counted }
     {
         let word = self.count_word(x);
@@ -266,7 +276,7 @@ impl Worker {
         requires held { IsHeld self.old.known.core name.number }
         ensures constant { name.number < 2 → self.new ≡ self.old }
         ensures step { 2 ≤ name.number → Steps self.old (downed self.old.known.core name.number) self.new }
-        ensures copies { 2 ≤ name.number → (n : ℕ) × Copies self.old.known (announced_words self.old.known.core.sizes + name.number) n ((n + (2 ^ 64 - 1)) % 2 ^ 64) self.new.known }
+        ensures copies { 2 ≤ name.number → (n : ℕ) × Copies self.old.known (counts_from self.old.known.core.sizes + name.number) n ((n + (2 ^ 64 - 1)) % 2 ^ 64) self.new.known }
         ensures counted { 2 ≤ name.number → self.new.known.counted ≡ suc self.old.known.counted }
     {
         let Ref { number } = name;
@@ -282,7 +292,7 @@ impl Worker {
         requires slot { 2 ≤ name.number }
         requires held { IsHeld self.old.known.core name.number }
         ensures step { Steps self.old (downed self.old.known.core name.number) self.new }
-        ensures copies { Copies self.old.known (announced_words self.old.known.core.sizes + name.number) result ((result + (2 ^ 64 - 1)) % 2 ^ 64) self.new.known }
+        ensures copies { Copies self.old.known (counts_from self.old.known.core.sizes + name.number) result ((result + (2 ^ 64 - 1)) % 2 ^ 64) self.new.known }
         ensures counted { self.new.known.counted ≡ suc self.old.known.counted }
     {
         let Ref { number } = name;
@@ -378,14 +388,14 @@ impl Worker {
     pub fn scan_one(&mut self) -> Option<ArrayVec<u32, 512>>
         requires may { MayScan self.old.known.core }
         requires room { length self.old.known.core.held ≤ 2 ^ 39 }
-        ensures step { (name : ℕ) × Steps self.old (scanned self.old.known.core name) self.new × Copies self.old.known self.old.known.core.position name name self.new.known }
+        ensures step { (name : ℕ) × Steps self.old (scanned self.old.known.core name) self.new × Copies self.old.known (2 * self.old.known.core.position) name name self.new.known }
         ensures some { IfSome result (λ ejected. self.new.known.core.held ≡ self.old.known.core.held ++ ejected.items) }
         ensures none { result ≡ None → self.new.known.core.held ≡ self.old.known.core.held }
         ensures goes_on { (result ≡ None) ↔ (self.old.known.core.position + 1 < announced_words self.old.known.core.sizes) }
         ensures counted { self.new.known.counted ≡ self.old.known.counted }
     {
         let words = self.announcement_words();
-        let place = self.position as usize;
+        let place = (ASIDE * self.position) as usize;
         let name = self.table.shared.load::<ScanOne>(&mut self.seat, place);
         names::add_note(&mut self.noted, name);
         if self.position + 1 < words {
@@ -537,7 +547,7 @@ impl Worker {
     pub(crate) fn load_count(&mut self, name: u32) -> u64
         requires { name < self.old.known.core.sizes.names }
         ensures step { Steps self.old self.old.known.core self.new }
-        ensures copies { Copies self.old.known (announced_words self.old.known.core.sizes + name) result result self.new.known }
+        ensures copies { Copies self.old.known (counts_from self.old.known.core.sizes + name) result result self.new.known }
         ensures counted { self.new.known.counted ≡ self.old.known.counted }
     {
         let word = self.count_word(name);
@@ -546,7 +556,7 @@ impl Worker {
 
     // How many slots have a count above 0, as a copy of the words has them.
     fn tally(&mut self) -> u32
-        ensures { (ws : List ℕ) → self.old.known.copy ≡ Some ws → result ≡ above_zero ws (announced_words self.old.known.core.sizes + 2) (self.old.known.core.sizes.names - 2) }
+        ensures { (ws : List ℕ) → self.old.known.copy ≡ Some ws → result ≡ above_zero ws (counts_from self.old.known.core.sizes + 2) (self.old.known.core.sizes.names - 2) }
     {
         let slots = self.sizes.names - 2;
         let mut counted = 0;
@@ -647,7 +657,7 @@ impl Worker {
     pub fn release(&mut self)
         requires { MayAnnounce self.old.known.core 0 0 }
         ensures step { Steps self.old (announced self.old.known.core 0) self.new }
-        ensures copies { self.new.known.copy ≡ copied self.old.known.copy (word_at self.old.known.core.sizes self.old.known.core.number 0) 0 }
+        ensures copies { self.new.known.copy ≡ copied self.old.known.copy (2 * word_at self.old.known.core.sizes self.old.known.core.number 0) 0 }
         ensures cells { KeepsCells self.old.known self.new.known }
         ensures counted { self.new.known.counted ≡ self.old.known.counted }
     {

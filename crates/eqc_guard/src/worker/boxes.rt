@@ -26,7 +26,7 @@ impl Worker {
     {
         let names = self.sizes.names as usize;
         let cells = self.sizes.cells as usize;
-        self.announcement_words() as usize + (names + names) + cells + b as usize
+        self.before_counts() as usize + (names + names) + cells + b as usize
     }
 
     /// Loads the word of a box: 0 where it is empty.

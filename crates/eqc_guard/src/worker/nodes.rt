@@ -11,11 +11,11 @@ impl Worker {
     ghost use Rattle.eqc_tree.specs.Tree.{Node};
     ghost use Rattle.eqc_tree.specs.Word.{node_word};
     ghost use Rattle.eqc_core.specs.View.{draft_of};
-    ghost use Rattle.eqc_core.specs.Words.{announced_words, times, low_of, high_of};
+    ghost use Rattle.eqc_core.specs.Words.{times, low_of, high_of};
     ghost use Rattle.eqc_core.specs.Moves.{IsReady};
     ghost use Rattle.eqc_core.specs.Making.{MayClaim, claimed, found_taken, MayUnclaim, unclaimed, MayRead, read_node};
     ghost use Rattle.eqc_guard.specs.Known.{tree_of};
-    ghost use Rattle.eqc_guard.specs.Rule.{nodes_from};
+    ghost use Rattle.eqc_guard.specs.Rule.{counts_from, nodes_from};
     ghost use Rattle.eqc_guard.specs.Standing.{Steps};
     ghost use Rattle.eqc_guard.specs.Telling.{Copies, copied};
     ghost use Rattle.eqc_guard.specs.Making.{spotted, drafted, MayMake, Reads, IsEntry, taken_back};
@@ -32,7 +32,7 @@ impl Worker {
         requires { slot < self.now.known.core.sizes.names }
         ensures { result ≡ nodes_from self.now.known.core.sizes + slot }
     {
-        self.announcement_words() as usize + self.sizes.names as usize + slot as usize
+        self.before_counts() as usize + self.sizes.names as usize + slot as usize
     }
 
     /// Tries to claim a slot, and says whether it was won: the slot was free then, and is this
@@ -43,7 +43,7 @@ impl Worker {
         requires { MayClaim self.old.known.core x }
         ensures won { IsTrue result → Steps self.old (claimed self.old.known.core x) self.new }
         ensures lost { result ≡ false → Steps self.old (found_taken self.old.known.core x) self.new }
-        ensures copies { (count : ℕ) × (IsTrue result ↔ (count ≡ 0)) × Copies self.old.known (announced_words self.old.known.core.sizes + x) count (if result then 2 else count) self.new.known }
+        ensures copies { (count : ℕ) × (IsTrue result ↔ (count ≡ 0)) × Copies self.old.known (counts_from self.old.known.core.sizes + x) count (if result then 2 else count) self.new.known }
         ensures counted { self.new.known.counted ≡ self.old.known.counted }
     {
         // Most slots that are tried are taken. A load comes first: it does not take the cache line
@@ -58,7 +58,7 @@ impl Worker {
     fn spot(&mut self, x: u32) -> u64
         requires { x < self.old.known.core.sizes.names }
         ensures step { Steps self.old (spotted self.old.known.core x result) self.new }
-        ensures copies { Copies self.old.known (announced_words self.old.known.core.sizes + x) result result self.new.known }
+        ensures copies { Copies self.old.known (counts_from self.old.known.core.sizes + x) result result self.new.known }
         ensures counted { self.new.known.counted ≡ self.old.known.counted }
     {
         let at = self.count_word(x);
@@ -70,7 +70,7 @@ impl Worker {
         requires { MayClaim self.old.known.core x }
         ensures won { IsTrue result → Steps self.old (claimed self.old.known.core x) self.new }
         ensures lost { result ≡ false → Steps self.old (found_taken self.old.known.core x) self.new }
-        ensures copies { (count : ℕ) × (IsTrue result ↔ (count ≡ 0)) × Copies self.old.known (announced_words self.old.known.core.sizes + x) count (if result then 2 else count) self.new.known }
+        ensures copies { (count : ℕ) × (IsTrue result ↔ (count ≡ 0)) × Copies self.old.known (counts_from self.old.known.core.sizes + x) count (if result then 2 else count) self.new.known }
         ensures counted { self.new.known.counted ≡ self.old.known.counted }
     {
         let word = self.count_word(x);
@@ -91,7 +91,7 @@ impl Worker {
     pub fn unclaim(&mut self)
         requires { (d : ℕ) × MayUnclaim self.old.known.core d }
         ensures step { Steps self.old (unclaimed self.old.known.core) self.new }
-        ensures copies { self.new.known.copy ≡ copied self.old.known.copy (announced_words self.old.known.core.sizes + draft_of self.old.known.core.draft) 0 }
+        ensures copies { self.new.known.copy ≡ copied self.old.known.copy (counts_from self.old.known.core.sizes + draft_of self.old.known.core.draft) 0 }
         ensures counted { self.new.known.counted ≡ self.old.known.counted }
     {
         let Some(slot) = self.draft else {
@@ -170,7 +170,7 @@ impl Worker {
         requires room { length self.old.known.core.held ≤ 2 ^ 39 }
         ensures won { IfSome result (λ p. (p.0.number ≡ low_of word) × (p.1.number ≡ high_of word) × Steps self.old (taken_back self.old.known.core x word) self.new) }
         ensures lost { result ≡ None → Steps self.old self.old.known.core self.new }
-        ensures copies { (count : ℕ) × ((result ≡ None) ↔ (count ≢ 1)) × Copies self.old.known (announced_words self.old.known.core.sizes + x) count (if eqb count 1 then 0 else count) self.new.known }
+        ensures copies { (count : ℕ) × ((result ≡ None) ↔ (count ≢ 1)) × Copies self.old.known (counts_from self.old.known.core.sizes + x) count (if eqb count 1 then 0 else count) self.new.known }
         ensures counted { self.new.known.counted ≡ self.old.known.counted }
     {
         // What the worker knows is in order, so the slot of an entry is there.
@@ -190,7 +190,7 @@ impl Worker {
         requires room { length self.old.known.core.held ≤ 2 ^ 39 }
         ensures won { IfSome result (λ p. (p.0.number ≡ low_of word) × (p.1.number ≡ high_of word) × Steps self.old (taken_back self.old.known.core x word) self.new) }
         ensures lost { result ≡ None → Steps self.old self.old.known.core self.new }
-        ensures copies { (count : ℕ) × ((result ≡ None) ↔ (count ≢ 1)) × Copies self.old.known (announced_words self.old.known.core.sizes + x) count (if eqb count 1 then 0 else count) self.new.known }
+        ensures copies { (count : ℕ) × ((result ≡ None) ↔ (count ≢ 1)) × Copies self.old.known (counts_from self.old.known.core.sizes + x) count (if eqb count 1 then 0 else count) self.new.known }
         ensures counted { self.new.known.counted ≡ self.old.known.counted }
     {
         let place = self.count_word(x);

@@ -22,9 +22,7 @@ impl Worker {
         ensures { result ≡ locks_from self.now.known.core.sizes + 8 * stripe }
     {
         let names = self.sizes.names as usize;
-        let cells = self.announcement_words() as usize
-            + (names + names)
-            + self.sizes.cells as usize;
+        let cells = self.before_counts() as usize + (names + names) + self.sizes.cells as usize;
         cells + 16 * self.sizes.workers as usize + (APART * stripe) as usize
     }
 

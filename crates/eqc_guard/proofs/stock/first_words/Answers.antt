@@ -14,5 +14,5 @@ returns c =
     (c.in_ok-extend_with-4.ensures ∙ ap (λ (l : List ℕ). l ++ repeated 0 (c.args.sizes.now.names - (c.args.n + 2)))
     (c.in_ok-extend_with-3.ensures ∙ ap (λ (l : List ℕ). l ++ repeated 2 c.args.n)
     (c.in_ok-extend_with-2.ensures ∙ ap (λ (l : List ℕ). l ++ repeated 0 2)
-    (c.in_ok-extend_with.ensures ∙ ap (λ (l : List ℕ). l ++ repeated 0 (announced_words c.args.sizes.now)) c.in_ok-words.ensures.items)))))))))
+    (c.in_ok-extend_with.ensures ∙ ap (λ (l : List ℕ). l ++ repeated 0 (2 * announced_words c.args.sizes.now)) c.in_ok-words.ensures.items)))))))))
     ∙ words_laid c.args.sizes.now c.args.n (c.args.sizes.now.names - (c.args.n + 2)) c.args.sizes.now.cells refl refl

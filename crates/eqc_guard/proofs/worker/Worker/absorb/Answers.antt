@@ -1,4 +1,4 @@
-use Rattle.std.proofs.Common.{◌≡◌, [], ◌∷◌, subst}
+use Rattle.std.proofs.Common.{subst}
 use Rattle.eqc_guard.specs.Known.{IsKnown}
 use Rattle.eqc_guard.specs.Standing.{Standing}
 use Rattle.eqc_guard.proofs.Absorbing.{quiet_here, absorbs}

@@ -1,4 +1,4 @@
-use Rattle.std.proofs.Common.{◌≡◌, ◌<◌, ℕ, List, length, get_or, Option, Some, None, IfSome, sym, ap, subst, ◌∙◌, arith}
+use Rattle.std.proofs.Common.{◌≡◌, ◌<◌, ℕ, List, length, get_or, Option, Some, None, IfSome, sym, ap, subst}
 use Rattle.eqc_core.specs.declared.phase.Phase.{Phase}
 use Rattle.eqc_core.specs.declared.phase.Phase.TheVariants.{Idle}
 use Rattle.eqc_core.specs.View.{View}

@@ -2,6 +2,7 @@ use Rattle.std.proofs.Common.{◌≡◌, ◌+◌, ◌<◌, ap, sym, subst, arith
 use Rattle.eqc_core.specs.declared.sizes.Sizes.{Sizes}
 use Rattle.eqc_core.specs.Words.{announced_words}
 use Rattle.eqc_guard.specs.Standing.{Standing}
+use Rattle.eqc_guard.specs.Rule.{counts_from}
 use Rattle.eqc_guard.proofs.Stepping.{read_allows}
 use Rattle.eqc_guard.proofs.worker.Worker.load_count.Goals as goal
 
@@ -10,8 +11,8 @@ load-requires c =
     let is = c.self.invariant in
     let me = c.self.inside.seat.me in
     let v = sym c.self.view_is in
-    let at : c.count_word-word.result ≡ announced_words me.0.core.sizes + c.args.name =
-    subst (λ (s : Standing). c.count_word-word.result ≡ announced_words s.known.core.sizes + c.args.name) v c.count_word-word.ensures in
+    let at : c.count_word-word.result ≡ counts_from me.0.core.sizes + c.args.name =
+    subst (λ (s : Standing). c.count_word-word.result ≡ counts_from s.known.core.sizes + c.args.name) v c.count_word-word.ensures in
     let there : c.args.name < me.0.core.sizes.names = subst (λ (s : Standing). c.args.name < s.known.core.sizes.names) v c.requires in (
       rw c.deref.ensures is.one_table,
       rw (c.deref.ensures, is.worker.words) (let e = ap announced_words is.worker.sizes in let f = ap (λ (z : Sizes). z.names) is.worker.sizes in omega arith),

@@ -1,4 +1,4 @@
-use Rattle.std.proofs.Common.{◌≡◌, ◌<◌, ℕ, sym, subst, ◌∙◌, ap, arith}
+use Rattle.std.proofs.Common.{◌≡◌, ◌<◌, ℕ, sym, subst, ap, arith}
 use Rattle.eqc_core.specs.View.{phase_at}
 use Rattle.eqc_core.specs.Announcing.{MayRecheck, rechecked, announced_cell}
 use Rattle.eqc_guard.specs.Telling.{Rechecks}

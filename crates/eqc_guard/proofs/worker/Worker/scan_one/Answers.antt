@@ -1,4 +1,4 @@
-use Rattle.std.proofs.Common.{◌≤◌, ◌^◌, length, ap, sym, subst, arith}
+use Rattle.std.proofs.Common.{ℕ, ◌*◌, ◌≤◌, ◌^◌, length, ap, sym, subst, arith}
 use Rattle.eqc_core.specs.Words.{announced_words}
 use Rattle.eqc_core.specs.Scanning.{MayScan}
 use Rattle.eqc_guard.specs.Standing.{Standing}
@@ -14,5 +14,5 @@ load-name-requires c =
     let room : length me.0.core.held ≤ 2 ^ 39 = subst (λ (s : Standing). length s.known.core.held ≤ 2 ^ 39) v c.requires.room in (
       rw c.deref.ensures is.one_table,
       rw (c.deref.ensures, is.worker.words) (let p = is.position_is in let place = is.worker.known.place in let e = ap announced_words is.worker.sizes in omega arith),
-      scan_allows c.deref.result.now.shared.key.sizes c.deref.result.now.shared.table_id.slots c.self.inside.seat.id c.self.inside.position me is.worker.active is.position_is may room,
+      scan_allows c.deref.result.now.shared.key.sizes c.deref.result.now.shared.table_id.slots c.self.inside.seat.id (2 * c.self.inside.position) me is.worker.active (ap (λ (n : ℕ). 2 * n) is.position_is) may room,
     )

@@ -7,6 +7,7 @@ use Rattle.eqc_core.specs.Moves.{IsReady}
 use Rattle.eqc_guard.specs.Standing.{Standing, Steps, slots_out, stripes_in}
 use Rattle.eqc_guard.specs.Telling.{Copies}
 use Rattle.eqc_guard.specs.Making.{IsEntry, taken_back}
+use Rattle.eqc_guard.specs.Rule.{counts_from}
 use Rattle.eqc_guard.proofs.Making.{reclaim_allows, reclaim_won, entry_there}
 use Rattle.eqc_guard.proofs.Counts.{seated_with}
 use Rattle.eqc_guard.proofs.worker.Worker.try_reclaim.Goals as goal
@@ -21,8 +22,8 @@ compare_exchange-count-requires c =
     let is = c.self.invariant in
     let me = c.self.inside.seat.me in
     let v = sym c.self.view_is in
-    let at : c.count_word-place.result ≡ announced_words me.0.core.sizes + c.args.x =
-    subst (λ (s : Standing). c.count_word-place.result ≡ announced_words s.known.core.sizes + c.args.x) v c.count_word-place.ensures in
+    let at : c.count_word-place.result ≡ counts_from me.0.core.sizes + c.args.x =
+    subst (λ (s : Standing). c.count_word-place.result ≡ counts_from s.known.core.sizes + c.args.x) v c.count_word-place.ensures in
     let ready : IsReady me.0.core = subst (λ (s : Standing). IsReady s.known.core) v c.requires.ready in
     let entry : IsEntry me.0.core c.args.word c.args.x = subst (λ (s : Standing). IsEntry s.known.core c.args.word c.args.x) v c.requires.entry in
     let room : length me.0.core.held ≤ 2 ^ 39 = subst (λ (s : Standing). length s.known.core.held ≤ 2 ^ 39) v c.requires.room in (
@@ -40,8 +41,8 @@ invariant_of-self-2 c =
     let me = c.self.inside.seat.me in
     let w = c.self.inside in
     let v = sym c.self.view_is in
-    let at : c.count_word-place.result ≡ announced_words me.0.core.sizes + c.args.x =
-    subst (λ (s : Standing). c.count_word-place.result ≡ announced_words s.known.core.sizes + c.args.x) v c.count_word-place.ensures in
+    let at : c.count_word-place.result ≡ counts_from me.0.core.sizes + c.args.x =
+    subst (λ (s : Standing). c.count_word-place.result ≡ counts_from s.known.core.sizes + c.args.x) v c.count_word-place.ensures in
     let entry : IsEntry me.0.core c.args.word c.args.x = subst (λ (s : Standing). IsEntry s.known.core c.args.word c.args.x) v c.requires.entry in
     let told =
     reclaim_won me c.count_word-place.result c.args.x c.args.word c.compare_exchange-count.result c.compare_exchange-count.new.seat.me at
@@ -64,8 +65,8 @@ unfolding low_of high_of
 returns-clause-won c =
     let me = c.self.inside.seat.me in
     let v = sym c.self.view_is in
-    let at : c.count_word-place.result ≡ announced_words me.0.core.sizes + c.args.x =
-    subst (λ (s : Standing). c.count_word-place.result ≡ announced_words s.known.core.sizes + c.args.x) v c.count_word-place.ensures in
+    let at : c.count_word-place.result ≡ counts_from me.0.core.sizes + c.args.x =
+    subst (λ (s : Standing). c.count_word-place.result ≡ counts_from s.known.core.sizes + c.args.x) v c.count_word-place.ensures in
     let entry : IsEntry me.0.core c.args.word c.args.x = subst (λ (s : Standing). IsEntry s.known.core c.args.word c.args.x) v c.requires.entry in
     let told =
     reclaim_won me c.count_word-place.result c.args.x c.args.word c.compare_exchange-count.result c.compare_exchange-count.new.seat.me at
@@ -82,8 +83,8 @@ pub returns-clause-copies : goal.returns-clause-copies
 returns-clause-copies c =
     let me = c.self.inside.seat.me in
     let v = sym c.self.view_is in
-    let at : c.count_word-place.result ≡ announced_words me.0.core.sizes + c.args.x =
-    subst (λ (s : Standing). c.count_word-place.result ≡ announced_words s.known.core.sizes + c.args.x) v c.count_word-place.ensures in
+    let at : c.count_word-place.result ≡ counts_from me.0.core.sizes + c.args.x =
+    subst (λ (s : Standing). c.count_word-place.result ≡ counts_from s.known.core.sizes + c.args.x) v c.count_word-place.ensures in
     let entry : IsEntry me.0.core c.args.word c.args.x = subst (λ (s : Standing). IsEntry s.known.core c.args.word c.args.x) v c.requires.entry in
     let told =
     reclaim_won me c.count_word-place.result c.args.x c.args.word c.compare_exchange-count.result c.compare_exchange-count.new.seat.me at
@@ -93,7 +94,7 @@ returns-clause-copies c =
       ((λ e. absurd (cc)), λ n. absurd (n one)),
       subst
           (λ (s : Standing).
-          Copies s.known (announced_words s.known.core.sizes + c.args.x) c.compare_exchange-count.result
+          Copies s.known (counts_from s.known.core.sizes + c.args.x) c.compare_exchange-count.result
           (if eqb c.compare_exchange-count.result 1 then 0 else c.compare_exchange-count.result) c.compare_exchange-count.new.seat.me.0)
           c.self.view_is
           (rw (eq-eqb c.compare_exchange-count.result 1 one) (subst (λ (i : ℕ). Copies c.self.inside.seat.me.0 i c.compare_exchange-count.result 0 c.compare_exchange-count.new.seat.me.0) at told.2)),
@@ -103,8 +104,8 @@ pub returns-clause-counted : goal.returns-clause-counted
 returns-clause-counted c =
     let me = c.self.inside.seat.me in
     let v = sym c.self.view_is in
-    let at : c.count_word-place.result ≡ announced_words me.0.core.sizes + c.args.x =
-    subst (λ (s : Standing). c.count_word-place.result ≡ announced_words s.known.core.sizes + c.args.x) v c.count_word-place.ensures in
+    let at : c.count_word-place.result ≡ counts_from me.0.core.sizes + c.args.x =
+    subst (λ (s : Standing). c.count_word-place.result ≡ counts_from s.known.core.sizes + c.args.x) v c.count_word-place.ensures in
     let entry : IsEntry me.0.core c.args.word c.args.x = subst (λ (s : Standing). IsEntry s.known.core c.args.word c.args.x) v c.requires.entry in
     let told =
     reclaim_won me c.count_word-place.result c.args.x c.args.word c.compare_exchange-count.result c.compare_exchange-count.new.seat.me at
