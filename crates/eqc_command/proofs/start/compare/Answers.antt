@@ -3,16 +3,16 @@ use Rattle.std.specs.Prelude.{Err}
 use Rattle.eqc_command.specs.Ends.{IsRun}
 use Rattle.eqc_command.specs.Sources.{source_remaining}
 use Rattle.eqc_command.proofs.EndLemmas.{run_failed}
-use Rattle.eqc_command.proofs.start.compare.Goals.{then-progress, else-progress}
+use Rattle.eqc_command.proofs.start.compare.Goals.{then-request, else-request}
 use Rattle.eqc_command.proofs.start.compare.Goals as goal
 
 pub returns-in-Ok-finished : goal.returns-in-Ok-finished
 returns-in-Ok-finished g c =
     let run : IsRun (source_remaining g.R.Read.remaining g.RT.File.Read.remaining) c.given_by-given.result
-    (g.W.Write.contents c.args.out.now) (g.W.Write.contents c.if-progress.out) c.if-progress.finished =
-    elim c.if-progress.branch [
-      | then-progress w ↦ rw (w.finished-is, w.out-is) w.run_shown-finished.ensures
-      | else-progress w ↦ rw (w.finished-is, w.out-is) (record {
+    (g.W.Write.contents c.args.out.now) (g.W.Write.contents c.if-request.out) c.if-request.finished =
+    elim c.if-request.branch [
+      | then-request w ↦ rw (w.finished-is, w.out-is) w.run_shown-finished.ensures
+      | else-request w ↦ rw (w.finished-is, w.out-is) (record {
         answered = w.run_explained-finished.ensures.answered;
         warned = w.run_explained-finished.ensures.warned;
         write = w.run_explained-finished.ensures.write;
@@ -36,10 +36,10 @@ returns-in-Ok-finished g c =
 pub returns : goal.returns
 returns g c =
     let run : IsRun (source_remaining g.R.Read.remaining g.RT.File.Read.remaining) c.given_by-given.result
-    (g.W.Write.contents c.args.out.now) (g.W.Write.contents c.if-progress.out) c.if-progress.finished =
-    elim c.if-progress.branch [
-      | then-progress w ↦ rw (w.finished-is, w.out-is) w.run_shown-finished.ensures
-      | else-progress w ↦ rw (w.finished-is, w.out-is) (record {
+    (g.W.Write.contents c.args.out.now) (g.W.Write.contents c.if-request.out) c.if-request.finished =
+    elim c.if-request.branch [
+      | then-request w ↦ rw (w.finished-is, w.out-is) w.run_shown-finished.ensures
+      | else-request w ↦ rw (w.finished-is, w.out-is) (record {
         answered = w.run_explained-finished.ensures.answered;
         warned = w.run_explained-finished.ensures.warned;
         write = w.run_explained-finished.ensures.write;
@@ -48,7 +48,7 @@ returns g c =
       })
     ] in
     run_failed g.R.Read.remaining g.RT.File.Read.remaining c.args.request.now c.args.input (g.W.Write.contents c.args.out.now)
-    (g.W.Write.contents c.if-progress.out) (g.E.Write.contents c.args.err.now) (g.E.Write.contents c.explain-in-Err-finished.new.err)
+    (g.W.Write.contents c.if-request.out) (g.E.Write.contents c.args.err.now) (g.E.Write.contents c.explain-in-Err-finished.new.err)
     c.in-Err-finished.fault c.in-Ok.sources c.in-Ok.ensures
     (λ e. rw c.given_by-given.ensures at (run.write (c.in-Err-finished.is ∙ ap Err e))) (λ e. run.read (c.in-Err-finished.is ∙ ap Err e))
     (rw c.in-Err-finished.is at run.memory) c.explain-in-Err-finished.ensures
