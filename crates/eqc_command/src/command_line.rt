@@ -9,9 +9,10 @@ ghost use Rattle.eqc_command.specs.CommandLine.{eqc_app, number_rule, text_rule,
 
 use crate::help::{
     ABOUT, ALL, ASSUME, CELLS, CONFLICTS, EXPLAIN, FIRST, FIRST_MODEL, FORKS, NODES, ORDER, OUTPUT,
-    PROGRESS, SECOND, SECOND_MODEL, USAGE, WORKERS,
+    PROGRESS, SECOND, SECOND_MODEL, USAGE, WORKERS, answers,
 };
 use crate::version::VERSION;
+use clap::error::ErrorKind;
 use clap::{Arg, ArgAction, ArgMatches, Command, Error, value_parser};
 use eqc_check::Options;
 use std::alloc::{AllocError, Global};
@@ -175,13 +176,8 @@ fn request_of<'a>(matches: &ArgMatches<'a>, outputs: Vec<&'a [u8]>) -> Option<Re
     })
 }
 
-/// Reads a command line, the program's name first. A bad one, a request for help or the version and want of memory are errors. The help
-/// ends with `answers`.
-pub fn read_words<'a>(
-    alloc: Global,
-    answers: &'a str,
-    words: &'a [String],
-) -> Result<Request<'a>, Error>
+/// Reads a command line whose help ends with `answers`.
+fn read_with<'a>(alloc: Global, answers: &'a str, words: &'a [String]) -> Result<Request<'a>, Error>
     ensures taken { IfOk result (λ _. fault_of eqc_app (map string_bytes words.now) ≡ []) }
     ensures asked { IfOk result (IsAsked (rows_asked (map string_bytes words.now))) }
     ensures refused { IfErr result (HasKind (fault_of eqc_app (map string_bytes words.now))) }
@@ -193,4 +189,40 @@ pub fn read_words<'a>(
         // Each number has a default and has passed its parser, so none is missing.
         None => Err(Error::from(AllocError)),
     }
+}
+
+/// The text that only the help shows, or an empty one where memory was refused for it: the help is shown without.
+fn shown(text: &Result<String, AllocError>) -> &str {
+    match text {
+        Ok(text) => text.as_str(),
+        Err(_) => "",
+    }
+}
+
+/// What words come to that ask for help: the help, whole. Its text is made for these alone.
+fn whole_help(alloc: Global, words: &[String]) -> Error
+    ensures { HasKind (fault_of eqc_app (map string_bytes words.now)) result }
+{
+    let answers = answers(alloc);
+    match read_with(alloc, shown(&answers), words) {
+        Err(error) => error,
+        // The same words asked for help before.
+        Ok(_) => Error::from(AllocError),
+    }
+}
+
+/// Reads a command line, the program's name first. A bad one, a request for help or the version and want of memory are errors.
+pub fn read_words<'a>(alloc: Global, words: &'a [String]) -> Result<Request<'a>, Error>
+    ensures taken { IfOk result (λ _. fault_of eqc_app (map string_bytes words.now) ≡ []) }
+    ensures asked { IfOk result (IsAsked (rows_asked (map string_bytes words.now))) }
+    ensures refused { IfErr result (HasKind (fault_of eqc_app (map string_bytes words.now))) }
+{
+    let error = match read_with(alloc, "", words) {
+        Ok(request) => return Ok(request),
+        Err(error) => error,
+    };
+    if error.kind() == ErrorKind::DisplayHelp {
+        return Err(whole_help(alloc, words));
+    }
+    Err(error)
 }

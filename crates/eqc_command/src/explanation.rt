@@ -178,7 +178,7 @@ fn command_hint(command: &[u8]) -> &'static str {
     }
 }
 
-/// What is said of a row at fault, and of a size, a byte and a command.
+/// What is said of a row at fault, and of a size and a byte.
 fn text_said(alloc: Global, finding: &TextFinding) -> Result<String, AllocError> {
     match finding {
         TextFinding::ControlByte { byte, column, .. } => format!(in alloc;
@@ -186,18 +186,6 @@ fn text_said(alloc: Global, finding: &TextFinding) -> Result<String, AllocError>
         ),
         TextFinding::TextTooLong { bytes, limit } => format!(in alloc;
             "the text has {bytes} bytes at least, and may have {limit} (2)"
-        ),
-        TextFinding::UnknownCommand(word) => format!(in alloc;
-            "'{}' is no command that is known (3)",
-            Shown(word.as_bytes())
-        ),
-        TextFinding::BehindEnd(word) => format!(in alloc;
-            "'{}' stands behind .end, where only .model may (5)",
-            Shown(word.as_bytes())
-        ),
-        TextFinding::RowOutsideCover(row) => format!(in alloc;
-            "the row '{}' follows no .names (6)",
-            Shown(row.as_bytes())
         ),
         TextFinding::RowShape { row, columns } => format!(in alloc;
             "the row '{}' has {} characters; its cover wants 0, 1 or - for each of {columns} columns, and 0 or 1 for the output (7)",
@@ -215,29 +203,22 @@ fn text_said(alloc: Global, finding: &TextFinding) -> Result<String, AllocError>
 
 /// What is said of a word or a name at fault in a text.
 fn name_said(alloc: Global, finding: &TextFinding) -> Result<String, AllocError> {
-    match finding {
-        TextFinding::NoPair(word) => format!(in alloc;
-            "'{}' is no pair of a formal and an actual, as a=b (9)",
-            Shown(word.as_bytes())
-        ),
-        TextFinding::NoWord(command) => format!(in alloc;
-            "'{}' has no word behind it (10)",
-            Shown(command.as_bytes())
-        ),
-        TextFinding::ModelTwice(name) => format!(in alloc;
-            "a model '{}' stands before (11)",
-            Shown(name.as_bytes())
-        ),
-        TextFinding::InputTwice(name) => format!(in alloc;
-            "'{}' stands twice in the inputs of its model (12)",
-            Shown(name.as_bytes())
-        ),
-        TextFinding::OutputTwice(name) => format!(in alloc;
-            "'{}' stands twice in the outputs of its model (12)",
-            Shown(name.as_bytes())
-        ),
-        _ => String::from_str(alloc, "no line is a statement (13)"),
-    }
+    let (before, word, wrong) = match finding {
+        TextFinding::UnknownCommand(word) => ("", word, "is no command that is known (3)"),
+        TextFinding::BehindEnd(word) => ("", word, "stands behind .end, where only .model may (5)"),
+        TextFinding::RowOutsideCover(row) => ("the row ", row, "follows no .names (6)"),
+        TextFinding::NoPair(word) => {
+            ("", word, "is no pair of a formal and an actual, as a=b (9)")
+        }
+        TextFinding::NoWord(command) => ("", command, "has no word behind it (10)"),
+        TextFinding::ModelTwice(name) => ("a model ", name, "stands before (11)"),
+        TextFinding::InputTwice(name) => ("", name, "stands twice in the inputs of its model (12)"),
+        TextFinding::OutputTwice(name) => {
+            ("", name, "stands twice in the outputs of its model (12)")
+        }
+        _ => return String::from_str(alloc, "no line is a statement (13)"),
+    };
+    format!(in alloc; "{before}'{}' {wrong}", Shown(word.as_bytes()))
 }
 
 /// What is wrong with a formal, by its code.
@@ -341,42 +322,65 @@ fn hierarchy_said(
     }
 }
 
+/// What is said of inputs or outputs that one netlist alone has, by the code.
+fn others_said(
+    alloc: Global,
+    what: &str,
+    first: &Unmatched<'_>,
+    second: &Unmatched<'_>,
+    code: u8,
+) -> Result<String, AllocError> {
+    format!(in alloc;
+        "{what} of the first netlist alone, {}; of the second alone, {} ({code})",
+        Names(first),
+        Names(second)
+    )
+}
+
+/// What is said of names at fault, by the code.
+fn names_said(
+    alloc: Global,
+    what: &str,
+    names: &Unmatched<'_>,
+    code: u8,
+) -> Result<String, AllocError> {
+    format!(in alloc; "{what}, {} ({code})", Names(names))
+}
+
 /// What is said of two netlists that make no pair, or of an order text.
 fn pair_said(alloc: Global, finding: &PairFinding<'_>) -> Result<String, AllocError> {
     match finding {
-        PairFinding::OtherInputs { first, second } => format!(in alloc;
-            "inputs of the first netlist alone, {}; of the second alone, {} (41)",
-            Names(first),
-            Names(second)
-        ),
-        PairFinding::OtherOutputs { first, second } => format!(in alloc;
-            "outputs of the first netlist alone, {}; of the second alone, {} (42)",
-            Names(first),
-            Names(second)
-        ),
-        PairFinding::UnknownOutputs(names) => format!(in alloc;
-            "names of --output that are no outputs, {} (43)",
-            Names(names)
-        ),
+        PairFinding::OtherInputs { first, second } => {
+            others_said(alloc, "inputs", first, second, 41)
+        }
+        PairFinding::OtherOutputs { first, second } => {
+            others_said(alloc, "outputs", first, second, 42)
+        }
+        PairFinding::UnknownOutputs(names) => {
+            names_said(alloc, "names of --output that are no outputs", names, 43)
+        }
         PairFinding::OrderTooLong { bytes, limit } => format!(in alloc;
             "the order text has {bytes} bytes at least, and may have {limit} (2)"
         ),
-        PairFinding::UnknownWords(words) => format!(in alloc;
-            "words of the order text that are no inputs, {} (51)",
-            Names(words)
-        ),
+        PairFinding::UnknownWords(words) => {
+            names_said(
+                alloc,
+                "words of the order text that are no inputs",
+                words,
+                51,
+            )
+        }
         PairFinding::WordTwice(word) => format!(in alloc;
             "'{}' stands twice in the order text (52)",
             Shown(word)
         ),
-        PairFinding::InputsLeftOut(names) => format!(in alloc;
-            "inputs that the order text leaves out, {} (53)",
-            Names(names)
-        ),
-        PairFinding::UnknownInputs(names) => format!(in alloc;
-            "inputs of the assumption that the netlists don't have, {} (61)",
-            Names(names)
-        ),
+        PairFinding::InputsLeftOut(names) => {
+            names_said(alloc, "inputs that the order text leaves out", names, 53)
+        }
+        PairFinding::UnknownInputs(names) => {
+            let what = "inputs of the assumption that the netlists don't have";
+            names_said(alloc, what, names, 61)
+        }
         PairFinding::OutputCount(count) => format!(in alloc;
             "the assumption has {count} outputs, and has to have one (62)"
         ),

@@ -8,7 +8,6 @@ ghost use Rattle.eqc_command.specs.Ends.{names_of, given_by, IsRun, IsRunEnd, Ma
 use crate::command_line::{Request, read_words};
 use crate::ending::{End, tell};
 use crate::explanation::{Explanation, explanation_for};
-use crate::help::answers;
 use crate::progress::Watch;
 use crate::source::{Source, Sources, Unopened, open};
 use crate::warning::warn;
@@ -149,23 +148,6 @@ fn run_shown<RT: AllocGlobal + Clock + Eprint + Threads + Wait + Sync, R: Read +
     run_beside(rt, request, &mut left, out, explanation, &watch)
 }
 
-/// Runs a comparison, and shows how far it is where that is asked for.
-fn run_asked<RT: AllocGlobal + Clock + Eprint + Threads + Wait + Sync, R: Read + Drop, W: Write>(
-    rt: &RT,
-    request: &Request<'_>,
-    given: Given<'_, R>,
-    out: &mut W,
-    explanation: &mut Explanation<'_>,
-) -> Result<Finished, RunFault>
-    ensures { IsRun R.remaining given.entry (W.contents out.old) (W.contents out.new) result }
-{
-    if request.progress {
-        return run_shown(rt, request, given, out, explanation);
-    }
-    let told = if_asked(request, explanation);
-    run_explained(rt, rt.alloc(), given, out, told, &NoGate)
-}
-
 /// Opens the files, runs the comparison, and warns of what it is.
 fn compare<
     RT: Files + AllocGlobal + Clock + Eprint + Threads + Wait + Sync,
@@ -185,7 +167,12 @@ fn compare<
         }
     };
     let given = given_by(request, sources);
-    let finished = run_asked(rt, request, given, out, &mut explanation);
+    let finished = if request.progress {
+        run_shown(rt, request, given, out, &mut explanation)
+    } else {
+        let told = if_asked(request, &mut explanation);
+        run_explained(rt, rt.alloc(), given, out, told, &NoGate)
+    };
     match finished {
         Ok(finished) => {
             warn(rt.alloc(), request, &finished.warnings, err);
@@ -197,34 +184,6 @@ fn compare<
             End::Failed(fault)
         }
     }
-}
-
-/// A text that only the help shows, or an empty one where memory was refused for it: a comparison goes on without.
-fn shown(text: &Result<String, AllocError>) -> &str {
-    match text {
-        Ok(text) => text.as_str(),
-        Err(_) => "",
-    }
-}
-
-/// Reads the words, and does what they ask for.
-fn perform<
-    RT: Files + AllocGlobal + Clock + Eprint + Threads + Wait + Sync,
-    R: Read + Drop,
-    W: Write,
-    E: Write,
->(rt: &RT, words: &[String], input: R, out: &mut W, err: &mut E) -> End
-    ensures { IsEnd R.remaining RT.File.remaining (map string_bytes words.now) input (W.contents out.old) (W.contents out.new) (E.contents err.old) (E.contents err.new) result }
-{
-    let answers = answers(rt.alloc());
-    let error = match read_words(rt.alloc(), shown(&answers), words) {
-        Ok(request) => return compare(rt, &request, input, out, err),
-        Err(error) => error,
-    };
-    if !is_showing(&error) {
-        return End::BadWords(error);
-    }
-    write_help(rt.alloc(), error, out)
 }
 
 /// Does all that the program does, and answers its exit status.
@@ -250,7 +209,11 @@ pub fn program<
 >(rt: &RT, words: &[String], input: R, out: &mut W, err: &mut E) -> u8
     ensures { IsDone R.remaining RT.File.remaining (map string_bytes words.now) input (W.contents out.old) (W.contents out.new) (E.contents err.old) (E.contents err.new) result }
 {
-    let end = perform(rt, words, input, out, err);
+    let end = match read_words(rt.alloc(), words) {
+        Ok(request) => compare(rt, &request, input, out, err),
+        Err(error) if is_showing(&error) => write_help(rt.alloc(), error, out),
+        Err(error) => End::BadWords(error),
+    };
     tell(rt.alloc(), &end, err);
     end.status()
 }

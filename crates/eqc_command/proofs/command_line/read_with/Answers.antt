@@ -1,7 +1,7 @@
 use Rattle.std.proofs.lemmas.Result.{err_from_is_err_and}
 use Rattle.clap.specs.Simple.{app_of}
 use Rattle.eqc_command.proofs.WordLemmas.{words_ask, words_taken, words_refused}
-use Rattle.eqc_command.proofs.command_line.read_words.Goals as goal
+use Rattle.eqc_command.proofs.command_line.read_with.Goals as goal
 
 pub returns-in-Some-clause-taken : goal.returns-in-Some-clause-taken
 returns-in-Some-clause-taken c = words_taken (app_of c.in_ok-command.field-0) _ c.in_ok-command.ensures c.in_ok-matches.ensures.kinds
