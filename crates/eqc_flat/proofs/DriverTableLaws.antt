@@ -53,6 +53,9 @@ use Rattle.std.proofs.lemmas.List.{
   get_or-map,
   map-append,
   length-append,
+  take-append-le,
+  take_all,
+  take_at,
   length-map,
   get_or-replicate,
   length-replicate,
@@ -64,6 +67,7 @@ use Rattle.eqc_hierarchy.specs.Signals.{SignalOf, SourceOf, Driving, same_signal
 use Rattle.eqc_hierarchy.specs.Codes.{is_driven_twice, is_undriven}
 use Rattle.eqc_flat.specs.Flattened.{no_signal, signal_at, source_of}
 use Rattle.eqc_flat.specs.RowTable.{all_rows}
+use Rattle.eqc_flat.specs.Finding.{IsFirstDrivenTwice}
 use Rattle.eqc_flat.specs.DriverTable.{in_slot, IsFilled}
 use Rattle.eqc_flat.proofs.NumberLaws.{same_self, signal_numbers}
 
@@ -84,12 +88,12 @@ filter_append p (x ∷ xs) ys = by_test (p x) (filter_append p xs ys)
     by_test true e = ap (λ zs. x ∷ zs) e
     by_test false e = e
 
--- what drives a signal among drivings with one more
-sources_more : (done : List Driving) (d : Driving) (s : SignalOf) → sources_in (done ++ d ∷ []) s ≡ sources_in done s ++ sources_in (d ∷ []) s
-sources_more done d s =
-    ap (map (λ (d : Driving). d.1)) (filter_append (λ (d : Driving). same_signal d.0 s) done (d ∷ []))
+-- what drives a signal among drivings with more behind them
+sources_more : (done more : List Driving) (s : SignalOf) → sources_in (done ++ more) s ≡ sources_in done s ++ sources_in more s
+sources_more done more s =
+    ap (map (λ (d : Driving). d.1)) (filter_append (λ (d : Driving). same_signal d.0 s) done more)
     ∙ map-append (λ (d : Driving). d.1) (filter (λ (d : Driving). same_signal d.0 s) done)
-    (filter (λ (d : Driving). same_signal d.0 s) (d ∷ []))
+    (filter (λ (d : Driving). same_signal d.0 s) more)
 
 sources_one : (d : Driving) (s : SignalOf) → same_signal d.0 s ≡ true → sources_in (d ∷ []) s ≡ d.1 ∷ []
 sources_one d s e = rw e refl
@@ -112,20 +116,43 @@ filled_none library top n size = record {
     none : (s : ℕ) (driver : DriverOf) → s < n → get_or {A = Option DriverOf} (replicate n None) s None ≡ Some driver → ⊥
     none s driver h e = let is : get_or {A = Option DriverOf} (replicate n None) s None ≡ None = get_or-replicate n s None None h in cc
 
--- a signal that was driven twice stays so
-again_more : (done : List Driving) (d : Driving) (s : SignalOf) → 1 < length (sources_in done s) → 1 < length (sources_in (done ++ d ∷ []) s)
-again_more done d s two =
-    let more : length (sources_in (done ++ d ∷ []) s) ≡ length (sources_in done s) + length (sources_in (d ∷ []) s) =
-    ap length (sources_more done d s) ∙ length-append (sources_in done s) (sources_in (d ∷ []) s) in
-    omega (arith, two, more)
-
--- a signal that is known to be driven twice is so with one driving more
-still_again : (library : List ModelOf) (top : ℕ) (slots : List (Option DriverOf)) (twice : Option ℕ) (done : List Driving) (d : Driving)
+-- the first signal that is driven twice stays the first, with whatever comes behind
+still_again : (library : List ModelOf) (top : ℕ) (slots : List (Option DriverOf)) (twice : Option ℕ) (done more : List Driving)
     → IsFilled library top slots twice done → (s : ℕ) → twice ≡ Some s
-    → (s < length (signals library top)) × (1 < length (sources_in (done ++ d ∷ []) (signal_at library top s)))
-still_again library top slots twice done d h s e =
+    → (s < length (signals library top)) × IsFirstDrivenTwice library top (done ++ more) (signal_at library top s)
+still_again library top slots twice done more h s e =
     let known = h.again s e in
-    (known.0, again_more done d (signal_at library top s) known.1)
+    let (k, there, two, none) = known.1 in
+    let P : List Driving → Type 0 = λ l. 1 < length (sources_in l (signal_at library top s)) in
+    let Q : List Driving → Type 0 = λ l. (t : ℕ) → t < length (signals library top) → length (sources_in l (signal_at library top t)) < 2 in (
+      known.0,
+      (
+        k,
+        omega (arith, there, length-append done more),
+        subst P (sym (take-append-le (k + 1) done more (omega (arith, there)))) two,
+        subst Q (sym (take-append-le k done more (omega (arith, there)))) none,
+      ),
+    )
+
+-- such a signal is driven twice by all drivings
+pub first_driven_twice : (library : List ModelOf) (top : ℕ) (all : List Driving) (s : SignalOf) → IsFirstDrivenTwice library top all s → 1 < length (sources_in all s)
+first_driven_twice library top all s (k, there, two, none) =
+    let parts : length (sources_in all s) ≡ length (sources_in (take (k + 1) all) s) + length (sources_in (drop (k + 1) all) s) =
+    ap (λ (l : List Driving). length (sources_in l s)) (sym (take-append-drop (k + 1) all))
+    ∙ (ap length (sources_more (take (k + 1) all) (drop (k + 1) all) s)
+    ∙ length-append (sources_in (take (k + 1) all) s) (sources_in (drop (k + 1) all) s)) in
+    omega (arith, parts, two)
+
+count_slot : (f : DriverOf → SourceOf) (o : Option DriverOf) → length (map f (in_slot o)) ≤ 1
+count_slot f None = omega arith
+count_slot f (Some d) = omega arith
+
+-- while no signal is known to be driven twice, none is
+one_each : (library : List ModelOf) (top : ℕ) (slots : List (Option DriverOf)) (done : List Driving) → IsFilled library top slots None done
+    → (s : ℕ) → s < length (signals library top) → length (sources_in done (signal_at library top s)) ≤ 1
+one_each library top slots done h s inside =
+    rw (h.once refl s (omega (arith, h.size, inside)))
+    (count_slot (source_of (signal_at library top) (all_rows library)) (slice_index_or slots s None))
 
 pub some_place : (p : SignalOf → Bool) (xs : List SignalOf) (i : ℕ) → i < length xs → p (get_or xs i no_signal) ≡ true → list_any p xs ≡ true
 some_place p [] i h e = absurd (omega arith)
@@ -145,8 +172,8 @@ pub filled_free : (library : List ModelOf) (top : ℕ) (slots : List (Option Dri
     → IsFilled library top (set slots t (Some driver)) twice (done ++ d ∷ [])
 filled_free library top slots twice done t driver d h inside free target source small = record {
   size = length-set slots t (Some driver) ∙ h.size;
-  once = λ e s k. sources_more done d (signal_at library top s) ∙ each e s (rw length-set at k) (cases_eq s t);
-  again = still_again library top slots twice done d h;
+  once = λ e s k. sources_more done (d ∷ []) (signal_at library top s) ∙ each e s (rw length-set at k) (cases_eq s t);
+  again = still_again library top slots twice done (d ∷ []) h;
   within = λ s other k e. elim (cases_eq s t) [
     | inl same ↦
         (let is : Some driver ≡ Some other =
@@ -188,8 +215,8 @@ filled_again library top slots None done t old d h inside taken target = record 
   size = h.size;
   once = λ e. absurd (true≢false e);
   again = λ s e.
-      let P : ℕ → Type 0 = λ x. (x < length (signals library top)) × (1 < length (sources_in (done ++ d ∷ []) (signal_at library top x))) in
-      subst P (inside_some e) (omega (arith, h.size, inside), two);
+      let P : ℕ → Type 0 = λ x. (x < length (signals library top)) × IsFirstDrivenTwice library top (done ++ d ∷ []) (signal_at library top x) in
+      subst P (inside_some e) (omega (arith, h.size, inside), first);
   within = h.within;
 }
   where
@@ -204,29 +231,37 @@ filled_again library top slots None done t old d h inside taken target = record 
         let both :
         sources_in (done ++ d ∷ []) (signal_at library top t)
         ≡ (source_of (signal_at library top) (all_rows library) old ∷ []) ++ d.1 ∷ [] =
-        sources_more done d (signal_at library top t) ∙ rw (here, new) refl in
+        sources_more done (d ∷ []) (signal_at library top t) ∙ rw (here, new) refl in
         let size : length (sources_in (done ++ d ∷ []) (signal_at library top t)) ≡ 2 = ap length both in
         omega (arith, size)
+
+    first : IsFirstDrivenTwice library top (done ++ d ∷ []) (signal_at library top t)
+    first =
+        let more : length (done ++ d ∷ []) ≡ length done + 1 = length-append done (d ∷ []) in
+        let P : List Driving → Type 0 = λ l. 1 < length (sources_in l (signal_at library top t)) in
+        let Q : List Driving → Type 0 = λ l. (s : ℕ) → s < length (signals library top) → length (sources_in l (signal_at library top s)) < 2 in (
+          length done,
+          omega (arith, more),
+          subst P (sym (take_all (length done + 1) (done ++ d ∷ []) (omega (arith, more)))) two,
+          subst Q (sym (take_at done (d ∷ []) (length done) refl))
+              (λ s k. let most = one_each library top slots done h s k in omega (arith, most)),
+        )
 filled_again library top slots (Some first) done t old d h inside taken target = record {
   size = h.size;
   once = λ e. absurd (true≢false e);
-  again = still_again library top slots (Some first) done d h;
+  again = still_again library top slots (Some first) done (d ∷ []) h;
   within = h.within;
 }
 
 -- once a signal is known to be driven twice, it stays so with whatever comes behind
 pub filled_behind : (library : List ModelOf) (top : ℕ) (slots : List (Option DriverOf)) (twice : Option ℕ) (done more : List Driving)
     → is_some twice ≡ true → IsFilled library top slots twice done → IsFilled library top slots twice (done ++ more)
-filled_behind library top slots twice done [] e h = let P : List Driving → Type 0 = λ l. IsFilled library top slots twice l in subst P (sym (append-nil done)) h
-filled_behind library top slots twice done (d ∷ more) e h =
-    let P : List Driving → Type 0 = λ l. IsFilled library top slots twice l in
-    let one : IsFilled library top slots twice (done ++ d ∷ []) = record {
-      size = h.size;
-      once = λ k. absurd (true≢false (sym e ∙ k));
-      again = still_again library top slots twice done d h;
-      within = h.within;
-    } in
-    subst P (append_assoc done (d ∷ []) more) (filled_behind library top slots twice (done ++ d ∷ []) more e one)
+filled_behind library top slots twice done more e h = record {
+  size = h.size;
+  once = λ k. absurd (true≢false (sym e ∙ k));
+  again = still_again library top slots twice done more h;
+  within = h.within;
+}
 
 -- the drivings of a list of which the first k were gone through
 pub filled_list : (library : List ModelOf) (top : ℕ) (slots : List (Option DriverOf)) (twice : Option ℕ) (done all : List Driving) (k : ℕ)
@@ -252,23 +287,17 @@ pub driven_twice : (library : List ModelOf) (top : ℕ) (slots : List (Option Dr
 unfolding is_driven_twice
 driven_twice library top slots s h =
     let known = h.again s refl in
-    some_place (λ s. nat_lt 1 (length (sources library top s))) (signals library top) s known.0 (lt-ltb 1 (length (sources library top (signal_at library top s))) known.1)
+    some_place (λ s. nat_lt 1 (length (sources library top s))) (signals library top) s known.0 (lt-ltb 1 (length (sources library top (signal_at library top s)))
+    (first_driven_twice library top (drivings library top) (signal_at library top s) known.1))
 
 pub none_place : (p : SignalOf → Bool) (xs : List SignalOf) → ((i : ℕ) → i < length xs → p (get_or xs i no_signal) ≡ false) → list_any p xs ≡ false
 none_place p [] h = refl
 none_place p (x ∷ xs) h = rw (h 0 (omega arith), none_place p xs (λ i k. h (suc i) (omega arith))) refl
 
-count_slot : (f : DriverOf → SourceOf) (o : Option DriverOf) → length (map f (in_slot o)) ≤ 1
-count_slot f None = omega arith
-count_slot f (Some d) = omega arith
-
 pub not_driven_twice : (library : List ModelOf) (top : ℕ) (slots : List (Option DriverOf)) → IsFilled library top slots None (drivings library top) → is_driven_twice library top ≡ false
 unfolding is_driven_twice
 not_driven_twice library top slots h = none_place (λ s. nat_lt 1 (length (sources library top s))) (signals library top) (λ i k.
-    let one : length (sources library top (signal_at library top i)) ≤ 1 =
-    rw (h.once refl i (omega (arith, h.size, k)))
-    (count_slot (source_of (signal_at library top) (all_rows library)) (slice_index_or slots i None)) in
-    le-ltb 1 (length (sources library top (signal_at library top i))) one)
+    le-ltb 1 (length (sources library top (signal_at library top i))) (one_each library top slots (drivings library top) h i k))
 
 pub undriven : (library : List ModelOf) (top : ℕ) (slots : List (Option DriverOf)) (s : ℕ)
     → IsFilled library top slots None (drivings library top) → s < length slots → slice_index_or slots s None ≡ None

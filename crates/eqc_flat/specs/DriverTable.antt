@@ -10,7 +10,7 @@ use Rattle.eqc_flat.specs.Flattened.{signal_at, source_of}
 use Rattle.eqc_flat.specs.RowTable.{all_rows}
 use Rattle.eqc_hierarchy.specs.Columns.{all_columns}
 use Rattle.eqc_flat.specs.StoredDrivers.{driver_from}
-use Rattle.eqc_flat.specs.Finding.{hierarchical_name}
+use Rattle.eqc_flat.specs.Finding.{hierarchical_name, IsFirstDrivenTwice}
 use Rattle.eqc_flat.specs.declared.finding.hierarchical_name.Step.{Step}
 use Rattle.eqc_flat.specs.declared.drivers.stored_driver.StoredDriver.{StoredDriver}
 use Rattle.eqc_flat.specs.declared.drivers.driver_table.Driven.{Driven}
@@ -22,13 +22,13 @@ in_slot None = []
 in_slot (Some driver) = driver ∷ []
 
 -- so far some drivings were gone through: a slot has what drives its signal among them, unless a signal is known that
--- they drive twice
+-- they drive twice, the first
 pub record IsFilled (library : List ModelOf) (top : ℕ) (slots : List (Option DriverOf)) (twice : Option ℕ) (done : List Driving) : Type 0 where
   pub size : length slots ≡ length (signals library top)
   pub once : is_some twice ≡ false → (s : ℕ) → s < length slots
       → sources_in done (signal_at library top s)
       ≡ map (source_of (signal_at library top) (all_rows library)) (in_slot (slice_index_or slots s None))
-  pub again : (s : ℕ) → twice ≡ Some s → (s < length (signals library top)) × (1 < length (sources_in done (signal_at library top s)))
+  pub again : (s : ℕ) → twice ≡ Some s → (s < length (signals library top)) × IsFirstDrivenTwice library top done (signal_at library top s)
   pub within : (s : ℕ) (driver : DriverOf) → s < length slots → slice_index_or slots s None ≡ Some driver
       → IsWithinSizes (length (model library top).inputs) (length (signals library top)) (length (all_rows library)) driver
 
@@ -55,9 +55,9 @@ abbrev pub first_driven : Driven → List (Option StoredDriver) → Option ℕ �
 first_driven Twice slots twice = twice
 first_driven Never slots twice = position is_none slots
 
--- a flat signal is driven so: twice, or by nothing, and is the first of which that holds
+-- a flat signal is driven so: twice, or by nothing, and is the first of which that is found
 abbrev pub IsDrivenSo : Driven → List ModelOf → ℕ → ℕ → Type 0
-IsDrivenSo Twice library top s = 1 < length (sources library top (signal_at library top s))
+IsDrivenSo Twice library top s = IsFirstDrivenTwice library top (drivings library top) (signal_at library top s)
 IsDrivenSo Never library top s =
     (sources library top (signal_at library top s) ≡ []) × ((k : ℕ) → k < s → sources library top (signal_at library top k) ≡ [] → ⊥)
 

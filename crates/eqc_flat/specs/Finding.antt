@@ -4,7 +4,7 @@ use Rattle.eqc_blif.specs.Netlist.{ModelOf}
 use Rattle.eqc_hierarchy.specs.Hierarchy.{model, callees, model_at, paths}
 use Rattle.eqc_hierarchy.specs.Walks.{IsWalk, WalksBack, StandOnce}
 use Rattle.eqc_flat.specs.HierarchyLaws.{needed}
-use Rattle.eqc_hierarchy.specs.Signals.{SignalOf, signals, sources}
+use Rattle.eqc_hierarchy.specs.Signals.{SignalOf, Driving, signals, sources_in, sources, drivings}
 use Rattle.eqc_hierarchy.specs.Codes.{flat_code}
 use Rattle.eqc_flat.specs.Flattened.{signal_at}
 use Rattle.eqc_flat.specs.declared.finding.hierarchical_name.Step.{Step}
@@ -23,10 +23,19 @@ steps_of library top (position ∷ up) = record { position = position; model = m
 abbrev pub hierarchical_name : List ModelOf → ℕ → SignalOf → List Step × List ℕ
 hierarchical_name library top s = (steps_of library top s.path, s.name)
 
--- 26: a flat signal of this name is driven twice
+-- of some drivings a number in a row drive a flat signal twice, and those before the last of these drive none twice
+abbrev pub IsFirstDrivenTwice : List ModelOf → ℕ → List Driving → SignalOf → Type 0
+IsFirstDrivenTwice library top all s =
+    (k : ℕ)
+    × (k < length all)
+    × (1 < length (sources_in (take (k + 1) all) s))
+    × ((t : ℕ) → t < length (signals library top) → length (sources_in (take k all) (signal_at library top t)) < 2)
+
+-- 26: a flat signal of this name is driven twice, the first of which that is found where the drivings are gone through
+-- in their order: the main model's inputs, then instance by instance what its covers drive and what its pairs drive
 abbrev pub NamesDrivenTwice : List ModelOf → ℕ → List Step × List ℕ → Type 0
 NamesDrivenTwice library top name =
-    (s : ℕ) × (s < length (signals library top)) × (name ≡ hierarchical_name library top (signal_at library top s)) × (1 < length (sources library top (signal_at library top s)))
+    (s : ℕ) × (s < length (signals library top)) × (name ≡ hierarchical_name library top (signal_at library top s)) × IsFirstDrivenTwice library top (drivings library top) (signal_at library top s)
 
 -- 27: nothing drives a flat signal of this name, the first of which that holds
 abbrev pub NamesUndriven : List ModelOf → ℕ → List Step × List ℕ → Type 0

@@ -3,6 +3,7 @@ pub mod Signals
 pub mod Dependency
 pub mod Codes
 pub mod Rule
+pub mod NearHash
 pub mod NameSets
 pub mod Columns
 pub mod Walks

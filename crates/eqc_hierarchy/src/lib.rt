@@ -9,7 +9,7 @@
 //! - `rule`, the rules of hierarchies; `model_faults`, the first that a model breaks, by a `condition`, whose
 //!   `instance_conditions` are those of instances
 //! - `instance_findings`, what is at fault, told by a `found_instance`
-//! - `naming`, the names of each model, by its `model_names` and `name_set`; `size`, how large the hierarchy is
+//! - `naming`, the names of each model, by its `model_names`, `name_set` and `near_key`; `size`, how large the hierarchy is
 #![tactic(auto)]
 
 mod calls;

@@ -10,6 +10,7 @@ ghost use Rattle.eqc_hierarchy.specs.Columns.{all_columns};
 pub(crate) mod model_names;
 pub(crate) mod name_bytes;
 pub(crate) mod name_set;
+pub(crate) mod near_key;
 
 use crate::naming::model_names::names_of;
 use crate::naming::name_set::NameSet;

@@ -62,6 +62,7 @@ fn insert_covers<'a>(
 {
     columns.reserve(covers.len())?;
     outputs.reserve(covers.len())?;
+    names.reserve(covers.len())?;
     let mut output = 0;
     'covers: for cover in covers {
         let before = last_places(columns);

@@ -3,7 +3,7 @@ ghost use Rattle.std.specs.Prelude.{◌≡◌, bytes_eq};
 ghost use Rattle.std.specs.Cmp.{partial_equiv_from_equiv};
 ghost use Rattle.std.specs.Cmp.Lexicographic.{nat_list_eq_equiv, bytes_decides};
 ghost use Rattle.std.specs.Hash.{same_Alike};
-ghost use Rattle.eqc_blif.specs.Pieces.{pieces};
+ghost use Rattle.eqc_hierarchy.specs.NearHash.{near_pieces};
 
 use eqc_blif::write_pieces;
 use std::hash::{Hash, Hasher};
@@ -54,11 +54,13 @@ impl<'a> Eq for NameBytes<'a> {
 }
 
 impl<'a> Hash for NameBytes<'a> {
-    ghost hash_input = { λ a. pieces a };
+    ghost hash_input = { λ a. near_pieces a };
 
-    ghost respects_eq = { (same_Alike {E = bytes_eq} (λ a. pieces a) bytes_decides).fed };
+    ghost respects_eq = { (same_Alike {E = bytes_eq} (λ a. near_pieces a) bytes_decides).fed };
 
     fn hash<H: Hasher>(&self, state: &mut H) {
-        write_pieces(self.bytes, state);
+        let end = self.bytes.len().saturating_sub(1);
+        write_pieces(&self.bytes[..end], state);
+        state.write(&self.bytes[end..]);
     }
 }

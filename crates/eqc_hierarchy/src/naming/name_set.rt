@@ -6,6 +6,7 @@ ghost use Rattle.eqc_blif.specs.Names.{is_named};
 ghost use Rattle.eqc_hierarchy.specs.NameSets.{with_name, place_in};
 
 use crate::naming::name_bytes::NameBytes;
+use crate::naming::near_key::NearKey;
 use eqc_blif::{Key, Name};
 use indexmap::IndexSet;
 use std::alloc::{AllocError, Global};
@@ -17,7 +18,10 @@ const FEW: usize = 8;
 /// Names, each once, in the order in which they were put in. Contracts see their list.
 #[derive(Drop)]
 pub struct NameSet<'a> {
-    names: IndexSet<NameBytes<'a>, Key>,
+    names: IndexSet<NameBytes<'a>, NearKey>,
+    /// Whether the last name that was looked up stood behind the place that was near: only then the next one is looked for
+    /// there first, so that names in no order don't pay for it. Nothing but the time depends on it.
+    in_row: bool,
 }
 
 impl<'a> Model for NameSet<'a> {
@@ -41,7 +45,8 @@ impl<'a> NameSet<'a> {
         ensures { result ≡ [] }
     {
         NameSet {
-            names: IndexSet::with_hasher(alloc, key),
+            names: IndexSet::with_hasher(alloc, NearKey::of(key)),
+            in_row: false,
         }
     }
 
@@ -63,6 +68,13 @@ impl<'a> NameSet<'a> {
     {
         let names = self.names.as_slice();
         place < names.len() && name == names[place].get()
+    }
+
+    /// Whether a name stands at a place, which may be any number, as far as it is looked for there.
+    fn stands_in_row(&self, name: &[u8], place: usize) -> bool
+        ensures { IsTrue result → position (λ other. bytes_eq name.now other) self.now ≡ Some place }
+    {
+        self.in_row && self.stands_at(name, place)
     }
 
     /// Puts the name of these bytes in, unless it is there, and answers whether it was not. Fails where memory is refused.
@@ -103,7 +115,8 @@ impl<'a> NameSet<'a> {
         Ok(place as u32)
     }
 
-    /// Does what `place` does, and sooner where the name stands at one of two places, which may be any numbers.
+    /// Does what `place` does, and sooner where the name stands at one of two places, which may be any numbers, or behind
+    /// the first of them.
     pub(crate) fn place_near(
         &mut self,
         name: &'a Name,
@@ -120,8 +133,21 @@ impl<'a> NameSet<'a> {
         if self.stands_at(bytes, last as usize) {
             return Ok(last);
         }
+        let next = near.wrapping_add(1);
+        if self.stands_in_row(bytes, next as usize) {
+            return Ok(next);
+        }
         let place = self.place(name)?;
+        self.in_row = place == next;
         Ok(place)
+    }
+
+    /// Makes room for so many more names. Fails where memory is refused.
+    pub(crate) fn reserve(&mut self, additional: usize) -> Result<(), AllocError>
+        ensures { self.new ≡ self.old }
+    {
+        self.names.reserve(additional)?;
+        Ok(())
     }
 
     /// Puts these names in, in order. Fails where memory is refused.

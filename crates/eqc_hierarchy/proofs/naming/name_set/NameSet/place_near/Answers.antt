@@ -32,3 +32,17 @@ pub returns-then-stands_at-2-clause-place : goal.returns-then-stands_at-2-clause
 returns-then-stands_at-2-clause-place c = λ later.
     (name_found c.args.self.now later c.as_bytes-bytes.result.now c.args.last (c.stands_at-2.ensures c.if-stands_at-2.true)).1
     ∙ ap (place_in (fold with_name c.args.self.now later)) c.as_bytes-bytes.ensures
+
+-- and so is one that stands behind what is near
+next : (c : goal.Then-stands_in_row) → is_named c.args.self.now c.args.name.now ≡ true
+next c =
+    ap (is_named c.args.self.now) (sym c.as_bytes-bytes.ensures)
+    ∙ (name_found c.args.self.now [] c.as_bytes-bytes.result.now _ (c.stands_in_row.ensures c.if-stands_in_row.true)).0
+
+pub returns-then-stands_in_row-clause-names : goal.returns-then-stands_in_row-clause-names
+returns-then-stands_in_row-clause-names c = rw (next c) refl
+
+pub returns-then-stands_in_row-clause-place : goal.returns-then-stands_in_row-clause-place
+returns-then-stands_in_row-clause-place c = λ later.
+    (name_found c.args.self.now later c.as_bytes-bytes.result.now _ (c.stands_in_row.ensures c.if-stands_in_row.true)).1
+    ∙ ap (place_in (fold with_name c.args.self.now later)) c.as_bytes-bytes.ensures
