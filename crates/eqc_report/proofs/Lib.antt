@@ -6,3 +6,4 @@ pub mod WrittenLemmas
 pub mod FoundLaws
 pub mod EvaluationLaws
 pub mod WatchedLemmas
+pub mod LeftLaws

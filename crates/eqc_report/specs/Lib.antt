@@ -6,5 +6,6 @@ pub mod Report
 pub mod ReportView
 pub mod PairReport
 pub mod Seen
+pub mod Left
 pub mod Written
 pub mod Evaluation

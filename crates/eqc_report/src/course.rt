@@ -1,13 +1,14 @@
 //! The course of a run's comparison: equal structure, diagrams on one thread, equal signals inside the netlists, a search for the
 //! outputs that differ, diagrams by all workers, and at last a longer search for the outputs that are left.
-ghost use Rattle.std.specs.Prelude.{◌≡◌, ◌<◌, None, true, length, slice_index_or, [], IfOk};
+ghost use Rattle.std.specs.Prelude.{◌≡◌, ◌<◌, Bool, List, None, true, length, slice_index_or, [], IfOk, IfErr};
 ghost use Rattle.eqc_compare.specs.Verdict.{differs_under};
 ghost use Rattle.eqc_compare.specs.Comparing.{netlist_of, assumption_of, is_chosen_at};
-ghost use Rattle.eqc_compare.specs.Alike.{IsKnown};
+ghost use Rattle.eqc_compare.specs.Alike.{AreEqual, IsKnown};
 ghost use Rattle.eqc_report.specs.PairReport.{pair_report};
 ghost use Rattle.eqc_report.specs.ReportView.{report_of};
 ghost use Rattle.eqc_report.specs.Options.{options_code};
 ghost use Rattle.eqc_report.specs.Seen.{IsLeftOf};
+ghost use Rattle.eqc_report.specs.Left.{AddsLeft, AddsNone};
 
 use crate::checking::{copied, found_report, shown};
 use crate::options::Options;
@@ -91,7 +92,8 @@ fn note_seen(alloc: Global, pair: &Pair<'_>, left: &mut Undecided, output: usize
     requires chosen { is_chosen_at pair.now output ≡ true }
     requires size { length values.items ≡ length pair.now.first.inputs }
     requires differs { differs_under (netlist_of pair.now.first) (netlist_of pair.now.second) (assumption_of pair.now) (slice_index_or pair.now.first.outputs output []) values.items ≡ true }
-    ensures { IsLeftOf pair.now left.old → IsLeftOf pair.now left.new }
+    ensures seen { IsLeftOf pair.now left.old → IsLeftOf pair.now left.new }
+    ensures none { AddsNone left.old left.new }
 {
     if let Ok(difference) = shown(alloc, pair.first(), output, values)
         && let Ok(inputs) = copied(alloc, pair.first().inputs())
@@ -115,6 +117,7 @@ fn by_search<R: Threads + Wait + Sync, P: Progress<R> + Sync>(
     ensures known { IsKnown comparison.now.pair.now alike.new }
     ensures report { IfOk result (λ report. report_of report ≡ pair_report comparison.now.options.now.every comparison.now.pair.now) }
     ensures seen { IsLeftOf comparison.now.pair.now left.old → IsLeftOf comparison.now.pair.now left.new }
+    ensures none { AddsNone left.old left.new }
 {
     let Comparison {
         rt,
@@ -164,8 +167,10 @@ fn by_sweeping<R: Threads + Wait + Sync, P: Progress<R> + Sync>(
     requires options { options_code comparison.now.options.now ≡ None }
     requires inside { inside.old ≡ comparison.now.pair.now }
     requires known { IsKnown comparison.now.pair.now alike.old }
+    ensures known { IsKnown comparison.now.pair.now alike.new }
     ensures report { IfOk result (λ report. report_of report ≡ pair_report comparison.now.options.now.every comparison.now.pair.now) }
     ensures seen { IsLeftOf comparison.now.pair.now left.old → IsLeftOf comparison.now.pair.now left.new }
+    ensures none { AddsNone left.old left.new }
 {
     if let Ok(more) = inside.known(comparison.alloc, alike) {
         *alike = more;
@@ -204,8 +209,10 @@ fn behind_first<R: Threads + Wait + Sync, P: Progress<R> + Sync>(
 ) -> Result<Report, Stop>
     requires options { options_code comparison.now.options.now ≡ None }
     requires known { IsKnown comparison.now.pair.now alike.old }
+    ensures known { IsKnown comparison.now.pair.now alike.new }
     ensures report { IfOk result (λ report. report_of report ≡ pair_report comparison.now.options.now.every comparison.now.pair.now) }
     ensures seen { IsLeftOf comparison.now.pair.now left.old → IsLeftOf comparison.now.pair.now left.new }
+    ensures none { AddsNone left.old left.new }
 {
     let Comparison {
         rt,
@@ -228,6 +235,31 @@ fn behind_first<R: Threads + Wait + Sync, P: Progress<R> + Sync>(
     }
 }
 
+/// The report in the course of a run, where this is known of the pair: by diagrams on one thread, and else by all that there is.
+fn by_course<R: Threads + Wait + Sync, P: Progress<R> + Sync>(
+    comparison: &Comparison<'_, R, P>,
+    alike: &mut Alike,
+    left: &mut Undecided,
+) -> Result<Report, Stop>
+    requires options { options_code comparison.now.options.now ≡ None }
+    requires known { IsKnown comparison.now.pair.now alike.old }
+    ensures known { IsKnown comparison.now.pair.now alike.new }
+    ensures report { IfOk result (λ report. report_of report ≡ pair_report comparison.now.options.now.every comparison.now.pair.now) }
+    ensures seen { IsLeftOf comparison.now.pair.now left.old → IsLeftOf comparison.now.pair.now left.new }
+    ensures none { AddsNone left.old left.new }
+{
+    // Most comparisons take less time on one thread than a forest to begin. Few nodes a forest has as fast, and uses again.
+    let first = if comparison.options.nodes < SWEPT_NODES {
+        Err(Stop::NodeLimit)
+    } else {
+        in_room(comparison, Room::First, alike)
+    };
+    match first {
+        Err(Stop::NodeLimit) => behind_first(comparison, alike, left),
+        report => report,
+    }
+}
+
 /// Compares a pair for a run, which does more than `check`: an output whose two signals have one structure is equal, and is not
 /// compared, and one diagram is built for all signals of one structure, of both netlists. Where diagrams on one thread don't
 /// decide it, the same holds of signals that are proved equal inside the netlists, and outputs are searched for differences
@@ -246,21 +278,16 @@ pub fn check_alike<R: Threads + Wait + Sync, P: Progress<R> + Sync>(
     requires { options_code comparison.now.options.now ≡ None }
     ensures report { IfOk result (λ report. report_of report ≡ pair_report comparison.now.options.now.every comparison.now.pair.now) }
     ensures seen { IsLeftOf comparison.now.pair.now left.old → IsLeftOf comparison.now.pair.now left.new }
+    ensures none { IfOk result (λ _. AddsNone left.old left.new) }
+    ensures left { IfErr result (λ _. (marks : List Bool) × AreEqual comparison.now.pair.now marks × AddsLeft comparison.now.pair.now marks (length comparison.now.pair.now.first.outputs) left.old left.new) }
 {
     comparison.watch.stage(comparison.rt, Stage::Structure);
     let mut alike = alike_or_nothing(comparison.alloc, comparison.pair);
-    // Most comparisons take less time on one thread than a forest to begin. Few nodes a forest has as fast, and uses again.
-    let first = if comparison.options.nodes < SWEPT_NODES {
-        Err(Stop::NodeLimit)
-    } else {
-        in_room(comparison, Room::First, &alike)
-    };
-    let report = match first {
-        Err(Stop::NodeLimit) => behind_first(comparison, &mut alike, left),
-        report => report,
-    };
-    if report.is_err() {
-        left.add_unmarked(comparison.pair, &alike.equal);
+    match by_course(comparison, &mut alike, left) {
+        Ok(report) => Ok(report),
+        Err(stop) => {
+            left.add_unmarked(comparison.pair, &alike.equal);
+            Err(stop)
+        }
     }
-    report
 }

@@ -1,6 +1,7 @@
 //! The outputs that are left where a comparison is given up.
-ghost use Rattle.std.specs.Prelude.{◌≡◌, vec_len, is_some, false, Some};
+ghost use Rattle.std.specs.Prelude.{◌≡◌, ◌⊎◌, ◌+◌, ◌<◌, ◌++◌, [], ◌∷◌, length, vec_len, is_some, false, Some};
 ghost use Rattle.std.specs.Option.{option_copied};
+ghost use Rattle.eqc_report.specs.Left.{is_left, told, AddsLeft, AddsNone};
 
 use crate::report::Difference;
 use eqc_blif::Name;
@@ -27,6 +28,14 @@ pub struct Undecided {
     seen: Option<Seen>,
 }
 
+/// Whether an output is left: it is chosen, and not marked.
+fn is_left(pair: &Pair<'_>, marks: &[bool], output: usize) -> bool
+    requires { output < length pair.now.first.outputs }
+    ensures { result ≡ is_left pair.now marks.now output }
+{
+    pair.is_chosen(output) && !marks.get(output).copied().unwrap_or(false)
+}
+
 impl Undecided {
     /// No output is left. Names that are added later are kept in this memory.
     pub fn none(alloc: Global) -> Undecided
@@ -44,7 +53,9 @@ impl Undecided {
 
     /// Takes one more name. Where memory is refused for it, it is only counted.
     fn add(&mut self, name: &[u8])
-        ensures { self.new.seen ≡ self.old.seen }
+        ensures seen { self.new.seen ≡ self.old.seen }
+        ensures count { self.old.count + 1 < 18446744073709551616 → self.new.count ≡ self.old.count + 1 }
+        ensures names { (told self.new ≡ told self.old) ⊎ (told self.new ≡ told self.old ++ name.now ∷ []) }
     {
         self.count = self.count.saturating_add(1);
         if self.names.len() < KEPT
@@ -56,18 +67,21 @@ impl Undecided {
 
     /// Takes the names of the chosen outputs of a pair that are not marked.
     pub(crate) fn add_unmarked(&mut self, pair: &Pair<'_>, marks: &[bool])
-        ensures { self.new.seen ≡ self.old.seen }
+        ensures seen { self.new.seen ≡ self.old.seen }
+        ensures left { AddsLeft pair.now marks.now (length pair.now.first.outputs) self.old self.new }
     {
-        for (output, name) in pair.first().outputs().iter().enumerate() {
-            if pair.is_chosen(output) && !marks.get(output).copied().unwrap_or(false) {
-                self.add(name.as_bytes());
+        let outputs = pair.first().outputs();
+        for output in 0..outputs.len() {
+            if is_left(pair, marks, output) {
+                self.add(outputs[output].as_bytes());
             }
         }
     }
 
     /// Takes what was seen of an output that differs.
     pub(crate) fn see(&mut self, seen: Seen)
-        ensures { self.new.seen ≡ Some seen }
+        ensures seen { self.new.seen ≡ Some seen }
+        ensures none { AddsNone self.old self.new }
     {
         self.seen = Some(seen);
     }
