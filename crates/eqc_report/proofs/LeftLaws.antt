@@ -1,5 +1,5 @@
 -- What is told of the first outputs, with one more.
-use Rattle.std.proofs.Common.{◌≡◌, ◌⊎◌, ℕ, ◌+◌, ◌<◌, Bool, true, false, cond, List, [], ◌∷◌, ◌++◌, length, get_or, ap, sym, subst, arith, inl, inr}
+use Rattle.std.proofs.Common.{◌≡◌, ◌⊎◌, ℕ, ◌+◌, ◌<◌, Bool, true, false, cond, List, [], ◌∷◌, ◌++◌, length, get_or, ap, refl, sym, subst, arith, inl, inr}
 use Rattle.std.specs.List.{All}
 use Rattle.std.proofs.lemmas.List.Elements.{All-push}
 use Rattle.std.proofs.Math.Numerals.{add-one}
@@ -52,3 +52,7 @@ adds-behind p marks n old mid new none adds =
       count = λ h. let c : new.count ≡ mid.count + left_below p marks n = adds.count (omega arith) in omega arith;
       names = λ all. adds.names (subst (All (IsLeftName p marks)) (sym none.names) all);
     }
+
+-- where nothing changes none is added
+pub none-added : (left : Undecided) → AddsNone left left
+none-added left = record { count = refl; names = refl }

@@ -235,31 +235,6 @@ fn behind_first<R: Threads + Wait + Sync, P: Progress<R> + Sync>(
     }
 }
 
-/// The report in the course of a run, where this is known of the pair: by diagrams on one thread, and else by all that there is.
-fn by_course<R: Threads + Wait + Sync, P: Progress<R> + Sync>(
-    comparison: &Comparison<'_, R, P>,
-    alike: &mut Alike,
-    left: &mut Undecided,
-) -> Result<Report, Stop>
-    requires options { options_code comparison.now.options.now ≡ None }
-    requires known { IsKnown comparison.now.pair.now alike.old }
-    ensures known { IsKnown comparison.now.pair.now alike.new }
-    ensures report { IfOk result (λ report. report_of report ≡ pair_report comparison.now.options.now.every comparison.now.pair.now) }
-    ensures seen { IsLeftOf comparison.now.pair.now left.old → IsLeftOf comparison.now.pair.now left.new }
-    ensures none { AddsNone left.old left.new }
-{
-    // Most comparisons take less time on one thread than a forest to begin. Few nodes a forest has as fast, and uses again.
-    let first = if comparison.options.nodes < SWEPT_NODES {
-        Err(Stop::NodeLimit)
-    } else {
-        in_room(comparison, Room::First, alike)
-    };
-    match first {
-        Err(Stop::NodeLimit) => behind_first(comparison, alike, left),
-        report => report,
-    }
-}
-
 /// Compares a pair for a run, which does more than `check`: an output whose two signals have one structure is equal, and is not
 /// compared, and one diagram is built for all signals of one structure, of both netlists. Where diagrams on one thread don't
 /// decide it, the same holds of signals that are proved equal inside the netlists, and outputs are searched for differences
@@ -283,7 +258,17 @@ pub fn check_alike<R: Threads + Wait + Sync, P: Progress<R> + Sync>(
 {
     comparison.watch.stage(comparison.rt, Stage::Structure);
     let mut alike = alike_or_nothing(comparison.alloc, comparison.pair);
-    match by_course(comparison, &mut alike, left) {
+    // Most comparisons take less time on one thread than a forest to begin. Few nodes a forest has as fast, and uses again.
+    let first = if comparison.options.nodes < SWEPT_NODES {
+        Err(Stop::NodeLimit)
+    } else {
+        in_room(comparison, Room::First, &alike)
+    };
+    let report = match first {
+        Err(Stop::NodeLimit) => behind_first(comparison, &mut alike, left),
+        report => report,
+    };
+    match report {
         Ok(report) => Ok(report),
         Err(stop) => {
             left.add_unmarked(comparison.pair, &alike.equal);
