@@ -1,13 +1,14 @@
 //! Which steps of a pair enter its graph, and how they do.
 ghost use Rattle.std.specs.Prelude.{◌≡◌, ◌≤◌, length, IfOk};
 ghost use Rattle.eqc_compare.specs.Alike.{IsKnown};
+ghost use Rattle.eqc_gates.specs.Entering.{AreClosed};
 ghost use Rattle.eqc_inside.specs.Inside.{IsInside};
 
 use crate::inside::Inside;
 use crate::searching::difference_literal;
 use eqc_build::Steps;
 use eqc_compare::{Alike, Progress, is_marked};
-use eqc_gates::{literals, needed};
+use eqc_gates::{literals, needed, needed_within};
 use eqc_pair::Pair;
 use eqc_sweep::{Effort, Sweep};
 use eqc_witness::first_shown;
@@ -20,6 +21,10 @@ const EACH_NODE: u64 = 20_000;
 const WHOLE: u64 = 10_000_000;
 
 const AT_MOST: u64 = 100_000_000;
+
+/// So many characters of covers enter at most. A cover enters anew for each instance of its model, so that a short text may have
+/// billions of them, and a million takes half a second. Of real flows few netlists have any.
+const CHARACTERS: u64 = 8_000_000;
 
 /// The work for a graph of so many nodes.
 fn work_for(nodes: u32) -> u64 {
@@ -74,75 +79,57 @@ fn differences(
     Ok((found, outputs))
 }
 
+/// The first of some outputs that is seen to differ under pseudo-random values in a graph of the marked steps, if one is: others may
+/// differ before it. Fails where memory is refused.
+fn first_seen(
+    alloc: Global,
+    steps: &Steps<'_>,
+    marks: &[bool],
+    wanted: &[bool],
+) -> Result<Option<usize>, AllocError>
+    requires closed { AreClosed steps.now marks.now }
+    requires outputs { length wanted.now ≤ length steps.now.pair.first.outputs }
+{
+    let _count = steps.len();
+    let ignored = |_step: u32| {};
+    let mut sweep = Sweep::new(alloc, Effort::none())?;
+    let literals = literals(alloc, steps, marks, &mut sweep, &ignored)?;
+    let (found, outputs) = differences(alloc, steps, &mut sweep, &literals, wanted)?;
+    let Some(place) = first_shown(alloc, sweep.graph(), &found)? else {
+        return Ok(None);
+    };
+    Ok(outputs.get(place).copied())
+}
+
+/// Marks the steps that enter for the chosen outputs of a pair that are not marked: unless `every` one that differs is looked for,
+/// without those that only outputs behind the first need that is seen to differ. No step is marked where too much would enter. Fails
+/// where memory is refused.
+fn entering(
+    alloc: Global,
+    steps: &Steps<'_>,
+    marks: &[bool],
+    every: bool,
+) -> Result<Vec<bool>, AllocError>
+    ensures { IfOk result (λ entering. AreClosed steps.now entering.items) }
+{
+    let mut outputs = unmarked(alloc, steps.pair(), marks)?;
+    let all = needed_within(alloc, steps, &outputs, CHARACTERS)?;
+    if every {
+        return Ok(all);
+    }
+    let Some(last) = first_seen(alloc, steps, &all, &outputs)? else {
+        return Ok(all);
+    };
+    unmark_behind(&mut outputs, last);
+    needed(alloc, steps, &outputs)
+}
+
 impl<'a> Inside<'a> {
-    /// Enters the steps of a pair that some outputs need. `told` is told of each step. Fails where memory is refused.
-    fn entered<F: Fn(u32)>(
-        alloc: Global,
-        steps: Steps<'a>,
-        outputs: &[bool],
-        effort: Effort,
-        told: &F,
-    ) -> Result<Inside<'a>, AllocError>
-        requires outputs { length outputs.now ≤ length steps.pair.first.outputs }
-        requires told { F.IsAlwaysCallable told.now }
-        ensures { IfOk result (λ inside. inside ≡ steps.entry.pair) }
-    {
-        let marks = needed(alloc, &steps, outputs)?;
-        let mut sweep = Sweep::new(alloc, effort)?;
-        let literals = literals(alloc, &steps, &marks, &mut sweep, told)?;
-        let work = work_for(sweep.graph().len());
-        Ok(Inside {
-            steps,
-            sweep,
-            literals,
-            work,
-            earlier: Vec::new(alloc),
-        })
-    }
-
-    /// The first of some outputs that is seen to differ under pseudo-random values, if one is: others may differ before it. Fails
-    /// where memory is refused.
-    fn first_seen(&mut self, alloc: Global, wanted: &[bool]) -> Result<Option<usize>, AllocError>
-        requires { length wanted.now ≤ length self.old.first.outputs }
-        ensures { self.new ≡ self.old }
-    {
-        let steps = &self.steps;
-        let (found, outputs) = differences(alloc, steps, &mut self.sweep, &self.literals, wanted)?;
-        let Some(place) = first_shown(alloc, self.sweep.graph(), &found)? else {
-            return Ok(None);
-        };
-        Ok(outputs.get(place).copied())
-    }
-
-    /// Marks the chosen outputs that are not marked, where this is known of the pair: unless `every` one that differs is looked for,
-    /// without those behind the first that is seen to differ. Fails where memory is refused.
-    fn wanted(
-        alloc: Global,
-        pair: &'a Pair<'a>,
-        alike: &Alike,
-        every: bool,
-    ) -> Result<Vec<bool>, AllocError>
-        requires { IsKnown pair.now alike.now }
-        ensures { IfOk result (λ wanted. length wanted.items ≡ length pair.now.first.outputs) }
-    {
-        let mut wanted = unmarked(alloc, pair, &alike.equal)?;
-        if every {
-            return Ok(wanted);
-        }
-        let steps = Steps::of(pair, alike.chosen.clone()?);
-        let ignored = |_step: u32| {};
-        let mut all = Inside::entered(alloc, steps, &wanted, Effort::none(), &ignored)?;
-        let Some(last) = all.first_seen(alloc, &wanted)? else {
-            return Ok(wanted);
-        };
-        unmark_behind(&mut wanted, last);
-        Ok(wanted)
-    }
-
     /// Enters the steps of a pair that its chosen outputs need which are not marked, where this is known of it: a step that is chosen
     /// in place of others is entered for them. Unless `every` output that differs is looked for, those behind the first that is seen
-    /// to differ aren't needed. It takes time and memory in proportion to the steps and their rows. The watch is told of each step.
-    /// Fails where memory is refused.
+    /// to differ aren't needed. It takes time and memory in proportion to the steps and to the rows of their covers, for each instance
+    /// of a model anew; where these are very many nothing is entered, and nothing is found of any output. The watch is told of each
+    /// step. Fails where memory is refused.
     pub fn of<R, P: Progress<R>>(
         rt: &R,
         alloc: Global,
@@ -154,10 +141,19 @@ impl<'a> Inside<'a> {
         requires { IsKnown pair.now alike.now }
         ensures { IfOk result (λ inside. inside ≡ pair.now) }
     {
-        let outputs = Inside::wanted(alloc, pair, alike, every)?;
         let steps = Steps::of(pair, alike.chosen.clone()?);
+        let marks = entering(alloc, &steps, &alike.equal, every)?;
         let count = steps.len() as usize;
         let told = |step: u32| watch.step(rt, step as usize, count);
-        Inside::entered(alloc, steps, &outputs, Effort::usual(), &told)
+        let mut sweep = Sweep::new(alloc, Effort::usual())?;
+        let literals = literals(alloc, &steps, &marks, &mut sweep, &told)?;
+        let work = work_for(sweep.graph().len());
+        Ok(Inside {
+            steps,
+            sweep,
+            literals,
+            work,
+            earlier: Vec::new(alloc),
+        })
     }
 }

@@ -10,7 +10,6 @@ use eqc_build::Steps;
 use eqc_compare::{Alike, Progress, is_marked};
 use eqc_pair::Pair;
 use eqc_sweep::{Comparison, Effort, Sweep};
-use eqc_witness::first_shown;
 use std::alloc::{AllocError, Global};
 use std::marker::Model;
 
