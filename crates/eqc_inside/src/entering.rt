@@ -11,7 +11,7 @@ use eqc_compare::{Alike, Progress, is_marked};
 use eqc_gates::{literals, needed, needed_within};
 use eqc_pair::Pair;
 use eqc_sweep::{Effort, Sweep};
-use eqc_witness::first_shown;
+use eqc_witness::{first_shown, words_shown};
 use std::alloc::{AllocError, Global};
 
 /// How much work the searches for differences may do beside their conflicts, all together: so much for each node of the graph and
@@ -22,6 +22,12 @@ const WHOLE: u64 = 10_000_000;
 
 const AT_MOST: u64 = 100_000_000;
 
+/// What it takes to enter a node in a graph in which nothing is asked, as work.
+const ENTERED: u64 = 100;
+
+/// This part of the work is left for searches, however much work it took to see which outputs differ.
+const PART: u64 = 10;
+
 /// So many characters of covers enter at most. A cover enters anew for each instance of its model, so that a short text may have
 /// billions of them, and a million takes half a second. Of real flows few netlists have any.
 const CHARACTERS: u64 = 8_000_000;
@@ -29,6 +35,11 @@ const CHARACTERS: u64 = 8_000_000;
 /// The work for a graph of so many nodes.
 fn work_for(nodes: u32) -> u64 {
     (u64::from(nodes) * EACH_NODE + WHOLE).min(AT_MOST)
+}
+
+/// The work that it took to see which outputs differ, in a graph of so many nodes.
+fn work_seeing(nodes: u32) -> u64 {
+    (u64::from(nodes) * ENTERED).saturating_add(words_shown(nodes))
 }
 
 /// Marks the chosen outputs that are not marked. Fails where memory is refused.
@@ -79,13 +90,23 @@ fn differences(
     Ok((found, outputs))
 }
 
+/// What is to enter a graph.
+#[derive(Drop)]
+struct Wanted {
+    /// The steps that do.
+    marks: Vec<bool>,
+    /// The work that it took to see that others needn't.
+    work: u64,
+}
+
 /// The first of some outputs that is seen to differ under pseudo-random values in a graph of the marked steps, if one is: others may
-/// differ before it. Fails where memory is refused.
+/// differ before it. The work that it took is added to what there is. Fails where memory is refused.
 fn first_seen(
     alloc: Global,
     steps: &Steps<'_>,
     marks: &[bool],
     wanted: &[bool],
+    work: &mut u64,
 ) -> Result<Option<usize>, AllocError>
     requires closed { AreClosed steps.now marks.now }
     requires outputs { length wanted.now ≤ length steps.now.pair.first.outputs }
@@ -95,13 +116,14 @@ fn first_seen(
     let mut sweep = Sweep::new(alloc, Effort::none())?;
     let literals = literals(alloc, steps, marks, &mut sweep, &ignored)?;
     let (found, outputs) = differences(alloc, steps, &mut sweep, &literals, wanted)?;
+    *work = work.saturating_add(work_seeing(sweep.graph().len()));
     let Some(place) = first_shown(alloc, sweep.graph(), &found)? else {
         return Ok(None);
     };
     Ok(outputs.get(place).copied())
 }
 
-/// Marks the steps that enter for the chosen outputs of a pair that are not marked: unless `every` one that differs is looked for,
+/// Which steps enter for the chosen outputs of a pair that are not marked: unless `every` one that differs is looked for,
 /// without those that only outputs behind the first need that is seen to differ. No step is marked where too much would enter. Fails
 /// where memory is refused.
 fn entering(
@@ -109,19 +131,21 @@ fn entering(
     steps: &Steps<'_>,
     marks: &[bool],
     every: bool,
-) -> Result<Vec<bool>, AllocError>
-    ensures { IfOk result (λ entering. AreClosed steps.now entering.items) }
+) -> Result<Wanted, AllocError>
+    ensures { IfOk result (λ wanted. AreClosed steps.now wanted.marks.items) }
 {
     let mut outputs = unmarked(alloc, steps.pair(), marks)?;
-    let all = needed_within(alloc, steps, &outputs, CHARACTERS)?;
+    let marks = needed_within(alloc, steps, &outputs, CHARACTERS)?;
+    let mut work = 0;
     if every {
-        return Ok(all);
+        return Ok(Wanted { marks, work });
     }
-    let Some(last) = first_seen(alloc, steps, &all, &outputs)? else {
-        return Ok(all);
+    let Some(last) = first_seen(alloc, steps, &marks, &outputs, &mut work)? else {
+        return Ok(Wanted { marks, work });
     };
     unmark_behind(&mut outputs, last);
-    needed(alloc, steps, &outputs)
+    let marks = needed(alloc, steps, &outputs)?;
+    Ok(Wanted { marks, work })
 }
 
 impl<'a> Inside<'a> {
@@ -142,17 +166,17 @@ impl<'a> Inside<'a> {
         ensures { IfOk result (λ inside. inside ≡ pair.now) }
     {
         let steps = Steps::of(pair, alike.chosen.clone()?);
-        let marks = entering(alloc, &steps, &alike.equal, every)?;
+        let entering = entering(alloc, &steps, &alike.equal, every)?;
         let count = steps.len() as usize;
         let told = |step: u32| watch.step(rt, step as usize, count);
         let mut sweep = Sweep::new(alloc, Effort::usual())?;
-        let literals = literals(alloc, &steps, &marks, &mut sweep, &told)?;
+        let literals = literals(alloc, &steps, &entering.marks, &mut sweep, &told)?;
         let work = work_for(sweep.graph().len());
         Ok(Inside {
             steps,
             sweep,
             literals,
-            work,
+            work: work.saturating_sub(entering.work).max(work / PART),
             earlier: Vec::new(alloc),
         })
     }

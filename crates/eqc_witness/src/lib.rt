@@ -26,5 +26,5 @@ mod trials;
 mod witness;
 
 pub use least::least_witness;
-pub use shown::first_shown;
+pub use shown::{first_shown, words_shown};
 pub use witness::Witness;

@@ -3,11 +3,26 @@ use crate::simulation::Simulation;
 use eqc_graph::{Graph, Node};
 use std::alloc::{AllocError, Global};
 
-/// How many times 64 assignments are tried.
-const ROUNDS: u32 = 32;
+/// How many times 64 assignments are tried, in a graph of no more than so many words in all: fewer times in a larger one, but at least
+/// so often.
+const ROUNDS: u64 = 32;
+
+const WORDS: u64 = 8_000_000;
+
+const FEWEST: u64 = 8;
+
+/// How many times 64 assignments are tried in a graph of so many nodes.
+fn rounds_for(nodes: u32) -> u64 {
+    (WORDS / u64::from(nodes).max(1)).min(ROUNDS).max(FEWEST)
+}
+
+/// How many words `first_shown` makes for a graph of so many nodes.
+pub fn words_shown(nodes: u32) -> u64 {
+    rounds_for(nodes).saturating_mul(u64::from(nodes))
+}
 
 /// A pseudo-random word: in each second round with few ones and with few zeros in turn.
-fn input_word(simulation: &mut Simulation, round: u32) -> u64 {
+fn input_word(simulation: &mut Simulation, round: u64) -> u64 {
     let word = simulation.random();
     match round % 4 {
         1 => word & simulation.random() & simulation.random(),
@@ -18,7 +33,7 @@ fn input_word(simulation: &mut Simulation, round: u32) -> u64 {
 
 /// The place of the first of some literals of a graph that is seen true under pseudo-random values of its variables, the same in
 /// each run. Nothing is promised of it: others may be true before it, and it need not be seen. Takes time in proportion to the
-/// graph. Fails where memory is refused.
+/// words that `words_shown` tells. Fails where memory is refused.
 pub fn first_shown(
     alloc: Global,
     graph: &Graph,
@@ -26,7 +41,7 @@ pub fn first_shown(
 ) -> Result<Option<usize>, AllocError> {
     let mut simulation = Simulation::new(alloc, graph)?;
     let mut first = literals.len();
-    for round in 0..ROUNDS {
+    for round in 0..rounds_for(graph.len()) {
         for k in 0..graph.len() {
             if let Node::Input(_) = graph.node(k) {
                 let word = input_word(&mut simulation, round);

@@ -4,7 +4,7 @@ ghost use Rattle.eqc_graph.specs.Graph.{IsBelow};
 
 use crate::ends::same;
 use eqc_graph::{Graph, Node, node_of};
-use eqc_witness::{Witness, first_shown, least_witness};
+use eqc_witness::{Witness, first_shown, least_witness, words_shown};
 use std::alloc::AllocError;
 use std::process::Abort;
 
@@ -284,6 +284,14 @@ fn literals_are_seen_true(rt: HostRuntime) {
         Ok(Some(1)),
         "a literal that isn't there",
     );
+}
+
+#[test]
+fn words_are_bounded(rt: HostRuntime) {
+    same(&rt, words_shown(0), 0, "no node");
+    same(&rt, words_shown(100_000), 3_200_000, "a small graph");
+    same(&rt, words_shown(800_000), 8_000_000, "a large one");
+    same(&rt, words_shown(2_000_000), 16_000_000, "a larger one");
 }
 
 #[test]
