@@ -25,7 +25,7 @@ pub struct Inside<'a> {
     pub(crate) literals: Vec<Option<u32>>,
     /// The work that the searches for differences may do beside their conflicts, all together, yet.
     pub(crate) work: u64,
-    /// The least assignments that were found, as values of the first netlist's inputs.
+    /// The last of the least assignments that were found, as values of the first netlist's inputs, as many as are tried.
     pub(crate) earlier: Vec<Vec<bool>>,
 }
 

@@ -16,7 +16,7 @@ use eqc_build::Steps;
 use eqc_compare::{Alike, Difference, Outcome, Progress, is_marked, is_settled};
 use eqc_pair::Pair;
 use eqc_sweep::{Comparison, Sweep};
-use eqc_witness::{Witness, least_witness};
+use eqc_witness::{EARLIER, Witness, least_witness};
 use std::alloc::{AllocError, Global};
 use std::thread::Threads;
 
@@ -281,13 +281,16 @@ impl<'a> Inside<'a> {
         }
     }
 
-    /// Notes the least assignment of an output, if it was found, for those that are asked for after it. Where memory is refused for
-    /// it nothing is noted.
+    /// Notes the least assignment of an output, if it was found, for those that are asked for after it, in place of the first one where
+    /// no more would be tried. Where memory is refused for it nothing is noted.
     fn note(&mut self, found: &Witness)
         ensures { self.new ≡ self.old }
     {
         if let Witness::Least(values) = found {
             if let Ok(values) = values.clone() {
+                if self.earlier.len() >= EARLIER {
+                    let _first = self.earlier.remove(0);
+                }
                 let _ = self.earlier.push(values);
             }
         }

@@ -27,4 +27,5 @@ mod witness;
 
 pub use least::least_witness;
 pub use shown::{first_shown, words_shown};
+pub use trials::EARLIER;
 pub use witness::Witness;

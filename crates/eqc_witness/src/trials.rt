@@ -6,6 +6,9 @@ use crate::cone::Cone;
 use crate::simulation::{LANES, Simulation};
 use std::alloc::{AllocError, Global};
 
+/// How many of the earlier assignments are tried, the last ones: in one lane each, beside what is tried first.
+pub const EARLIER: usize = LANES as usize - 1;
+
 /// How many times 64 assignments near a known one are tried.
 const NEAR_ROUNDS: u32 = 200;
 
@@ -138,7 +141,7 @@ impl Trials {
     {
         self.begin(&values);
         let mut lane: u32 = 1;
-        for place in earlier.len().saturating_sub(LANES as usize - 1)..earlier.len() {
+        for place in earlier.len().saturating_sub(EARLIER)..earlier.len() {
             let others = &earlier[place];
             for position in 0..others.len() {
                 self.put(lane, position, others[position]);
