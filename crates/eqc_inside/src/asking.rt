@@ -5,7 +5,7 @@ ghost use Rattle.std.specs.Thread.{IsSync};
 ghost use Rattle.eqc_inside.specs.Inside.{IsInside};
 ghost use Rattle.eqc_inside.specs.Searching.{IsAnswerOf, IsQuestionOf};
 
-use crate::searching::{difference_literal, seen_true, work_left};
+use crate::searching::{Conflicts, difference_literal, note, seen_true, work_left};
 use eqc_build::Steps;
 use eqc_graph::Graph;
 use eqc_pair::Pair;
@@ -31,14 +31,14 @@ pub(crate) struct Answer {
     /// Its position in the first netlist.
     pub output: usize,
     pub witness: Witness,
-    /// The conflicts that were left of those that it could have.
-    pub left: u64,
+    /// The conflicts that it used.
+    pub used: u64,
     /// The work that it takes from the others, beside the conflicts.
     pub work: u64,
 }
 
-/// The questions for these outputs, the last one first. An output whose steps have no literals isn't asked for. Fails where
-/// memory is refused.
+/// The questions for these outputs, in their order. An output whose steps have no literals isn't asked for. Fails where memory is
+/// refused.
 pub(crate) fn questions_of(
     alloc: Global,
     steps: &Steps<'_>,
@@ -53,7 +53,7 @@ pub(crate) fn questions_of(
 {
     let mut all = Vec::with_capacity(alloc, outputs.len())?;
     for k in 0..outputs.len() {
-        let output = outputs[outputs.len() - 1 - k];
+        let output = outputs[k];
         let Some(literal) = difference_literal(steps, sweep, literals, output)? else {
             continue;
         };
@@ -102,34 +102,59 @@ fn ask(
     Ok(Answer {
         output: *output,
         witness,
-        left,
+        used: conflicts.saturating_sub(left),
         work: work.saturating_sub(kept),
     })
 }
 
-/// What is found of each of these outputs, one after the other.
+/// A copy of assignments. Fails where memory is refused.
+fn copied(alloc: Global, assignments: &[Vec<bool>]) -> Result<Vec<Vec<bool>>, AllocError> {
+    let mut copies = Vec::with_capacity(alloc, assignments.len())?;
+    for values in assignments {
+        copies.push(values.clone()?)?;
+    }
+    Ok(copies)
+}
+
+/// What is found of each of these outputs, one after the other. What one takes the next ones can't have, and its least assignment is
+/// tried for them.
 fn ask_each(
     alloc: Global,
     pair: &Pair<'_>,
     graph: &Graph,
     questions: &[Question],
     earlier: &[Vec<bool>],
-    conflicts: u64,
+    conflicts: Conflicts,
     work: u64,
 ) -> Result<Vec<Answer>, AllocError>
     requires { All (IsQuestionOf pair.now graph.now) questions.now }
     ensures { IfOk result (λ all. All (IsAnswerOf pair.now) all.items) }
 {
     let mut all = Vec::with_capacity(alloc, questions.len())?;
+    let mut earlier = copied(alloc, earlier)?;
+    let mut conflicts = conflicts;
+    let mut work = work;
     for question in questions {
-        all.push(ask(alloc, pair, graph, question, earlier, conflicts, work)?)?;
+        let answer = ask(
+            alloc,
+            pair,
+            graph,
+            question,
+            &earlier,
+            conflicts.next(),
+            work,
+        )?;
+        conflicts.take(answer.used);
+        work = work.saturating_sub(answer.work);
+        note(&mut earlier, &answer.witness);
+        all.push(answer)?;
     }
     Ok(all)
 }
 
-/// What is found of each of these outputs, in their order, by so many threads, of which each takes a part. Each output may have so
-/// many conflicts, and so much work beside them. Fails where memory is refused. Where a thread can't be started its part is done
-/// here.
+/// What is found of each of these outputs, in their order, by so many threads, of which each takes a part. The outputs of a part
+/// may have so many conflicts, and so much work beside them. Fails where memory is refused. Where a thread can't be started its part
+/// is done here.
 #[cycle(questions)]
 pub(crate) fn ask_all<R: Threads + Sync>(
     rt: &R,
@@ -138,7 +163,7 @@ pub(crate) fn ask_all<R: Threads + Sync>(
     graph: &Graph,
     questions: &[Question],
     earlier: &[Vec<bool>],
-    conflicts: u64,
+    conflicts: Conflicts,
     work: u64,
     threads: u32,
 ) -> Result<Vec<Answer>, AllocError>

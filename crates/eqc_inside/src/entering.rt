@@ -171,6 +171,8 @@ impl<'a> Inside<'a> {
         let told = |step: u32| watch.step(rt, step as usize, count);
         let mut sweep = Sweep::new(alloc, Effort::usual())?;
         let literals = literals(alloc, &steps, &entering.marks, &mut sweep, &told)?;
+        // What the searches for differences make is no signal: they ask about it themselves.
+        sweep.ask_no_more();
         let work = work_for(sweep.graph().len());
         Ok(Inside {
             steps,

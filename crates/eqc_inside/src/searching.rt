@@ -20,6 +20,10 @@ use eqc_witness::{EARLIER, Witness, least_witness};
 use std::alloc::{AllocError, Global};
 use std::thread::Threads;
 
+/// So many outputs each thread asks for in turn, where all that differ are looked for: the least assignment of one is mostly near that
+/// of the next.
+const IN_TURN: usize = 2;
+
 /// What is found of a pair.
 #[derive(Drop)]
 pub enum Searched {
@@ -43,13 +47,12 @@ pub struct Conflicts {
 
 impl Conflicts {
     /// Those that the next output may have.
-    fn next(&self) -> u64 {
+    pub(crate) fn next(&self) -> u64 {
         self.each.min(self.all)
     }
 
-    /// Takes those away that an output used, of which so many were left.
-    fn take_used(&mut self, left: u64) {
-        let used = self.next().saturating_sub(left);
+    /// Takes those away that an output used.
+    pub(crate) fn take(&mut self, used: u64) {
         self.all = self.all.saturating_sub(used);
     }
 }
@@ -219,6 +222,40 @@ fn open_outputs(
     Ok(open)
 }
 
+/// Notes the least assignment of an output, if it was found, for those that are asked for after it, in place of the first one where
+/// no more would be tried. Where memory is refused for it nothing is noted.
+pub(crate) fn note(earlier: &mut Vec<Vec<bool>>, found: &Witness) {
+    if let Witness::Least(values) = found {
+        if let Ok(values) = values.clone() {
+            if earlier.len() >= EARLIER {
+                let _first = earlier.remove(0);
+            }
+            let _ = earlier.push(values);
+        }
+    }
+}
+
+/// These answers, the last one first. Fails where memory is refused.
+fn last_first(
+    alloc: Global,
+    pair: &Pair<'_>,
+    answers: Vec<Answer>,
+) -> Result<Vec<Answer>, AllocError>
+    requires { All (IsAnswerOf pair.now) answers.items }
+    ensures { IfOk result (λ all. All (IsAnswerOf pair.now) all.items) }
+{
+    let _pair = pair;
+    let mut answers = answers;
+    let mut all = Vec::with_capacity(alloc, answers.len())?;
+    'answers: for _ in 0..answers.len() {
+        let Some(answer) = answers.pop() else {
+            break;
+        };
+        all.push(answer)?;
+    }
+    Ok(all)
+}
+
 /// Marks an output, if it has a mark.
 fn mark(alike: &mut Alike, output: usize)
     ensures equal { alike.new.equal.items ≡ slice_set alike.old.equal.items output true }
@@ -281,44 +318,33 @@ impl<'a> Inside<'a> {
         }
     }
 
-    /// Notes the least assignment of an output, if it was found, for those that are asked for after it, in place of the first one where
-    /// no more would be tried. Where memory is refused for it nothing is noted.
-    fn note(&mut self, found: &Witness)
-        ensures { self.new ≡ self.old }
-    {
-        if let Witness::Least(values) = found {
-            if let Ok(values) = values.clone() {
-                if self.earlier.len() >= EARLIER {
-                    let _first = self.earlier.remove(0);
-                }
-                let _ = self.earlier.push(values);
-            }
-        }
-    }
-
-    /// What is found of the next outputs from one on that are chosen and not marked, one for each thread, the last one first.
-    /// Fails where memory is refused.
+    /// What is found of the next outputs from one on that are chosen and not marked, the last one first: of one for each thread, or
+    /// where `every` one is looked for, of more. Fails where memory is refused.
     fn ask_ahead<R: Threads + Sync>(
         &mut self,
         rt: &R,
         alloc: Global,
         marks: &[bool],
         from: usize,
-        conflicts: u64,
+        every: bool,
+        conflicts: Conflicts,
         threads: u32,
     ) -> Result<Vec<Answer>, AllocError>
         ensures pair { self.new ≡ self.old }
         ensures found { IfOk result (λ all. All (IsAnswerOf self.old) all.items) }
     {
         let pair = self.steps.pair();
-        let open = open_outputs(alloc, pair, marks, from, threads as usize)?;
+        let each = if every { IN_TURN } else { 1 };
+        let most = (threads as usize).saturating_mul(each);
+        let open = open_outputs(alloc, pair, marks, from, most)?;
         let questions = questions_of(alloc, &self.steps, &mut self.sweep, &self.literals, &open)?;
         let graph = self.sweep.graph();
         let earlier = &self.earlier;
         let work = self.work;
-        ask_all(
+        let all = ask_all(
             rt, alloc, pair, graph, &questions, earlier, conflicts, work, threads,
-        )
+        )?;
+        last_first(alloc, pair, all)
     }
 
     /// What is found of an output: with several threads the next ones are asked for beside it, and what is found of these is
@@ -329,7 +355,8 @@ impl<'a> Inside<'a> {
         alloc: Global,
         marks: &[bool],
         output: usize,
-        conflicts: &mut u64,
+        every: bool,
+        conflicts: &mut Conflicts,
         threads: u32,
         ahead: &mut Vec<Answer>,
     ) -> Result<Witness, AllocError>
@@ -340,16 +367,20 @@ impl<'a> Inside<'a> {
         ensures found { IfOk result (IsWitnessAt self.old output) }
     {
         if threads > 1 && ahead.is_empty() {
-            *ahead = self.ask_ahead(rt, alloc, marks, output, *conflicts, threads)?;
+            *ahead = self.ask_ahead(rt, alloc, marks, output, every, *conflicts, threads)?;
         }
         if let Some(answer) = ahead.pop() {
             if answer.output == output {
-                *conflicts = answer.left;
+                conflicts.take(answer.used);
                 self.work = self.work.saturating_sub(answer.work);
                 return Ok(answer.witness);
             }
         }
-        self.search_output(alloc, output, conflicts)
+        let given = conflicts.next();
+        let mut left = given;
+        let found = self.search_output(alloc, output, &mut left)?;
+        conflicts.take(given.saturating_sub(left));
+        Ok(found)
     }
 
     /// The chosen outputs that differ, with their least assignments, where some assignment is allowed: all of them, or the first
@@ -380,13 +411,18 @@ impl<'a> Inside<'a> {
             if is_settled(self.steps.pair(), &alike.equal, output) {
                 continue;
             }
-            let mut left = conflicts.next();
             let marks = &alike.equal;
             let witness = self.next_witness(
-                rt, alloc, marks, output, &mut left, threads, &mut ahead,
+                rt,
+                alloc,
+                marks,
+                output,
+                every,
+                &mut conflicts,
+                threads,
+                &mut ahead,
             )?;
-            conflicts.take_used(left);
-            self.note(&witness);
+            note(&mut self.earlier, &witness);
             match witness {
                 Witness::Never => mark(alike, output),
                 Witness::Unknown(seen) => return Ok(Searched::Open(output, seen)),

@@ -109,6 +109,15 @@ fn parities_are_told_apart_or_equal(rt: HostRuntime) -> Result<(), AllocError> {
     Ok(())
 }
 
+#[test]
+fn nothing_is_asked_any_more(rt: HostRuntime) -> Result<(), AllocError> {
+    let mut sweep = Sweep::new(rt.alloc(), Effort::usual())?;
+    sweep.ask_no_more();
+    let tried = parities(&mut sweep, FORTH, BACK, 10_000);
+    same(&rt, tried, Ok((false, Found::Equal)), "another order");
+    Ok(())
+}
+
 #[tactic(auto, using(eqc_graph::proofs::GraphLemmas::extends_along))]
 /// Whether x and y are true, or z and what is true where some are.
 fn carried(sweep: &mut Sweep, x: u32, y: u32, z: u32, some: u32) -> Result<u32, AllocError>

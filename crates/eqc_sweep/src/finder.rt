@@ -24,6 +24,9 @@ use std::alloc::{AllocError, Global};
 /// How many older nodes a new one is asked against.
 const CANDIDATES: u32 = 3;
 
+/// In so many rows one input has another value than in a counterexample.
+const FLIPPED: usize = 4;
+
 /// What is known of the nodes by simulation, and the search.
 #[derive(Drop)]
 pub(crate) struct Finder {
@@ -110,6 +113,9 @@ impl Finder {
     /// Simulates a new node.
     fn enter(&mut self, k: u32, node: Node) -> Result<(), AllocError> {
         self.patterns.push(node)?;
+        if self.patterns.shorten() {
+            self.classes.rebuild(self.patterns.signatures())?;
+        }
         self.search.prefer(k, self.patterns.phase(k))?;
         if let Node::Input(variable) = node {
             self.inputs.push((k, variable))?;
@@ -122,12 +128,16 @@ impl Finder {
         requires { IsWithin graph.now new }
         ensures { IfOk result (λ found. IfSome found (IsOlder graph.now new)) }
     {
-        if !self.effort.asks {
+        if !self.effort.simulates {
             return Ok(None);
         }
         let k = node_of(new);
         self.enter(k, graph.node(k))?;
-        let found = self.search_older(graph, new)?;
+        let found = if self.effort.asks {
+            self.search_older(graph, new)?
+        } else {
+            None
+        };
         if found.is_some() {
             self.patterns.pop();
             self.counterexamples.truncate(k);
@@ -135,6 +145,11 @@ impl Finder {
             self.classes.push(self.patterns.signatures())?;
         }
         Ok(found)
+    }
+
+    /// From now on new nodes are simulated alone.
+    pub(crate) fn ask_no_more(&mut self) {
+        self.effort.asks = false;
     }
 
     /// The candidate of a node that wasn't tried, with the complement that simulation says.
@@ -209,10 +224,28 @@ impl Finder {
         if self.counterexamples.count() < ROOM {
             return Ok(());
         }
+        let alone = self.account.is_alone();
         let row = self.counterexamples.take(alloc);
         if self.account.take_row(graph.len()) {
             self.patterns.add_row(graph, row)?;
+            if alone {
+                self.simulate_flipped(graph)?;
+            }
             self.classes.rebuild(self.patterns.signatures())?;
+        }
+        Ok(())
+    }
+
+    /// Simulates assignments that differ from the counterexample of the last question at one input.
+    fn simulate_flipped(&mut self, graph: &Graph) -> Result<(), AllocError> {
+        let rows = (self.search.model().len() / 64 + 1).min(FLIPPED);
+        for row in 0..rows {
+            self.counterexamples
+                .begin(self.alloc, graph, &mut self.patterns)?;
+            self.counterexamples.add_flipped(self.search.model(), row);
+            let words = self.counterexamples.take(self.alloc);
+            self.account.spend_row(graph.len());
+            self.patterns.add_row(graph, words)?;
         }
         Ok(())
     }

@@ -55,6 +55,13 @@ impl Sweep {
         &self.graph
     }
 
+    /// From now on new nodes are not asked about any more: one that is equal to an older one may be made.
+    pub fn ask_no_more(&mut self)
+        ensures { self.new ≡ self.old }
+    {
+        self.finder.ask_no_more();
+    }
+
     #[tactic(auto, using(crate::proofs::ConstantLemmas::constant_true, crate::proofs::ConstantLemmas::constant_false))]
     /// The literal that is always true, or the one that is always false.
     pub fn constant(&self, value: bool) -> u32

@@ -38,6 +38,12 @@ const AT_MOST: u64 = 100_000_000;
 /// nodes are equal costs no more, whatever its size.
 const IN_VAIN: u64 = 70_000_000;
 
+/// A question may do so much work, or so many times that of the hardest one so far after which a node was found equal, if that is more.
+/// Most nodes that are equal are found with a hundredth of that, and a question about others may take all that there is.
+const FIRST: u64 = 1_500_000;
+
+const HARDER: u64 = 8;
+
 /// The work of a question that visits nothing, and of a simulated word: the signature is another one then, and is entered anew.
 const QUESTION: u64 = 200;
 
@@ -53,6 +59,8 @@ const ROWS: u32 = 256;
 pub(crate) struct Account {
     conflicts: u64,
     spent: u64,
+    /// The most work of a question after which a node was found equal.
+    hardest: u64,
     /// What was spent in vain.
     vain: u64,
     rows: u32,
@@ -87,6 +95,7 @@ impl Account {
         Account {
             conflicts: AT_START,
             spent: 0,
+            hardest: 0,
             vain: 0,
             rows: 0,
         }
@@ -109,7 +118,8 @@ impl Account {
     pub(crate) fn open(&mut self, nodes: u32) -> Budget {
         self.conflicts = self.conflicts.saturating_add(EACH);
         let conflicts = (self.conflicts / PART).max(FEWEST).min(MOST);
-        budget_of(conflicts, self.left(nodes))
+        let most = self.hardest.saturating_mul(HARDER).max(FIRST);
+        budget_of(conflicts, self.left(nodes).min(most))
     }
 
     /// Counts what a question spent, by which a node was found equal or not.
@@ -117,6 +127,9 @@ impl Account {
         let conflicts = given.conflicts.saturating_sub(left.conflicts);
         self.conflicts = self.conflicts.saturating_sub(conflicts);
         let work = given.work.saturating_sub(left.work);
+        if is_equal {
+            self.hardest = self.hardest.max(work);
+        }
         self.spend(work.saturating_add(QUESTION), !is_equal);
     }
 
@@ -143,7 +156,12 @@ impl Account {
             return false;
         }
         self.rows += 1;
-        self.spend(u64::from(nodes) * WORD, true);
+        self.spend_row(nodes);
         true
+    }
+
+    /// Counts a row that is simulated.
+    pub(crate) fn spend_row(&mut self, nodes: u32) {
+        self.spend(u64::from(nodes) * WORD, true);
     }
 }

@@ -75,4 +75,20 @@ impl Counterexamples {
         }
         self.count = ROOM;
     }
+
+    /// Adds values of inputs, in each place with the other value for one of them: in row k of these for the 64 behind the first 64 * k.
+    pub(crate) fn add_flipped(&mut self, model: &[(u32, bool)], row: usize) {
+        for (input, (node, value)) in model.iter().enumerate() {
+            let at = *node as usize;
+            if at < self.row.len() {
+                let flip = if input / 64 == row {
+                    1u64 << (input % 64)
+                } else {
+                    0
+                };
+                self.row[at] = if *value { u64::MAX ^ flip } else { flip };
+            }
+        }
+        self.count = ROOM;
+    }
 }

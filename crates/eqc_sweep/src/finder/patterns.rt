@@ -22,6 +22,11 @@ const FIXED: usize = RANDOM + 2 * ALL_BUT_ONE;
 /// How many rows there may be, with those of counterexamples.
 const MOST: usize = FIXED + 32;
 
+/// How many there may be in a graph of fewer nodes than so many.
+const MOST_IN_SMALL: usize = FIXED + 128;
+
+const SMALL: u32 = 65_536;
+
 /// The words of all nodes, row by row, and the signatures.
 #[derive(Drop)]
 pub(crate) struct Patterns {
@@ -198,20 +203,40 @@ impl Patterns {
                 row[k as usize] = word;
             }
         }
-        if self.rows.len() < MOST {
+        let most = if graph.len() < SMALL {
+            MOST_IN_SMALL
+        } else {
+            MOST
+        };
+        if self.rows.len() < most {
             let at = self.rows.len();
             self.rows.push(row)?;
             self.count(at);
             return Ok(());
         }
         let at = self.oldest;
-        self.oldest = if at < MOST - 1 { at + 1 } else { FIXED };
+        let next = at.wrapping_add(1);
+        self.oldest = if next < self.rows.len() { next } else { FIXED };
         self.discount(at);
         if at < self.rows.len() {
             self.rows[at] = row;
         }
         self.count(at);
         Ok(())
+    }
+
+    /// Forgets the rows that a graph of as many nodes has no room for, and answers whether there were some: nodes have other signatures
+    /// then.
+    pub(crate) fn shorten(&mut self) -> bool {
+        if self.signatures.len() < SMALL as usize || self.rows.len() <= MOST {
+            return false;
+        }
+        for at in MOST..self.rows.len() {
+            self.discount(at);
+        }
+        self.rows.truncate(MOST);
+        self.oldest = FIXED;
+        true
     }
 
     /// Adds a row to the signatures.

@@ -55,7 +55,7 @@ loop-output-preserved g c =
           let found : difference_at c.loop-output.self c.loop-output.output ≡ None = rw w.in-Never.is at c.in_ok-witness.ensures.found in
           let none : difference_at c.args.self.now c.loop-output.output ≡ None = subst (λ q. difference_at q c.loop-output.output ≡ None) i.pair found in
           record {
-            pair = c.note.ensures ∙ (c.in_ok-witness.ensures.pair ∙ i.pair);
+            pair = c.self-in-loop-output-2.view_is ∙ (c.in_ok-witness.ensures.pair ∙ i.pair);
             ahead = subst (λ q. All (IsAnswerOf q) c.next_witness.new.ahead.items) i.pair c.in_ok-witness.ensures.ahead;
             known = record {
               equal = rw (w.alike-is, w.mark.ensures.equal) (equal_set p c.loop-output.alike.equal.items o i.known.equal none);
@@ -72,7 +72,7 @@ loop-output-preserved g c =
           told_chosen p o (subst (λ q. is_chosen_at q c.loop-output.output ≡ true) same (c.is_settled.ensures.chosen c.if-is_settled.false))
           ∙ differs in
           record {
-            pair = c.note.ensures ∙ (c.in_ok-witness.ensures.pair ∙ i.pair);
+            pair = c.self-in-loop-output-2.view_is ∙ (c.in_ok-witness.ensures.pair ∙ i.pair);
             ahead = subst (λ q. All (IsAnswerOf q) c.next_witness.new.ahead.items) i.pair c.in_ok-witness.ensures.ahead;
             known = rw w.alike-is i.known;
             told = rw (w.found-is, w.in_ok-push-in-Least.ensures.items) (told_more p c.args.every c.loop-output.found.items o i.told inside d refl told w.if-not-every.false);
