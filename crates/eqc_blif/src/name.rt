@@ -40,7 +40,7 @@ impl Name {
         }
         let mut short = SmallVec::new(alloc);
         'bytes: for byte in bytes {
-            short.push(*byte)?;
+            short.push_reserved(*byte);
         }
         Ok(Name { bytes: short })
     }

@@ -66,8 +66,11 @@ impl<'a> NameSet<'a> {
     fn stands_at(&self, name: &[u8], place: usize) -> bool
         ensures { IsTrue result → position (λ other. bytes_eq name.now other) self.now ≡ Some place }
     {
-        let names = self.names.as_slice();
-        place < names.len() && name == names[place].get()
+        let Some(other) = self.names.as_slice().get(place) else {
+            return false;
+        };
+        // Names that are numbered differ in their last bytes most often.
+        name.last() == other.get().last() && name == other.get()
     }
 
     /// Whether a name stands at a place, which may be any number, as far as it is looked for there.
