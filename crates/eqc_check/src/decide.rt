@@ -19,7 +19,7 @@ use crate::given::{Case, bytes_of};
 use crate::warning::{Warnings, warnings_in_one, warnings_in_two};
 use eqc_blif::{Library, Refusal};
 use eqc_compare::Progress;
-use eqc_flat::{Fault, Flat, flatten};
+use eqc_flat::{Fault, FaultOfTwo, Flat, flatten, flatten_two};
 use eqc_pair::{Pair, Refused, Side, pair_choosing, recall_laws};
 use eqc_report::{Comparison, Report, Undecided, check_alike};
 use eqc_tree::Stop;
@@ -108,7 +108,7 @@ impl<'x, R: Threads + Wait + Sync, P: Progress<R> + Sync> Decision<'x, R, P> {
         let Main { library, model } = first;
         match choose(self.alloc, library, case.names.second, 1) {
             Ok(other) => with_warnings(
-                self.on_models((library, *model), (library, other), left),
+                self.on_both(library, *model, other, left),
                 warnings_in_one(self.alloc, library, *model, other),
             ),
             Err(refusal) => told_refusal(Side::Second, refusal),
@@ -139,7 +139,36 @@ impl<'x, R: Threads + Wait + Sync, P: Progress<R> + Sync> Decision<'x, R, P> {
         }
     }
 
-    /// The report behind the flattening of the first model.
+    /// The report behind the flattening of two models of one text.
+    fn on_both(
+        &self,
+        library: &Library,
+        m: usize,
+        n: usize,
+        left: &mut Undecided,
+    ) -> Result<Report, Stop>
+        requires options { options_code self.now.case.now.options ≡ None }
+        requires m { m < length library.now }
+        requires n { n < length library.now }
+        ensures report { IfOk result (λ report. report_of report ≡ models_answer (library.now, m) (library.now, n) (given_of self.now.case.now)) }
+        ensures stop { IfErr result (MayStop (models_answer (library.now, m) (library.now, n) (given_of self.now.case.now))) }
+    {
+        match flatten_two(self.alloc, library, m, n) {
+            Ok((f, g)) => {
+                recall_laws(&f);
+                recall_laws(&g);
+                self.on_flats(&f, &g, left)
+            }
+            Err(FaultOfTwo::First(Fault { code })) => {
+                refused(Side::First, Refusal { line: 0, code })
+            }
+            Err(FaultOfTwo::Second(Fault { code })) => {
+                refused(Side::Second, Refusal { line: 0, code })
+            }
+        }
+    }
+
+    /// The report behind the flattening of the first model of two texts.
     fn on_models(
         &self,
         first: (&Library, usize),

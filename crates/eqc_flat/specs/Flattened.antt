@@ -1,8 +1,11 @@
 -- What a flat netlist says of the hierarchy: its instances and signals are numbered in the order in which the
 -- hierarchy lists them, and each signal has the one driver that the hierarchy gives it.
-use Rattle.std.specs.Prelude.{◌≡◌, ℕ, ◌<◌, ◌≤◌, Bool, List, [], ◌∷◌, length, map, take, slice_index_or}
+use Rattle.std.specs.Prelude.{◌≡◌, ◌⊎◌, ℕ, ◌<◌, ◌≤◌, Bool, List, [], ◌∷◌, length, map, take, slice_index_or, Some, None}
 use Rattle.std.specs.List.{flat_map, range_with_len}
 use Rattle.eqc_blif.specs.Netlist.{ModelOf}
+use Rattle.eqc_hierarchy.specs.Codes.{flat_code}
+use Rattle.eqc_flat.specs.declared.fault.FaultOfTwo.{FaultOfTwo}
+use Rattle.eqc_flat.specs.declared.fault.FaultOfTwo.TheVariants.{First, Second}
 use Rattle.eqc_flat.specs.Graph.{DriverOf, input, tie, cover, FlatOf, driver_at, value_of}
 use Rattle.eqc_hierarchy.specs.Hierarchy.{model, model_at, paths}
 use Rattle.eqc_hierarchy.specs.Signals.{SignalOf, SourceOf, from_input, from_signal, from_cover, names_of, signals_at, signals, sources, output_value}
@@ -60,3 +63,9 @@ pub record IsFlatOf (library : List ModelOf) (top : ℕ) (f : FlatOf) : Type 0 w
   pub sourced : (s : ℕ) → s < length f.drivers → sources library top (signal_at library top s) ≡ source_of (signal_at library top) f.rows (driver_at f s) ∷ []
   -- the values of the outputs
   pub values : (a : ℕ → Bool) (o : ℕ) → o < length f.outputs → value_of f a (slice_index_or f.output_signals o 0) ≡ output_value library top a (slice_index_or f.outputs o [])
+
+-- why one of two models of a library has no flat netlist, want of memory or the code of its hierarchy's fault: the first where it
+-- has none, whatever the second
+abbrev pub IsFaultOfTwo : List ModelOf → ℕ → ℕ → FaultOfTwo → Type 0
+IsFaultOfTwo library m n (First fault) = (fault.code ≡ 72) ⊎ (flat_code library m ≡ Some fault.code)
+IsFaultOfTwo library m n (Second fault) = (flat_code library m ≡ None) × ((fault.code ≡ 72) ⊎ (flat_code library n ≡ Some fault.code))

@@ -4,7 +4,6 @@ use Rattle.std.specs.List.{flat_map, range_with_len}
 use Rattle.eqc_blif.specs.Netlist.{ModelOf}
 use Rattle.eqc_hierarchy.specs.Hierarchy.{model_at, below, paths}
 use Rattle.eqc_hierarchy.specs.Codes.{is_too_large}
-use Rattle.eqc_hierarchy.specs.Columns.{all_columns}
 use Rattle.eqc_flat.specs.Flattened.{path_at, first_signal}
 
 -- the number of the first instance right below another
@@ -33,8 +32,7 @@ pub record IsExpanded (library naming : List ModelOf) (top : ℕ) (models firsts
   pub there : top < length library
   pub found : IsFound library top (length (paths library top)) models firsts places signals
 
--- the hierarchy of a main model, which isn't too large, and the places of the columns of all covers
-pub record IsExpansion (library : List ModelOf) (top : ℕ) (hierarchy : List ModelOf × ℕ) (columns : List (List ℕ)) : Type 0 where
+-- the hierarchy of a main model, which isn't too large
+pub record IsExpansion (library : List ModelOf) (top : ℕ) (hierarchy : List ModelOf × ℕ) : Type 0 where
   pub small : is_too_large library top ≡ false
   pub same : hierarchy ≡ (library, top)
-  pub places : columns ≡ all_columns library

@@ -14,6 +14,13 @@ pub struct Fault {
     pub code: u8,
 }
 
+/// Why one of two models of a library has no flat netlist: the first one's fault where it has one, whatever the second.
+#[derive(Debug, Clone, Copy, PartialEq, Eq)]
+pub enum FaultOfTwo {
+    First(Fault),
+    Second(Fault),
+}
+
 /// Where a rule of a code first stands among these.
 fn place_of(rules: &[Rule], code: u8) -> Option<usize>
     ensures { result ≡ position (λ rule. nat_eq (rule_code rule) code) rules.now }

@@ -6,7 +6,7 @@ ghost use Rattle.eqc_hierarchy.specs.Signals.{signals};
 ghost use Rattle.eqc_hierarchy.specs.Codes.{flat_code};
 ghost use Rattle.eqc_flat.specs.DriverTable.{IsDriven};
 ghost use Rattle.eqc_flat.specs.Ordering.{IsOrder};
-ghost use Rattle.eqc_flat.specs.Flattened.{signals_here, signal_at, all_named, IsFlatOf};
+ghost use Rattle.eqc_flat.specs.Flattened.{signals_here, signal_at, all_named, IsFlatOf, IsFaultOfTwo};
 ghost use Rattle.eqc_flat.specs.Instances.{IsExpansion};
 ghost use Rattle.eqc_hierarchy.specs.Columns.{all_columns};
 ghost use Rattle.eqc_hierarchy.specs.ModelFaults.{HasNoModelFault};
@@ -15,12 +15,12 @@ ghost use Rattle.eqc_flat.specs.Flattening.{IsNumberable, IsFlatFault};
 use crate::drivers::Drivers;
 use crate::drivers::driver_table::{drivers_of, signals_of};
 use crate::drivers::row_table::RowTable;
-use crate::fault::Fault;
+use crate::fault::{Fault, FaultOfTwo};
 use crate::flat::Flat;
 use crate::flat::signal_order::order_of;
 use crate::hierarchy::Hierarchy;
 use eqc_blif::{Library, Name};
-use eqc_hierarchy::{Calls, Rule, first_model_fault};
+use eqc_hierarchy::{Calls, Naming, Rule, first_model_fault};
 use smallvec::SmallVec;
 use std::alloc::{AllocError, Global};
 
@@ -30,7 +30,7 @@ pub(crate) const MAX_INPUTS: usize = 2_048;
 /// The main model's outputs as flat signals, and each signal with its instance and name. Fails where memory is refused.
 fn listed<'a>(
     alloc: Global,
-    hierarchy: &Hierarchy<'a>,
+    hierarchy: &Hierarchy<'_, 'a>,
 ) -> Result<(Vec<u32>, Vec<(u32, &'a [u8])>), AllocError>
     ensures outputs { IfOk result (λ lists. map (signal_at hierarchy.now.0 hierarchy.now.1) lists.0.items ≡ signals_here hierarchy.now.0 hierarchy.now.1 0 (model hierarchy.now.0 hierarchy.now.1).outputs) }
     ensures within { IfOk result (λ lists. (j : ℕ) → j < length lists.0.items → slice_index_or lists.0.items j 0 < length (signals hierarchy.now.0 hierarchy.now.1)) }
@@ -43,7 +43,7 @@ fn listed<'a>(
 }
 
 /// The inputs and the outputs of the main model.
-fn main_ports<'a>(hierarchy: &Hierarchy<'a>) -> (&'a [Name], &'a [Name])
+fn main_ports<'a>(hierarchy: &Hierarchy<'_, 'a>) -> (&'a [Name], &'a [Name])
     ensures inputs { result.0.now ≡ (model hierarchy.now.0 hierarchy.now.1).inputs }
     ensures outputs { result.1.now ≡ (model hierarchy.now.0 hierarchy.now.1).outputs }
     ensures inputs_once { has_twice result.0.now ≡ false }
@@ -57,7 +57,7 @@ fn main_ports<'a>(hierarchy: &Hierarchy<'a>) -> (&'a [Name], &'a [Name])
 /// The flat netlist of a hierarchy with these rows, drivers and order. Fails where memory is refused.
 fn put_together<'a>(
     alloc: Global,
-    hierarchy: Hierarchy<'a>,
+    hierarchy: Hierarchy<'_, 'a>,
     rows: RowTable<'a>,
     drivers: Drivers,
     steps: Vec<u32>,
@@ -90,7 +90,7 @@ fn put_together<'a>(
 /// nothing drives, 28 for one that depends on itself. 72 where memory is refused.
 fn ordered_drivers(
     alloc: Global,
-    hierarchy: &Hierarchy<'_>,
+    hierarchy: &Hierarchy<'_, '_>,
     rows: &RowTable<'_>,
     columns: Vec<SmallVec<u32, 4>>,
 ) -> Result<(Drivers, Vec<u32>), Fault>
@@ -115,7 +115,7 @@ fn ordered_drivers(
 fn driven_in_order<'a>(
     alloc: Global,
     library: &'a Library,
-    hierarchy: &Hierarchy<'a>,
+    hierarchy: &Hierarchy<'_, 'a>,
     columns: Vec<SmallVec<u32, 4>>,
 ) -> Result<(RowTable<'a>, (Drivers, Vec<u32>)), Fault>
     requires same { library.now ≡ hierarchy.now.0 }
@@ -136,7 +136,7 @@ fn driven_in_order<'a>(
 fn netlist<'a>(
     alloc: Global,
     library: &'a Library,
-    hierarchy: Hierarchy<'a>,
+    hierarchy: Hierarchy<'_, 'a>,
     columns: Vec<SmallVec<u32, 4>>,
 ) -> Result<Flat<'a>, Fault>
     requires same { library.now ≡ hierarchy.0 }
@@ -169,26 +169,54 @@ fn calls_below(alloc: Global, library: &Library, top: usize) -> Result<Calls<'_>
     }
 }
 
-/// The hierarchy below model `top` and the places of the columns of each cover, or a code from 21 to 25, or 29. 72 where
-/// memory is refused.
-fn expanded(
+/// The hierarchy below model `top`, over the names of the library's models, or a code from 21 to 25, or 29. 72 where memory is
+/// refused.
+fn expanded<'n, 'a>(
     alloc: Global,
-    library: &Library,
+    library: &'a Library,
+    naming: &'n Naming<'a>,
     top: usize,
-) -> Result<(Hierarchy<'_>, Vec<SmallVec<u32, 4>>), Fault>
-    requires { top < length library.now }
+) -> Result<Hierarchy<'n, 'a>, Fault>
+    requires there { top < length library.now }
+    requires named { naming.now ≡ library.now }
     ensures models { IfOk result (λ made. HasNoModelFault library.now top) }
-    ensures made { IfOk result (λ made. IsExpansion library.now top made.0 (map (λ c. c.items) made.1.items)) }
+    ensures made { IfOk result (λ made. IsExpansion library.now top made) }
     ensures refused { IfErr result (λ fault. IsFlatFault library.now top fault.code) }
 {
     let calls = match calls_below(alloc, library, top) {
         Ok(calls) => calls,
         Err(fault) => return Err(fault),
     };
-    match Hierarchy::of(alloc, calls, top)? {
+    match Hierarchy::of(alloc, calls, naming, top)? {
         Some(made) => Ok(made),
         None => Err(Fault::of(Rule::TooLarge)),
     }
+}
+
+/// The flat netlist of the hierarchy below model `top` of a library, over the names of its models and with these places of the
+/// columns of each cover, or a code from 21 to 30. 72 where memory is refused.
+fn flat_below<'a>(
+    alloc: Global,
+    library: &'a Library,
+    naming: &Naming<'a>,
+    columns: Vec<SmallVec<u32, 4>>,
+    top: usize,
+) -> Result<Flat<'a>, Fault>
+    requires there { top < length library.now }
+    requires named { naming.now ≡ library.now }
+    requires columns { map (λ c. c.items) columns.items ≡ all_columns library.now }
+    ensures accepted { IfOk result (λ flat. flat_code library.now top ≡ None) }
+    ensures flat { IfOk result (λ flat. IsFlatOf library.now top flat) }
+    ensures refused { IfErr result (λ fault. IsFlatFault library.now top fault.code) }
+{
+    let hierarchy = match expanded(alloc, library, naming, top) {
+        Ok(made) => made,
+        Err(fault) => return Err(fault),
+    };
+    if library.inputs(top).len() > MAX_INPUTS {
+        return Err(Fault::of(Rule::ManyInputs));
+    }
+    netlist(alloc, library, hierarchy, columns)
 }
 
 /// The flat netlist of the hierarchy below model `top` of a library, which is below the number of models: one list of
@@ -206,12 +234,46 @@ pub fn flatten(alloc: Global, library: &Library, top: usize) -> Result<Flat<'_>,
     ensures flat { IfOk result (λ flat. IsFlatOf library.now top flat) }
     ensures refused { IfErr result (λ fault. (fault.code ≡ 72) ⊎ (flat_code library.now top ≡ Some fault.code)) }
 {
-    let (hierarchy, columns) = match expanded(alloc, library, top) {
-        Ok(made) => made,
-        Err(fault) => return Err(fault),
-    };
-    if library.inputs(top).len() > MAX_INPUTS {
-        return Err(Fault::of(Rule::ManyInputs));
+    let (naming, columns) = Naming::of(alloc, library)?;
+    flat_below(alloc, library, &naming, columns, top)
+}
+
+/// Copies of the places of the columns of each cover. Fails where memory is refused.
+fn copied(alloc: Global, columns: &[SmallVec<u32, 4>]) -> Result<Vec<SmallVec<u32, 4>>, AllocError>
+    ensures { IfOk result (λ copies. map (λ c. c.items) copies.items ≡ map (λ c. c.items) columns.now) }
+{
+    let mut copies = Vec::with_capacity(alloc, columns.len())?;
+    'columns: for places in columns {
+        copies.push(SmallVec::from_slice(alloc, places.as_slice())?)?;
     }
-    netlist(alloc, library, hierarchy, columns)
+    Ok(copies)
+}
+
+/// The flat netlists below two models of a library, each as `flatten` makes it and refused for what it is refused for there. It
+/// takes less time than two calls of it, since the names of the library's models are put in order once.
+pub fn flatten_two(
+    alloc: Global,
+    library: &Library,
+    first: usize,
+    second: usize,
+) -> Result<(Flat<'_>, Flat<'_>), FaultOfTwo>
+    requires first { first < length library.now }
+    requires second { second < length library.now }
+    ensures first { IfOk result (λ flats. (flat_code library.now first ≡ None) × IsFlatOf library.now first flats.0) }
+    ensures second { IfOk result (λ flats. (flat_code library.now second ≡ None) × IsFlatOf library.now second flats.1) }
+    ensures refused { IfErr result (IsFaultOfTwo library.now first second) }
+{
+    let Ok((naming, columns)) = Naming::of(alloc, library) else {
+        return Err(FaultOfTwo::First(Fault::of(Rule::Memory)));
+    };
+    let Ok(copies) = copied(alloc, &columns) else {
+        return Err(FaultOfTwo::First(Fault::of(Rule::Memory)));
+    };
+    match flat_below(alloc, library, &naming, copies, first) {
+        Ok(f) => match flat_below(alloc, library, &naming, columns, second) {
+            Ok(g) => Ok((f, g)),
+            Err(fault) => Err(FaultOfTwo::Second(fault)),
+        },
+        Err(fault) => Err(FaultOfTwo::First(fault)),
+    }
 }

@@ -14,19 +14,18 @@ use crate::finding::hierarchical_name::{HierarchicalName, Step};
 use crate::hierarchy::instances::Instances;
 use eqc_blif::Library;
 use eqc_hierarchy::{Calls, Naming};
-use smallvec::SmallVec;
 use std::alloc::{AllocError, Global};
 use std::marker::Model;
 
 /// The hierarchy below a main model, with its instances and flat signals numbered.
 #[derive(Drop)]
-pub(crate) struct Hierarchy<'a> {
+pub(crate) struct Hierarchy<'n, 'a> {
     calls: Calls<'a>,
-    naming: Naming<'a>,
+    naming: &'n Naming<'a>,
     instances: Instances,
 }
 
-impl<'a> Model for Hierarchy<'a> {
+impl<'n, 'a> Model for Hierarchy<'n, 'a> {
     ghost use Rattle.std.specs.Prelude.{List, ℕ};
     ghost use Rattle.eqc_blif.specs.Netlist.{ModelOf};
     ghost use Rattle.eqc_flat.specs.Instances.{IsExpanded};
@@ -35,33 +34,33 @@ impl<'a> Model for Hierarchy<'a> {
 
     ghost view = { λ a. (a.calls, a.instances.top) };
 
-    ghost invariant = { λ a. IsExpanded a.calls a.naming a.instances.top a.instances.models.items a.instances.firsts.items a.instances.places.items a.instances.signals };
+    ghost invariant = { λ a. IsExpanded a.calls a.naming.now a.instances.top a.instances.models.items a.instances.firsts.items a.instances.places.items a.instances.signals };
 }
 
-impl<'a> Hierarchy<'a> {
-    /// The hierarchy below model `top`, whose models never reach themselves, and the places of the columns of each cover of
-    /// the library, or none where there are too many signals and instances. Fails where memory is refused.
+impl<'n, 'a> Hierarchy<'n, 'a> {
+    /// The hierarchy below model `top`, whose models never reach themselves, over the names of all models, or none where there
+    /// are too many signals and instances. Fails where memory is refused.
     pub(crate) fn of(
         alloc: Global,
         calls: Calls<'a>,
+        naming: &'n Naming<'a>,
         top: usize,
-    ) -> Result<Option<(Hierarchy<'a>, Vec<SmallVec<u32, 4>>)>, AllocError>
+    ) -> Result<Option<Hierarchy<'n, 'a>>, AllocError>
         requires there { top < length calls }
         requires ends { is_recursive calls top ≡ false }
+        requires named { naming.now ≡ calls }
         ensures { IfOk result (λ found. MatchOption found
             (is_too_large calls.entry top ≡ true)
-            (λ made. IsExpansion calls.entry top made.0 (map (λ c. c.items) made.1.items))) }
+            (λ made. IsExpansion calls.entry top made)) }
     {
-        let (naming, columns) = Naming::of(alloc, calls.library())?;
-        let Some(instances) = Instances::of(alloc, &calls, &naming, top)? else {
+        let Some(instances) = Instances::of(alloc, &calls, naming, top)? else {
             return Ok(None);
         };
-        let hierarchy = Hierarchy {
+        Ok(Some(Hierarchy {
             calls,
             naming,
             instances,
-        };
-        Ok(Some((hierarchy, columns)))
+        }))
     }
 
     /// The library.

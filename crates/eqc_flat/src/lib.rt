@@ -28,13 +28,13 @@ pub use drivers::driver::Driver;
 pub use eqc_hierarchy::{FoundFormal, FoundInstance, NameSet, RULES, Rule};
 pub use evaluation::eval;
 pub use explanation::explain;
-pub use fault::Fault;
+pub use fault::{Fault, FaultOfTwo};
 pub use finding::Finding;
 pub use finding::circle::Circle;
 pub use finding::hierarchical_name::{HierarchicalName, Step};
 pub use flat::Flat;
 pub use flat::signals::Signals;
-pub use flattening::flatten;
+pub use flattening::{flatten, flatten_two};
 pub use laws::{
     accepted_have_values, covers_depend_on_columns_alone, cyclic_where_reached,
     recursive_where_reached, signals_are_names_of_instances, signals_stand_once,

@@ -63,7 +63,7 @@ fn covers(library: &Library, m: usize) -> &[Cover]
 /// The signals of these names, which occur in the model of instance `i`. Fails where memory is refused.
 pub(crate) fn signals_of(
     alloc: Global,
-    hierarchy: &Hierarchy<'_>,
+    hierarchy: &Hierarchy<'_, '_>,
     i: usize,
     names: &[Name],
 ) -> Result<Vec<u32>, AllocError>
@@ -117,7 +117,7 @@ impl DriverTable {
     }
 
     /// Lets each input of the main model drive the signal of its name.
-    fn fill_inputs(&mut self, hierarchy: &Hierarchy<'_>)
+    fn fill_inputs(&mut self, hierarchy: &Hierarchy<'_, '_>)
         requires size { length self.old.0 ≡ length (signals hierarchy.now.0 hierarchy.now.1) }
         requires few { length (model hierarchy.now.0 hierarchy.now.1).inputs ≤ 2048 }
         ensures size { length self.new.0 ≡ length self.old.0 }
@@ -132,7 +132,7 @@ impl DriverTable {
     }
 
     /// Lets each cover in instance `i` drive its output.
-    fn fill_covers(&mut self, hierarchy: &Hierarchy<'_>, rows: &RowTable<'_>, i: usize)
+    fn fill_covers(&mut self, hierarchy: &Hierarchy<'_, '_>, rows: &RowTable<'_>, i: usize)
         requires size { length self.old.0 ≡ length (signals hierarchy.now.0 hierarchy.now.1) }
         requires same { rows.now ≡ hierarchy.now.0 }
         requires instance { i < length (paths hierarchy.now.0 hierarchy.now.1) }
@@ -157,7 +157,7 @@ impl DriverTable {
     /// Lets the pairs of the instance at position `p` of instance `i` drive what they drive; its number is `child`.
     fn fill_pairs(
         &mut self,
-        hierarchy: &Hierarchy<'_>,
+        hierarchy: &Hierarchy<'_, '_>,
         i: usize,
         p: usize,
         child: usize,
@@ -187,7 +187,7 @@ impl DriverTable {
 
     /// Lets the pairs of all instances right below instance `i` drive what they drive; the first of these instances
     /// has the number `first`.
-    fn fill_below(&mut self, hierarchy: &Hierarchy<'_>, i: usize, first: usize)
+    fn fill_below(&mut self, hierarchy: &Hierarchy<'_, '_>, i: usize, first: usize)
         requires size { length self.old.0 ≡ length (signals hierarchy.now.0 hierarchy.now.1) }
         requires instance { i < length (paths hierarchy.now.0 hierarchy.now.1) }
         requires first { first ≡ first_below hierarchy.now.0 hierarchy.now.1 i }
@@ -204,7 +204,7 @@ impl DriverTable {
     }
 
     /// Lets everything in a hierarchy drive what it drives.
-    fn fill(&mut self, hierarchy: &Hierarchy<'_>, rows: &RowTable<'_>)
+    fn fill(&mut self, hierarchy: &Hierarchy<'_, '_>, rows: &RowTable<'_>)
         requires size { length self.old.0 ≡ length (signals hierarchy.now.0 hierarchy.now.1) }
         requires same { rows.now ≡ hierarchy.now.0 }
         requires few { length (model hierarchy.now.0 hierarchy.now.1).inputs ≤ 2048 }
@@ -228,7 +228,7 @@ impl DriverTable {
     /// The drivers of a hierarchy's signals. Fails where memory is refused.
     pub(crate) fn of(
         alloc: Global,
-        hierarchy: &Hierarchy<'_>,
+        hierarchy: &Hierarchy<'_, '_>,
         rows: &RowTable<'_>,
     ) -> Result<DriverTable, AllocError>
         requires same { rows.now ≡ hierarchy.now.0 }
@@ -283,7 +283,7 @@ fn taken(
 /// twice, 27 where one isn't driven, and 72 where memory is refused.
 pub(crate) fn drivers_of(
     alloc: Global,
-    hierarchy: &Hierarchy<'_>,
+    hierarchy: &Hierarchy<'_, '_>,
     rows: &RowTable<'_>,
     columns: Vec<SmallVec<u32, 4>>,
 ) -> Result<Drivers, Fault>

@@ -16,6 +16,7 @@ use crate::finding::hierarchical_name::HierarchicalName;
 use crate::flat::signal_order::trail_of;
 use crate::hierarchy::Hierarchy;
 use eqc_blif::Library;
+use eqc_hierarchy::Naming;
 use smallvec::SmallVec;
 use std::alloc::{AllocError, Global};
 
@@ -25,7 +26,7 @@ const NAMED: usize = 20;
 /// The names of the first of these signals. Fails where memory is refused.
 fn first_names<'a>(
     alloc: Global,
-    hierarchy: &Hierarchy<'a>,
+    hierarchy: &Hierarchy<'_, 'a>,
     members: &[usize],
 ) -> Result<Vec<HierarchicalName<'a>>, AllocError>
     requires { (k : ℕ) → k < length members.now → slice_index_or members.now k 0 < length (signals hierarchy.now.0 hierarchy.now.1) }
@@ -54,7 +55,7 @@ fn start_of(walk: &[usize]) -> usize
 /// The circle at the end of a walk through signals. Fails where memory is refused.
 fn named_circle<'a>(
     alloc: Global,
-    hierarchy: &Hierarchy<'a>,
+    hierarchy: &Hierarchy<'_, 'a>,
     walk: &[usize],
 ) -> Result<Circle<'a>, AllocError>
     requires back { (j : ℕ) × (j + 1 < length walk.now) × (slice_index_or walk.now j 0 ≡ slice_index_or walk.now (length walk.now - 1) 0) }
@@ -73,7 +74,7 @@ fn named_circle<'a>(
 fn trail_in(
     alloc: Global,
     library: &Library,
-    hierarchy: &Hierarchy<'_>,
+    hierarchy: &Hierarchy<'_, '_>,
     columns: Vec<SmallVec<u32, 4>>,
 ) -> Result<Vec<usize>, AllocError>
     requires same { library.now ≡ hierarchy.now.0 }
@@ -93,7 +94,7 @@ fn trail_in(
 fn circle_in<'a>(
     alloc: Global,
     library: &Library,
-    hierarchy: &Hierarchy<'a>,
+    hierarchy: &Hierarchy<'_, 'a>,
     columns: Vec<SmallVec<u32, 4>>,
 ) -> Result<Circle<'a>, AllocError>
     requires same { library.now ≡ hierarchy.now.0 }
@@ -116,6 +117,7 @@ pub(crate) fn circle_below(
     requires refused { flat_code library.now top ≡ Some 28 }
     ensures { IfOk result (λ circle. IsCircle library.now top circle) }
 {
-    let (hierarchy, columns) = expanded_below(alloc, library, top)?;
+    let (naming, columns) = Naming::of(alloc, library)?;
+    let hierarchy = expanded_below(alloc, library, &naming, top)?;
     circle_in(alloc, library, &hierarchy, columns)
 }

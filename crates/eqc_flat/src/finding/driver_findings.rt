@@ -1,5 +1,5 @@
 //! The signal that is driven twice, or by nothing, in a hierarchy that is refused for one.
-ghost use Rattle.std.specs.Prelude.{◌≡◌, ◌<◌, ◌≤◌, length, map, false, Some, IfOk};
+ghost use Rattle.std.specs.Prelude.{◌≡◌, ◌<◌, ◌≤◌, length, false, Some, IfOk};
 ghost use Rattle.eqc_hierarchy.specs.Hierarchy.{model};
 ghost use Rattle.eqc_hierarchy.specs.Signals.{signals, sources, drivings};
 ghost use Rattle.eqc_hierarchy.specs.Codes.{flat_code, has_unknown_formal, is_recursive, is_too_large};
@@ -12,24 +12,25 @@ use crate::drivers::row_table::RowTable;
 use crate::finding::hierarchical_name::HierarchicalName;
 use crate::hierarchy::Hierarchy;
 use eqc_blif::Library;
-use eqc_hierarchy::Calls;
-use smallvec::SmallVec;
+use eqc_hierarchy::{Calls, Naming};
 use std::alloc::{AllocError, Global};
 
-/// The hierarchy below model `top` of a library, which is neither recursive nor too large, and the places of the columns
-/// of each cover. Fails where memory is refused.
-pub(crate) fn expanded_below(
+/// The hierarchy below model `top` of a library, which is neither recursive nor too large, over the names of its models. Fails
+/// where memory is refused.
+pub(crate) fn expanded_below<'n, 'a>(
     alloc: Global,
-    library: &Library,
+    library: &'a Library,
+    naming: &'n Naming<'a>,
     top: usize,
-) -> Result<(Hierarchy<'_>, Vec<SmallVec<u32, 4>>), AllocError>
+) -> Result<Hierarchy<'n, 'a>, AllocError>
     requires there { top < length library.now }
+    requires named { naming.now ≡ library.now }
     requires ends { is_recursive library.now top ≡ false }
     requires small { is_too_large library.now top ≡ false }
-    ensures { IfOk result (λ made. IsExpansion library.now top made.0 (map (λ c. c.items) made.1.items)) }
+    ensures { IfOk result (λ made. IsExpansion library.now top made) }
 {
     let calls = Calls::of(alloc, library)?;
-    let found = Hierarchy::of(alloc, calls, top)?;
+    let found = Hierarchy::of(alloc, calls, naming, top)?;
     Ok(found.unwrap())
 }
 
@@ -37,7 +38,7 @@ pub(crate) fn expanded_below(
 fn table_in(
     alloc: Global,
     library: &Library,
-    hierarchy: &Hierarchy<'_>,
+    hierarchy: &Hierarchy<'_, '_>,
 ) -> Result<DriverTable, AllocError>
     requires same { library.now ≡ hierarchy.now.0 }
     requires few { length (model hierarchy.now.0 hierarchy.now.1).inputs ≤ 2048 }
@@ -52,7 +53,7 @@ fn table_in(
 fn driven_in(
     alloc: Global,
     library: &Library,
-    hierarchy: &Hierarchy<'_>,
+    hierarchy: &Hierarchy<'_, '_>,
     driven: Driven,
 ) -> Result<usize, AllocError>
     requires same { library.now ≡ hierarchy.now.0 }
@@ -68,7 +69,7 @@ fn driven_in(
 fn driven_named<'a>(
     alloc: Global,
     library: &Library,
-    hierarchy: &Hierarchy<'a>,
+    hierarchy: &Hierarchy<'_, 'a>,
     driven: Driven,
 ) -> Result<HierarchicalName<'a>, AllocError>
     requires same { library.now ≡ hierarchy.now.0 }
@@ -90,6 +91,7 @@ pub(crate) fn driven_below(
     requires refused { flat_code library.now top ≡ Some (driven_code driven) }
     ensures { IfOk result (λ name. NamesDriven driven library.now top name) }
 {
-    let (hierarchy, _) = expanded_below(alloc, library, top)?;
+    let (naming, _) = Naming::of(alloc, library)?;
+    let hierarchy = expanded_below(alloc, library, &naming, top)?;
     driven_named(alloc, library, &hierarchy, driven)
 }

@@ -1,5 +1,4 @@
 use Rattle.std.proofs.Common.{◌≡◌, ◌∙◌, List, map, ℕ, inr, sym, ap, subst, true}
-use Rattle.smallvec.specs.SmallVec.{SmallVec}
 use Rattle.eqc_blif.specs.Netlist.{ModelOf}
 use Rattle.eqc_hierarchy.specs.Codes.{is_too_large}
 use Rattle.eqc_flat.specs.Instances.{IsExpansion}
@@ -21,5 +20,5 @@ returns-in-Some-clause-models c = rw c.in-Ok.is at c.calls_below.ensures.models
 pub returns-in-Some-clause-made : goal.returns-in-Some-clause-made
 returns-in-Some-clause-made c =
     let same = rw c.in-Ok.is at c.calls_below.ensures.calls in
-    let P : List ModelOf → Type 0 = λ l. IsExpansion l c.args.top c.in-Some.made.0 (map (λ (v : SmallVec ℕ). v.items) c.in-Some.made.1.items) in
+    let P : List ModelOf → Type 0 = λ l. IsExpansion l c.args.top c.in-Some.made in
     subst P same (rw c.in-Some.is at c.in_ok-made.ensures)

@@ -20,7 +20,7 @@ new-requires c =
     let few : length (signals library top) ≤ 1048576 =
     let P : List ModelOf × ℕ → Type 0 = λ v. length (signals v.0 v.1) ≤ 1048576 in
     subst P c.hierarchy.view_is
-    (expanded_few c.hierarchy.inside.calls c.hierarchy.inside.naming all.top all.signals all.models.items all.firsts.items
+    (expanded_few c.hierarchy.inside.calls c.hierarchy.inside.naming.now all.top all.signals all.models.items all.firsts.items
     all.places.items c.hierarchy.invariant) in
     let os = c.in_ok-output_signals.output_signals.items in
     let named = map {B = ℕ × List ℕ} (λ (p : ℕ × Bor (List ℕ)). (p.0, p.1.now)) c.in_ok-output_signals.signals.items in
@@ -56,7 +56,7 @@ returns c =
     let few : length (signals library top) ≤ 1048576 =
     let P : List ModelOf × ℕ → Type 0 = λ v. length (signals v.0 v.1) ≤ 1048576 in
     subst P c.hierarchy.view_is
-    (expanded_few c.hierarchy.inside.calls c.hierarchy.inside.naming all.top all.signals all.models.items all.firsts.items
+    (expanded_few c.hierarchy.inside.calls c.hierarchy.inside.naming.now all.top all.signals all.models.items all.firsts.items
     all.places.items c.hierarchy.invariant) in
     let os = c.in_ok-output_signals.output_signals.items in
     let named = map {B = ℕ × List ℕ} (λ (p : ℕ × Bor (List ℕ)). (p.0, p.1.now)) c.in_ok-output_signals.signals.items in

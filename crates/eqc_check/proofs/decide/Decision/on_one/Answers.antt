@@ -19,5 +19,5 @@ returns-in-Ok g c =
     let texts : one_text case.names case.first.items ≡ given.texts = sym (ap (λ s. read_texts case.names case.first.items (items_of s)) c.requires.one) in
     let warned : warnings_in_one m n ≡ warnings_on given.texts =
     one_warned case.names case.first.items m n (ap first_found texts ∙ c.requires.first) (ap second_found texts ∙ second) ∙ ap warnings_on texts in
-    models_tell given m n (warnings_in_one m n) c.on_models.result c.warnings_in_one.result c.with_warnings.result c.requires.first second warned
-    c.on_models.ensures.report c.on_models.ensures.stop c.warnings_in_one.ensures c.with_warnings.ensures
+    models_tell given m n (warnings_in_one m n) c.on_both.result c.warnings_in_one.result c.with_warnings.result c.requires.first second warned
+    c.on_both.ensures.report c.on_both.ensures.stop c.warnings_in_one.ensures c.with_warnings.ensures

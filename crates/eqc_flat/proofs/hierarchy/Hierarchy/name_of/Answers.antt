@@ -15,7 +15,7 @@ returns c =
     let top = c.args.self.now.1 in
     let i = c.instance_of-i.result.0 in
     let k = c.instance_of-i.result.1 in
-    let same : c.self.inside.naming ≡ library = c.self.invariant.same ∙ ap (λ (v : List ModelOf × ℕ). v.0) c.self.view_is in
+    let same : c.self.inside.naming.now ≡ library = c.self.invariant.same ∙ ap (λ (v : List ModelOf × ℕ). v.0) c.self.view_is in
     let name : c.name-name.result.now ≡ slice_index_or (names_of (model_of library top i)) k [] =
     c.name-name.ensures
     ∙ (ap (λ (l : List ModelOf). slice_index_or (names_of (model l c.model.result)) k []) same

@@ -5,7 +5,7 @@ use Rattle.eqc_hierarchy.specs.Codes.{flat_code}
 use Rattle.eqc_flat.specs.Flattened.{IsFlatOf}
 use Rattle.eqc_flat.specs.Flattening.{IsNumberable, IsFlatFault}
 use Rattle.eqc_flat.proofs.CodeLaws.{code_30, many_inputs}
-use Rattle.eqc_flat.proofs.flattening.flatten.Goals as goal
+use Rattle.eqc_flat.proofs.flattening.flat_below.Goals as goal
 
 pub returns-then-inputs-gt-MAX_INPUTS-clause-refused : goal.returns-then-inputs-gt-MAX_INPUTS-clause-refused
 returns-then-inputs-gt-MAX_INPUTS-clause-refused c =
