@@ -5,7 +5,7 @@ ghost use Rattle.std.specs.Prelude.{◌<◌, length};
 
 use crate::ends::check_rows;
 use eqc_blif::{Library, read};
-use eqc_flat::{Driver, Flat, Signals, eval, flatten};
+use eqc_flat::{Driver, Fault, FaultOfTwo, Flat, Signals, eval, flatten, flatten_two};
 use eqc_netlist_testing::flat_of;
 use eqc_testing::Row;
 use std::alloc::{AllocError, Global};
@@ -48,6 +48,39 @@ fn tells_the_first_code_of_the_models(rt: HostRuntime) {
         &rt,
         CODES,
         |alloc, text, code| Ok(has_code(alloc, text, *code)),
+    );
+}
+
+/// Which of the first two models of a library is refused: none where both are accepted, or aren't there.
+fn fault_of_two(alloc: Global, library: &Library) -> Option<FaultOfTwo> {
+    if library.models() < 2 {
+        return None;
+    }
+    flatten_two(alloc, library, 0, 1).err()
+}
+
+/// Whether that is so of a text.
+fn has_fault_of_two(alloc: Global, text: &[u8], fault: Option<FaultOfTwo>) -> bool {
+    match read(alloc, text) {
+        Ok(library) => fault_of_two(alloc, &library) == fault,
+        Err(_) => false,
+    }
+}
+
+#[rattlefmt::skip]
+static FAULTS_OF_TWO: &[Row<Option<FaultOfTwo>>] = &[
+    ("two models that are accepted", ".model m;.inputs a;.end;.model n;.end;", None),
+    ("a fault of the first", ".model m;.subckt o x=a;.end;.model n;.end;", Some(FaultOfTwo::First(Fault { code: 21 }))),
+    ("a fault of the second", ".model m;.end;.model n;.subckt o x=a;.end;", Some(FaultOfTwo::Second(Fault { code: 21 }))),
+    ("faults of both", ".model m;.outputs y;.end;.model n;.subckt o x=a;.end;", Some(FaultOfTwo::First(Fault { code: 27 }))),
+];
+
+#[test]
+fn tells_which_of_two_models_is_at_fault(rt: HostRuntime) {
+    check_rows(
+        &rt,
+        FAULTS_OF_TWO,
+        |alloc, text, fault| Ok(has_fault_of_two(alloc, text, *fault)),
     );
 }
 

@@ -2,7 +2,7 @@
 #![tactic(auto)]
 
 use eqc_blif::Library;
-use eqc_flat::{Flat, flatten};
+use eqc_flat::{Flat, flatten, flatten_two};
 use std::alloc::Global;
 
 /// Model `m` of a library, flat, or none where it isn't there or is refused.
@@ -16,9 +16,8 @@ pub fn flat_of(alloc: Global, library: &Library, m: usize) -> Option<Flat<'_>> {
 
 /// The first two models of a library, flat, or none where they aren't there or one is refused.
 pub fn two_flats(alloc: Global, library: &Library) -> Option<(Flat<'_>, Flat<'_>)> {
-    let first = flat_of(alloc, library, 0)?;
-    match flat_of(alloc, library, 1) {
-        Some(second) => Some((first, second)),
-        None => None,
+    if library.models() < 2 {
+        return None;
     }
+    flatten_two(alloc, library, 0, 1).ok()
 }
