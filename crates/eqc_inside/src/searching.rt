@@ -235,25 +235,23 @@ pub(crate) fn note(earlier: &mut Vec<Vec<bool>>, found: &Witness) {
     }
 }
 
-/// These answers, the last one first. Fails where memory is refused.
-fn last_first(
-    alloc: Global,
-    pair: &Pair<'_>,
-    answers: Vec<Answer>,
-) -> Result<Vec<Answer>, AllocError>
-    requires { All (IsAnswerOf pair.now) answers.items }
-    ensures { IfOk result (λ all. All (IsAnswerOf pair.now) all.items) }
+/// What was found ahead of this output, where it is the next one that was asked for. What was found of the next is taken away
+/// either way.
+fn next_found(pair: &Pair<'_>, ahead: &mut Vec<Answer>, output: usize) -> Option<Answer>
+    requires { All (IsAnswerOf pair.now) ahead.old.items }
+    ensures rest { All (IsAnswerOf pair.now) ahead.new.items }
+    ensures found { IfSome result (λ answer. IsWitnessAt pair.now output answer.witness) }
 {
     let _pair = pair;
-    let mut answers = answers;
-    let mut all = Vec::with_capacity(alloc, answers.len())?;
-    'answers: for _ in 0..answers.len() {
-        let Some(answer) = answers.pop() else {
-            break;
-        };
-        all.push(answer)?;
+    if ahead.is_empty() {
+        return None;
     }
-    Ok(all)
+    let answer = ahead.remove(0);
+    if answer.output == output {
+        Some(answer)
+    } else {
+        None
+    }
 }
 
 /// Marks an output, if it has a mark.
@@ -318,8 +316,8 @@ impl<'a> Inside<'a> {
         }
     }
 
-    /// What is found of the next outputs from one on that are chosen and not marked, the last one first: of one for each thread, or
-    /// where `every` one is looked for, of more. Fails where memory is refused.
+    /// What is found of the next outputs from one on that are chosen and not marked: of one for each thread, or where `every` one is
+    /// looked for, of more. Fails where memory is refused.
     fn ask_ahead<R: Threads + Sync>(
         &mut self,
         rt: &R,
@@ -341,14 +339,42 @@ impl<'a> Inside<'a> {
         let graph = self.sweep.graph();
         let earlier = &self.earlier;
         let work = self.work;
-        let all = ask_all(
+        ask_all(
             rt, alloc, pair, graph, &questions, earlier, conflicts, work, threads,
-        )?;
-        last_first(alloc, pair, all)
+        )
+    }
+
+    /// What is found of an output by a search with as many conflicts as the next one may have, which are taken. Fails where memory
+    /// is refused.
+    fn search_next(
+        &mut self,
+        alloc: Global,
+        output: usize,
+        conflicts: &mut Conflicts,
+    ) -> Result<Witness, AllocError>
+        requires { output < length self.old.first.outputs }
+        ensures pair { self.new ≡ self.old }
+        ensures found { IfOk result (IsWitnessAt self.old output) }
+    {
+        let given = conflicts.next();
+        let mut left = given;
+        let found = self.search_output(alloc, output, &mut left)?;
+        conflicts.take(given.saturating_sub(left));
+        Ok(found)
+    }
+
+    /// What was found of an output ahead of others, whose conflicts and work are taken.
+    fn taken(&mut self, answer: Answer, conflicts: &mut Conflicts) -> Witness
+        ensures pair { self.new ≡ self.old }
+        ensures witness { result ≡ answer.witness }
+    {
+        conflicts.take(answer.used);
+        self.work = self.work.saturating_sub(answer.work);
+        answer.witness
     }
 
     /// What is found of an output: with several threads the next ones are asked for beside it, and what is found of these is
-    /// kept, the last one first. Fails where memory is refused.
+    /// kept. Fails where memory is refused.
     fn next_witness<R: Threads + Sync>(
         &mut self,
         rt: &R,
@@ -369,18 +395,10 @@ impl<'a> Inside<'a> {
         if threads > 1 && ahead.is_empty() {
             *ahead = self.ask_ahead(rt, alloc, marks, output, every, *conflicts, threads)?;
         }
-        if let Some(answer) = ahead.pop() {
-            if answer.output == output {
-                conflicts.take(answer.used);
-                self.work = self.work.saturating_sub(answer.work);
-                return Ok(answer.witness);
-            }
+        match next_found(self.steps.pair(), ahead, output) {
+            Some(answer) => Ok(self.taken(answer, conflicts)),
+            None => self.search_next(alloc, output, conflicts),
         }
-        let given = conflicts.next();
-        let mut left = given;
-        let found = self.search_output(alloc, output, &mut left)?;
-        conflicts.take(given.saturating_sub(left));
-        Ok(found)
     }
 
     /// The chosen outputs that differ, with their least assignments, where some assignment is allowed: all of them, or the first
