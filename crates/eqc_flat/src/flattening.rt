@@ -249,8 +249,11 @@ fn copied(alloc: Global, columns: &[SmallVec<u32, 4>]) -> Result<Vec<SmallVec<u3
     Ok(copies)
 }
 
-/// The flat netlists below two models of a library, each as `flatten` makes it and refused for what it is refused for there. It
-/// takes less time than two calls of it, since the names of the library's models are put in order once.
+/// The flat netlists below two models of a library, each as `flatten` makes it. It takes less time than two calls of it, since the
+/// names of the library's models are put in order once.
+///
+/// `first` and `second` are below the number of models, and may be one. The error tells which of the two is refused, the first one where
+/// both are, with the number that `flatten` has for it, 21 to 30; 72 where memory is refused.
 pub fn flatten_two(
     alloc: Global,
     library: &Library,
