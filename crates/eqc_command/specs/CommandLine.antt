@@ -43,27 +43,42 @@ IsFlag (Some t) given = (t ≡ codes "true" → given ≡ true) × (t ≡ codes 
 abbrev pub with_version : App → App
 with_version a = on_top (λ s. record s { has_version = true }) a
 
--- five numbers, the paths of the order text and the assumption, whether each difference is wanted, names of outputs, the names
--- of two models, whether to explain, whether to show how far the run is, and at most two paths
-abbrev pub eqc_app : App
-eqc_app =
+-- options with a number
+abbrev pub with_numbers : App → App
+with_numbers a =
     with_rule
-    (with_rule (with_rule (with_rule (with_rule (with_rule (with_rule (with_rule (with_rule (with_rule (with_rule (with_rule (with_rule (with_rule (with_rule (with_version (new_app (codes "eqc")))
+    (with_rule (with_rule (with_rule (with_rule a
     (number_rule (codes "workers") (codes "2")))
     (number_rule (codes "nodes") (codes "65536")))
     (number_rule (codes "cells") (codes "8192")))
     (number_rule (codes "forks") (codes "0")))
-    (number_rule (codes "conflicts") (codes "100000")))
+    (number_rule (codes "conflicts") (codes "100000"))
+
+-- the paths of the order text and the assumption, whether each difference is wanted, names of outputs, and the names of two models
+abbrev pub with_choices : App → App
+with_choices a =
+    with_rule
+    (with_rule (with_rule (with_rule (with_rule (with_rule a
     (text_rule (codes "order")))
     (text_rule (codes "assume")))
     (flag_rule (codes "all")))
     (names_rule (codes "output")))
     (text_rule (codes "first-model")))
-    (text_rule (codes "second-model")))
+    (text_rule (codes "second-model"))
+
+-- whether to explain, whether to show how far the run is, and at most two paths
+abbrev pub with_files : App → App
+with_files a =
+    with_rule
+    (with_rule (with_rule (with_rule a
     (flag_rule (codes "explain")))
     (flag_rule (codes "progress")))
     (path_rule (codes "first")))
     (path_rule (codes "second"))
+
+-- the command line of the program
+abbrev pub eqc_app : App
+eqc_app = with_files (with_choices (with_numbers (with_version (new_app (codes "eqc")))))
 
 -- what `clap` finds in the words
 unfoldable pub rows_asked : List Text → List Row

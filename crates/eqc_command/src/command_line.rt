@@ -5,7 +5,7 @@ ghost use Rattle.clap.specs.Kinds.{HasKind};
 ghost use Rattle.clap.specs.Matches.{found_of};
 ghost use Rattle.clap.specs.Simple.{app_of};
 ghost use Rattle.clap.specs.Walk.{rows_of, rule_of};
-ghost use Rattle.eqc_command.specs.CommandLine.{eqc_app, number_rule, text_rule, names_rule, flag_rule, path_rule, number_of, all_of, rows_asked, IsAsked};
+ghost use Rattle.eqc_command.specs.CommandLine.{eqc_app, with_numbers, with_choices, with_files, number_rule, text_rule, names_rule, flag_rule, path_rule, number_of, all_of, rows_asked, IsAsked};
 
 use crate::help::{
     ABOUT, ALL, ASSUME, CELLS, CONFLICTS, EXPLAIN, FIRST, FIRST_MODEL, FORKS, NODES, ORDER, OUTPUT,
@@ -92,30 +92,54 @@ fn flag<'a>(alloc: Global, name: &'a str, help: &'a str) -> Arg<'a>
         .help(help)
 }
 
-/// The command line of the program; its help ends with `answers`.
-fn command<'a>(alloc: Global, answers: &'a str) -> Result<Command<'a>, AllocError>
-    ensures { IfOk result (λ c. app_of c ≡ eqc_app) }
+/// A command, and the options with a number. They stand apart from the others for their proofs' sake: each adds an exit.
+fn with_numbers<'a>(alloc: Global, command: Command<'a>) -> Result<Command<'a>, AllocError>
+    ensures { IfOk result (λ c. app_of c ≡ with_numbers (app_of command.entry)) }
 {
-    Command::new(alloc, "eqc")
-        .version(VERSION)
-        .about(ABOUT)
-        .override_usage(USAGE)
-        .after_help(answers)
+    command
         .arg(number(alloc, "workers", "2", WORKERS))?
         .arg(number(alloc, "nodes", "65536", NODES))?
         .arg(number(alloc, "cells", "8192", CELLS))?
         .arg(number(alloc, "forks", "0", FORKS))?
-        .arg(number(alloc, "conflicts", "100000", CONFLICTS))?
+        .arg(number(alloc, "conflicts", "100000", CONFLICTS))
+}
+
+/// A command, and the options that say what is compared.
+fn with_choices<'a>(alloc: Global, command: Command<'a>) -> Result<Command<'a>, AllocError>
+    ensures { IfOk result (λ c. app_of c ≡ with_choices (app_of command.entry)) }
+{
+    command
         .arg(text(alloc, "order", "FILE", ORDER))?
         .arg(text(alloc, "assume", "FILE", ASSUME))?
         .arg(flag(alloc, "all", ALL))?
         .arg(names(alloc, "output", OUTPUT))?
         .arg(text(alloc, "first-model", "NAME", FIRST_MODEL))?
-        .arg(text(alloc, "second-model", "NAME", SECOND_MODEL))?
+        .arg(text(alloc, "second-model", "NAME", SECOND_MODEL))
+}
+
+/// A command, the options that say what is shown, and the files.
+fn with_files<'a>(alloc: Global, command: Command<'a>) -> Result<Command<'a>, AllocError>
+    ensures { IfOk result (λ c. app_of c ≡ with_files (app_of command.entry)) }
+{
+    command
         .arg(flag(alloc, "explain", EXPLAIN))?
         .arg(flag(alloc, "progress", PROGRESS))?
         .arg(path(alloc, "first", FIRST))?
         .arg(path(alloc, "second", SECOND))
+}
+
+/// The command line of the program; its help ends with `answers`.
+fn command<'a>(alloc: Global, answers: &'a str) -> Result<Command<'a>, AllocError>
+    ensures { IfOk result (λ c. app_of c ≡ eqc_app) }
+{
+    let command = Command::new(alloc, "eqc")
+        .version(VERSION)
+        .about(ABOUT)
+        .override_usage(USAGE)
+        .after_help(answers);
+    let command = with_numbers(alloc, command)?;
+    let command = with_choices(alloc, command)?;
+    with_files(alloc, command)
 }
 
 /// The number of an option.
