@@ -50,6 +50,13 @@ def literals(columns, rows, count, seed=2):
     return made
 
 
+def repeated(columns, rows, kinds, seed=4):
+    """Rows without dashes of which only so many differ."""
+    chance = random.Random(seed)
+    kept = chance.sample(minterms(columns), kinds)
+    return [chance.choice(kept) for _ in range(rows)]
+
+
 def minterms(columns, odd=False):
     return [format(k, f"0{columns}b") for k in range(2**columns) if not odd or bin(k).count("1") % 2]
 
@@ -124,6 +131,9 @@ def instances():
     yield "random, 16 columns, 300 rows", 16, dashed(16, 300, 0.33), 40
     yield "random, 10 columns, 40 rows", 10, dashed(10, 40, 0.5), 4_000
     yield "no dashes, 8 columns, 200 rows", 8, dashed(8, 200, 0), 1_000
+    yield "6 columns, 500 rows of 30 kinds", 6, repeated(6, 500, 30), 1_000
+    yield "6 columns, 50000 rows of 30 kinds", 6, repeated(6, 50_000, 30), 1_000
+    yield "6 columns, 500000 rows of 30 kinds", 6, repeated(6, 500_000, 30), 1_000
 
 
 def measure_instances(programs):

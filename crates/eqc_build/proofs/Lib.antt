@@ -1,5 +1,6 @@
 pub mod PairLaws
 pub mod StepLaws
+pub mod CoverTableLaws
 pub mod ListedLaws
 pub mod TableLaws
 pub mod BuildLaws

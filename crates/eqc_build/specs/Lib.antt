@@ -1,3 +1,4 @@
+pub mod CoverTables
 pub mod Steps
 pub mod StepDrivers
 pub mod Building

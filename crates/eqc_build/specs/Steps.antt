@@ -5,6 +5,8 @@ use Rattle.std.specs.Prelude.{◌≡◌, ℕ, ◌+◌, ◌-◌, ◌<◌, ◌≤�
 use Rattle.std.specs.Option.{option_map_or}
 use Rattle.eqc_flat.specs.Graph.{FlatOf, IsFlat, FollowsDrivers, driver_at, dependencies, value_of}
 use Rattle.eqc_pair.specs.PairOf.{PairOf, IsPair, ArePlaces, assumed, first_variables, second_variables, assumed_variables, second_signals}
+use Rattle.eqc_build.specs.CoverTables.{TablesOf, AreTablesOf, ArePairTables}
+use Rattle.eqc_build.specs.declared.cover_tables.CoverTable.{CoverTable}
 
 -- the values of the inputs, where an input at a position has the value of its variable
 abbrev pub inputs_under : List ℕ → (ℕ → Bool) → ℕ → Bool
@@ -27,14 +29,15 @@ value_at p a k =
     then value_of p.second (inputs_under (second_variables p) a) (slice_index p.second.steps (k - length p.first.drivers))
     else value_of (assumed p) (inputs_under (assumed_variables p) a) (slice_index (assumed p).steps (k - assumed_start p))
 
--- a pair, the step of each signal of its netlists, counted in each from 0, and the step that is chosen in place of each,
--- itself where none is listed
+-- a pair, the step of each signal of its netlists, counted in each from 0, the step that is chosen in place of each,
+-- itself where none is listed, and tables of some of its covers
 pub record StepsOf : Type 0 where
   pub pair : PairOf
   pub places : List ℕ
   pub others : List ℕ
   pub further : List ℕ
   pub chosen : List ℕ
+  pub tables : TablesOf
 
 abbrev pub chosen_for : List ℕ → ℕ → ℕ
 chosen_for chosen k = slice_index_or chosen k k
@@ -89,13 +92,15 @@ pub record AreSteps (g : StepsOf) : Type 0 where
   pub others : ArePlaces g.pair.second g.others
   pub further : ArePlaces (assumed g.pair) g.further
   pub choice : IsChoice g.pair g.chosen
+  pub tables : ArePairTables g.pair g.tables
 
 -- a step is number k of a netlist's own steps, which begin at `start` and whose inputs have these variables; and the steps
--- for the netlist's signals have their values
-pub record IsSide (g : StepsOf) (f : FlatOf) (variables places : List ℕ) (start k step : ℕ) : Type 0 where
+-- for the netlist's signals have their values, and these are tables of its covers
+pub record IsSide (g : StepsOf) (f : FlatOf) (tables : List (ℕ × CoverTable)) (variables places : List ℕ) (start k step : ℕ) : Type 0 where
   pub lawful : IsFlat f
   pub follows : FollowsDrivers f
   pub places_are : ArePlaces f places
+  pub tables_are : AreTablesOf f tables
   pub begins : start ≤ 2097152
   pub inside : k < length f.drivers
   pub size : length variables ≡ length f.inputs

@@ -15,7 +15,8 @@ use crate::step_diagrams::{StepDiagrams, release};
 use crate::steps::{StepDriver, Steps, Uses};
 use crate::table::{Table, put, reference_at};
 use crate::wanted::wanted;
-use eqc_cover::{Covers, cover_diagram};
+use eqc_cover::table::MOST_COLUMNS;
+use eqc_cover::{Covers, by_table, cover_diagram};
 use eqc_tree::{Diagrams, References, Stop};
 use std::alloc::{AllocError, Global};
 use std::cmp::Reverse;
@@ -62,6 +63,15 @@ fn step_diagram<R, D: Diagrams<R>>(
                 return Err(Stop::Memory);
             };
             cover_diagram(alloc, rt, d, covers, &columns, rows)
+        }
+        StepDriver::Table {
+            columns,
+            table: truth,
+        } => {
+            let Ok(columns) = references(alloc, table, &columns) else {
+                return Err(Stop::Memory);
+            };
+            by_table(rt, d, &columns, truth, [true; MOST_COLUMNS])
         }
     }
 }

@@ -6,8 +6,8 @@
 //! of it and leaves in `specs/Turns.antt`. Read the modules in this order:
 //!
 //! - `step_diagrams`, what stays from one output to the next; `building`, the diagrams of some steps; `plan`, what they are built by
-//! - `steps`, both netlists and the assumption in one row, and what makes each value; `goals`, the steps that are needed together;
-//!   `wanted`, those that are still needed for them
+//! - `steps`, both netlists and the assumption in one row, and what makes each value; `cover_tables`, tables of covers with many rows;
+//!   `goals`, the steps that are needed together; `wanted`, those that are still needed for them
 //! - `schedule`, when each step is used for the last time, where all outputs are compared; `cone`, where some steps are made alone;
 //!   `moments`, how that is noted; `demand`, what outputs need each step for, and whether that is done
 //! - `table`, the references of steps
@@ -15,6 +15,7 @@
 
 mod building;
 mod cone;
+mod cover_tables;
 mod demand;
 mod goals;
 mod moments;

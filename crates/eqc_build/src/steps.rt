@@ -5,11 +5,14 @@ ghost use Rattle.eqc_pair.specs.PairOf.{ArePlaces};
 ghost use Rattle.eqc_build.specs.Steps.{AreSteps, IsChoice, IsSide, assumed_root, chosen_for, goals_of, roots_of, step_in, steps_in, uses_in, uses_of};
 ghost use Rattle.eqc_build.specs.Schedule.{AreWithin};
 ghost use Rattle.eqc_build.specs.StepDrivers.{IsDriverIn, IsMadeBy};
+ghost use Rattle.eqc_build.specs.CoverTables.{AreTablesOf, ArePairTables, tables_in};
 
+use crate::cover_tables::{CoverTable, PairTables, table_at};
 use crate::goals::Goals;
 use eqc_blif::Rows;
 use eqc_flat::{Driver, Flat, Signals};
 use eqc_pair::{Pair, recall_laws};
+use indexmap::IndexMap;
 use std::alloc::Global;
 use std::marker::Model;
 
@@ -25,16 +28,19 @@ pub struct Steps<'a> {
     further: &'a [u32],
     /// The step that is chosen in place of each, itself where none is listed.
     chosen: Vec<u32>,
+    /// Tables of some of its covers.
+    tables: PairTables,
 }
 
 impl<'a> Model for Steps<'a> {
+    ghost use Rattle.eqc_build.specs.CoverTables.{tables_in};
     ghost use Rattle.eqc_build.specs.Steps.{StepsOf, AreSteps};
 
     ghost Value = { StepsOf };
 
-    ghost view = { λ a. record { pair = a.pair.now; places = a.places.now; others = a.others.now; further = a.further.now; chosen = a.chosen.items } };
+    ghost view = { λ a. record { pair = a.pair.now; places = a.places.now; others = a.others.now; further = a.further.now; chosen = a.chosen.items; tables = tables_in a.tables } };
 
-    ghost invariant = { λ a. AreSteps (record { pair = a.pair.now; places = a.places.now; others = a.others.now; further = a.further.now; chosen = a.chosen.items }) };
+    ghost invariant = { λ a. AreSteps (record { pair = a.pair.now; places = a.places.now; others = a.others.now; further = a.further.now; chosen = a.chosen.items; tables = tables_in a.tables }) };
 }
 
 /// Steps that a step uses, in order and with repeats. Contracts see their list.
@@ -71,12 +77,19 @@ pub enum StepDriver<'a> {
         columns: Uses<'a>,
         rows: &'a Rows<'a>,
     },
+    /// A cover whose table is known, of at most six columns, which are these steps.
+    Table {
+        columns: Uses<'a>,
+        table: u64,
+    },
 }
 
 /// A netlist of a pair, and the number of a step among its own.
 #[derive(Drop)]
 struct Side<'a> {
     flat: &'a Flat<'a>,
+    /// Tables of some of its covers.
+    tables: &'a IndexMap<u32, CoverTable>,
     /// The variable of each of its inputs.
     variables: &'a [u16],
     /// The step of each of its signals, counted from 0.
@@ -145,12 +158,14 @@ fn uses_in<'a>(
 /// What makes the value of such a step, where the netlist's inputs have these variables.
 fn driver_in<'a>(
     flat: &'a Flat<'a>,
+    tables: &IndexMap<u32, CoverTable>,
     variables: &[u16],
     chosen: &'a [u32],
     places: &'a [u32],
     start: u32,
     step: u32,
 ) -> StepDriver<'a>
+    requires tables { AreTablesOf flat.now tables.now.entries }
     requires variables { length variables.now ≡ length flat.now.inputs }
     requires places { ArePlaces flat.now places.now }
     requires room { start ≤ 2097152 }
@@ -161,22 +176,30 @@ fn driver_in<'a>(
     match flat.driver(s) {
         Driver::Input(position) => StepDriver::Variable(variables[position as usize]),
         Driver::Tie(other) => StepDriver::Copy(step_in(chosen, places, start, other)),
-        Driver::Cover { columns, rows } => StepDriver::Cover {
-            columns: Uses {
+        Driver::Cover { columns, rows } => {
+            let table = table_at(tables, rows, columns.len());
+            let columns = Uses {
                 signals: columns,
                 places,
                 start,
                 chosen,
-            },
-            rows: flat.rows(rows),
-        },
+            };
+            match table {
+                Some(table) => StepDriver::Table { columns, table },
+                None => StepDriver::Cover {
+                    columns,
+                    rows: flat.rows(rows),
+                },
+            }
+        }
     }
 }
 
 impl<'a> Steps<'a> {
-    /// The steps of a pair, with the step that is chosen in place of each, itself where none is listed.
-    pub fn of(pair: &'a Pair<'a>, chosen: Vec<u32>) -> Steps<'a>
-        requires { IsChoice pair.now chosen.items }
+    /// The steps of a pair, with these tables of its covers.
+    fn with_tables(pair: &'a Pair<'a>, chosen: Vec<u32>, tables: PairTables) -> Steps<'a>
+        requires choice { IsChoice pair.now chosen.items }
+        requires tables { ArePairTables pair.now (tables_in tables) }
         ensures pair { result.pair ≡ pair.now }
         ensures chosen { result.chosen ≡ chosen.items }
     {
@@ -191,15 +214,26 @@ impl<'a> Steps<'a> {
             others: pair.second_places(),
             further: pair.assumed_places(),
             chosen,
+            tables,
         }
     }
 
-    /// The steps of a pair, each of which is made.
+    /// The steps of a pair, with the step that is chosen in place of each, itself where none is listed. It takes time in proportion
+    /// to its signals, and to the rows of covers that have few columns and many rows: these needn't be gone through again.
+    pub fn of(alloc: Global, pair: &'a Pair<'a>, chosen: Vec<u32>) -> Steps<'a>
+        requires { IsChoice pair.now chosen.items }
+        ensures pair { result.pair ≡ pair.now }
+        ensures chosen { result.chosen ≡ chosen.items }
+    {
+        Steps::with_tables(pair, chosen, PairTables::of(alloc, pair))
+    }
+
+    /// The steps of a pair, each of which is made. It takes no time in proportion to them.
     pub fn each(alloc: Global, pair: &'a Pair<'a>) -> Steps<'a>
         ensures pair { result.pair ≡ pair.now }
         ensures chosen { result.chosen ≡ [] }
     {
-        Steps::of(pair, Vec::new(alloc))
+        Steps::with_tables(pair, Vec::new(alloc), PairTables::none(alloc))
     }
 
     /// The pair.
@@ -267,15 +301,16 @@ impl<'a> Steps<'a> {
     }
 
     /// The netlist that a step is of, which is below their number.
-    fn side(&self, step: u32) -> Side<'a>
+    fn side(&self, step: u32) -> Side<'_>
         requires { step < steps_in self.now.pair }
-        ensures { IsSide self.now result.flat.now result.variables.now result.places.now result.start result.step step }
+        ensures { IsSide self.now result.flat.now result.tables.now.entries result.variables.now result.places.now result.start result.step step }
     {
         self.pair.recall_laws();
         let second_start = self.places.len() as u32;
         if step < second_start {
             return Side {
                 flat: self.pair.first(),
+                tables: &self.tables.first,
                 variables: self.pair.variables(),
                 places: self.places,
                 start: 0,
@@ -286,6 +321,7 @@ impl<'a> Steps<'a> {
         if step < assumed_start {
             return Side {
                 flat: self.pair.second(),
+                tables: &self.tables.second,
                 variables: self.pair.second_variables(),
                 places: self.others,
                 start: second_start,
@@ -297,6 +333,7 @@ impl<'a> Steps<'a> {
         };
         Side {
             flat: assumption,
+            tables: &self.tables.assumed,
             variables: self.pair.assumed_variables(),
             places: self.further,
             start: assumed_start,
@@ -321,6 +358,7 @@ impl<'a> Steps<'a> {
         let side = self.side(step);
         driver_in(
             side.flat,
+            side.tables,
             side.variables,
             &self.chosen,
             side.places,

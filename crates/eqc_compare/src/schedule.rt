@@ -33,7 +33,7 @@ impl<'a> Schedule<'a> {
     {
         let Alike { equal, chosen } = alike;
         let settled = settled_outputs(alloc, pair, &equal)?;
-        let plan = plan_of(alloc, Steps::of(pair, chosen), &settled)?;
+        let plan = plan_of(alloc, Steps::of(alloc, pair, chosen), &settled)?;
         Ok(Schedule {
             plan,
             settled,

@@ -1,9 +1,10 @@
-//! Instances of one cover over different columns, of which the later ones are made by what was kept of the cover, against
-//! covers of two columns.
+//! Instances of one cover over different columns, of which the later ones are made by what was kept of the cover or by its table,
+//! against covers of two columns.
 #![tactic(auto)]
 
 use crate::ends::holds;
 use crate::pairs::{Ask, is_ordered_answer};
+use eqc_testing::Row;
 use std::alloc::{AllocError, Global};
 
 /// A cover of seven columns: an odd number of the first five is true, and so is the sixth.
@@ -51,4 +52,53 @@ fn instances_of_one_cover_have_columns_of_their_own(rt: HostRuntime) {
     let [_, _, same] = ACTUALS;
     holds(&rt, answers(&rt, same, "none"), "equal");
     holds(&rt, answers(&rt, EXCHANGED, "0000011"), "exchanged");
+}
+
+/// The rows of a choice: of the complement of the third column where the first is true, else of the second.
+const CHOICE: &str = "1-0 1;01- 1;";
+
+/// The same by covers of two columns.
+const BY_TWO: &str =
+    ".model two;.inputs a b c;.outputs o;.names a c s;10 1;.names a b t;01 1;.names s t o;1- 1;-1 1;.end;";
+
+/// A model whose rows stand many times, so that it has more than all assignments of six columns.
+fn many_rows(alloc: Global) -> Result<String, AllocError> {
+    let mut text = format!(in alloc; ".model many;.inputs a b c;.outputs o;.names a b c o;")?;
+    for _ in 0..40 {
+        text.push_str(CHOICE)?;
+    }
+    text.push_str(".end;")?;
+    Ok(text)
+}
+
+/// A model of two instances of a model, of which the second has the output of the first, and this actual in the end.
+fn two_of(alloc: Global, name: &str, model: &str, last: &str) -> Result<String, AllocError> {
+    format!(in alloc;
+        ".model {name};.inputs a b c d;.outputs z;.subckt {model} a=a b=b c=c o=x;.subckt {model} a=d b=x c={last} o=z;.end;"
+    )
+}
+
+/// The last actual in the second model of a pair, and the report.
+#[rattlefmt::skip]
+static MANY: &[Row<&'static str>] = &[
+    ("equal", "a", "equivalent;"),
+    ("another actual", "b", "differs at z;a=0;b=1;c=0;d=1;first=1;second=0;"),
+    ("the first column", "d", "differs at z;a=0;b=0;c=0;d=1;first=1;second=0;"),
+];
+
+/// Whether the report on such a pair is this one.
+fn reports(rt: &impl AllocGlobal, last: &str, wanted: &str) -> Result<bool, AllocError> {
+    let alloc = rt.alloc();
+    let first = two_of(alloc, "f", "many", "a")?;
+    let second = two_of(alloc, "g", "two", last)?;
+    let rows = many_rows(alloc)?;
+    let text = format!(in alloc; "{first}{second}{rows}{BY_TWO}")?;
+    is_ordered_answer(rt, alloc, &text, "", Ask::Report(4_096), wanted)
+}
+
+#[test]
+fn instances_of_a_cover_of_many_rows_go_by_its_table(rt: HostRuntime) {
+    for (name, last, wanted) in MANY {
+        holds(&rt, reports(&rt, last, wanted), name);
+    }
 }

@@ -35,9 +35,12 @@ fn turned<R, D: Diagrams<R>>(
     made
 }
 
-/// The diagram of a table that depends on no other columns than those that are open. `columns` are references, at most
-/// six. A column is closed at each call, so that calls are at most seven deep.
-pub(crate) fn by_table<R, D: Diagrams<R>>(
+/// The diagram of a truth table, as `cover_table` gives it, that depends on no other columns than those that are open.
+///
+/// `columns` are references of `d`, at most six, and `open_columns` says of each whether it is open. A column is closed at each call,
+/// so that calls are at most seven deep. The errors are those of the diagrams, 71, 72 and 73. All other references are given back,
+/// whatever the answer.
+pub fn by_table<R, D: Diagrams<R>>(
     rt: &R,
     d: &mut D,
     columns: &[&D::Ref],

@@ -27,4 +27,5 @@ pub mod table;
 
 pub use cover::cover_diagram;
 pub use covers::Covers;
+pub use expansion::by_table;
 pub use least::{is_false, least_over};

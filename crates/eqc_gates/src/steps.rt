@@ -7,7 +7,9 @@ ghost use Rattle.eqc_build.specs.Steps.{steps_in, uses_of, value_at};
 ghost use Rattle.eqc_gates.specs.Entering.{AreClosed, AreEntered, AreLiterals};
 
 use crate::cover::cover_literal;
+use crate::expansion::table_literal;
 use eqc_build::{StepDriver, Steps, Uses};
+use eqc_cover::table::MOST_COLUMNS;
 use eqc_sweep::Sweep;
 use std::alloc::{AllocError, Global};
 
@@ -56,6 +58,13 @@ fn step_literal(
             let columns = literals_of(alloc, table, &columns)?;
             cover_literal(alloc, sweep, &columns, rows)
         }
+        StepDriver::Table {
+            columns,
+            table: truth,
+        } => {
+            let columns = literals_of(alloc, table, &columns)?;
+            table_literal(sweep, &columns, truth, [true; MOST_COLUMNS])
+        }
     }
 }
 
@@ -63,7 +72,8 @@ fn step_literal(
 /// variables, and older literals of the graph keep theirs.
 ///
 /// `marks` has a mark for each step; what a marked step uses is marked, as after `needed`. What enters the graph is in
-/// proportion to the covers' text, for each instance of a model anew. `told` is told of each step before it is looked at, in
+/// proportion to the covers' text, for each instance of a model anew; the rows of a cover whose table is known aren't gone through.
+/// `told` is told of each step before it is looked at, in
 /// their order, whether it is marked or not. Fails where memory is refused, or where the graph has no room for more nodes.
 pub fn literals<F: Fn(u32)>(
     alloc: Global,

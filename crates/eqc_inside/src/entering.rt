@@ -164,12 +164,57 @@ fn entering(
     Ok(Wanted { marks, work })
 }
 
+/// Enters the marked steps into a graph, and answers their literals. The watch is told of each step. Fails where memory is refused.
+fn entered<R, P: Progress<R>>(
+    rt: &R,
+    alloc: Global,
+    steps: &Steps<'_>,
+    marks: &[bool],
+    sweep: &mut Sweep,
+    watch: &P,
+) -> Result<Vec<Option<u32>>, AllocError>
+    requires { AreClosed steps.now marks.now }
+    ensures { IfOk result (λ literals. IsInside steps.now sweep.new literals.items) }
+{
+    let count = steps.len() as usize;
+    let told = |step: u32| watch.step(rt, step as usize, count);
+    let literals = literals(alloc, steps, marks, sweep, &told)?;
+    // What the searches for differences make is no signal: they ask about it themselves.
+    sweep.ask_no_more();
+    Ok(literals)
+}
+
 impl<'a> Inside<'a> {
+    /// The steps of a pair of which these are wanted, in a graph that has none yet. It stands apart from `of` for its proof's sake, as
+    /// `first_seen_in` does: the steps and the graph are let go in one exit.
+    fn within<R, P: Progress<R>>(
+        rt: &R,
+        alloc: Global,
+        steps: Steps<'a>,
+        wanted: Wanted,
+        sweep: Sweep,
+        watch: &P,
+    ) -> Result<Inside<'a>, AllocError>
+        requires { AreClosed steps wanted.marks.items }
+        ensures { IfOk result (λ inside. inside ≡ steps.entry.pair) }
+    {
+        let mut sweep = sweep;
+        let literals = entered(rt, alloc, &steps, &wanted.marks, &mut sweep, watch)?;
+        let work = work_for(sweep.graph().len());
+        Ok(Inside {
+            steps,
+            sweep,
+            literals,
+            work: work.saturating_sub(wanted.work).max(work / PART),
+            earlier: Vec::new(alloc),
+        })
+    }
+
     /// Enters the steps of a pair that its chosen outputs need which are not marked, where this is known of it: a step that is chosen
     /// in place of others is entered for them. Unless `every` output that differs is looked for, those behind the first that is seen
     /// to differ aren't needed. It takes time and memory in proportion to the steps and to the rows of their covers, for each instance
-    /// of a model anew; where these are very many nothing is entered, and nothing is found of any output. The watch is told of each
-    /// step. Fails where memory is refused.
+    /// of a model anew, or once for all instances where a cover has at most six columns; where these are very many nothing is entered,
+    /// and nothing is found of any output. The watch is told of each step. Fails where memory is refused.
     pub fn of<R, P: Progress<R>>(
         rt: &R,
         alloc: Global,
@@ -181,21 +226,9 @@ impl<'a> Inside<'a> {
         requires { IsKnown pair.now alike.now }
         ensures { IfOk result (λ inside. inside ≡ pair.now) }
     {
-        let steps = Steps::of(pair, alike.chosen.clone()?);
-        let entering = entering(alloc, &steps, &alike.equal, every)?;
-        let count = steps.len() as usize;
-        let told = |step: u32| watch.step(rt, step as usize, count);
-        let mut sweep = Sweep::new(alloc, Effort::usual())?;
-        let literals = literals(alloc, &steps, &entering.marks, &mut sweep, &told)?;
-        // What the searches for differences make is no signal: they ask about it themselves.
-        sweep.ask_no_more();
-        let work = work_for(sweep.graph().len());
-        Ok(Inside {
-            steps,
-            sweep,
-            literals,
-            work: work.saturating_sub(entering.work).max(work / PART),
-            earlier: Vec::new(alloc),
-        })
+        let steps = Steps::of(alloc, pair, alike.chosen.clone()?);
+        let wanted = entering(alloc, &steps, &alike.equal, every)?;
+        let sweep = Sweep::new(alloc, Effort::usual())?;
+        Inside::within(rt, alloc, steps, wanted, sweep, watch)
     }
 }

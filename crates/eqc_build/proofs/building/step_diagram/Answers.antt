@@ -1,5 +1,9 @@
-use Rattle.std.proofs.Common.{◌∙◌, ap}
+use Rattle.std.proofs.Common.{◌≡◌, ◌∙◌, ap, arith, length, map, Some}
+use Rattle.std.proofs.lemmas.List.{length-map}
 use Rattle.eqc_blif.specs.Cover.{cover_value}
+use Rattle.eqc_cover.specs.Table.{table_value}
+use Rattle.eqc_cover.proofs.TableLaws.{all_open}
+use Rattle.eqc_build.specs.Building.{reference_of}
 use Rattle.eqc_build.proofs.TableLaws.{owned_held}
 use Rattle.eqc_cover.proofs.MakingLaws.{makes_as}
 use Rattle.eqc_build.proofs.BuildLaws.{found_held, found_said}
@@ -19,3 +23,25 @@ returns-in-Ok g c =
     (found_said g.D.References.entry c.args.steps.now.pair c.args.table.now c.in-Cover.columns c.deref.result.now a c.requires.kept.built (rw c.deref.ensures.value c.in-Ok.ensures))
     ∙ c.in-Cover.ensures.1 a)
     c.cover_diagram.ensures
+
+pub by_table-requires-clause-held : goal.by_table-requires-clause-held
+by_table-requires-clause-held g c =
+    found_held g.D.References.entry _ c.args.table.now c.in-Table.columns c.deref-in-Table.result.now c.requires.kept.owned
+    (rw c.deref-in-Table.ensures.value c.in-Ok-references.ensures)
+
+pub by_table-requires-clause-depends : goal.by_table-requires-clause-depends
+by_table-requires-clause-depends g c =
+    let found = c.deref-in-Table.result.now in
+    let size : length (map (λ r. Some r.now) found) ≡ length (map (reference_of c.args.table.now) c.in-Table.columns) = ap length (rw c.deref-in-Table.ensures.value c.in-Ok-references.ensures) in
+    all_open c.in-Table.truth (length found)
+    (omega (arith, c.in-Table.ensures.1, size, length-map found (λ r. Some r.now), length-map c.in-Table.columns (reference_of c.args.table.now)))
+
+pub returns-in-Ok-references : goal.returns-in-Ok-references
+returns-in-Ok-references g c =
+    makes_as g.D.References.entry _ _ c.by_table.result _ _
+    (λ a.
+    ap (table_value c.in-Table.truth)
+    (found_said g.D.References.entry c.args.steps.now.pair c.args.table.now c.in-Table.columns c.deref-in-Table.result.now a c.requires.kept.built
+    (rw c.deref-in-Table.ensures.value c.in-Ok-references.ensures))
+    ∙ c.in-Table.ensures.2 a)
+    c.by_table.ensures
