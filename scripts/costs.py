@@ -134,6 +134,9 @@ def instances():
     yield "6 columns, 500 rows of 30 kinds", 6, repeated(6, 500, 30), 1_000
     yield "6 columns, 50000 rows of 30 kinds", 6, repeated(6, 50_000, 30), 1_000
     yield "6 columns, 500000 rows of 30 kinds", 6, repeated(6, 500_000, 30), 1_000
+    yield "7 columns, 1000 rows of 60 kinds", 7, repeated(7, 1_000, 60), 1_000
+    yield "7 columns, 100000 rows of 60 kinds", 7, repeated(7, 100_000, 60), 1_000
+    yield "7 columns, 500000 rows of 60 kinds", 7, repeated(7, 500_000, 60), 1_000
 
 
 def measure_instances(programs):

@@ -245,21 +245,21 @@ values_mapped v w t (s ∷ signals) same =
 driven_value : (f : FlatOf) (b : ℕ → Bool) (s : ℕ) (driver : DriverOf) → FollowsDrivers f → s < length f.drivers → driver_at f s ≡ driver → driven f.rows b (value_of f b) driver ≡ value_of f b s
 driven_value f b s driver follows inside is = ap (driven f.rows b (value_of f b)) (sym is) ∙ sym (follows b s inside)
 
-pub made_in : (g : StepsOf) (f : FlatOf) (tables : List (ℕ × CoverTable)) (variables places : List ℕ) (start k at : ℕ) (driver : StepDriver) →
-    IsSide g f tables variables places start k at → IsDriverIn f variables g.chosen places start k driver → IsMadeBy g at driver
-made_in g f tables variables places start k at (Variable v) side is =
+pub made_in : (g : StepsOf) (f : FlatOf) (wide : Option FlatOf) (tables : List (ℕ × CoverTable)) (variables places : List ℕ) (start k at : ℕ) (driver : StepDriver) →
+    IsSide g f wide tables variables places start k at → IsDriverIn f variables g.chosen places start k driver → IsMadeBy g at driver
+made_in g f wide tables variables places start k at (Variable v) side is =
     let s = get_or f.steps k 0 in
     let inside : s < length f.drivers = side.lawful.steps_within k (omega (arith, side.inside, side.lawful.step_count)) in
     let position : is.0 < length f.inputs = rw is.1 at (side.lawful.drivers_within s inside) in
     (omega (arith, is.2, side.below is.0 position), λ a. ap a is.2 ∙ (driven_value f (inputs_under variables a) s (input is.0) side.follows inside is.1 ∙ sym (side.value a)))
-made_in g f tables variables places start k at (Copy other) side is =
+made_in g f wide tables variables places start k at (Copy other) side is =
     let s = get_or f.steps k 0 in
     let inside : s < length f.drivers = side.lawful.steps_within k (omega (arith, side.inside, side.lawful.step_count)) in
     let there : is.0 < length f.drivers = rw is.1 at (side.lawful.drivers_within s inside) in (
       side.uses ∙ (ap (λ d. map (step_in g.chosen places start) (dependencies d)) is.1 ∙ ap (λ x. x ∷ []) (sym is.2)),
       λ a. ap (value_at g.pair a) is.2 ∙ (side.signal a is.0 there ∙ (driven_value f (inputs_under variables a) s (tie is.0) side.follows inside is.1 ∙ sym (side.value a))),
     )
-made_in g f tables variables places start k at (Cover columns rows) side is =
+made_in g f wide tables variables places start k at (Cover columns rows known) side is =
     let s = get_or f.steps k 0 in
     let inside : s < length f.drivers = side.lawful.steps_within k (omega (arith, side.inside, side.lawful.step_count)) in
     let there = rw is.2 at (side.lawful.drivers_within s inside) in (
@@ -269,8 +269,9 @@ made_in g f tables variables places start k at (Cover columns rows) side is =
           let columns_are : map (value_at g.pair a) columns ≡ map (value_of f b) is.0 = ap (map (value_at g.pair a)) is.3
           ∙ values_mapped (value_at g.pair a) (value_of f b) (step_in g.chosen places start) is.0 (λ i lt. side.signal a (get_or is.0 i 0) (there.0 i lt)) in
           rw (is.4, columns_are) (driven_value f b s (cover is.0 is.1) side.follows inside is.2 ∙ sym (side.value a)),
+      is.5,
     )
-made_in g f tables variables places start k at (Table columns table) side is =
+made_in g f wide tables variables places start k at (Table columns table) side is =
     let s = get_or f.steps k 0 in
     let inside : s < length f.drivers = side.lawful.steps_within k (omega (arith, side.inside, side.lawful.step_count)) in
     let there = rw is.2 at (side.lawful.drivers_within s inside) in (
@@ -283,12 +284,13 @@ made_in g f tables variables places start k at (Table columns table) side is =
           rw columns_are (is.5.value (map (value_of f b) is.0) (length-map is.0 (value_of f b))) ∙ (driven_value f b s (cover is.0 is.1) side.follows inside is.2 ∙ sym (side.value a)),
     )
 
-pub side_first : (g : StepsOf) (k : ℕ) → AreSteps g → k < length g.pair.first.drivers → IsSide g g.pair.first g.tables.first (first_variables g.pair) g.places 0 k k
+pub side_first : (g : StepsOf) (k : ℕ) → AreSteps g → k < length g.pair.first.drivers → IsSide g g.pair.first (Some g.wide.0) g.tables.first (first_variables g.pair) g.places 0 k k
 side_first g k h lt = record {
   lawful = h.lawful.first_flat;
   follows = h.first_follows;
   places_are = h.places;
   tables_are = h.tables.first;
+  wide_is = h.wide_first;
   begins = omega arith;
   inside = lt;
   size = (pair_matched g.pair h.lawful).first.size;
@@ -299,12 +301,13 @@ side_first g k h lt = record {
 }
 
 pub side_second : (g : StepsOf) (k j : ℕ) → AreSteps g → k ≡ length g.pair.first.drivers + j → j < length g.pair.second.drivers →
-    IsSide g g.pair.second g.tables.second (second_variables g.pair) g.others (length g.pair.first.drivers) j k
+    IsSide g g.pair.second (Some g.wide.1) g.tables.second (second_variables g.pair) g.others (length g.pair.first.drivers) j k
 side_second g k j h is lt = rw is (record {
   lawful = h.lawful.second_flat;
   follows = h.second_follows;
   places_are = h.others;
   tables_are = h.tables.second;
+  wide_is = h.wide_second;
   begins = omega (arith, h.lawful.first_flat.few_signals);
   inside = lt;
   size = (pair_matched g.pair h.lawful).second.size;
@@ -315,12 +318,13 @@ side_second g k j h is lt = rw is (record {
 })
 
 pub side_assumed : (g : StepsOf) (k j : ℕ) → AreSteps g → k ≡ assumed_start g.pair + j → j < length (assumed g.pair).drivers →
-    IsSide g (assumed g.pair) g.tables.assumed (assumed_variables g.pair) g.further (assumed_start g.pair) j k
+    IsSide g (assumed g.pair) None g.tables.assumed (assumed_variables g.pair) g.further (assumed_start g.pair) j k
 side_assumed g k j h is lt = rw is (record {
   lawful = assumed_flat g.pair h.lawful;
   follows = h.assumed_follows;
   places_are = h.further;
   tables_are = h.tables.assumed;
+  wide_is = tt;
   begins = omega (arith, h.lawful.first_flat.few_signals, h.lawful.second_flat.few_signals);
   inside = lt;
   size = (assumption_matched g.pair h.lawful).size;

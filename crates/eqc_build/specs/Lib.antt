@@ -1,4 +1,5 @@
 pub mod CoverTables
+pub mod WideCovers
 pub mod Steps
 pub mod StepDrivers
 pub mod Building

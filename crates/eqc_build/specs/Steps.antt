@@ -1,8 +1,8 @@
 -- The steps of a pair, in one row: those of the first netlist, those of the second, and those of the assumption, if there is
 -- one. Each makes the value of a signal out of those of steps before it. A step may be chosen in place of one that never has
 -- another value.
-use Rattle.std.specs.Prelude.{◌≡◌, ℕ, ◌+◌, ◌-◌, ◌<◌, ◌≤◌, Bool, List, [], ◌∷◌, ◌++◌, length, map, ltb, slice_index, slice_index_or, if◌then◌else◌}
-use Rattle.std.specs.Option.{option_map_or}
+use Rattle.std.specs.Prelude.{◌≡◌, ℕ, ◌+◌, ◌-◌, ◌<◌, ◌≤◌, Bool, List, [], ◌∷◌, ◌++◌, length, map, ltb, Option, slice_index, slice_index_or, if◌then◌else◌}
+use Rattle.std.specs.Option.{IfSome, option_map_or}
 use Rattle.eqc_flat.specs.Graph.{FlatOf, IsFlat, FollowsDrivers, driver_at, dependencies, value_of}
 use Rattle.eqc_pair.specs.PairOf.{PairOf, IsPair, ArePlaces, assumed, first_variables, second_variables, assumed_variables, second_signals}
 use Rattle.eqc_build.specs.CoverTables.{TablesOf, AreTablesOf, ArePairTables}
@@ -30,7 +30,7 @@ value_at p a k =
     else value_of (assumed p) (inputs_under (assumed_variables p) a) (slice_index (assumed p).steps (k - assumed_start p))
 
 -- a pair, the step of each signal of its netlists, counted in each from 0, the step that is chosen in place of each,
--- itself where none is listed, and tables of some of its covers
+-- itself where none is listed, tables of some of its covers, and the netlists whose covers are kept as splits
 pub record StepsOf : Type 0 where
   pub pair : PairOf
   pub places : List ℕ
@@ -38,6 +38,7 @@ pub record StepsOf : Type 0 where
   pub further : List ℕ
   pub chosen : List ℕ
   pub tables : TablesOf
+  pub wide : FlatOf × FlatOf
 
 abbrev pub chosen_for : List ℕ → ℕ → ℕ
 chosen_for chosen k = slice_index_or chosen k k
@@ -93,14 +94,17 @@ pub record AreSteps (g : StepsOf) : Type 0 where
   pub further : ArePlaces (assumed g.pair) g.further
   pub choice : IsChoice g.pair g.chosen
   pub tables : ArePairTables g.pair g.tables
+  pub wide_first : g.wide.0 ≡ g.pair.first
+  pub wide_second : g.wide.1 ≡ g.pair.second
 
 -- a step is number k of a netlist's own steps, which begin at `start` and whose inputs have these variables; and the steps
--- for the netlist's signals have their values, and these are tables of its covers
-pub record IsSide (g : StepsOf) (f : FlatOf) (tables : List (ℕ × CoverTable)) (variables places : List ℕ) (start k step : ℕ) : Type 0 where
+-- for the netlist's signals have their values, these are tables of its covers, and if covers are kept as splits they are its own
+pub record IsSide (g : StepsOf) (f : FlatOf) (wide : Option FlatOf) (tables : List (ℕ × CoverTable)) (variables places : List ℕ) (start k step : ℕ) : Type 0 where
   pub lawful : IsFlat f
   pub follows : FollowsDrivers f
   pub places_are : ArePlaces f places
   pub tables_are : AreTablesOf f tables
+  pub wide_is : IfSome wide (λ h. h ≡ f)
   pub begins : start ≤ 2097152
   pub inside : k < length f.drivers
   pub size : length variables ≡ length f.inputs

@@ -58,11 +58,15 @@ fn step_diagram<R, D: Diagrams<R>>(
     match steps.driver(step) {
         StepDriver::Variable(variable) => d.literal(rt, variable),
         StepDriver::Copy(other) => d.copy(reference_at(table, other)),
-        StepDriver::Cover { columns, rows } => {
+        StepDriver::Cover {
+            columns,
+            rows,
+            known,
+        } => {
             let Ok(columns) = references(alloc, table, &columns) else {
                 return Err(Stop::Memory);
             };
-            cover_diagram(alloc, rt, d, covers, &columns, rows)
+            cover_diagram(alloc, rt, d, covers, known, &columns, rows)
         }
         StepDriver::Table {
             columns,

@@ -6,7 +6,8 @@
 //! of it and leaves in `specs/Turns.antt`. Read the modules in this order:
 //!
 //! - `step_diagrams`, what stays from one output to the next; `building`, the diagrams of some steps; `plan`, what they are built by
-//! - `steps`, both netlists and the assumption in one row, and what makes each value; `cover_tables`, tables of covers with many rows;
+//! - `steps`, both netlists and the assumption in one row, and what makes each value; `cover_tables`, tables of covers with many rows,
+//!   `wide_covers`, such covers of many columns as splits;
 //!   `goals`, the steps that are needed together; `wanted`, those that are still needed for them
 //! - `schedule`, when each step is used for the last time, where all outputs are compared; `cone`, where some steps are made alone;
 //!   `moments`, how that is noted; `demand`, what outputs need each step for, and whether that is done
@@ -25,6 +26,7 @@ mod step_diagrams;
 mod steps;
 mod table;
 mod wanted;
+mod wide_covers;
 
 pub use goals::Goals;
 pub use plan::{Plan, plan_below, plan_of};

@@ -26,11 +26,14 @@ pub fn plan_of<'a>(alloc: Global, steps: Steps<'a>, marks: &[bool]) -> Result<Pl
     ensures demand { IfOk result (λ plan. IsDemand plan marks.now) }
     ensures steps { IfOk result (λ plan. plan.steps ≡ steps.entry) }
 {
+    let _count = steps.len();
     let pair = steps.pair();
     pair.recall_laws();
     let outputs = pair.first().outputs().len() as u32;
     let last = moments_of(alloc, &steps, outputs, marks)?;
     let demand = Demand::of_outputs(alloc, &steps, outputs, marks, &last)?;
+    let mut steps = steps;
+    steps.keep_wide(alloc, &last);
     Ok(Plan {
         steps,
         last,

@@ -1,6 +1,9 @@
 //! The steps of a pair, in one row: those of the first netlist, those of the second, and those of the assumption, if there is one.
 //! Each makes a signal's value out of values of steps before it.
-ghost use Rattle.std.specs.Prelude.{◌≡◌, ◌+◌, ◌<◌, ◌≤◌, [], length, option_to_list, slice_index};
+ghost use Rattle.std.specs.Prelude.{◌≡◌, ◌+◌, ◌<◌, ◌≤◌, [], length, option_to_list, slice_index, slice_index_or, IfSome};
+ghost use Rattle.std.specs.Option.{option_copied};
+ghost use Rattle.eqc_cover.specs.Splits.{IsExpansionOf};
+ghost use Rattle.eqc_flat.specs.Graph.{FlatOf};
 ghost use Rattle.eqc_pair.specs.PairOf.{ArePlaces};
 ghost use Rattle.eqc_build.specs.Steps.{AreSteps, IsChoice, IsSide, assumed_root, chosen_for, goals_of, roots_of, step_in, steps_in, uses_in, uses_of};
 ghost use Rattle.eqc_build.specs.Schedule.{AreWithin};
@@ -9,7 +12,10 @@ ghost use Rattle.eqc_build.specs.CoverTables.{AreTablesOf, ArePairTables, tables
 
 use crate::cover_tables::{CoverTable, PairTables, table_at};
 use crate::goals::Goals;
+use crate::moments::Moments;
+use crate::wide_covers::WideCovers;
 use eqc_blif::Rows;
+use eqc_cover::Expansion;
 use eqc_flat::{Driver, Flat, Signals};
 use eqc_pair::{Pair, recall_laws};
 use indexmap::IndexMap;
@@ -17,7 +23,6 @@ use std::alloc::Global;
 use std::marker::Model;
 
 /// The steps of a pair. A step may be chosen in place of another that never has another value: then it alone is made.
-#[derive(Drop)]
 pub struct Steps<'a> {
     pair: &'a Pair<'a>,
     /// The step of each signal of the first netlist, counted from 0.
@@ -30,6 +35,9 @@ pub struct Steps<'a> {
     chosen: Vec<u32>,
     /// Tables of some of its covers.
     tables: PairTables,
+    /// Covers of the first netlist and of the second that are kept as splits.
+    first_wide: WideCovers<'a>,
+    second_wide: WideCovers<'a>,
 }
 
 impl<'a> Model for Steps<'a> {
@@ -38,9 +46,25 @@ impl<'a> Model for Steps<'a> {
 
     ghost Value = { StepsOf };
 
-    ghost view = { λ a. record { pair = a.pair.now; places = a.places.now; others = a.others.now; further = a.further.now; chosen = a.chosen.items; tables = tables_in a.tables } };
+    ghost view = { λ a. record { pair = a.pair.now; places = a.places.now; others = a.others.now; further = a.further.now; chosen = a.chosen.items; tables = tables_in a.tables; wide = (a.first_wide, a.second_wide) } };
 
-    ghost invariant = { λ a. AreSteps (record { pair = a.pair.now; places = a.places.now; others = a.others.now; further = a.further.now; chosen = a.chosen.items; tables = tables_in a.tables }) };
+    ghost invariant = { λ a. AreSteps (record { pair = a.pair.now; places = a.places.now; others = a.others.now; further = a.further.now; chosen = a.chosen.items; tables = tables_in a.tables; wide = (a.first_wide, a.second_wide) }) };
+}
+
+/// It stands here for the sake of proofs: a call in each exit in place of all that is let go.
+impl<'a> Drop for Steps<'a> {
+    fn drop(self) {
+        let Steps {
+            pair: _,
+            places: _,
+            others: _,
+            further: _,
+            chosen: _,
+            tables: _,
+            first_wide: _,
+            second_wide: _,
+        } = self;
+    }
 }
 
 /// Steps that a step uses, in order and with repeats. Contracts see their list.
@@ -72,10 +96,11 @@ pub enum StepDriver<'a> {
     Variable(u16),
     /// That of this step.
     Copy(u32),
-    /// A cover with these rows, whose columns are these steps.
+    /// A cover with these rows, whose columns are these steps, and its value as splits, if it is known.
     Cover {
         columns: Uses<'a>,
         rows: &'a Rows<'a>,
+        known: Option<&'a Expansion>,
     },
     /// A cover whose table is known, of at most six columns, which are these steps.
     Table {
@@ -88,6 +113,8 @@ pub enum StepDriver<'a> {
 #[derive(Drop)]
 struct Side<'a> {
     flat: &'a Flat<'a>,
+    /// Those of its covers that are kept as splits.
+    wide: Option<&'a WideCovers<'a>>,
     /// Tables of some of its covers.
     tables: &'a IndexMap<u32, CoverTable>,
     /// The variable of each of its inputs.
@@ -155,9 +182,21 @@ fn uses_in<'a>(
     }
 }
 
+/// The value as splits of a cover with these rows over so many columns, if it is kept.
+fn known_in<'a>(
+    wide: Option<&'a WideCovers<'a>>,
+    rows: u32,
+    columns: usize,
+) -> Option<&'a Expansion>
+    ensures { (f : FlatOf) → IfSome wide.entry (λ covers. covers.now ≡ f) → IfSome result (λ expansion. IsExpansionOf (slice_index_or f.rows rows []) columns expansion.now) }
+{
+    wide?.known(rows, columns)
+}
+
 /// What makes the value of such a step, where the netlist's inputs have these variables.
 fn driver_in<'a>(
     flat: &'a Flat<'a>,
+    wide: Option<&'a WideCovers<'a>>,
     tables: &IndexMap<u32, CoverTable>,
     variables: &[u16],
     chosen: &'a [u32],
@@ -165,6 +204,7 @@ fn driver_in<'a>(
     start: u32,
     step: u32,
 ) -> StepDriver<'a>
+    requires wide { IfSome wide (λ covers. covers.now ≡ flat.now) }
     requires tables { AreTablesOf flat.now tables.now.entries }
     requires variables { length variables.now ≡ length flat.now.inputs }
     requires places { ArePlaces flat.now places.now }
@@ -178,6 +218,7 @@ fn driver_in<'a>(
         Driver::Tie(other) => StepDriver::Copy(step_in(chosen, places, start, other)),
         Driver::Cover { columns, rows } => {
             let table = table_at(tables, rows, columns.len());
+            let known = known_in(wide, rows, columns.len());
             let columns = Uses {
                 signals: columns,
                 places,
@@ -189,6 +230,7 @@ fn driver_in<'a>(
                 None => StepDriver::Cover {
                     columns,
                     rows: flat.rows(rows),
+                    known,
                 },
             }
         }
@@ -197,7 +239,12 @@ fn driver_in<'a>(
 
 impl<'a> Steps<'a> {
     /// The steps of a pair, with these tables of its covers.
-    fn with_tables(pair: &'a Pair<'a>, chosen: Vec<u32>, tables: PairTables) -> Steps<'a>
+    fn with_tables(
+        alloc: Global,
+        pair: &'a Pair<'a>,
+        chosen: Vec<u32>,
+        tables: PairTables,
+    ) -> Steps<'a>
         requires choice { IsChoice pair.now chosen.items }
         requires tables { ArePairTables pair.now (tables_in tables) }
         ensures pair { result.pair ≡ pair.now }
@@ -215,6 +262,8 @@ impl<'a> Steps<'a> {
             further: pair.assumed_places(),
             chosen,
             tables,
+            first_wide: WideCovers::none(alloc, pair.first()),
+            second_wide: WideCovers::none(alloc, pair.second()),
         }
     }
 
@@ -225,7 +274,7 @@ impl<'a> Steps<'a> {
         ensures pair { result.pair ≡ pair.now }
         ensures chosen { result.chosen ≡ chosen.items }
     {
-        Steps::with_tables(pair, chosen, PairTables::of(alloc, pair))
+        Steps::with_tables(alloc, pair, chosen, PairTables::of(alloc, pair))
     }
 
     /// The steps of a pair, each of which is made. It takes no time in proportion to them.
@@ -233,7 +282,18 @@ impl<'a> Steps<'a> {
         ensures pair { result.pair ≡ pair.now }
         ensures chosen { result.chosen ≡ [] }
     {
-        Steps::with_tables(pair, Vec::new(alloc), PairTables::none(alloc))
+        Steps::with_tables(alloc, pair, Vec::new(alloc), PairTables::none(alloc))
+    }
+
+    /// Keeps as splits the covers of many columns and very many rows that drive several signals of a netlist whose steps are used, by
+    /// their last moments: their rows needn't be gone through for each.
+    pub(crate) fn keep_wide(&mut self, alloc: Global, last: &Moments)
+        requires { length last.now ≡ steps_in self.old.pair }
+        ensures { self.new ≡ self.old }
+    {
+        let count = self.places.len() as u32;
+        self.first_wide.keep_used(alloc, last, 0);
+        self.second_wide.keep_used(alloc, last, count);
     }
 
     /// The pair.
@@ -303,13 +363,14 @@ impl<'a> Steps<'a> {
     /// The netlist that a step is of, which is below their number.
     fn side(&self, step: u32) -> Side<'_>
         requires { step < steps_in self.now.pair }
-        ensures { IsSide self.now result.flat.now result.tables.now.entries result.variables.now result.places.now result.start result.step step }
+        ensures { IsSide self.now result.flat.now (option_copied result.wide) result.tables.now.entries result.variables.now result.places.now result.start result.step step }
     {
         self.pair.recall_laws();
         let second_start = self.places.len() as u32;
         if step < second_start {
             return Side {
                 flat: self.pair.first(),
+                wide: Some(&self.first_wide),
                 tables: &self.tables.first,
                 variables: self.pair.variables(),
                 places: self.places,
@@ -321,6 +382,7 @@ impl<'a> Steps<'a> {
         if step < assumed_start {
             return Side {
                 flat: self.pair.second(),
+                wide: Some(&self.second_wide),
                 tables: &self.tables.second,
                 variables: self.pair.second_variables(),
                 places: self.others,
@@ -333,6 +395,7 @@ impl<'a> Steps<'a> {
         };
         Side {
             flat: assumption,
+            wide: None,
             tables: &self.tables.assumed,
             variables: self.pair.assumed_variables(),
             places: self.further,
@@ -358,6 +421,7 @@ impl<'a> Steps<'a> {
         let side = self.side(step);
         driver_in(
             side.flat,
+            side.wide,
             side.tables,
             side.variables,
             &self.chosen,

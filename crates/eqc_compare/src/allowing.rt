@@ -68,6 +68,7 @@ pub fn allows_none<R, D: Diagrams<R>>(
     ensures only { IfErr result (λ s. s ≢ Stop.Threads) }
 {
     let steps = Steps::each(alloc, pair);
+    let _count = steps.len();
     let Some(root) = steps.assumed_root() else {
         return Ok(false);
     };

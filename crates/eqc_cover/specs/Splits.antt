@@ -3,6 +3,7 @@ use Rattle.std.specs.Prelude.{◌≡◌, ℕ, ◌+◌, ◌-◌, ◌<◌, ◌≤�
 use Rattle.std.specs.Borrow.{Bor}
 use Rattle.eqc_blif.specs.Cover.{cover_value}
 use Rattle.eqc_tree.specs.Holding.{Entry, Holding, copies, weight, says}
+use Rattle.eqc_cover.specs.declared.covers.Expansion.{Expansion}
 use Rattle.eqc_cover.specs.declared.splits.Split.{Split}
 use Rattle.eqc_cover.specs.declared.splits.Split.TheVariants.{Table, Choice}
 use Rattle.eqc_cover.specs.declared.splits.Choice.{Choice as ChoiceOf}
@@ -53,9 +54,9 @@ pub record CoverSplits : Type 0 where
   pub splits : List Split
   pub place : ℕ
 
--- the split at that place has the value of the cover
-pub record IsSplitCover (c : CoverSplits) : Type 0 where
-  pub value : (vs : List Bool) → length vs ≡ c.columns → value_of c.splits c.place vs ≡ cover_value c.rows vs
+-- the split at its place has the value of the cover of these rows over so many columns
+pub record IsExpansionOf (rows : List (List ℕ)) (columns : ℕ) (e : Expansion) : Type 0 where
+  pub value : (vs : List Bool) → length vs ≡ columns → value_of e.splits.items e.place vs ≡ cover_value rows vs
 
 -- how often an entry is held by references
 abbrev pub tally : {X : Type 0} → (X → Entry) → List X → Entry → ℕ

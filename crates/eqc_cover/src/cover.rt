@@ -4,8 +4,9 @@ ghost use Rattle.eqc_tree.specs.Holding.{IsHeld, Gains, Keeps, says};
 ghost use Rattle.eqc_blif.specs.Cover.{allows, row_matches, cover_value};
 ghost use Rattle.eqc_cover.specs.Matching.{some_match, cofactor, agrees, AreHeld, said};
 ghost use Rattle.eqc_cover.specs.Making.{Makes};
+ghost use Rattle.eqc_cover.specs.Splits.{IsExpansionOf};
 
-use crate::covers::Covers;
+use crate::covers::{Covers, Expansion};
 use crate::expansion::by_table;
 use crate::making::{chosen, inverted, joined};
 use crate::rows::{cofactors, has_free_row, plan_cover};
@@ -145,22 +146,27 @@ fn by_all_rows<R, D: Diagrams<R>>(
     inverted(rt, d, matched)
 }
 
-/// The diagram of a cover that has more than six columns, where its splits are kept and there is room for all of them at once.
+/// The diagram of a cover that has more than six columns, where its splits are known or kept and there is room for all of them at once.
 fn by_kept<R, D: Diagrams<R>>(
     alloc: Global,
     rt: &R,
     d: &mut D,
     covers: &mut Covers,
+    known: Option<&Expansion>,
     columns: &[&D::Ref],
     rows: &Rows<'_>,
 ) -> Option<D::Ref>
     requires held { AreHeld D.entry (D.holding d.old) columns.now }
     requires wide { 6 ≤ length columns.now }
+    requires known { IfSome known (λ expansion. IsExpansionOf rows.now (length columns.now) expansion.now) }
     ensures made { IfSome result (λ r. Gains (D.holding d.old) (D.holding d.new) (D.entry r) (λ a. cover_value rows.now (said D.entry columns.now a))) }
     ensures none { IfNone result (Keeps (D.holding d.old) (D.holding d.new)) }
 {
-    let cover = covers.splits_of(alloc, rows, columns.len())?;
-    match by_splits(alloc, rt, d, columns, cover.splits(), cover.place()) {
+    let expansion = match known {
+        Some(expansion) => expansion,
+        None => covers.splits_of(alloc, rows, columns.len())?,
+    };
+    match by_splits(alloc, rt, d, columns, &expansion.splits, expansion.place) {
         Ok(made) => Some(made),
         Err(_) => None,
     }
@@ -168,18 +174,20 @@ fn by_kept<R, D: Diagrams<R>>(
 
 /// The diagram of a cover (BLIF 1992, logic gates): the value of its rows where the columns have these functions.
 ///
-/// `columns` are references of `d`, one for each column, and `rows` are those of the cover. Where `covers` has met the cover
-/// before, its rows needn't be gone through again. The errors are those of the diagrams, 71, 72 and 73, and 72 where memory is
+/// `columns` are references of `d`, one for each column, and `rows` are those of the cover. Where the cover's value is `known` as splits,
+/// or `covers` has met it before, its rows needn't be gone through again. The errors are those of the diagrams, 71, 72 and 73, and 72 where memory is
 /// refused. All other references are given back, whatever the answer.
 pub fn cover_diagram<R, D: Diagrams<R>>(
     alloc: Global,
     rt: &R,
     d: &mut D,
     covers: &mut Covers,
+    known: Option<&Expansion>,
     columns: &[&D::Ref],
     rows: &Rows<'_>,
 ) -> Result<D::Ref, Stop>
-    requires { AreHeld D.entry (D.holding d.old) columns.now }
+    requires held { AreHeld D.entry (D.holding d.old) columns.now }
+    requires known { IfSome known (λ expansion. IsExpansionOf rows.now (length columns.now) expansion.now) }
     ensures { Makes D.entry (D.holding d.old) (D.holding d.new) result (λ a. cover_value rows.now (said D.entry columns.now a)) }
 {
     if columns.len() <= MOST_COLUMNS {
@@ -189,7 +197,7 @@ pub fn cover_diagram<R, D: Diagrams<R>>(
     if rows.is_empty() {
         return d.constant(false);
     }
-    if let Some(made) = by_kept(alloc, rt, d, covers, columns, rows) {
+    if let Some(made) = by_kept(alloc, rt, d, covers, known, columns, rows) {
         return Ok(made);
     }
     by_all_rows(alloc, rt, d, columns, rows)

@@ -1,6 +1,6 @@
 //! Covers whose splits were made, so that instances of one model needn't make them again.
 ghost use Rattle.std.specs.Prelude.{◌≡◌, ◌≤◌, ◌==◌, Bool, true, false, length, map, IfSome, IfOk};
-ghost use Rattle.eqc_cover.specs.Splits.{CoverSplits, IsSplitCover};
+ghost use Rattle.eqc_cover.specs.Splits.{CoverSplits, IsExpansionOf};
 
 use crate::rows::plan_cover;
 use crate::splits::{Split, Splits, expand};
@@ -16,24 +16,30 @@ const FEWEST_ROWS: usize = 16;
 /// So many rows and splits are kept at most.
 const MOST_KEPT: usize = 131_072;
 
+/// The value of a cover as splits, of which the one at a place has it.
+#[derive(Drop)]
+pub struct Expansion {
+    pub(crate) splits: Vec<Split>,
+    pub(crate) place: usize,
+}
+
 /// A cover, and its value as splits.
 #[derive(Drop)]
 pub(crate) struct SplitCover {
     rows: Vec<Vec<u8>>,
     columns: usize,
-    splits: Vec<Split>,
-    place: usize,
+    expansion: Expansion,
 }
 
 impl Model for SplitCover {
     ghost use Rattle.std.specs.Prelude.{ℕ, Bool, List, length, ◌≡◌, map};
-    ghost use Rattle.eqc_cover.specs.Splits.{CoverSplits, IsSplitCover};
+    ghost use Rattle.eqc_cover.specs.Splits.{CoverSplits, IsExpansionOf};
 
     ghost Value = { CoverSplits };
 
-    ghost view = { λ c. record { rows = map (λ r. r.items) c.rows.items; columns = c.columns; splits = c.splits.items; place = c.place } };
+    ghost view = { λ c. record { rows = map (λ r. r.items) c.rows.items; columns = c.columns; splits = c.expansion.splits.items; place = c.expansion.place } };
 
-    ghost invariant = { λ c. IsSplitCover (record { rows = map (λ r. r.items) c.rows.items; columns = c.columns; splits = c.splits.items; place = c.place }) };
+    ghost invariant = { λ c. IsExpansionOf (map (λ r. r.items) c.rows.items) c.columns c.expansion };
 }
 
 /// Whether a row of a cover that is kept is this one.
@@ -54,6 +60,38 @@ fn copied(alloc: Global, rows: &Rows<'_>) -> Result<Vec<Vec<u8>>, AllocError>
     Ok(copy)
 }
 
+impl Expansion {
+    /// The value of the cover of these rows over so many columns, of which there are at least six. None where it isn't expanded column
+    /// by column, and where it has too many splits. Its rows are gone through a few times. Fails where memory is refused.
+    pub fn of(
+        alloc: Global,
+        rows: &Rows<'_>,
+        columns: usize,
+    ) -> Result<Option<Expansion>, AllocError>
+        requires columns { 6 ≤ columns }
+        requires rows { (length rows.now == 0) ≡ false }
+        ensures { IfOk result (λ made. IfSome made (IsExpansionOf rows.now columns)) }
+    {
+        let plan = plan_cover(alloc, rows, columns)?;
+        if !plan.expands {
+            return Ok(None);
+        }
+        let mut splits = Splits::none(alloc);
+        let place = expand(alloc, &mut splits, &plan.rows, 0, columns, is_on_set(rows))?;
+        Ok(Some(Expansion {
+            splits: splits.list,
+            place,
+        }))
+    }
+
+    /// How many splits it has.
+    pub fn size(&self) -> usize
+        ensures { result ≡ length self.now.splits.items }
+    {
+        self.splits.len()
+    }
+}
+
 impl SplitCover {
     /// The cover of these rows over so many columns, at least six. None where it isn't expanded, and where it has too many
     /// splits. Fails where memory is refused.
@@ -62,38 +100,26 @@ impl SplitCover {
         requires rows { (length rows.now == 0) ≡ false }
         ensures { IfOk result (λ made. IfSome made (λ cover. (cover.rows ≡ rows.now) × (cover.columns ≡ columns))) }
     {
-        let plan = plan_cover(alloc, rows, columns)?;
-        if !plan.expands {
+        let Some(expansion) = Expansion::of(alloc, rows, columns)? else {
             return Ok(None);
-        }
-        let mut splits = Splits::none(alloc);
-        let place = expand(alloc, &mut splits, &plan.rows, 0, columns, is_on_set(rows))?;
+        };
         Ok(Some(SplitCover {
             rows: copied(alloc, rows)?,
             columns,
-            splits: splits.list,
-            place,
+            expansion,
         }))
     }
 
-    /// Its splits.
-    pub(crate) fn splits(&self) -> &[Split]
-        ensures splits { result.now ≡ self.now.splits }
-        ensures lawful { IsSplitCover self.now }
+    /// Its value as splits.
+    fn expansion(&self) -> &Expansion
+        ensures { IsExpansionOf self.now.rows self.now.columns result.now }
     {
-        self.splits.as_slice()
-    }
-
-    /// The place of the split that has its value.
-    pub(crate) fn place(&self) -> usize
-        ensures { result ≡ self.now.place }
-    {
-        self.place
+        &self.expansion
     }
 
     /// How many rows and splits it has.
     fn size(&self) -> usize {
-        self.rows.len().saturating_add(self.splits.len())
+        self.rows.len().saturating_add(self.expansion.size())
     }
 
     /// Whether it is the cover of these rows over so many columns.
@@ -199,15 +225,15 @@ impl Covers {
         }
     }
 
-    /// The cover of these rows over so many columns as splits, if it is kept. It is noted that it is met.
+    /// The value of the cover of these rows over so many columns as splits, if it is kept. It is noted that it is met.
     pub(crate) fn splits_of(
         &mut self,
         alloc: Global,
         rows: &Rows<'_>,
         columns: usize,
-    ) -> Option<&SplitCover>
+    ) -> Option<&Expansion>
         requires { 6 ≤ columns }
-        ensures { IfSome result (λ cover. (cover.now.rows ≡ rows.now) × (cover.now.columns ≡ columns)) }
+        ensures { IfSome result (λ expansion. IsExpansionOf rows.now columns expansion.now) }
     {
         if rows.len() < FEWEST_ROWS {
             return None;
@@ -215,7 +241,7 @@ impl Covers {
         let number = number_of(rows, columns);
         self.meet(alloc, rows, columns, number).ok()?;
         match self.met.get(&number) {
-            Some(Met::Split(cover)) if cover.is_of(rows, columns) => Some(cover),
+            Some(Met::Split(cover)) if cover.is_of(rows, columns) => Some(cover.expansion()),
             _ => None,
         }
     }

@@ -26,6 +26,6 @@ mod splitting;
 pub mod table;
 
 pub use cover::cover_diagram;
-pub use covers::Covers;
+pub use covers::{Covers, Expansion};
 pub use expansion::by_table;
 pub use least::{is_false, least_over};

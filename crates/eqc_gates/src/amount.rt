@@ -26,7 +26,7 @@ fn amount(steps: &Steps<'_>, marks: &[bool]) -> u64 {
         if !marks.get(step as usize).copied().unwrap_or(false) {
             continue;
         }
-        if let StepDriver::Cover { columns, rows } = steps.driver(step) {
+        if let StepDriver::Cover { columns, rows, .. } = steps.driver(step) {
             all = all.saturating_add(cover_amount(columns.len(), rows.len()));
         }
     }

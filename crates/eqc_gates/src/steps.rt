@@ -54,7 +54,7 @@ fn step_literal(
     match steps.driver(step) {
         StepDriver::Variable(variable) => sweep.input(u32::from(variable)),
         StepDriver::Copy(other) => Ok(literal_at(table, other)),
-        StepDriver::Cover { columns, rows } => {
+        StepDriver::Cover { columns, rows, .. } => {
             let columns = literals_of(alloc, table, &columns)?;
             cover_literal(alloc, sweep, &columns, rows)
         }

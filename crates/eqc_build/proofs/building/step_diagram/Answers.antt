@@ -1,4 +1,5 @@
-use Rattle.std.proofs.Common.{◌≡◌, ◌∙◌, ap, arith, length, map, Some}
+use Rattle.std.proofs.Common.{◌≡◌, ◌∙◌, ap, arith, length, map, subst, Some, IfSome}
+use Rattle.eqc_cover.specs.Splits.{IsExpansionOf}
 use Rattle.std.proofs.lemmas.List.{length-map}
 use Rattle.eqc_blif.specs.Cover.{cover_value}
 use Rattle.eqc_cover.specs.Table.{table_value}
@@ -12,8 +13,17 @@ use Rattle.eqc_build.proofs.building.step_diagram.Goals as goal
 pub copy-requires : goal.copy-requires
 copy-requires g c = owned_held g.D.References.entry _ c.args.table.now _ _ c.requires.kept.owned c.reference_at.ensures
 
-pub cover_diagram-requires : goal.cover_diagram-requires
-cover_diagram-requires g c = found_held g.D.References.entry _ c.args.table.now c.in-Cover.columns c.deref.result.now c.requires.kept.owned (rw c.deref.ensures.value c.in-Ok.ensures)
+pub cover_diagram-requires-clause-held : goal.cover_diagram-requires-clause-held
+cover_diagram-requires-clause-held g c = found_held g.D.References.entry _ c.args.table.now c.in-Cover.columns c.deref.result.now c.requires.kept.owned (rw c.deref.ensures.value c.in-Ok.ensures)
+
+pub cover_diagram-requires-clause-known : goal.cover_diagram-requires-clause-known
+cover_diagram-requires-clause-known g c =
+    let found = c.deref.result.now in
+    let size : length (map (λ r. Some r.now) found) ≡ length (map (reference_of c.args.table.now) c.in-Cover.columns) =
+    ap length (rw c.deref.ensures.value c.in-Ok.ensures) in
+    let same : length c.in-Cover.columns ≡ length found =
+    omega (arith, size, length-map found (λ r. Some r.now), length-map c.in-Cover.columns (reference_of c.args.table.now)) in
+    subst (λ n. IfSome c.in-Cover.known (λ e. IsExpansionOf c.in-Cover.rows.now n e.now)) same c.in-Cover.ensures.2
 
 pub returns-in-Ok : goal.returns-in-Ok
 returns-in-Ok g c =

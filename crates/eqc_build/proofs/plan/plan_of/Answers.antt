@@ -1,12 +1,11 @@
-use Rattle.std.proofs.Common.{arith, subst}
-use Rattle.eqc_build.specs.Steps.{AreSteps}
+use Rattle.std.proofs.Common.{arith}
 use Rattle.eqc_build.proofs.StepLaws.{goals_within}
 use Rattle.eqc_build.proofs.plan.plan_of.Goals as goal
 
 pub returns-clause-turns : goal.returns-clause-turns
 returns-clause-turns c =
-    let lawful = subst AreSteps c.steps.view_is c.steps.invariant in
-    record {
+    let lawful = c.len-count.ensures.lawful in
+    rw c.keep_wide.ensures (record {
       each = λ o inside unmarked. record {
         some = omega arith;
         within = goals_within c.args.steps o lawful inside;
@@ -14,4 +13,4 @@ returns-clause-turns c =
         ends = c.in_ok-last.ensures.roots o (rw (c.outputs.ensures, c.first.ensures, c.pair-pair.ensures) inside) unmarked;
       };
       few = omega (arith, lawful.lawful.first_flat.few_outputs, lawful.lawful.first_flat.few_signals);
-    }
+    })
