@@ -16,7 +16,7 @@ const FEW_ROWS: usize = 64;
 
 /// The truth table of a cover.
 #[derive(Drop, Clone, Copy)]
-pub struct CoverTable {
+pub(crate) struct CoverTable {
     /// The number of its columns.
     pub(crate) columns: usize,
     /// The table, as those of `eqc_cover` are.
@@ -25,7 +25,7 @@ pub struct CoverTable {
 
 /// Tables of covers of the netlists of a pair, each by the number that its rows have in its netlist.
 #[derive(Drop)]
-pub struct PairTables {
+pub(crate) struct PairTables {
     pub(crate) first: IndexMap<u32, CoverTable>,
     pub(crate) second: IndexMap<u32, CoverTable>,
     pub(crate) assumed: IndexMap<u32, CoverTable>,
@@ -79,6 +79,10 @@ fn tables_of(alloc: Global, flat: &Flat<'_>) -> IndexMap<u32, CoverTable>
 pub(crate) fn table_at(tables: &IndexMap<u32, CoverTable>, rows: u32, columns: usize) -> Option<u64>
     ensures { IfSome result (λ t. lookup (nat_eq rows) tables.now.entries ≡ Some (record { columns = columns; table = t })) }
 {
+    // Most netlists have no table, and then nothing is looked for.
+    if tables.is_empty() {
+        return None;
+    }
     let found = tables.get(&rows)?;
     if found.columns != columns {
         return None;

@@ -34,7 +34,7 @@ pub(crate) enum Met {
 /// Covers of a netlist with very many rows, each by the number that its rows have there. One that drives several signals is kept as
 /// splits, if it is expanded and there is room. Contracts see the netlist.
 #[derive(Drop)]
-pub struct WideCovers<'a> {
+pub(crate) struct WideCovers<'a> {
     flat: &'a Flat<'a>,
     met: IndexMap<u32, Met>,
     /// How many splits there is room for.
@@ -144,6 +144,10 @@ impl<'a> WideCovers<'a> {
     pub(crate) fn known(&self, rows: u32, columns: usize) -> Option<&Expansion>
         ensures { IfSome result (λ expansion. IsExpansionOf (slice_index_or self.now.rows rows []) columns expansion.now) }
     {
+        // Most netlists have no such cover, and then nothing is looked for.
+        if self.met.is_empty() {
+            return None;
+        }
         match self.met.get(&rows) {
             Some(Met::Split(count, expansion)) if *count == columns => Some(expansion),
             _ => None,

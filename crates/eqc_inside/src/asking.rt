@@ -31,10 +31,19 @@ pub(crate) struct Answer {
     /// Its position in the first netlist.
     pub output: usize,
     pub witness: Witness,
-    /// The conflicts that it used.
+    /// The conflicts that it might have.
+    pub given: u64,
+    /// Those that it used.
     pub used: u64,
     /// The work that it takes from the others, beside the conflicts.
     pub work: u64,
+}
+
+impl Answer {
+    /// Whether nothing was found but maybe an assignment that isn't known to be the least.
+    pub(crate) fn gave_up(&self) -> bool {
+        matches!(self.witness, Witness::Unknown(_))
+    }
 }
 
 /// The questions for these outputs, in their order. An output whose steps have no literals isn't asked for. Fails where memory is
@@ -102,6 +111,7 @@ fn ask(
     Ok(Answer {
         output: *output,
         witness,
+        given: conflicts,
         used: conflicts.saturating_sub(left),
         work: work.saturating_sub(kept),
     })
@@ -116,8 +126,8 @@ fn copied(alloc: Global, assignments: &[Vec<bool>]) -> Result<Vec<Vec<bool>>, Al
     Ok(copies)
 }
 
-/// What is found of each of these outputs, one after the other. What one takes the next ones can't have, and its least assignment is
-/// tried for them.
+/// What is found of each of these outputs, one after the other, up to the first where it gives up. What one takes the next ones can't
+/// have, and its least assignment is tried for them.
 fn ask_each(
     alloc: Global,
     pair: &Pair<'_>,
@@ -147,14 +157,18 @@ fn ask_each(
         conflicts.take(answer.used);
         work = work.saturating_sub(answer.work);
         note(&mut earlier, &answer.witness);
+        let gave_up = answer.gave_up();
         all.push(answer)?;
+        if gave_up {
+            break;
+        }
     }
     Ok(all)
 }
 
-/// What is found of each of these outputs, in their order, by so many threads, of which each takes a part. The outputs of a part
-/// may have so many conflicts, and so much work beside them. Fails where memory is refused. Where a thread can't be started its part
-/// is done here.
+/// What is found of these outputs, in their order, by so many threads, of which each takes a part, up to the first where it gives up.
+/// The outputs of the first part may have so many conflicts, those of each other part as many as `others` has, and each part so much
+/// work beside them. Fails where memory is refused. Where a thread can't be started its part is done here.
 #[cycle(questions)]
 pub(crate) fn ask_all<R: Threads + Sync>(
     rt: &R,
@@ -164,6 +178,7 @@ pub(crate) fn ask_all<R: Threads + Sync>(
     questions: &[Question],
     earlier: &[Vec<bool>],
     conflicts: Conflicts,
+    others: Conflicts,
     work: u64,
     threads: u32,
 ) -> Result<Vec<Answer>, AllocError>
@@ -173,24 +188,28 @@ pub(crate) fn ask_all<R: Threads + Sync>(
     if threads < 2 || questions.len() < 2 {
         return ask_each(alloc, pair, graph, questions, earlier, conflicts, work);
     }
-    let (some, others) = questions.split_at(questions.len() / 2);
+    let (some, rest) = questions.split_at(questions.len() / 2);
     let here = threads / 2;
     let there = threads - here;
     let front = move || -> Result<Vec<Answer>, AllocError>
         requires { IsSync R.row × All (IsQuestionOf pair.now graph.now) some.now }
         ensures { IfOk result (λ all. All (IsAnswerOf pair.entry.now) all.items) }
-    { ask_all(rt, alloc, pair, graph, some, earlier, conflicts, work, here) };
+    {
+        ask_all(
+            rt, alloc, pair, graph, some, earlier, conflicts, others, work, here,
+        )
+    };
     let back = move || -> Result<Vec<Answer>, AllocError>
-        requires { IsSync R.row × All (IsQuestionOf pair.now graph.now) others.now }
+        requires { IsSync R.row × All (IsQuestionOf pair.now graph.now) rest.now }
         ensures { IfOk result (λ all. All (IsAnswerOf pair.entry.now) all.items) }
     {
         ask_all(
-            rt, alloc, pair, graph, others, earlier, conflicts, work, there,
+            rt, alloc, pair, graph, rest, earlier, others, others, work, there,
         )
     };
     let (front, back) = join(rt, front, back);
     let mut all = front?;
-    let mut others = back?;
-    all.append(&mut others)?;
+    let mut more = back?;
+    all.append(&mut more)?;
     Ok(all)
 }

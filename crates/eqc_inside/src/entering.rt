@@ -207,6 +207,7 @@ impl<'a> Inside<'a> {
             literals,
             work: work.saturating_sub(wanted.work).max(work / PART),
             earlier: Vec::new(alloc),
+            gave_up: false,
         })
     }
 

@@ -27,6 +27,8 @@ pub struct Inside<'a> {
     pub(crate) work: u64,
     /// The last of the least assignments that were found, as values of the first netlist's inputs, as many as are tried.
     pub(crate) earlier: Vec<Vec<bool>>,
+    /// Whether the last search for the difference of an output gave up.
+    pub(crate) gave_up: bool,
 }
 
 impl<'a> Model for Inside<'a> {

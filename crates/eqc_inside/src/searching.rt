@@ -22,7 +22,7 @@ use std::thread::Threads;
 
 /// So many outputs each thread asks for in turn, where all that differ are looked for: the least assignment of one is mostly near that
 /// of the next.
-const IN_TURN: usize = 2;
+const IN_TURN: usize = 8;
 
 /// What is found of a pair.
 #[derive(Drop)]
@@ -49,6 +49,16 @@ impl Conflicts {
     /// Those that the next output may have.
     pub(crate) fn next(&self) -> u64 {
         self.each.min(self.all)
+    }
+
+    /// What each part of the outputs but the first may have, where so many threads take a part each and the first may have these: all
+    /// parts together no more than twice as many, and each no more than a single output.
+    pub(crate) fn part(&self, threads: u32) -> Conflicts {
+        let all = self.all / threads.max(1) as u64;
+        Conflicts {
+            each: self.each,
+            all: all.min(self.each),
+        }
     }
 
     /// Takes those away that an output used.
@@ -200,19 +210,25 @@ fn is_never_allowed(
     Ok(tells_vacuous(pair, found))
 }
 
-/// The next outputs from one on that are chosen and not marked, at most so many. Fails where memory is refused.
+/// The next outputs from one on that are chosen and not marked, at most so many, where these answers are there of later ones. Fails
+/// where memory is refused.
 fn open_outputs(
     alloc: Global,
     pair: &Pair<'_>,
     marks: &[bool],
     from: usize,
+    ahead: &[Answer],
     most: usize,
 ) -> Result<Vec<usize>, AllocError>
     ensures { IfOk result (λ next. All (λ o. o < length pair.now.first.outputs) next.items) }
 {
     let mut open = Vec::with_capacity(alloc, most)?;
+    let answered = match ahead.first() {
+        Some(answer) => answer.output,
+        None => usize::MAX,
+    };
     for output in from..pair.first().outputs().len() {
-        if open.len() >= most {
+        if open.len() >= most || output >= answered {
             break;
         }
         if pair.is_chosen(output) && !is_marked(marks, output) {
@@ -235,23 +251,27 @@ pub(crate) fn note(earlier: &mut Vec<Vec<bool>>, found: &Witness) {
     }
 }
 
-/// What was found ahead of this output, where it is the next one that was asked for. What was found of the next is taken away
-/// either way.
-fn next_found(pair: &Pair<'_>, ahead: &mut Vec<Answer>, output: usize) -> Option<Answer>
+/// What was found ahead of this output, if anything was: where it gave up with fewer conflicts than this one may have, nothing was. What
+/// was found of later ones stays.
+fn next_found(
+    pair: &Pair<'_>,
+    ahead: &mut Vec<Answer>,
+    output: usize,
+    conflicts: u64,
+) -> Option<Answer>
     requires { All (IsAnswerOf pair.now) ahead.old.items }
     ensures rest { All (IsAnswerOf pair.now) ahead.new.items }
     ensures found { IfSome result (λ answer. IsWitnessAt pair.now output answer.witness) }
 {
     let _pair = pair;
-    if ahead.is_empty() {
+    if ahead.is_empty() || ahead[0].output > output {
         return None;
     }
     let answer = ahead.remove(0);
-    if answer.output == output {
-        Some(answer)
-    } else {
-        None
+    if answer.output != output || answer.gave_up() && answer.given < conflicts {
+        return None;
     }
+    Some(answer)
 }
 
 /// Marks an output, if it has a mark.
@@ -316,14 +336,15 @@ impl<'a> Inside<'a> {
         }
     }
 
-    /// What is found of the next outputs from one on that are chosen and not marked: of one for each thread, or where `every` one is
-    /// looked for, of more. Fails where memory is refused.
+    /// What is found of the next outputs from one on that are chosen and not marked, up to those of these answers: of one for each
+    /// thread, or where `every` one is looked for, of more. Fails where memory is refused.
     fn ask_ahead<R: Threads + Sync>(
         &mut self,
         rt: &R,
         alloc: Global,
         marks: &[bool],
         from: usize,
+        ahead: &[Answer],
         every: bool,
         conflicts: Conflicts,
         threads: u32,
@@ -334,13 +355,14 @@ impl<'a> Inside<'a> {
         let pair = self.steps.pair();
         let each = if every { IN_TURN } else { 1 };
         let most = (threads as usize).saturating_mul(each);
-        let open = open_outputs(alloc, pair, marks, from, most)?;
+        let open = open_outputs(alloc, pair, marks, from, ahead, most)?;
         let questions = questions_of(alloc, &self.steps, &mut self.sweep, &self.literals, &open)?;
         let graph = self.sweep.graph();
         let earlier = &self.earlier;
+        let others = conflicts.part(threads);
         let work = self.work;
         ask_all(
-            rt, alloc, pair, graph, &questions, earlier, conflicts, work, threads,
+            rt, alloc, pair, graph, &questions, earlier, conflicts, others, work, threads,
         )
     }
 
@@ -373,8 +395,9 @@ impl<'a> Inside<'a> {
         answer.witness
     }
 
-    /// What is found of an output: with several threads the next ones are asked for beside it, and what is found of these is
-    /// kept. Fails where memory is refused.
+    /// What is found of an output: with several threads the next ones are asked for beside it, and what is found of these is kept. Where
+    /// the search before gave up it is asked for alone: should this one give up too, what is found of others is of no use. Fails where
+    /// memory is refused.
     fn next_witness<R: Threads + Sync>(
         &mut self,
         rt: &R,
@@ -392,13 +415,21 @@ impl<'a> Inside<'a> {
         ensures ahead { All (IsAnswerOf self.old) ahead.new.items }
         ensures found { IfOk result (IsWitnessAt self.old output) }
     {
-        if threads > 1 && ahead.is_empty() {
-            *ahead = self.ask_ahead(rt, alloc, marks, output, every, *conflicts, threads)?;
+        let next = conflicts.next();
+        if let Some(answer) = next_found(self.steps.pair(), ahead, output, next) {
+            return Ok(self.taken(answer, conflicts));
         }
-        match next_found(self.steps.pair(), ahead, output) {
-            Some(answer) => Ok(self.taken(answer, conflicts)),
-            None => self.search_next(alloc, output, conflicts),
+        if threads > 1 && !self.gave_up {
+            let mut more = self.ask_ahead(
+                rt, alloc, marks, output, ahead, every, *conflicts, threads,
+            )?;
+            more.append(ahead)?;
+            *ahead = more;
+            if let Some(answer) = next_found(self.steps.pair(), ahead, output, next) {
+                return Ok(self.taken(answer, conflicts));
+            }
         }
+        self.search_next(alloc, output, conflicts)
     }
 
     /// The chosen outputs that differ, with their least assignments, where some assignment is allowed: all of them, or the first
@@ -441,6 +472,7 @@ impl<'a> Inside<'a> {
                 &mut ahead,
             )?;
             note(&mut self.earlier, &witness);
+            self.gave_up = matches!(witness, Witness::Unknown(_));
             match witness {
                 Witness::Never => mark(alike, output),
                 Witness::Unknown(seen) => return Ok(Searched::Open(output, seen)),

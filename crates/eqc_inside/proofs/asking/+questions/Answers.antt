@@ -8,6 +8,6 @@ pub returns : goal.returns
 returns g t c =
     let p = c.args.pair.now in
     rw (c.in_ok-append.ensures.items)
-    (All-append (IsAnswerOf p) c.in_ok-all.all.items c.in_ok-others.others.items
+    (All-append (IsAnswerOf p) c.in_ok-all.all.items c.in_ok-more.more.items
     (IfOk-at_ok (λ all. All (IsAnswerOf p) all.items) c.in_ok-all.was c.join-front.ensures.first)
-    (IfOk-at_ok (λ all. All (IsAnswerOf p) all.items) c.in_ok-others.was c.join-front.ensures.second))
+    (IfOk-at_ok (λ all. All (IsAnswerOf p) all.items) c.in_ok-more.was c.join-front.ensures.second))
