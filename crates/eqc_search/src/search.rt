@@ -85,7 +85,9 @@ impl Search {
 
     /// Lets a decision on a node begin with this value, until the search has given it another one. The node may be one
     /// that comes next in a graph. Fails where memory is refused.
-    pub fn prefer(&mut self, node: u32, value: bool) -> Result<(), AllocError> {
+    pub fn prefer(&mut self, node: u32, value: bool) -> Result<(), AllocError>
+        ensures { self.new ≡ self.old }
+    {
         self.engine.decisions.set_first_phase(node, value)
     }
 

@@ -1,6 +1,6 @@
 //! An assignment that begins with given values.
 ghost use Rattle.std.specs.Prelude.{◌≡◌, ◌≤◌, length, IfOk, IfSome};
-ghost use Rattle.eqc_clause.specs.Clauses.{IsSound};
+ghost use Rattle.eqc_clause.specs.Clauses.{IsRefuted, IsSound};
 ghost use Rattle.eqc_witness.specs.Cones.{holds_under};
 ghost use Rattle.eqc_witness.specs.Completing.{Completes, IsCompletion};
 
@@ -24,6 +24,9 @@ pub(crate) enum Completion {
 /// false takes many visits, and who asks will be told of a difference.
 const ONCE_SEEN: u64 = 3_000;
 
+/// The conflicts of a question that begins where the positions that aren't given are false.
+const SHORTLY: u64 = 300;
+
 /// What a search may spend, and what it learned of the cone.
 #[derive(Drop)]
 pub(crate) struct Means {
@@ -43,6 +46,36 @@ impl Means {
         let more = self.budget.conflicts.saturating_mul(ONCE_SEEN);
         self.given.visits = self.given.visits.saturating_add(more);
         self.budget.visits = self.budget.visits.saturating_add(more);
+    }
+
+    /// Lets decisions on nodes begin with the values that these have where the positions begin with the first values and go on as
+    /// others, or as false where there are none: what makes the root true is often near these, and then found sooner. Fails where
+    /// memory is refused.
+    fn lean(&mut self, cone: &Cone, first: &[bool], others: &[bool]) -> Result<(), AllocError>
+        ensures { self.new.search ≡ self.old.search }
+    {
+        self.trials.settle(cone, first, others);
+        for node in 0..cone.graph.len() {
+            self.search.prefer(node, self.trials.value(node))?;
+        }
+        Ok(())
+    }
+
+    /// Asks whether literals of a cone's graph can be true together, with a few of the conflicts that are left.
+    fn ask_shortly(&mut self, cone: &Cone, literals: &[u32]) -> Result<Answer, AllocError>
+        requires { IsSound cone.now.graph self.old.search }
+        ensures sound { IsSound cone.now.graph self.new.search }
+        ensures answer { IfOk result (λ answer. answer ≡ Answer.Refuted → IsRefuted cone.now.graph literals.now) }
+    {
+        let before = self.budget.conflicts;
+        let few = before.min(SHORTLY);
+        self.budget.conflicts = few;
+        let answer = self
+            .search
+            .ask_again(&cone.graph, literals, &mut self.budget);
+        let rest = before.saturating_sub(few);
+        self.budget.conflicts = self.budget.conflicts.saturating_add(rest);
+        answer
     }
 }
 
@@ -103,6 +136,31 @@ fn tried(
     }
 }
 
+/// Asks whether literals of a cone's graph can be true together, by which the positions begin with the first values. Where there are
+/// some, it looks for a while near those that are false behind them, which are the least, and then near a guess.
+fn ask_near(
+    cone: &Cone,
+    literals: &[u32],
+    first: &[bool],
+    guess: &[bool],
+    means: &mut Means,
+) -> Result<Answer, AllocError>
+    requires { IsSound cone.now.graph means.old.search }
+    ensures sound { IsSound cone.now.graph means.new.search }
+    ensures answer { IfOk result (λ answer. answer ≡ Answer.Refuted → IsRefuted cone.now.graph literals.now) }
+{
+    if !first.is_empty() {
+        means.lean(cone, first, &[])?;
+        match means.ask_shortly(cone, literals)? {
+            Answer::GaveUp => means.lean(cone, first, guess)?,
+            answer => return Ok(answer),
+        }
+    }
+    means
+        .search
+        .ask_again(&cone.graph, literals, &mut means.budget)
+}
+
 /// Finds values of the positions that begin with the first ones and make the root true, or that there are none. Tries the
 /// guess first, with the first values in place of its own, and some others where there are first values. Fails where memory is
 /// refused.
@@ -126,10 +184,7 @@ pub(crate) fn complete(
         return Ok(Completion::Found(values));
     }
     let assumptions = cone.assumptions(alloc, first)?;
-    match means
-        .search
-        .ask_again(&cone.graph, &assumptions, &mut means.budget)?
-    {
+    match ask_near(cone, &assumptions, first, guess, means)? {
         Answer::Refuted => Ok(Completion::Nothing),
         Answer::GaveUp => Ok(Completion::Unknown),
         Answer::Satisfied => found_by(alloc, cone, first, &means.search),

@@ -82,6 +82,21 @@ impl Trials {
         }
     }
 
+    /// Lets all assignments begin with the first values and go on as others, and with false where there are none.
+    pub(crate) fn settle(&mut self, cone: &Cone, first: &[bool], others: &[bool]) {
+        for position in 0..cone.positions {
+            self.simulation.set(position.wrapping_add(1), 0);
+        }
+        self.begin(others);
+        self.begin(first);
+        self.simulation.evaluate(&cone.graph);
+    }
+
+    /// The value of a node under the first of the assignments.
+    pub(crate) fn value(&self, node: u32) -> bool {
+        self.simulation.at(node as usize) % 2 == 1
+    }
+
     /// Gives one of the assignments a value at a position.
     fn put(&mut self, lane: u32, position: usize, value: bool) {
         let node = position.wrapping_add(1);
