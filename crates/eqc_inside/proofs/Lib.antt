@@ -1,2 +1,3 @@
 pub mod InsideLaws
 pub mod SearchingLaws
+pub mod RoundLaws

@@ -222,6 +222,7 @@ impl<'a> Inside<'a> {
         pair: &'a Pair<'a>,
         alike: &Alike,
         every: bool,
+        effort: Effort,
         watch: &P,
     ) -> Result<Inside<'a>, AllocError>
         requires { IsKnown pair.now alike.now }
@@ -229,7 +230,7 @@ impl<'a> Inside<'a> {
     {
         let steps = Steps::of(alloc, pair, alike.chosen.clone()?);
         let wanted = entering(alloc, &steps, &alike.equal, every)?;
-        let sweep = Sweep::new(alloc, Effort::usual())?;
+        let sweep = Sweep::new(alloc, effort)?;
         Inside::within(rt, alloc, steps, wanted, sweep, watch)
     }
 }

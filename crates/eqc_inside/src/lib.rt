@@ -11,7 +11,9 @@
 mod asking;
 mod entering;
 mod inside;
+mod rounds;
 mod searching;
 
 pub use inside::Inside;
+pub use rounds::Rounds;
 pub use searching::{Conflicts, Searched};

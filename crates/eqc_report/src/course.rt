@@ -14,9 +14,9 @@ use crate::checking::{copied, found_report, shown};
 use crate::options::Options;
 use crate::report::Report;
 use crate::undecided::{Seen, Undecided};
-use crate::workers::{Comparison, check_by_team, check_first};
+use crate::workers::{Comparison, FIRST_NODES, check_by_team, check_first, first_nodes, has_large_room};
 use eqc_compare::{Alike, Progress, Stage, alike_or_nothing, known_outcome};
-use eqc_inside::{Conflicts, Inside, Searched};
+use eqc_inside::{Conflicts, Inside, Rounds, Searched};
 use eqc_pair::Pair;
 use eqc_tree::Stop;
 use std::alloc::Global;
@@ -32,11 +32,16 @@ const FEW_CONFLICTS: u64 = 5_000;
 /// The conflicts with which all outputs are searched for differences at first.
 const SEARCH_CONFLICTS: u64 = 20_000;
 
+/// There are no more rounds of sweeping than so many, whatever they find.
+const MOST_ROUNDS: u32 = 100;
+
 /// Where a run's comparison is made.
-#[derive(Clone, Copy)]
+#[derive(Clone, Copy, PartialEq)]
 enum Room {
     /// In a store of one thread, which is left as soon as it is full, or as the turns of its operations are spent.
     First,
+    /// In a larger one, which is left in the same way. Where the first one was as large there is nothing to be had from it.
+    Large,
     /// In the forest that the options ask for, by as many workers, which is left as the turns of one of them are spent.
     Whole,
 }
@@ -50,7 +55,7 @@ fn tell_room<R, P: Progress<R>>(comparison: &Comparison<'_, R, P>, room: Room) {
         ..
     } = *comparison;
     let stage = match room {
-        Room::First => Stage::FirstDiagrams,
+        Room::First | Room::Large => Stage::FirstDiagrams,
         Room::Whole => Stage::AllDiagrams,
     };
     watch.stage(rt, stage);
@@ -79,9 +84,13 @@ fn in_room<R: Threads + Wait + Sync, P: Progress<R> + Sync>(
     let Ok(alike) = alike.clone() else {
         return Err(Stop::Memory);
     };
+    if room == Room::Large && !has_large_room(pair, options) {
+        return Err(Stop::NodeLimit);
+    }
     tell_room(comparison, room);
     match room {
-        Room::First => check_first(comparison, alike),
+        Room::First => check_first(comparison, alike, first_nodes(pair, options)),
+        Room::Large => check_first(comparison, alike, FIRST_NODES),
         Room::Whole => check_by_team(comparison, alike),
     }
 }
@@ -156,12 +165,46 @@ fn ask_outputs<R, P: Progress<R>>(
     inside.ask_outputs(rt, alike, conflicts, watch)
 }
 
+/// Sweeps what is left in further rounds, as long as these find something and outputs are left.
+fn sweep_more<R: Threads + Wait + Sync, P: Progress<R> + Sync>(
+    comparison: &Comparison<'_, R, P>,
+    inside: &mut Inside<'_>,
+    alike: &mut Alike,
+    rounds: &mut Rounds,
+)
+    requires { IsKnown inside.old alike.old }
+    ensures pair { inside.new ≡ inside.old }
+    ensures known { IsKnown inside.new alike.new }
+{
+    let Comparison {
+        rt,
+        alloc,
+        pair,
+        watch,
+        ..
+    } = *comparison;
+    for _ in 0..MOST_ROUNDS {
+        if !rounds.has_next() || known_outcome(alloc, pair, &alike.equal).is_some() {
+            return;
+        }
+        watch.stage(rt, Stage::Sweeping);
+        if inside.sweep_again(rt, alloc, alike, rounds.effort(), watch).is_err() {
+            return;
+        }
+        rounds.count(inside.tally());
+        if let Ok(more) = inside.known(alloc, alike) {
+            *alike = more;
+        }
+    }
+}
+
 /// The report over what sweeping finds equal, which becomes known: by short searches for differences, by diagrams in all the room
 /// that there is, and then by longer searches. Where these find some outputs equal, diagrams are tried for the others once more.
 fn by_sweeping<R: Threads + Wait + Sync, P: Progress<R> + Sync>(
     comparison: &Comparison<'_, R, P>,
     inside: &mut Inside<'_>,
     alike: &mut Alike,
+    rounds: &mut Rounds,
     left: &mut Undecided,
 ) -> Result<Report, Stop>
     requires options { options_code comparison.now.options.now ≡ None }
@@ -175,11 +218,25 @@ fn by_sweeping<R: Threads + Wait + Sync, P: Progress<R> + Sync>(
     if let Ok(more) = inside.known(comparison.alloc, alike) {
         *alike = more;
     }
-    ask_outputs(comparison, inside, alike, FEW_CONFLICTS);
+    rounds.count(inside.tally());
+    sweep_more(comparison, inside, alike, rounds);
     let few = Conflicts {
         each: SEARCH_CONFLICTS,
         all: SEARCH_CONFLICTS,
     };
+    if inside.sees_difference(alike) {
+        match by_search(comparison, inside, alike, few, left) {
+            Err(Stop::NodeLimit) => {}
+            report => return report,
+        }
+    }
+    match in_room(comparison, Room::Large, alike) {
+        Err(Stop::NodeLimit) => {}
+        report => return report,
+    }
+    rounds.lengthen();
+    sweep_more(comparison, inside, alike, rounds);
+    ask_outputs(comparison, inside, alike, FEW_CONFLICTS);
     match by_search(comparison, inside, alike, few, left) {
         Err(Stop::NodeLimit) => {}
         report => return report,
@@ -225,10 +282,12 @@ fn behind_first<R: Threads + Wait + Sync, P: Progress<R> + Sync>(
         return in_room(comparison, Room::Whole, alike);
     }
     watch.stage(rt, Stage::Sweeping);
-    match Inside::of(rt, alloc, pair, alike, options.every, watch) {
+    let mut rounds = Rounds::of(pair, u64::from(options.conflicts));
+    let every = options.every;
+    match Inside::of(rt, alloc, pair, alike, every, rounds.effort(), watch) {
         Ok(inside) => {
             let mut inside = inside;
-            by_sweeping(comparison, &mut inside, alike, left)
+            by_sweeping(comparison, &mut inside, alike, &mut rounds, left)
         }
         // Nothing was learned, and the run goes on without it.
         Err(_) => in_room(comparison, Room::Whole, alike),

@@ -77,7 +77,10 @@ pub fn check_with<R: Threads + Wait + Sync, D: Diagrams<R> + Send + Drop, G: Gat
 
 /// The most nodes of the store of one thread in which a run's comparison begins. None is laid out before it is needed, and none
 /// is taken back: most comparisons end there before a forest would have begun.
-const FIRST_NODES: u32 = 524_288;
+pub(crate) const FIRST_NODES: u32 = 524_288;
+
+/// Who allows as many nodes for all workers, which is the usual number, gets them in the larger room on one thread, too.
+const USUAL_NODES: u32 = 65_536;
 
 /// How many turns operations in it may take beyond the free ones: what isn't decided by then is better tried in other ways first.
 const FIRST_TURNS: u64 = 1_048_576;
@@ -101,16 +104,31 @@ pub struct Comparison<'x, R, P> {
     pub watch: &'x P,
 }
 
-/// The store of the first room, with a variable for each input of a pair. It has no more nodes than the options ask for.
-fn first_store(alloc: Global, pair: &Pair<'_>, options: &Options) -> Result<Plain, Stop>
-    requires { options_code options.now ≡ None }
-    ensures nodes { IfOk result (λ p. p.store.limit ≤ options.now.nodes) }
+/// Diagrams over so few inputs mostly fit into the larger room, which is then the first one.
+const FEW_INPUTS: usize = 20;
+
+/// The nodes of the first room: as many as the options allow, but for a pair of few inputs those of the larger one.
+pub(crate) fn first_nodes(pair: &Pair<'_>, options: &Options) -> u32 {
+    if options.nodes >= USUAL_NODES && pair.first().inputs().len() <= FEW_INPUTS {
+        return FIRST_NODES;
+    }
+    options.nodes
+}
+
+/// Whether there is a larger room on one thread than the first one was.
+pub(crate) fn has_large_room(pair: &Pair<'_>, options: &Options) -> bool {
+    options.nodes >= USUAL_NODES && first_nodes(pair, options) < FIRST_NODES
+}
+
+/// The store of a room on one thread, with a variable for each input of a pair. It has no more nodes than this.
+fn first_store(alloc: Global, pair: &Pair<'_>, nodes: u32) -> Result<Plain, Stop>
+    ensures nodes { IfOk result (λ p. p.store.limit ≤ nodes) }
     ensures variables { IfOk result (λ p. length pair.now.first.inputs ≤ (⟦<Plain as References>⟧.holding p).variables) }
     ensures only { IfErr result (λ s. s ≡ Stop.Memory) }
 {
     pair.recall_laws();
     let inputs = pair.first().inputs().len() as u16;
-    let nodes = options.nodes.min(FIRST_NODES);
+    let nodes = nodes.min(FIRST_NODES);
     Plain::with_turns(alloc, inputs, nodes, Some(FIRST_TURNS))
 }
 
@@ -179,6 +197,7 @@ fn team_for(
 pub(crate) fn check_first<R, P: Progress<R>>(
     comparison: &Comparison<'_, R, P>,
     alike: Alike,
+    nodes: u32,
 ) -> Result<Report, Stop>
     requires options { options_code comparison.now.options.now ≡ None }
     requires known { IsKnown comparison.now.pair.now alike }
@@ -193,7 +212,7 @@ pub(crate) fn check_first<R, P: Progress<R>>(
     } = *comparison;
     let every = options.every;
     let mut store = Watched {
-        diagrams: first_store(alloc, pair, options)?,
+        diagrams: first_store(alloc, pair, nodes)?,
         watch,
     };
     let outcome = compare_known(alloc, rt, &mut store, pair, every, alike, false, watch)?;

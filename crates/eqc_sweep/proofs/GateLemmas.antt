@@ -9,11 +9,11 @@ use Rattle.eqc_sweep.specs.Gates.{not_both, Makes, AreOpposite}
 use Rattle.eqc_sweep.proofs.BoolLemmas.{same_of_two}
 
 -- a literal of node k that is no complement is the node's
-plain_value : (nodes : List Node) (a : ℕ → Bool) (x k : ℕ) → k ≡ x / 2 → (x % 2 ≡ 1 → ⊥) → literal_value nodes a x ≡ literal_value nodes a (2 * k)
+pub plain_value : (nodes : List Node) (a : ℕ → Bool) (x k : ℕ) → k ≡ x / 2 → (x % 2 ≡ 1 → ⊥) → literal_value nodes a x ≡ literal_value nodes a (2 * k)
 plain_value nodes a x k e plain = let same : x ≡ 2 * k = omega (arith, plain, e) in ap (λ (l : ℕ). literal_value nodes a l) same
 
 -- and a complement is the opposite of it
-complement_value : (nodes : List Node) (a : ℕ → Bool) (x k : ℕ) → k ≡ x / 2 → x % 2 ≡ 1 → literal_value nodes a x ≡ not (literal_value nodes a (2 * k))
+pub complement_value : (nodes : List Node) (a : ℕ → Bool) (x k : ℕ) → k ≡ x / 2 → x % 2 ≡ 1 → literal_value nodes a x ≡ not (literal_value nodes a (2 * k))
 complement_value nodes a x k e odd =
     let same : x ≡ 2 * k + 1 = omega (arith, odd, e) in
     let even : (2 * k) % 2 ≡ 0 = omega arith in

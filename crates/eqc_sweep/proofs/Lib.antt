@@ -7,3 +7,4 @@ pub mod RuleLemmas
 pub mod TableLemmas
 pub mod FinderLemmas
 pub mod SweepLemmas
+pub mod CopyingLemmas

@@ -4,3 +4,4 @@ pub mod Reducing
 pub mod Known
 pub mod Ordering
 pub mod Finding
+pub mod Copying

@@ -5,6 +5,13 @@
 pub struct Effort {
     pub(crate) simulates: bool,
     pub(crate) asks: bool,
+    /// The most conflicts that a question may have.
+    pub(crate) conflicts: u64,
+    /// The work of all questions and simulations together: so much for each node, and for the graph as a whole, and never more than
+    /// so much.
+    pub(crate) each_node: u64,
+    pub(crate) whole: u64,
+    pub(crate) work: u64,
 }
 
 impl Effort {
@@ -13,15 +20,46 @@ impl Effort {
         Effort {
             simulates: false,
             asks: false,
+            conflicts: 0,
+            each_node: 0,
+            whole: 0,
+            work: 0,
         }
     }
 
-    /// New nodes are also asked against older ones that simulation doesn't tell from them. What that costs is at most
-    /// in proportion to the graph.
-    pub fn usual() -> Effort {
+    /// New nodes are also asked against older ones that simulation doesn't tell from them, with at most so many conflicts a question,
+    /// and so much work in all, whatever the graph's size: about one for each literal visited and each simulated word, so that twenty
+    /// million take a second.
+    pub fn of(conflicts: u64, work: u64) -> Effort {
         Effort {
             simulates: true,
             asks: true,
+            conflicts,
+            each_node: 0,
+            whole: work,
+            work,
         }
     }
+
+    /// The same with no more work than so much for each node, and so much for the graph as a whole.
+    pub fn within(self, each_node: u64, whole: u64) -> Effort {
+        Effort {
+            each_node,
+            whole,
+            ..self
+        }
+    }
+}
+
+/// What came of the questions of a sweep.
+#[derive(Clone, Copy, PartialEq, Eq, Debug)]
+pub struct Tally {
+    /// Nodes that were found equal to older ones.
+    pub found: u64,
+    /// Questions that were given up.
+    pub open: u64,
+    /// Whether there were nodes about which nothing was asked, since all work that there might be was done.
+    pub is_cut: bool,
+    /// The work that they and simulations took.
+    pub work: u64,
 }

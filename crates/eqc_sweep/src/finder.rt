@@ -11,8 +11,8 @@ pub(crate) mod patterns;
 pub(crate) mod random;
 pub(crate) mod words;
 
-use crate::effort::Effort;
-use crate::finder::account::{Account, budget_of, conflicts_left};
+use crate::effort::{Effort, Tally};
+use crate::finder::account::{Account, MOST_DOUBT, budget_of, conflicts_left};
 use crate::finder::classes::Classes;
 use crate::finder::comparison::Comparison;
 use crate::finder::counterexamples::{Counterexamples, ROOM};
@@ -39,6 +39,9 @@ pub(crate) struct Finder {
     search: Search,
     /// The inputs' nodes and variables.
     inputs: Vec<(u32, u32)>,
+    /// For each node how many questions were given up on a way below it, one for each node: where nodes that are equal weren't found
+    /// to be, those above them are harder to find.
+    doubts: Vec<u8>,
 }
 
 #[tactic(auto, using(crate::proofs::FinderLemmas::never_both, crate::proofs::FinderLemmas::never_first, crate::proofs::FinderLemmas::never_second, crate::proofs::FinderLemmas::never_zero, crate::proofs::FinderLemmas::never_with_zero))]
@@ -95,17 +98,30 @@ fn ask_both(
 
 impl Finder {
     pub(crate) fn new(alloc: Global, effort: Effort) -> Result<Finder, AllocError> {
+        Finder::by(alloc, effort, Patterns::new(alloc)?)
+    }
+
+    /// One for another graph whose inputs are those of this one, in the same order: it simulates the same patterns.
+    pub(crate) fn again(&self, effort: Effort) -> Result<Finder, AllocError> {
+        let patterns = self.patterns.again(self.alloc, &self.inputs)?;
+        Finder::by(self.alloc, effort, patterns)
+    }
+
+    /// One that simulates by these patterns, which have no nodes yet.
+    fn by(alloc: Global, effort: Effort, patterns: Patterns) -> Result<Finder, AllocError> {
         let mut finder = Finder {
             alloc,
             effort,
-            patterns: Patterns::new(alloc)?,
+            patterns,
             classes: Classes::new(alloc),
             counterexamples: Counterexamples::new(alloc),
-            account: Account::new(),
+            account: Account::new(effort),
             search: Search::new(alloc),
             inputs: Vec::new(alloc),
+            doubts: Vec::new(alloc),
         };
         finder.enter(0, Node::Constant)?;
+        finder.doubts.push(0)?;
         finder.classes.push(finder.patterns.signatures())?;
         Ok(finder)
     }
@@ -133,6 +149,8 @@ impl Finder {
         }
         let k = node_of(new);
         self.enter(k, graph.node(k))?;
+        let doubt = self.doubt_below(graph.node(k));
+        self.doubts.push(doubt)?;
         let found = if self.effort.asks {
             self.search_older(graph, new)?
         } else {
@@ -140,11 +158,40 @@ impl Finder {
         };
         if found.is_some() {
             self.patterns.pop();
+            self.doubts.pop();
             self.counterexamples.truncate(k);
         } else {
             self.classes.push(self.patterns.signatures())?;
         }
         Ok(found)
+    }
+
+    /// What is doubted of a node.
+    fn doubt_of(&self, k: u32) -> u8 {
+        self.doubts.get(k as usize).copied().unwrap_or(0)
+    }
+
+    /// What is doubted of the operands of a node.
+    fn doubt_below(&self, node: Node) -> u8 {
+        match node {
+            Node::Constant | Node::Input(_) => 0,
+            Node::And(x, y) | Node::Xor(x, y) => self
+                .doubt_of(node_of(x))
+                .max(self.doubt_of(node_of(y))),
+        }
+    }
+
+    /// Doubts the last node once more, if it is this one.
+    fn doubt(&mut self, k: u32) {
+        let at = k as usize;
+        if at < self.doubts.len() {
+            self.doubts[at] = self.doubts[at].saturating_add(1).min(MOST_DOUBT);
+        }
+    }
+
+    /// What came of the questions so far.
+    pub(crate) fn tally(&self) -> Tally {
+        self.account.tally()
     }
 
     /// From now on new nodes are simulated alone.
@@ -174,19 +221,23 @@ impl Finder {
         ensures { IfOk result (λ found. IfSome found (IsOlder graph.now new)) }
     {
         let mut tried = Vec::new(self.alloc);
+        let mut gave_up = false;
         for _ in 0..CANDIDATES {
-            if !self.account.has_room(graph.len()) {
-                return Ok(None);
-            }
             let Some(older) = self.candidate(node_of(new), tried.as_slice()) else {
-                return Ok(None);
+                break;
             };
+            if !self.account.has_room(graph.len()) {
+                break;
+            }
             tried.push(node_of(older))?;
             match self.try_pair(graph, new, older)? {
                 Answer::Refuted => return Ok(Some(older)),
                 Answer::Satisfied => self.simulate(graph)?,
-                Answer::GaveUp => {}
+                Answer::GaveUp => gave_up = true,
             }
+        }
+        if gave_up {
+            self.doubt(node_of(new));
         }
         Ok(None)
     }
@@ -195,14 +246,12 @@ impl Finder {
     fn try_pair(&mut self, graph: &Graph, x: u32, y: u32) -> Result<Answer, AllocError>
         ensures { IfOk result (λ answer. answer ≡ Answer.Refuted → AreEqual graph.now x y) }
     {
-        let given = self.account.open(graph.len());
+        let doubt = self.doubt_of(node_of(x));
+        let given = self.account.open(graph.len(), doubt);
         let mut budget = given;
         let answer = ask_both(&mut self.search, graph, x, y, &mut budget);
-        let is_equal = match &answer {
-            Ok(Answer::Refuted) => true,
-            _ => false,
-        };
-        self.account.close(given, budget, is_equal);
+        let said = answer.as_ref().ok().copied();
+        self.account.close(given, budget, doubt, said);
         answer
     }
 

@@ -8,9 +8,11 @@
 //!   gate's operands, and `relations`, what numbers of literals tell; `reduced`, what a rule gives
 //! - `finder`, older nodes that a new one equals; in it `patterns` and `counterexamples`, simulation, with `words` and
 //!   `random`; `classes`, nodes by their signatures; `account`, what may be spent; `comparison`, what is found of two literals
+//! - `copying`, the nodes of a graph in another one
 //! - `table`, structural hashing, by the `order` of a gate's operands under which it is looked up
 #![tactic(auto)]
 
+mod copying;
 mod effort;
 mod finder;
 mod reduced;
@@ -18,6 +20,7 @@ mod rules;
 mod sweep;
 mod table;
 
-pub use effort::Effort;
+pub use copying::{below, copied, copy};
+pub use effort::{Effort, Tally};
 pub use finder::comparison::Comparison;
 pub use sweep::Sweep;

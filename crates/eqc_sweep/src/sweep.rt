@@ -4,7 +4,7 @@ ghost use Rattle.eqc_graph.specs.Graph.{differ, literal_value, node_value, IsWit
 ghost use Rattle.eqc_sweep.specs.Sweeping.{HasValue, HasValueOf};
 ghost use Rattle.eqc_sweep.specs.Finding.{IsRight};
 
-use crate::effort::Effort;
+use crate::effort::{Effort, Tally};
 use crate::finder::Finder;
 use crate::finder::comparison::Comparison;
 use crate::reduced::Reduced;
@@ -46,6 +46,23 @@ impl Sweep {
             table: Table::new(alloc),
             finder: Finder::new(alloc, effort)?,
         })
+    }
+
+    /// The constant alone, for what `copy` takes of a sweep: its inputs are to enter in the same order, and are simulated as they were
+    /// there. Fails where memory is refused.
+    pub fn again(&self, alloc: Global, effort: Effort) -> Result<Sweep, AllocError>
+        ensures { IfOk result (λ s. s ≡ Node.Constant ∷ []) }
+    {
+        Ok(Sweep {
+            graph: Graph::new(alloc)?,
+            table: Table::new(alloc),
+            finder: self.finder.again(effort)?,
+        })
+    }
+
+    /// What came of the questions so far. Nothing is promised of it.
+    pub fn tally(&self) -> Tally {
+        self.finder.tally()
     }
 
     /// The graph as it is.

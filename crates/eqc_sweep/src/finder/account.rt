@@ -1,10 +1,11 @@
 //! What a sweep may spend, and has spent.
 ghost use Rattle.std.specs.Prelude.{◌<◌};
 
-use eqc_search::Budget;
+use crate::effort::{Effort, Tally};
+use eqc_search::{Answer, Budget};
 
-/// Conflicts that there are at the start, and what each question adds.
-const AT_START: u64 = 50_000;
+/// Conflicts that there are at the start, in questions that take all that they may, and what each question adds.
+const AT_START: u64 = 64;
 
 const EACH: u64 = 100;
 
@@ -12,8 +13,6 @@ const EACH: u64 = 100;
 const PART: u64 = 8;
 
 const FEWEST: u64 = 100;
-
-const MOST: u64 = 3_000;
 
 /// Literals that may be visited for each conflict, and conflicts' worth of them that there are without one.
 const VISITS: u64 = 1_000;
@@ -26,23 +25,22 @@ const WORTH: u64 = 1_000;
 /// Work counts once more for each so many nodes of the graph: it takes longer where these are far apart in memory.
 const LARGE: u32 = 200_000;
 
-/// How much work all questions and simulations together may do: so much for each node, and for the graph as a whole, and never more
-/// than so much, whatever the netlist.
-const EACH_NODE: u64 = 40_000;
-
-const WHOLE: u64 = 20_000_000;
-
-const AT_MOST: u64 = 100_000_000;
-
-/// How much of that may be in vain: simulations, and questions after which no node was found equal. A netlist of which no two
+/// How much of that may be in vain, in tenths: simulations, and questions after which no node was found equal. A netlist of which no two
 /// nodes are equal costs no more, whatever its size.
-const IN_VAIN: u64 = 70_000_000;
+const IN_VAIN: u64 = 7;
 
-/// A question may do so much work, or so many times that of the hardest one so far after which a node was found equal, if that is more.
-/// Most nodes that are equal are found with a hundredth of that, and a question about others may take all that there is.
-const FIRST: u64 = 1_500_000;
+/// A question may do so much work for each conflict that it may have, or so many times that of the hardest one so far after which a
+/// node was found equal, if that is more. Most nodes that are equal are found with a hundredth of that, and a question about others may
+/// take all that there is.
+const FIRST: u64 = 5_000;
 
 const HARDER: u64 = 8;
+
+/// So many questions about nodes of which something is doubted are remembered.
+const LATELY: u32 = 64;
+
+/// Doubt beyond that is as this.
+pub(crate) const MOST_DOUBT: u8 = 10;
 
 /// The work of a question that visits nothing, and of a simulated word: the signature is another one then, and is entered anew.
 const QUESTION: u64 = 200;
@@ -57,6 +55,7 @@ const ROWS: u32 = 256;
 /// What was spent of conflicts, of work, and of rows.
 #[derive(Clone, Copy, Debug)]
 pub(crate) struct Account {
+    effort: Effort,
     conflicts: u64,
     spent: u64,
     /// The most work of a question after which a node was found equal.
@@ -64,6 +63,13 @@ pub(crate) struct Account {
     /// What was spent in vain.
     vain: u64,
     rows: u32,
+    /// Nodes that were found equal, and questions that were given up.
+    found: u64,
+    open: u64,
+    is_cut: bool,
+    /// Of late, questions about nodes of which something is doubted: those by which a node was found equal, and those given up.
+    doubted_found: u32,
+    doubted_open: u32,
 }
 
 /// What a question may spend that may have so many conflicts, and so much work.
@@ -73,6 +79,11 @@ pub(crate) fn budget_of(conflicts: u64, work: u64) -> Budget {
         visits: conflicts.saturating_add(WITHOUT).saturating_mul(VISITS),
         work,
     }
+}
+
+/// A part of what a question may have, the smaller the more is doubted of what lies below it.
+fn doubted(all: u64, doubt: u8) -> u64 {
+    all >> u32::from(doubt.min(MOST_DOUBT))
 }
 
 /// As how much work counts what is done in a graph of so many nodes.
@@ -91,46 +102,104 @@ pub(crate) fn conflicts_left(given: Budget, left: Budget, nodes: u32) -> u64 {
 }
 
 impl Account {
-    pub(crate) fn new() -> Account {
+    pub(crate) fn new(effort: Effort) -> Account {
         Account {
-            conflicts: AT_START,
+            effort,
+            conflicts: effort.conflicts.saturating_mul(AT_START),
             spent: 0,
             hardest: 0,
             vain: 0,
             rows: 0,
+            found: 0,
+            open: 0,
+            is_cut: false,
+            doubted_found: 0,
+            doubted_open: 0,
         }
+    }
+
+    /// Counts a question about a node of which something is doubted.
+    fn count_doubted(&mut self, is_equal: bool, gave_up: bool) {
+        self.doubted_found = self.doubted_found.saturating_add(u32::from(is_equal));
+        self.doubted_open = self.doubted_open.saturating_add(u32::from(gave_up));
+        if self.doubted_found > LATELY || self.doubted_open > LATELY {
+            self.doubted_found /= 2;
+            self.doubted_open /= 2;
+        }
+    }
+
+    /// Whether questions about nodes of which something is doubted are mostly in vain.
+    fn minds_doubt(&self) -> bool {
+        self.doubted_found < self.doubted_open
     }
 
     /// What may be spent on a graph of so many nodes yet.
     fn left(&self, nodes: u32) -> u64 {
-        let room = (u64::from(nodes) * EACH_NODE + WHOLE).min(AT_MOST);
+        let effort = &self.effort;
+        let room = effort.each_node.saturating_mul(u64::from(nodes));
+        let room = room.saturating_add(effort.whole).min(effort.work);
         let weight = weight_of(nodes);
         let all = (room / weight).saturating_sub(self.spent);
-        all.min((IN_VAIN / weight).saturating_sub(self.vain))
+        let vain = (effort.work / 10).saturating_mul(IN_VAIN);
+        all.min((vain / weight).saturating_sub(self.vain))
     }
 
-    /// Whether more may be spent on a graph of so many nodes.
-    pub(crate) fn has_room(&self, nodes: u32) -> bool {
-        self.left(nodes) > 0
+    /// Whether more may be spent on a graph of so many nodes. It is asked where there is a question: if not, this is noted.
+    pub(crate) fn has_room(&mut self, nodes: u32) -> bool {
+        let has_room = self.left(nodes) > 0;
+        self.is_cut |= !has_room;
+        has_room
     }
 
-    /// What the next question about a graph of so many nodes may spend.
-    pub(crate) fn open(&mut self, nodes: u32) -> Budget {
+    /// What the next question about a graph of so many nodes may spend, where so much is doubted of what lies below it.
+    pub(crate) fn open(&mut self, nodes: u32, doubt: u8) -> Budget {
+        let doubt = if self.minds_doubt() { doubt } else { 0 };
         self.conflicts = self.conflicts.saturating_add(EACH);
-        let conflicts = (self.conflicts / PART).max(FEWEST).min(MOST);
-        let most = self.hardest.saturating_mul(HARDER).max(FIRST);
-        budget_of(conflicts, self.left(nodes).min(most))
+        let most = self.effort.conflicts;
+        let conflicts = (self.conflicts / PART).max(FEWEST).min(most);
+        let first = most.saturating_mul(FIRST);
+        let most = self.hardest.saturating_mul(HARDER).max(first);
+        Budget {
+            conflicts: doubted(conflicts, doubt),
+            visits: doubted(conflicts.saturating_add(WITHOUT), doubt).saturating_mul(VISITS),
+            work: self.left(nodes).min(doubted(most, doubt)),
+        }
     }
 
     /// Counts what a question spent, by which a node was found equal or not.
-    pub(crate) fn close(&mut self, given: Budget, left: Budget, is_equal: bool) {
+    pub(crate) fn close(
+        &mut self,
+        given: Budget,
+        left: Budget,
+        doubt: u8,
+        answer: Option<Answer>,
+    ) {
+        let is_equal = matches!(answer, Some(Answer::Refuted));
+        let gave_up = matches!(answer, Some(Answer::GaveUp));
+        if doubt > 0 {
+            self.count_doubted(is_equal, gave_up);
+        }
         let conflicts = given.conflicts.saturating_sub(left.conflicts);
         self.conflicts = self.conflicts.saturating_sub(conflicts);
         let work = given.work.saturating_sub(left.work);
         if is_equal {
             self.hardest = self.hardest.max(work);
+            self.found = self.found.saturating_add(1);
+        }
+        if gave_up {
+            self.open = self.open.saturating_add(1);
         }
         self.spend(work.saturating_add(QUESTION), !is_equal);
+    }
+
+    /// What came of it so far.
+    pub(crate) fn tally(&self) -> Tally {
+        Tally {
+            found: self.found,
+            open: self.open,
+            is_cut: self.is_cut,
+            work: self.spent,
+        }
     }
 
     fn spend(&mut self, work: u64, in_vain: bool) {

@@ -31,6 +31,8 @@ const SMALL: u32 = 65_536;
 #[derive(Drop)]
 pub(crate) struct Patterns {
     rows: Vec<Vec<u64>>,
+    /// The words of inputs, in their order, in the first rows: of those of another graph.
+    kept: Vec<Vec<u64>>,
     signatures: Vec<u64>,
     random: Random,
     /// How many inputs there are.
@@ -67,6 +69,16 @@ fn input_word(random: &mut Random, input: u32, row: usize) -> u64 {
     }
 }
 
+/// The word that an input of this number has in a row: of those that were kept, or a new one.
+fn kept_or_new(kept: &[Vec<u64>], random: &mut Random, input: u32, row: usize) -> u64 {
+    if let Some(words) = kept.get(row)
+        && let Some(word) = words.get(input as usize)
+    {
+        return *word;
+    }
+    input_word(random, input, row)
+}
+
 impl Patterns {
     /// The rows that are there before counterexamples, without nodes.
     pub(crate) fn new(alloc: Global) -> Result<Patterns, AllocError> {
@@ -76,10 +88,37 @@ impl Patterns {
         }
         Ok(Patterns {
             rows,
+            kept: Vec::new(alloc),
             signatures: Vec::new(alloc),
             random: Random::new(),
             inputs: 0,
             oldest: FIXED,
+        })
+    }
+
+    /// The same rows without nodes, for a graph whose inputs are those of these nodes, in the same order.
+    pub(crate) fn again(
+        &self,
+        alloc: Global,
+        inputs: &[(u32, u32)],
+    ) -> Result<Patterns, AllocError> {
+        let mut kept = Vec::with_capacity(alloc, self.rows.len())?;
+        let mut rows = Vec::with_capacity(alloc, self.rows.len())?;
+        for row in &self.rows {
+            let mut words = Vec::with_capacity(alloc, inputs.len())?;
+            for (k, _) in inputs {
+                words.push(word_at(row.as_slice(), *k))?;
+            }
+            kept.push(words)?;
+            rows.push(Vec::new(alloc))?;
+        }
+        Ok(Patterns {
+            rows,
+            kept,
+            signatures: Vec::new(alloc),
+            random: Random::new(),
+            inputs: 0,
+            oldest: self.oldest,
         })
     }
 
@@ -138,7 +177,10 @@ impl Patterns {
         let mut signature: u64 = 0;
         let mut flip: u64 = 0;
         for at in 0..self.rows.len() {
-            let input = input_word(&mut self.random, self.inputs, at);
+            let input = kept_or_new(&self.kept, &mut self.random, self.inputs, at);
+            if at >= self.rows.len() {
+                break;
+            }
             let row = &mut self.rows[at];
             let word = word_by(row.as_slice(), node, input);
             row.push(word)?;

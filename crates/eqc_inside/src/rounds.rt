@@ -1,0 +1,237 @@
+//! Rounds of sweeping: each asks more of the nodes that are left than the one before.
+ghost use Rattle.std.specs.Prelude.{◌≡◌, List, IfOk, IfSome};
+ghost use Rattle.eqc_graph.specs.declared.node.Node.{Node};
+ghost use Rattle.eqc_sweep.specs.Copying.{AreCopies};
+ghost use Rattle.eqc_sweep.specs.Sweeping.{HasValue};
+ghost use Rattle.eqc_pair.specs.PairOf.{PairOf};
+ghost use Rattle.eqc_build.specs.Building.{reference_of};
+ghost use Rattle.eqc_build.specs.Steps.{value_at};
+ghost use Rattle.eqc_gates.specs.Entering.{AreLiterals};
+
+use crate::inside::{Inside, literal_of, NONE};
+use eqc_build::Steps;
+use eqc_compare::{Alike, Progress, is_settled};
+use eqc_pair::Pair;
+use eqc_sweep::{Comparison, Effort, Sweep, Tally, below, copied, copy};
+use std::alloc::{AllocError, Global};
+
+/// The most conflicts of a question in each level of rounds, and how much work a round of it may take of all that there is, in
+/// hundredths.
+const LEVELS: [(u64, u64); 4] = [(100, 20), (1_000, 20), (10_000, 40), (100_000, 100)];
+
+/// The work of all rounds for each conflict that the options give.
+const WORK: u64 = 10_000;
+
+/// Where there are as many steps, the first round is of the first level, and else of the second one: a first round of cheap questions
+/// pays where the others are many.
+const MANY_STEPS: usize = 40_000;
+
+/// So many levels come in short rounds.
+const SHORT_LEVELS: usize = 2;
+
+/// The work of short rounds: as much as it takes to see whether larger diagrams do.
+const SHORT_NODE: u64 = 3_000;
+
+const SHORT_WHOLE: u64 = 4_000_000;
+
+/// Of the others: in proportion to the graph, where it is small.
+const LONG_NODE: u64 = 100_000;
+
+const LONG_WHOLE: u64 = 100_000_000;
+
+/// A level comes once more after a round of it that found a node equal for each so many questions that were given up.
+const WORTHWHILE: u64 = 8;
+
+/// How far the rounds of a sweep are, and what is left for further ones.
+#[derive(Clone, Copy, Debug)]
+pub struct Rounds {
+    conflicts: u64,
+    level: usize,
+    left: u64,
+    is_short: bool,
+    /// Whether questions were left open in the last round, and whether there are no more such rounds.
+    is_open: bool,
+    is_over: bool,
+}
+
+/// Work in proportion to the conflicts that the options give, where it is this with the usual number of them.
+fn in_proportion(work: u64, conflicts: u64) -> u64 {
+    (work / 1_000).saturating_mul(conflicts) / 100
+}
+
+impl Rounds {
+    /// Before the first round over two netlists, with what so many conflicts are worth for all of them.
+    pub fn of(pair: &Pair<'_>, conflicts: u64) -> Rounds {
+        let steps = pair.first().steps().len().saturating_add(pair.second().steps().len());
+        Rounds {
+            conflicts,
+            level: usize::from(steps < MANY_STEPS),
+            left: conflicts.saturating_mul(WORK),
+            is_short: true,
+            is_open: true,
+            is_over: false,
+        }
+    }
+
+    /// Whether there is another round.
+    pub fn has_next(&self) -> bool {
+        !self.is_over && self.left > 0
+    }
+
+    /// What the next round may cost.
+    pub fn effort(&self) -> Effort {
+        let (question, part) = match LEVELS.get(self.level) {
+            Some(level) => *level,
+            None => (self.conflicts, 100),
+        };
+        let all = self.conflicts.saturating_mul(WORK);
+        let work = (all / 100).saturating_mul(part).min(self.left);
+        let effort = Effort::of(question.min(self.conflicts), work);
+        let (node, whole) = if self.is_short {
+            (SHORT_NODE, SHORT_WHOLE)
+        } else {
+            (LONG_NODE, LONG_WHOLE)
+        };
+        let whole = in_proportion(whole, self.conflicts);
+        effort.within(in_proportion(node, self.conflicts), whole)
+    }
+
+    /// From now on rounds may cost all that there is. Where the last one gave no question up there is none.
+    pub fn lengthen(&mut self) {
+        self.is_over = !self.is_open;
+        self.is_short = false;
+    }
+
+    /// Takes what a round spent. There is none behind it where it gave no question up; where it found little, questions may have more
+    /// in the next one.
+    pub fn count(&mut self, round: Tally) {
+        self.left = self.left.saturating_sub(round.work);
+        self.is_open = round.open > 0 || round.is_cut;
+        if self.is_short {
+            self.is_over = !self.is_open || round.is_cut || self.level + 1 >= SHORT_LEVELS;
+            self.level += usize::from(!round.is_cut);
+            return;
+        }
+        let is_worthwhile = round.found.saturating_mul(WORTHWHILE) > round.open;
+        if !is_worthwhile && self.level + 1 < LEVELS.len() {
+            self.level += 1;
+        } else if round.found == 0 {
+            self.is_over = true;
+        }
+        self.is_over |= !self.is_open;
+    }
+}
+
+/// The literals of the steps that outputs which aren't known yet are made of, and that of the assumption. Fails where memory is
+/// refused.
+fn open_literals(
+    alloc: Global,
+    steps: &Steps<'_>,
+    literals: &[Option<u32>],
+    marks: &[bool],
+) -> Result<Vec<u32>, AllocError> {
+    let mut open = Vec::new(alloc);
+    for output in 0..steps.pair().first().outputs().len() {
+        if !is_settled(steps.pair(), marks, output) {
+            for step in steps.roots(output) {
+                let literal = literal_of(literals, step);
+                if literal != NONE {
+                    open.push(literal)?;
+                }
+            }
+        }
+    }
+    if let Some(step) = steps.assumed_root() {
+        let literal = literal_of(literals, step);
+        if literal != NONE {
+            open.push(literal)?;
+        }
+    }
+    Ok(open)
+}
+
+/// The literal of a step, if it has one.
+fn entry(literals: &[Option<u32>], step: usize) -> Option<u32>
+    ensures { result ≡ reference_of literals.now step }
+{
+    literals.get(step).copied().flatten()
+}
+
+#[tactic(auto, using(crate::proofs::RoundLaws::moved_value))]
+/// The literal of a step in another graph, where it has one there.
+fn moved_one(literals: &[Option<u32>], table: &[Option<u32>], step: usize) -> Option<u32>
+    ensures { (p : PairOf) (old new : List Node) → AreLiterals p old literals.now → AreCopies old new table.now → IfSome result (λ l. HasValue new l (λ a. value_at p a step)) }
+{
+    let literal = entry(literals, step)?;
+    copied(table, literal)
+}
+
+#[tactic(auto, using(crate::proofs::RoundLaws::moved_begins, crate::proofs::RoundLaws::moved_more))]
+/// The literals of steps in another graph. Fails where memory is refused.
+fn moved(
+    alloc: Global,
+    literals: &[Option<u32>],
+    table: &[Option<u32>],
+) -> Result<Vec<Option<u32>>, AllocError>
+    ensures { (p : PairOf) (old new : List Node) → AreLiterals p old literals.now → AreCopies old new table.now → IfOk result (λ all. AreLiterals p new all.items) }
+{
+    let mut all = Vec::with_capacity(alloc, literals.len())?;
+    for step in 0..literals.len() {
+        all.push(moved_one(literals, table, step))?;
+    }
+    Ok(all)
+}
+
+impl<'a> Inside<'a> {
+    /// Whether an output that isn't known to be equal is seen to differ by simulation. Nothing is promised of it.
+    pub fn sees_difference(&mut self, alike: &Alike) -> bool
+        ensures { self.new ≡ self.old }
+    {
+        for output in 0..self.steps.pair().first().outputs().len() {
+            if is_settled(self.steps.pair(), &alike.equal, output) {
+                continue;
+            }
+            let roots = self.steps.roots(output);
+            let x = literal_of(&self.literals, roots[0]);
+            let y = literal_of(&self.literals, roots[1]);
+            if x != NONE && y != NONE {
+                let found = self.sweep.equal(x, y, &mut 0);
+                if matches!(found, Ok(Comparison::Differs(_))) {
+                    return true;
+                }
+            }
+        }
+        false
+    }
+
+    /// What came of the questions of the last round. Nothing is promised of it.
+    pub fn tally(&self) -> Tally {
+        self.sweep.tally()
+    }
+
+    /// Sweeps what the outputs depend on which aren't known to be equal, once more with this effort. The watch is told of each node.
+    /// Fails where memory is refused; what was found before stays then.
+    pub fn sweep_again<R, P: Progress<R>>(
+        &mut self,
+        rt: &R,
+        alloc: Global,
+        alike: &Alike,
+        effort: Effort,
+        watch: &P,
+    ) -> Result<(), AllocError>
+        ensures pair { self.new ≡ self.old }
+    {
+        let open = open_literals(alloc, &self.steps, &self.literals, &alike.equal)?;
+        let graph = self.sweep.graph();
+        let marks = below(alloc, graph, &open)?;
+        let mut sweep = self.sweep.again(alloc, effort)?;
+        let count = graph.len() as usize;
+        let told = |k: u32| watch.step(rt, k as usize, count);
+        let table = copy(alloc, graph, &marks, &mut sweep, &told)?;
+        sweep.ask_no_more();
+        let literals = moved(alloc, &self.literals, &table)?;
+        self.sweep = sweep;
+        self.literals = literals;
+        Ok(())
+    }
+}
