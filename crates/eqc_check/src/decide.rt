@@ -19,9 +19,10 @@ use crate::given::{Case, bytes_of};
 use crate::warning::{Warnings, warnings_in_one, warnings_in_two};
 use eqc_blif::{Library, Refusal};
 use eqc_compare::Progress;
+use eqc_engine::{Comparison, decide_pair};
 use eqc_flat::{Fault, FaultOfTwo, Flat, flatten, flatten_two};
 use eqc_pair::{Pair, Refused, Side, pair_choosing, recall_laws};
-use eqc_report::{Comparison, Report, Undecided, check_alike};
+use eqc_report::{Report, Undecided};
 use eqc_tree::Stop;
 use std::alloc::{AllocError, Global};
 use std::sync::Wait;
@@ -225,7 +226,7 @@ impl<'x, R: Threads + Wait + Sync, P: Progress<R> + Sync> Decision<'x, R, P> {
         let order = bytes_of(&case.order);
         match pair_choosing(self.alloc, first, second, case.outputs.names, order) {
             Ok(pair) => match &case.assume {
-                None => check_alike(&self.comparison(&pair), left),
+                None => decide_pair(&self.comparison(&pair), left),
                 Some(text) => self.on_assumption(pair, text, left),
             },
             Err(Refused { side, line, code }) => refused(side, Refusal { line, code }),
@@ -286,7 +287,7 @@ impl<'x, R: Threads + Wait + Sync, P: Progress<R> + Sync> Decision<'x, R, P> {
         ensures stop { IfErr result (MayStop (flat_assumed (given_of self.now.case.now) pair.entry.first pair.entry.second assumed.now)) }
     {
         match pair.assuming(self.alloc, assumed) {
-            Ok(pair) => check_alike(&self.comparison(&pair), left),
+            Ok(pair) => decide_pair(&self.comparison(&pair), left),
             Err(refusal) => {
                 let Refused { side, line, code } = refusal;
                 refused(side, Refusal { line, code })

@@ -1,5 +1,6 @@
 //! Reports on two netlists: from their texts to the bytes of a report. What makes a pair stands in `eqc_pair`, how its first
-//! differing output is found in `eqc_compare`, and what the report on it is in `eqc_report`; their calls are offered here too.
+//! differing output is found in `eqc_compare`, what is tried on it in `eqc_engine`, and what the report on it is in `eqc_report`;
+//! their calls are offered here too.
 //!
 //! What the report has to be is said in `specs/Answer.antt`, over `specs/Report.antt` of `eqc_report`. Read the modules in this
 //! order, the way of the data:
@@ -29,13 +30,14 @@ pub use eqc_compare::{
     least_assignment, least_difference_is_least, least_difference_is_none_where_equal,
     least_difference_is_unique,
 };
+pub use eqc_engine::{check, check_plain, check_with};
 pub use eqc_pair::{
     Finding, PAIR_RULES, Pair, Refused, Rule, Side, Unmatched, explain_assumption, explain_pair,
     pair, pair_assuming, pair_choosing,
 };
 pub use eqc_report::{
     Difference, Differences, OPTION_RULES, OptionRule, Options, Report, RunFault, Seen, Status,
-    Undecided, check, check_plain, check_with, options_fault, write_report, write_text,
+    Undecided, options_fault, write_report, write_text,
 };
 pub use given::{Given, Texts};
 pub use laws::{

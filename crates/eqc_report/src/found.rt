@@ -1,5 +1,5 @@
-//! The report on a pair, by one thread, and how what a comparison found becomes a report.
-ghost use Rattle.std.specs.Prelude.{◌≡◌, ◌≢◌, ◌<◌, ◌≤◌, length, map, All, IfOk, IfErr, slice_index_or, not, []};
+//! How what a comparison found becomes a report.
+ghost use Rattle.std.specs.Prelude.{◌≡◌, ◌<◌, length, map, All, IfOk, IfErr, slice_index_or, not, []};
 ghost use Rattle.std.specs.List.{zip};
 ghost use Rattle.eqc_compare.specs.Verdict.{first_value};
 ghost use Rattle.eqc_report.specs.ReportView.{difference_of, differences_of, report_of};
@@ -9,10 +9,9 @@ ghost use Rattle.eqc_compare.specs.Comparing.{netlist_of, IsOutcome};
 use crate::evaluating::output_value;
 use crate::report::{Difference, Differences, Report};
 use eqc_blif::Name;
-use eqc_compare::{Difference as Found, Outcome, compare_outputs};
+use eqc_compare::{Difference as Found, Outcome};
 use eqc_flat::Flat;
 use eqc_pair::Pair;
-use eqc_plain::Plain;
 use eqc_tree::Stop;
 use std::alloc::{AllocError, Global};
 
@@ -67,8 +66,9 @@ fn all_shown(alloc: Global, pair: &Pair<'_>, found: Vec<Found>) -> Result<Differ
     Ok(Differences { inputs, each })
 }
 
-/// The report on what was found.
-pub(crate) fn found_report(
+/// The report on what the comparison of a pair found: each output that differs with the names and the values of the first
+/// netlist's inputs that show it, or that none does or no assignment is allowed. Fails where memory is refused, 72.
+pub fn found_report(
     alloc: Global,
     pair: &Pair<'_>,
     every: bool,
@@ -90,42 +90,4 @@ pub(crate) fn found_report(
             }
         }
     }
-}
-
-/// What is found of a pair over a new store of `nodes` nodes.
-fn compare_plain<R>(
-    rt: &R,
-    alloc: Global,
-    pair: &Pair<'_>,
-    every: bool,
-    nodes: u32,
-) -> Result<Outcome, Stop>
-    requires some { 1 ≤ nodes }
-    requires few { nodes ≤ 1048574 }
-    ensures found { IfOk result (IsOutcome pair.now every) }
-    ensures only { IfErr result (λ s. s ≢ Stop.Threads) }
-{
-    pair.recall_laws();
-    let inputs = pair.first().inputs().len() as u16;
-    let mut d = Plain::new(alloc, inputs, nodes)?;
-    compare_outputs(alloc, rt, &mut d, pair, every)
-}
-
-/// Compares a pair on this thread with a store of `nodes` nodes, 1 to 1,048,574: the report, or why it stopped:
-/// the node limit 71, want of memory 72, the limit of references 73. Whether the assumption, if there is one, allows an
-/// assignment is asked first. With `every` each output that differs is told, and else the first alone.
-pub fn check_plain<R>(
-    rt: &R,
-    alloc: Global,
-    pair: &Pair<'_>,
-    every: bool,
-    nodes: u32,
-) -> Result<Report, Stop>
-    requires some { 1 ≤ nodes }
-    requires few { nodes ≤ 1048574 }
-    ensures report { IfOk result (λ report. report_of report ≡ pair_report every pair.now) }
-    ensures only { IfErr result (λ s. s ≢ Stop.Threads) }
-{
-    let outcome = compare_plain(rt, alloc, pair, every, nodes)?;
-    found_report(alloc, pair, every, outcome)
 }

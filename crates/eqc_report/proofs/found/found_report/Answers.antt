@@ -2,7 +2,7 @@ use Rattle.std.proofs.Common.{rules, ◌≡◌, ◌∙◌, sym, ap, subst, lengt
 use Rattle.eqc_compare.specs.Comparing.{IsOutcome}
 use Rattle.eqc_compare.specs.declared.outcome.Outcome.TheVariants.{Compared}
 use Rattle.eqc_report.proofs.FoundLaws.{outcome_found, some_reported}
-use Rattle.eqc_report.proofs.checking.found_report.Goals as goal
+use Rattle.eqc_report.proofs.found.found_report.Goals as goal
 
 pub all_shown-requires : goal.all_shown-requires
 all_shown-requires c =

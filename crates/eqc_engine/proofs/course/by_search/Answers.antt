@@ -4,7 +4,7 @@ use Rattle.eqc_compare.specs.Verdict.{differs_under}
 use Rattle.eqc_compare.specs.Comparing.{netlist_of, assumption_of}
 use Rattle.eqc_inside.specs.Searching.{IsSearched}
 use Rattle.eqc_inside.specs.declared.searching.Searched.TheVariants.{Open}
-use Rattle.eqc_report.proofs.course.by_search.Goals as goal
+use Rattle.eqc_engine.proofs.course.by_search.Goals as goal
 
 pub note_seen-requires-clause-differs : goal.note_seen-requires-clause-differs
 note_seen-requires-clause-differs g c =

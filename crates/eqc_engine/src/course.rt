@@ -1,8 +1,19 @@
-//! The course of a run's comparison: equal structure, diagrams on one thread, equal signals inside the netlists, a search for the
-//! outputs that differ, diagrams by all workers, and at last a longer search for the outputs that are left.
-ghost use Rattle.std.specs.Prelude.{◌≡◌, ◌<◌, Bool, List, None, true, length, slice_index_or, [], IfOk, IfErr};
-ghost use Rattle.eqc_compare.specs.Verdict.{differs_under};
-ghost use Rattle.eqc_compare.specs.Comparing.{netlist_of, assumption_of, is_chosen_at};
+//! The course of a run: what is tried on a pair, stage after stage. Each begins where the one before left an output open, which it
+//! says by `Stop::NodeLimit`.
+//!
+//! | | Stage | Call | What it decides |
+//! |---|---|---|---|
+//! | 1 | equal structure | `alike_or_nothing` | outputs whose two signals have one structure are equal |
+//! | 2 | diagrams on one thread | `first_diagrams` | all outputs, where they fit |
+//! | 3 | sweeping | `Inside::of`, `Inside::known` | outputs whose two signals became one are equal |
+//! | 4 | short searches | `ask_outputs`, then `by_search` | all outputs, or all up to the first that differs |
+//! | 5 | diagrams by all workers | `in_room` | the outputs left, where they fit |
+//! | 6 | a longer search that refutes | `ask_outputs` | outputs that are found equal |
+//! | 7 | longer searches | `by_search` | the same as 4 |
+//! | 8 | diagrams by all workers once more, where 6 found some outputs equal | `in_room` | the outputs left, where they fit |
+//!
+//! `decide_pair` has 1 and 2, `behind_first` begins with 3, and `by_sweeping` goes on from there, if only 5 isn't asked for alone.
+ghost use Rattle.std.specs.Prelude.{◌≡◌, Bool, List, None, length, IfOk, IfErr};
 ghost use Rattle.eqc_compare.specs.Alike.{AreEqual, IsKnown};
 ghost use Rattle.eqc_report.specs.PairReport.{pair_report};
 ghost use Rattle.eqc_report.specs.ReportView.{report_of};
@@ -10,16 +21,11 @@ ghost use Rattle.eqc_report.specs.Options.{options_code};
 ghost use Rattle.eqc_report.specs.Seen.{IsLeftOf};
 ghost use Rattle.eqc_report.specs.Left.{AddsLeft, AddsNone};
 
-use crate::checking::{copied, found_report, shown};
-use crate::options::Options;
-use crate::report::Report;
-use crate::undecided::{Seen, Undecided};
 use crate::workers::{Comparison, check_by_team, check_first};
 use eqc_compare::{Alike, Progress, Stage, alike_or_nothing, known_outcome};
 use eqc_inside::{Conflicts, Inside, Searched};
-use eqc_pair::Pair;
+use eqc_report::{Options, Report, Undecided, found_report, note_seen};
 use eqc_tree::Stop;
-use std::alloc::Global;
 use std::sync::Wait;
 use std::thread::Threads;
 
@@ -86,20 +92,20 @@ fn in_room<R: Threads + Wait + Sync, P: Progress<R> + Sync>(
     }
 }
 
-/// Notes an output that differs under an assignment that was seen. Where memory is refused for it nothing is noted.
-fn note_seen(alloc: Global, pair: &Pair<'_>, left: &mut Undecided, output: usize, values: Vec<bool>)
-    requires within { output < length pair.now.first.outputs }
-    requires chosen { is_chosen_at pair.now output ≡ true }
-    requires size { length values.items ≡ length pair.now.first.inputs }
-    requires differs { differs_under (netlist_of pair.now.first) (netlist_of pair.now.second) (assumption_of pair.now) (slice_index_or pair.now.first.outputs output []) values.items ≡ true }
-    ensures seen { IsLeftOf pair.now left.old → IsLeftOf pair.now left.new }
-    ensures none { AddsNone left.old left.new }
+/// The report by diagrams on one thread, or why it stopped. Most comparisons take less time there than a forest to begin. Few nodes a
+/// forest has as fast, and uses again.
+fn first_diagrams<R: Threads + Wait + Sync, P: Progress<R> + Sync>(
+    comparison: &Comparison<'_, R, P>,
+    alike: &Alike,
+) -> Result<Report, Stop>
+    requires options { options_code comparison.now.options.now ≡ None }
+    requires known { IsKnown comparison.now.pair.now alike.now }
+    ensures report { IfOk result (λ report. report_of report ≡ pair_report comparison.now.options.now.every comparison.now.pair.now) }
 {
-    if let Ok(difference) = shown(alloc, pair.first(), output, values)
-        && let Ok(inputs) = copied(alloc, pair.first().inputs())
-    {
-        left.see(Seen { inputs, difference });
+    if comparison.options.nodes < SWEPT_NODES {
+        return Err(Stop::NodeLimit);
     }
+    in_room(comparison, Room::First, alike)
 }
 
 /// The report by searches for differences with so many conflicts, or 71 where these don't do, with the difference that was seen
@@ -235,7 +241,7 @@ fn behind_first<R: Threads + Wait + Sync, P: Progress<R> + Sync>(
     }
 }
 
-/// Compares a pair for a run, which does more than `check`: an output whose two signals have one structure is equal, and is not
+/// Decides a pair for a run, which does more than `check`: an output whose two signals have one structure is equal, and is not
 /// compared, and one diagram is built for all signals of one structure, of both netlists. Where diagrams on one thread don't
 /// decide it, the same holds of signals that are proved equal inside the netlists, and outputs are searched for differences
 /// before all workers make diagrams, and once more where that doesn't do. Where memory for any of that is refused, the run goes
@@ -246,7 +252,7 @@ fn behind_first<R: Threads + Wait + Sync, P: Progress<R> + Sync>(
 /// it is told before that begins. Where it is given up, the outputs that are left are added to those in `left`, with what was seen of
 /// one that differs. The errors are the node limit 71, also where operations took too many turns, want of memory 72, the limit of
 /// references 73, and 74 where a thread could not be started.
-pub fn check_alike<R: Threads + Wait + Sync, P: Progress<R> + Sync>(
+pub fn decide_pair<R: Threads + Wait + Sync, P: Progress<R> + Sync>(
     comparison: &Comparison<'_, R, P>,
     left: &mut Undecided,
 ) -> Result<Report, Stop>
@@ -258,12 +264,7 @@ pub fn check_alike<R: Threads + Wait + Sync, P: Progress<R> + Sync>(
 {
     comparison.watch.stage(comparison.rt, Stage::Structure);
     let mut alike = alike_or_nothing(comparison.alloc, comparison.pair);
-    // Most comparisons take less time on one thread than a forest to begin. Few nodes a forest has as fast, and uses again.
-    let first = if comparison.options.nodes < SWEPT_NODES {
-        Err(Stop::NodeLimit)
-    } else {
-        in_room(comparison, Room::First, &alike)
-    };
+    let first = first_diagrams(comparison, &alike);
     let report = match first {
         Err(Stop::NodeLimit) => behind_first(comparison, &mut alike, left),
         report => report,

@@ -2,7 +2,7 @@ use Rattle.std.proofs.Common.{◌≡◌, map}
 use Rattle.std.specs.List.{All}
 use Rattle.eqc_report.specs.ReportView.{difference_of}
 use Rattle.eqc_report.specs.PairReport.{shown_of, IsFoundOf}
-use Rattle.eqc_report.proofs.checking.all_shown.Given as goal
+use Rattle.eqc_report.proofs.found.all_shown.Given as goal
 
 abbrev pub invariant-loop-output : goal.invariant-loop-output
 invariant-loop-output l = record {

@@ -3,7 +3,7 @@ use Rattle.eqc_compare.specs.declared.outcome.Difference.{Difference}
 use Rattle.eqc_report.specs.ReportView.{difference_of}
 use Rattle.eqc_report.specs.PairReport.{shown_of, IsFoundOf}
 use Rattle.eqc_report.proofs.FoundLaws.{difference_shown, shown_next}
-use Rattle.eqc_report.proofs.checking.all_shown.Goals as goal
+use Rattle.eqc_report.proofs.found.all_shown.Goals as goal
 
 pub loop-output-preserved : goal.loop-output-preserved
 loop-output-preserved c =

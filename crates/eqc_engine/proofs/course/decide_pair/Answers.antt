@@ -4,8 +4,8 @@ use Rattle.eqc_compare.specs.Alike.{AreEqual}
 use Rattle.eqc_report.specs.Left.{AddsNone}
 use Rattle.eqc_report.specs.declared.undecided.Undecided.{Undecided}
 use Rattle.eqc_report.proofs.LeftLaws.{adds-behind, none-added}
-use Rattle.eqc_report.proofs.course.check_alike.Goals.{in-Err-NodeLimit, in_default, in_default-2}
-use Rattle.eqc_report.proofs.course.check_alike.Goals as goal
+use Rattle.eqc_engine.proofs.course.decide_pair.Goals.{in-Err-NodeLimit, in_default, in_default-2}
+use Rattle.eqc_engine.proofs.course.decide_pair.Goals as goal
 
 pub returns-clause-left : goal.returns-clause-left
 returns-clause-left g c =

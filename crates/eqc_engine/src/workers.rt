@@ -7,15 +7,13 @@ ghost use Rattle.eqc_report.specs.PairReport.{pair_report};
 ghost use Rattle.eqc_report.specs.ReportView.{report_of};
 ghost use Rattle.eqc_report.specs.Options.{options_code};
 
-use crate::checking::found_report;
-use crate::options::Options;
-use crate::report::Report;
 use crate::watched::{Watched, all_watched};
 use eqc_apply::{Allowance, Applier, team_with};
 use eqc_compare::{Alike, Gate, Progress, compare_known, is_settled};
 use eqc_members::{Patience, compare_by_members};
 use eqc_pair::Pair;
 use eqc_plain::Plain;
+use eqc_report::{Options, Report, found_report};
 use eqc_tree::{Diagrams, References, Stop};
 use std::alloc::Global;
 use std::sync::Wait;
