@@ -6,18 +6,18 @@ ghost use Rattle.std.specs.Option.{option_copied};
 ghost use Rattle.eqc_blif.specs.Reading.{outcome};
 ghost use Rattle.eqc_hierarchy.specs.Codes.{flat_code};
 ghost use Rattle.eqc_flat.specs.Flattened.{IsFlatOf};
-ghost use Rattle.eqc_check.specs.Refusing.{IsRefused, flat_answer, flat_assumed};
+ghost use Rattle.eqc_case.specs.Refusing.{IsRefused, flat_answer, flat_assumed};
 ghost use Rattle.eqc_compare.specs.Comparing.{netlist_of};
 ghost use Rattle.eqc_report.specs.ReportView.{report_of};
 ghost use Rattle.eqc_report.specs.Options.{options_code};
-ghost use Rattle.eqc_check.specs.Answer.{MainOf, first_found, assumption_found, assumption_answer, models_answer, texts_answer, MayStop};
-ghost use Rattle.eqc_check.specs.Sources.{given_of, IsSecond};
-ghost use Rattle.eqc_check.specs.Telling.{IsToldRefusal, IsToldWith, Tells};
+ghost use Rattle.eqc_case.specs.Answer.{MainOf, first_found, assumption_found, assumption_answer, models_answer, texts_answer, MayStop};
+ghost use Rattle.eqc_case.specs.Sources.{given_of, IsSecond};
+ghost use Rattle.eqc_case.specs.Telling.{IsToldRefusal, IsToldWith, Tells};
 
-use crate::choice::{Main, choose, read_main};
-use crate::given::{Case, bytes_of};
-use crate::warning::{Warnings, warnings_in_one, warnings_in_two};
 use eqc_blif::{Library, Refusal};
+use eqc_case::{
+    Case, Main, Told, Warnings, bytes_of, choose, read_main, warnings_in_one, warnings_in_two,
+};
 use eqc_compare::Progress;
 use eqc_engine::{Comparison, decide_pair};
 use eqc_flat::{Fault, FaultOfTwo, Flat, flatten, flatten_two};
@@ -27,36 +27,6 @@ use eqc_tree::Stop;
 use std::alloc::{AllocError, Global};
 use std::sync::Wait;
 use std::thread::Threads;
-
-/// A report, and the warnings on the models that were compared for it.
-#[derive(Drop)]
-pub(crate) struct Told {
-    pub report: Report,
-    pub warnings: Warnings,
-}
-
-impl Told {
-    /// A report that compares nothing, without warnings.
-    pub fn alone(report: Report) -> Told
-        ensures { result.report ≡ report }
-    {
-        Told {
-            report,
-            warnings: Warnings::none(),
-        }
-    }
-
-    /// What is told, or the stop that came in its place.
-    pub fn of(answer: Result<Told, Stop>) -> Told
-        ensures told { IfOk answer (λ told. result ≡ told) }
-        ensures stop { IfErr answer (λ stop. result.report ≡ Report.Stopped stop) }
-    {
-        match answer {
-            Ok(told) => told,
-            Err(stop) => Told::alone(Report::Stopped(stop)),
-        }
-    }
-}
 
 /// A case that is decided on.
 #[derive(Drop)]

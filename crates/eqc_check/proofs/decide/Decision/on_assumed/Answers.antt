@@ -4,8 +4,8 @@ use Rattle.eqc_report.specs.declared.options.Options.{Options}
 use Rattle.eqc_report.specs.PairReport.{pair_report}
 use Rattle.eqc_report.specs.ReportView.{report_of}
 use Rattle.eqc_compare.specs.Comparing.{netlist_of}
-use Rattle.eqc_check.specs.Sources.{given_of}
-use Rattle.eqc_check.proofs.ReportsLaws.{reported, stop_alike, pair_compared, compared_stop, assumption_taken}
+use Rattle.eqc_case.specs.Sources.{given_of}
+use Rattle.eqc_case.proofs.ReportsLaws.{reported, stop_alike, pair_compared, compared_stop, assumption_taken}
 use Rattle.eqc_check.proofs.decide.Decision.on_assumed.Goals as goal
 
 pub returns-in-Ok-clause-report : goal.returns-in-Ok-clause-report

@@ -5,10 +5,10 @@ use Rattle.eqc_report.specs.declared.options.Options.{Options}
 use Rattle.eqc_report.specs.PairReport.{pair_report}
 use Rattle.eqc_report.specs.ReportView.{report_of}
 use Rattle.eqc_compare.specs.Comparing.{netlist_of}
-use Rattle.eqc_check.specs.declared.given.Case.{Case}
-use Rattle.eqc_check.specs.Answer.{compared, assumption_found, assumption_answer, assumed_answer}
-use Rattle.eqc_check.specs.Sources.{items_of, given_of}
-use Rattle.eqc_check.proofs.ReportsLaws.{reported, stop_alike, pair_compared, compared_stop, behind_pair, refused_stop}
+use Rattle.eqc_case.specs.declared.given.Case.{Case}
+use Rattle.eqc_case.specs.Answer.{compared, assumption_found, assumption_answer, assumed_answer}
+use Rattle.eqc_case.specs.Sources.{items_of, given_of}
+use Rattle.eqc_case.proofs.ReportsLaws.{reported, stop_alike, pair_compared, compared_stop, behind_pair, refused_stop}
 use Rattle.eqc_check.proofs.decide.Decision.on_flats.Goals as goal
 
 pub returns-in-None-clause-report : goal.returns-in-None-clause-report

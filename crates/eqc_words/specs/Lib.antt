@@ -1,0 +1,3 @@
+pub mod CommandLine
+pub mod Sources
+pub mod Warnings
