@@ -8,10 +8,10 @@ use Rattle.eqc_report.specs.Ends.{AppendsPrefix}
 use Rattle.eqc_case.specs.Running.{IsCutOff}
 use Rattle.eqc_report.specs.declared.io.fault.RunFault.{RunFault}
 use Rattle.eqc_report.specs.declared.io.fault.RunFault.TheVariants.{Memory, Read, Write}
-use Rattle.eqc_words.specs.Sources.{source_remaining, AreAskedFor}
+use Rattle.eqc_command.specs.Sources.{source_remaining, AreAskedFor}
 use Rattle.eqc_words.specs.declared.command_line.Request.{Request}
 use Rattle.eqc_command.specs.declared.ending.End.TheVariants.{Failed}
-use Rattle.eqc_words.specs.declared.source.Sources.{Sources}
+use Rattle.eqc_command.specs.declared.source.Sources.{Sources}
 use Rattle.eqc_command.specs.Ends.{Grows, given_by, MayBeExplained, IsRunEnd, IsShowing, fault_text}
 use Rattle.eqc_report.proofs.ReportLemmas.{two_digits}
 

@@ -20,14 +20,14 @@ use Rattle.eqc_case.specs.Running.{IsAnswered, IsCutOff}
 use Rattle.eqc_case.specs.Answer.{NamesOf}
 use Rattle.eqc_case.specs.Warning.{IsWarned}
 use Rattle.eqc_case.specs.declared.warning.Warnings.{Warnings}
-use Rattle.eqc_words.specs.Warnings.{warnings_text, IsToldOf}
+use Rattle.eqc_telling.specs.Warnings.{warnings_text, IsToldOf}
 use Rattle.eqc_words.specs.CommandLine.{eqc_app, rows_asked, IsAsked}
-use Rattle.eqc_words.specs.Sources.{source_remaining, AreAskedFor}
+use Rattle.eqc_command.specs.Sources.{source_remaining, AreAskedFor}
 use Rattle.eqc_words.specs.declared.command_line.Request.{Request}
 use Rattle.eqc_command.specs.declared.ending.End.{End}
 use Rattle.eqc_command.specs.declared.ending.End.TheVariants.{Reported, Helped, Failed, BadWords}
-use Rattle.eqc_words.specs.declared.source.Source.{Source}
-use Rattle.eqc_words.specs.declared.source.Sources.{Sources}
+use Rattle.eqc_command.specs.declared.source.Source.{Source}
+use Rattle.eqc_command.specs.declared.source.Sources.{Sources}
 
 -- the exit status
 abbrev pub status_code : End → ℕ

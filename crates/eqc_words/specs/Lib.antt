@@ -1,3 +1,1 @@
 pub mod CommandLine
-pub mod Sources
-pub mod Warnings

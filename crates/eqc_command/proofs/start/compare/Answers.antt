@@ -1,7 +1,7 @@
 use Rattle.std.proofs.Common.{◌∙◌, ap}
 use Rattle.std.specs.Prelude.{Err}
 use Rattle.eqc_command.specs.Ends.{IsRun}
-use Rattle.eqc_words.specs.Sources.{source_remaining}
+use Rattle.eqc_command.specs.Sources.{source_remaining}
 use Rattle.eqc_command.proofs.EndLemmas.{run_failed}
 use Rattle.eqc_command.proofs.start.compare.Goals.{then-request, else-request}
 use Rattle.eqc_command.proofs.start.compare.Goals as goal

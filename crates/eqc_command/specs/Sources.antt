@@ -4,9 +4,9 @@ use Rattle.std.specs.Borrow.{Bor}
 use Rattle.eqc_case.specs.declared.given.Texts.{Texts}
 use Rattle.eqc_case.specs.declared.given.Texts.TheVariants.{One, Two}
 use Rattle.eqc_words.specs.declared.command_line.Request.{Request}
-use Rattle.eqc_words.specs.declared.source.Source.{Source}
-use Rattle.eqc_words.specs.declared.source.Source.TheVariants.{Input, File}
-use Rattle.eqc_words.specs.declared.source.Sources.{Sources}
+use Rattle.eqc_command.specs.declared.source.Source.{Source}
+use Rattle.eqc_command.specs.declared.source.Source.TheVariants.{Input, File}
+use Rattle.eqc_command.specs.declared.source.Sources.{Sources}
 
 -- the bytes that a source has left
 abbrev pub source_remaining : {R F : Type 0} → (R → Option (List ℕ)) → (F → Option (List ℕ)) → Source R F → Option (List ℕ)

@@ -4,7 +4,7 @@ use Rattle.std.specs.Prelude.{Result, Ok, Err, OnOk, OnErr, is_ok, if◌then◌e
 use Rattle.std.specs.Io.KnownBytes.{Appends}
 use Rattle.std.proofs.lemmas.List.{take_all}
 use Rattle.eqc_report.specs.Ends.{AppendsPrefix}
-use Rattle.eqc_words.specs.Warnings.{warning_line, IsToldOf}
+use Rattle.eqc_telling.specs.Warnings.{warning_line, IsToldOf}
 use Rattle.eqc_case.specs.declared.warning.Contained.{Contained}
 
 -- a text that was written whole, or a part of it, is a part of it

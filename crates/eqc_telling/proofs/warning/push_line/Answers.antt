@@ -1,5 +1,5 @@
-use Rattle.eqc_words.proofs.WarningLemmas.{line_pushed}
-use Rattle.eqc_words.proofs.warning.push_line.Goals as goal
+use Rattle.eqc_telling.proofs.WarningLemmas.{line_pushed}
+use Rattle.eqc_telling.proofs.warning.push_line.Goals as goal
 
 pub returns : goal.returns
 returns c =

@@ -1,9 +1,9 @@
 //! Where the texts come from: standard input and files.
 ghost use Rattle.std.specs.Prelude.{IfOk};
-ghost use Rattle.eqc_words.specs.Sources.{source_remaining, IsFileOf, MayBeFileOf, AreFilesOf, AreAskedFor};
+ghost use Rattle.eqc_command.specs.Sources.{source_remaining, IsFileOf, MayBeFileOf, AreFilesOf, AreAskedFor};
 
-use crate::command_line::Request;
 use eqc_case::Texts;
+use eqc_words::Request;
 use std::fs::File;
 use std::io;
 use std::io::Read;

@@ -1,11 +1,11 @@
 //! Warnings: a model is compared that another model of its text contains.
 ghost use Rattle.std.specs.Prelude.{◌≡◌, ◌++◌, IfOk, OnOk};
 ghost use Rattle.std.specs.Option.{option_map};
-ghost use Rattle.eqc_words.specs.Warnings.{warning_line, warning_lines, warnings_text, first_source, second_source, IsToldOf};
+ghost use Rattle.eqc_telling.specs.Warnings.{warning_line, warning_lines, warnings_text, first_source, second_source, IsToldOf};
 
-use crate::command_line::Request;
 use eqc_case::{Contained, Warnings};
 use eqc_report::write_text;
+use eqc_words::Request;
 use std::alloc::{AllocError, Global};
 use std::io::Write;
 

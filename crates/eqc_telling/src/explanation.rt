@@ -3,7 +3,6 @@
 //! A path of an instance is read from the main model down: `2:adder/1:cell` is, in the second `.subckt` of the main model, an
 //! `adder`, its first one, a `cell`.
 
-use crate::command_line::Request;
 use crate::warning::{first_source, second_source};
 use eqc_blif::{Finding as TextFinding, Library};
 use eqc_case::Diagnostics;
@@ -11,6 +10,7 @@ use eqc_flat::{Circle, Finding, FoundFormal, FoundInstance, HierarchicalName};
 use eqc_pair::{Finding as PairFinding, Side, Unmatched};
 use eqc_report::{Options, RunFault, Seen, Undecided};
 use eqc_tree::Stop;
+use eqc_words::Request;
 use std::alloc::{AllocError, Global};
 use std::fmt::{Display, Formatter};
 use std::{fmt, io};

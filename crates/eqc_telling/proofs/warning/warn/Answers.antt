@@ -1,8 +1,8 @@
 use Rattle.std.proofs.Common.{◌≡◌, ◌∙◌, ap, sym, length}
 use Rattle.std.proofs.lemmas.Bool.{eqb-false}
-use Rattle.eqc_words.specs.Warnings.{warnings_text}
-use Rattle.eqc_words.proofs.WarningLemmas.{told_of}
-use Rattle.eqc_words.proofs.warning.warn.Goals as goal
+use Rattle.eqc_telling.specs.Warnings.{warnings_text}
+use Rattle.eqc_telling.proofs.WarningLemmas.{told_of}
+use Rattle.eqc_telling.proofs.warning.warn.Goals as goal
 
 pub returns-then-not-is_empty : goal.returns-then-not-is_empty
 returns-then-not-is_empty g c =
