@@ -1,6 +1,14 @@
 //! Which report a case gets: the refusal by the first check that fails, or the comparison of two models. The functions stand in
-//! the order of the checks: the texts and the choice of their models, the hierarchies, the pair with the names of outputs and the
-//! order text, the assumption.
+//! the order of the checks, and each hands on what it made, which the next one borrows:
+//!
+//! | | What | Call | In |
+//! |---|---|---|---|
+//! | 1 | the first text and the choice of its model | `read_main` | `decide` |
+//! | 2 | the second model, of the same text or of another | `choose`, `read_main` | `on_one`, `on_two` |
+//! | 3 | the hierarchies | `flatten_two`, `flatten` | `on_both`, `on_models` and `on_second` |
+//! | 4 | the pair, the names of outputs, the order text | `pair_choosing` | `on_flats` |
+//! | 5 | the assumption's text and model, its hierarchy, what is asked of it | `read_main`, `flatten`, `Pair::assuming` | `on_assumption`, `on_main`, `on_assumed` |
+//! | 6 | the comparison | `decide_pair` | `on_flats`, `on_assumed` |
 ghost use Rattle.std.specs.Prelude.{◌≡◌, ◌≢◌, ◌<◌, length, None, Some, IfOk, IfErr, Ok, MatchResult};
 ghost use Rattle.std.specs.Option.{option_copied};
 ghost use Rattle.eqc_blif.specs.Reading.{outcome};
