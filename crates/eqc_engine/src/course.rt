@@ -12,7 +12,8 @@
 //! | 7 | longer searches | `by_search` | the same as 4 |
 //! | 8 | diagrams by all workers once more, where 6 found some outputs equal | `in_room` | the outputs left, where they fit |
 //!
-//! `decide_pair` has 1 and 2, `behind_first` begins with 3, and `by_sweeping` goes on from there, if only 5 isn't asked for alone.
+//! `decide_pair` has 1 and 2, `behind_first` begins with 3, and `by_sweeping` goes on from there. With few nodes or without conflicts 5
+//! follows 2, and nothing else does.
 ghost use Rattle.std.specs.Prelude.{◌≡◌, Bool, List, None, length, IfOk, IfErr};
 ghost use Rattle.eqc_compare.specs.Alike.{AreEqual, IsKnown};
 ghost use Rattle.eqc_report.specs.PairReport.{pair_report};
