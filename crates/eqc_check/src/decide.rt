@@ -1,61 +1,40 @@
 //! Which report a case gets: the refusal by the first check that fails, or the comparison of two models. The functions stand in
-//! the order of the checks: the texts and the choice of their models, the hierarchies, the pair with the names of outputs and the
-//! order text, the assumption.
+//! the order of the checks, and each hands on what it made, which the next one borrows:
+//!
+//! | | What | Call | In |
+//! |---|---|---|---|
+//! | 1 | the first text and the choice of its model | `read_main` | `decide` |
+//! | 2 | the second model, of the same text or of another | `choose`, `read_main` | `on_one`, `on_two` |
+//! | 3 | the hierarchies | `flatten_two`, `flatten` | `on_both`, `on_models` and `on_second` |
+//! | 4 | the pair, the names of outputs, the order text | `pair_choosing` | `on_flats` |
+//! | 5 | the assumption's text and model, its hierarchy, what is asked of it | `read_main`, `flatten`, `Pair::assuming` | `on_assumption`, `on_main`, `on_assumed` |
+//! | 6 | the comparison | `decide_pair` | `on_flats`, `on_assumed` |
 ghost use Rattle.std.specs.Prelude.{◌≡◌, ◌≢◌, ◌<◌, length, None, Some, IfOk, IfErr, Ok, MatchResult};
 ghost use Rattle.std.specs.Option.{option_copied};
 ghost use Rattle.eqc_blif.specs.Reading.{outcome};
 ghost use Rattle.eqc_hierarchy.specs.Codes.{flat_code};
 ghost use Rattle.eqc_flat.specs.Flattened.{IsFlatOf};
-ghost use Rattle.eqc_check.specs.Refusing.{IsRefused, flat_answer, flat_assumed};
+ghost use Rattle.eqc_case.specs.Refusing.{IsRefused, flat_answer, flat_assumed};
 ghost use Rattle.eqc_compare.specs.Comparing.{netlist_of};
 ghost use Rattle.eqc_report.specs.ReportView.{report_of};
 ghost use Rattle.eqc_report.specs.Options.{options_code};
-ghost use Rattle.eqc_check.specs.Answer.{MainOf, first_found, assumption_found, assumption_answer, models_answer, texts_answer, MayStop};
-ghost use Rattle.eqc_check.specs.Sources.{given_of, IsSecond};
-ghost use Rattle.eqc_check.specs.Telling.{IsToldRefusal, IsToldWith, Tells};
+ghost use Rattle.eqc_case.specs.Answer.{MainOf, first_found, assumption_found, assumption_answer, models_answer, texts_answer, MayStop};
+ghost use Rattle.eqc_case.specs.Sources.{given_of, IsSecond};
+ghost use Rattle.eqc_case.specs.Telling.{IsToldRefusal, IsToldWith, Tells};
 
-use crate::choice::{Main, choose, read_main};
-use crate::given::{Case, bytes_of};
-use crate::warning::{Warnings, warnings_in_one, warnings_in_two};
 use eqc_blif::{Library, Refusal};
+use eqc_case::{
+    Case, Main, Told, Warnings, bytes_of, choose, read_main, warnings_in_one, warnings_in_two,
+};
 use eqc_compare::Progress;
+use eqc_engine::{Comparison, decide_pair};
 use eqc_flat::{Fault, FaultOfTwo, Flat, flatten, flatten_two};
 use eqc_pair::{Pair, Refused, Side, pair_choosing, recall_laws};
-use eqc_report::{Comparison, Report, Undecided, check_alike};
+use eqc_report::{Report, Undecided};
 use eqc_tree::Stop;
 use std::alloc::{AllocError, Global};
 use std::sync::Wait;
 use std::thread::Threads;
-
-/// A report, and the warnings on the models that were compared for it.
-#[derive(Drop)]
-pub(crate) struct Told {
-    pub report: Report,
-    pub warnings: Warnings,
-}
-
-impl Told {
-    /// A report that compares nothing, without warnings.
-    pub fn alone(report: Report) -> Told
-        ensures { result.report ≡ report }
-    {
-        Told {
-            report,
-            warnings: Warnings::none(),
-        }
-    }
-
-    /// What is told, or the stop that came in its place.
-    pub fn of(answer: Result<Told, Stop>) -> Told
-        ensures told { IfOk answer (λ told. result ≡ told) }
-        ensures stop { IfErr answer (λ stop. result.report ≡ Report.Stopped stop) }
-    {
-        match answer {
-            Ok(told) => told,
-            Err(stop) => Told::alone(Report::Stopped(stop)),
-        }
-    }
-}
 
 /// A case that is decided on.
 #[derive(Drop)]
@@ -225,7 +204,7 @@ impl<'x, R: Threads + Wait + Sync, P: Progress<R> + Sync> Decision<'x, R, P> {
         let order = bytes_of(&case.order);
         match pair_choosing(self.alloc, first, second, case.outputs.names, order) {
             Ok(pair) => match &case.assume {
-                None => check_alike(&self.comparison(&pair), left),
+                None => decide_pair(&self.comparison(&pair), left),
                 Some(text) => self.on_assumption(pair, text, left),
             },
             Err(Refused { side, line, code }) => refused(side, Refusal { line, code }),
@@ -286,7 +265,7 @@ impl<'x, R: Threads + Wait + Sync, P: Progress<R> + Sync> Decision<'x, R, P> {
         ensures stop { IfErr result (MayStop (flat_assumed (given_of self.now.case.now) pair.entry.first pair.entry.second assumed.now)) }
     {
         match pair.assuming(self.alloc, assumed) {
-            Ok(pair) => check_alike(&self.comparison(&pair), left),
+            Ok(pair) => decide_pair(&self.comparison(&pair), left),
             Err(refusal) => {
                 let Refused { side, line, code } = refusal;
                 refused(side, Refusal { line, code })

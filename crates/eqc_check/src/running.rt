@@ -3,15 +3,14 @@ ghost use Rattle.std.specs.Prelude.{◌≡◌, ◌≢◌, IfOk, IfErr, OnErr, Ok
 ghost use Rattle.eqc_report.specs.ReportView.{report_of};
 ghost use Rattle.eqc_report.specs.Options.{options_code};
 ghost use Rattle.eqc_report.specs.Written.{IsWritten, IsCutShort};
-ghost use Rattle.eqc_check.specs.Running.{unnamed, IsReportFor, IsAnswered, IsCutOff};
-ghost use Rattle.eqc_check.specs.Warning.{warnings_at, IsWarned, WarnsOfKnown};
+ghost use Rattle.eqc_case.specs.Running.{unnamed, IsReportFor, IsAnswered, IsCutOff};
+ghost use Rattle.eqc_case.specs.Warning.{warnings_at, IsWarned, WarnsOfKnown};
 
-use crate::choice::{ModelNames, OutputNames};
-use crate::decide::{Told, decide};
-use crate::diagnostics::{Diagnostics, NoDiagnostics};
-use crate::explaining::tell_of_case;
-use crate::given::{Case, Given, Texts, Unread, read_given};
-use crate::warning::Warnings;
+use crate::decide::decide;
+use eqc_case::{
+    Case, Diagnostics, Given, ModelNames, NoDiagnostics, OutputNames, Texts, Told, Unread,
+    Warnings, read_given, tell_of_case,
+};
 use eqc_compare::{NoGate, Progress, Stage};
 use eqc_pair::{Refused, Side};
 use eqc_report::{

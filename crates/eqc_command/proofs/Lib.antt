@@ -1,2 +1,1 @@
-pub mod WordLemmas
 pub mod EndLemmas

@@ -13,17 +13,17 @@ use Rattle.eqc_report.specs.declared.io.fault.RunFault.{RunFault}
 use Rattle.eqc_report.specs.declared.io.fault.RunFault.TheVariants as run_fault
 use Rattle.eqc_report.specs.declared.report.Status.{Status}
 use Rattle.eqc_report.specs.declared.report.Status.TheVariants.{Equivalent, Differs, Vacuous, Refused, Stopped}
-use Rattle.eqc_check.specs.declared.given.Given.{Given}
+use Rattle.eqc_case.specs.declared.given.Given.{Given}
 use Rattle.eqc_check.specs.declared.running.Finished.{Finished}
 use Rattle.eqc_report.specs.Ends.{AppendsPrefix, fault_code}
-use Rattle.eqc_check.specs.Running.{IsAnswered, IsCutOff}
-use Rattle.eqc_check.specs.Answer.{NamesOf}
-use Rattle.eqc_check.specs.Warning.{IsWarned}
-use Rattle.eqc_check.specs.declared.warning.Warnings.{Warnings}
-use Rattle.eqc_command.specs.Warnings.{warnings_text, IsToldOf}
-use Rattle.eqc_command.specs.CommandLine.{eqc_app, rows_asked, IsAsked}
+use Rattle.eqc_case.specs.Running.{IsAnswered, IsCutOff}
+use Rattle.eqc_case.specs.Answer.{NamesOf}
+use Rattle.eqc_case.specs.Warning.{IsWarned}
+use Rattle.eqc_case.specs.declared.warning.Warnings.{Warnings}
+use Rattle.eqc_telling.specs.Warnings.{warnings_text, IsToldOf}
+use Rattle.eqc_words.specs.CommandLine.{eqc_app, rows_asked, IsAsked}
 use Rattle.eqc_command.specs.Sources.{source_remaining, AreAskedFor}
-use Rattle.eqc_command.specs.declared.command_line.Request.{Request}
+use Rattle.eqc_words.specs.declared.command_line.Request.{Request}
 use Rattle.eqc_command.specs.declared.ending.End.{End}
 use Rattle.eqc_command.specs.declared.ending.End.TheVariants.{Reported, Helped, Failed, BadWords}
 use Rattle.eqc_command.specs.declared.source.Source.{Source}

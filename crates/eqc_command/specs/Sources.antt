@@ -1,9 +1,9 @@
 -- Which texts are opened for what a command line asks for.
 use Rattle.std.specs.Prelude.{◌≡◌, ℕ, List, Option, Some, None}
 use Rattle.std.specs.Borrow.{Bor}
-use Rattle.eqc_check.specs.declared.given.Texts.{Texts}
-use Rattle.eqc_check.specs.declared.given.Texts.TheVariants.{One, Two}
-use Rattle.eqc_command.specs.declared.command_line.Request.{Request}
+use Rattle.eqc_case.specs.declared.given.Texts.{Texts}
+use Rattle.eqc_case.specs.declared.given.Texts.TheVariants.{One, Two}
+use Rattle.eqc_words.specs.declared.command_line.Request.{Request}
 use Rattle.eqc_command.specs.declared.source.Source.{Source}
 use Rattle.eqc_command.specs.declared.source.Source.TheVariants.{Input, File}
 use Rattle.eqc_command.specs.declared.source.Sources.{Sources}

@@ -3,7 +3,7 @@ ghost use Rattle.std.specs.Prelude.{◌≡◌};
 ghost use Rattle.eqc_command.specs.Ends.{fault_text, status_code, IsTold};
 
 use clap::Error;
-use eqc_check::{RunFault, Status, write_text};
+use eqc_report::{RunFault, Status, write_text};
 use std::alloc::Global;
 use std::io::Write;
 

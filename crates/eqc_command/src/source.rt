@@ -2,8 +2,8 @@
 ghost use Rattle.std.specs.Prelude.{IfOk};
 ghost use Rattle.eqc_command.specs.Sources.{source_remaining, IsFileOf, MayBeFileOf, AreFilesOf, AreAskedFor};
 
-use crate::command_line::Request;
-use eqc_check::Texts;
+use eqc_case::Texts;
+use eqc_words::Request;
 use std::fs::File;
 use std::io;
 use std::io::Read;

@@ -5,17 +5,15 @@ ghost use Rattle.std.specs.Thread.{IsSync};
 ghost use Rattle.clap.specs.Values.{kind_of};
 ghost use Rattle.eqc_command.specs.Ends.{names_of, given_by, IsRun, IsRunEnd, MayBeExplained, IsShowing, IsHelpEnd, IsEnd, IsDone};
 
-use crate::command_line::{Request, read_words};
 use crate::ending::{End, tell};
-use crate::explanation::{Explanation, explanation_for};
-use crate::progress::Watch;
 use crate::source::{Source, Sources, Unopened, open};
-use crate::warning::warn;
 use clap::Error;
 use clap::error::ErrorKind;
 use eqc_check::{
     Finished, Given, ModelNames, NoGate, OutputNames, RunFault, run_explained, write_text,
 };
+use eqc_telling::{Explanation, Watch, explanation_for, warn};
+use eqc_words::{Request, read_words};
 use std::alloc::{AllocError, Global};
 use std::io::{Read, Write};
 use std::rt::{Clock, Files};

@@ -9,10 +9,11 @@ use eqc_blif::{Library, read};
 use eqc_check::{
     Gate, NoGate, Options, Pair, Report, Status, Texts, check, check_with, options_fault, pair, run,
 };
+use eqc_engine::{Comparison, decide_pair};
 use eqc_flat::Flat;
 use eqc_netlist_testing::two_flats;
 use eqc_plain::Plain;
-use eqc_report::{Comparison, Undecided, check_alike};
+use eqc_report::Undecided;
 use eqc_testing::{DIFFERENCE, EQUAL, Row, UNEQUAL, is_text, lines};
 use eqc_tree::{References, Stop};
 use std::alloc::{AllocError, Global};
@@ -123,7 +124,7 @@ fn compared_in_course<R: Threads + Wait + Sync>(
         watch: &NoGate,
     };
     match options_fault(&options) {
-        None => check_alike(&comparison, &mut Undecided::none(alloc)),
+        None => decide_pair(&comparison, &mut Undecided::none(alloc)),
         Some(_) => Err(Stop::NodeLimit),
     }
 }

@@ -5,6 +5,7 @@ ghost use Rattle.eqc_gates.specs.Entering.{AreClosed};
 ghost use Rattle.eqc_inside.specs.Inside.{IsInside};
 
 use crate::inside::Inside;
+use crate::rounds::Rounds;
 use crate::searching::difference_literal;
 use eqc_build::Steps;
 use eqc_compare::{Alike, Progress, is_marked};
@@ -193,6 +194,7 @@ impl<'a> Inside<'a> {
         steps: Steps<'a>,
         wanted: Wanted,
         sweep: Sweep,
+        rounds: &Rounds,
         watch: &P,
     ) -> Result<Inside<'a>, AllocError>
         requires { AreClosed steps wanted.marks.items }
@@ -200,7 +202,7 @@ impl<'a> Inside<'a> {
     {
         let mut sweep = sweep;
         let literals = entered(rt, alloc, &steps, &wanted.marks, &mut sweep, watch)?;
-        let work = work_for(sweep.graph().len());
+        let work = rounds.in_proportion(work_for(sweep.graph().len()));
         Ok(Inside {
             steps,
             sweep,
@@ -215,14 +217,15 @@ impl<'a> Inside<'a> {
     /// in place of others is entered for them. Unless `every` output that differs is looked for, those behind the first that is seen
     /// to differ aren't needed. It takes time and memory in proportion to the steps and to the rows of their covers, for each instance
     /// of a model anew, or once for all instances where a cover has at most six columns; where these are very many nothing is entered,
-    /// and nothing is found of any output. The watch is told of each step. Fails where memory is refused.
+    /// and nothing is found of any output. What the first round may cost, and all searches, is told by `rounds`. The watch is told of each
+    /// step. Fails where memory is refused.
     pub fn of<R, P: Progress<R>>(
         rt: &R,
         alloc: Global,
         pair: &'a Pair<'a>,
         alike: &Alike,
         every: bool,
-        effort: Effort,
+        rounds: &Rounds,
         watch: &P,
     ) -> Result<Inside<'a>, AllocError>
         requires { IsKnown pair.now alike.now }
@@ -230,7 +233,7 @@ impl<'a> Inside<'a> {
     {
         let steps = Steps::of(alloc, pair, alike.chosen.clone()?);
         let wanted = entering(alloc, &steps, &alike.equal, every)?;
-        let sweep = Sweep::new(alloc, effort)?;
-        Inside::within(rt, alloc, steps, wanted, sweep, watch)
+        let sweep = Sweep::new(alloc, rounds.effort())?;
+        Inside::within(rt, alloc, steps, wanted, sweep, rounds, watch)
     }
 }

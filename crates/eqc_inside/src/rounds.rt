@@ -54,10 +54,8 @@ pub struct Rounds {
     is_over: bool,
 }
 
-/// Work in proportion to the conflicts that the options give, where it is this with the usual number of them.
-fn in_proportion(work: u64, conflicts: u64) -> u64 {
-    (work / 1_000).saturating_mul(conflicts) / 100
-}
+/// The usual number of conflicts.
+const USUAL: u64 = 100_000;
 
 impl Rounds {
     /// Before the first round over two netlists, with what so many conflicts are worth for all of them.
@@ -78,6 +76,11 @@ impl Rounds {
         !self.is_over && self.left > 0
     }
 
+    /// Work in proportion to the conflicts that the options give, where it is so much with the usual number of them.
+    pub(crate) fn in_proportion(&self, work: u64) -> u64 {
+        work.saturating_mul(self.conflicts) / USUAL
+    }
+
     /// What the next round may cost.
     pub fn effort(&self) -> Effort {
         let (question, part) = match LEVELS.get(self.level) {
@@ -92,8 +95,7 @@ impl Rounds {
         } else {
             (LONG_NODE, LONG_WHOLE)
         };
-        let whole = in_proportion(whole, self.conflicts);
-        effort.within(in_proportion(node, self.conflicts), whole)
+        effort.within(self.in_proportion(node), self.in_proportion(whole))
     }
 
     /// From now on rounds may cost all that there is. Where the last one gave no question up there is none.

@@ -1,8 +1,8 @@
-//! The tests of what is asked inside of netlists: graphs, clauses that hints show, searches, and graphs in which equal nodes are
-//! one.
+//! The tests of what is asked inside of netlists: graphs, clauses that hints show, searches, graphs in which equal nodes are one, and
+//! least assignments of literals.
 //!
 //! - `graphs`, of `eqc_graph`, and the graphs that the others ask about; `clauses`, of `eqc_clause`; `questions`, of `eqc_search`;
-//!   `sweeps`, of `eqc_sweep`
+//!   `sweeps`, of `eqc_sweep`; `witnesses`, least assignments, of `eqc_witness`
 //! - `ends`, what ends a test
 #![tactic(auto)]
 
@@ -16,3 +16,5 @@ mod graphs;
 mod questions;
 #[cfg(test)]
 mod sweeps;
+#[cfg(test)]
+mod witnesses;

@@ -5,5 +5,4 @@ pub mod ReportLemmas
 pub mod WrittenLemmas
 pub mod FoundLaws
 pub mod EvaluationLaws
-pub mod WatchedLemmas
 pub mod LeftLaws

@@ -8,7 +8,6 @@ use Rattle.std.proofs.lemmas.List.Folds.{list_any_at, Any-from_list_any}
 use Rattle.std.proofs.lemmas.List.FromFn.{length-range_with_len, get_or-range_with_len}
 use Rattle.std.specs.Int.Count.{ones_step}
 use Rattle.std.specs.List.{range_with_len}
-use Rattle.eqc_apply.specs.Teaming.{AreTeamSizes}
 use Rattle.eqc_report.specs.declared.options.Options.{Options}
 use Rattle.eqc_report.specs.Options.{is_cell_count, is_between, options_code}
 
@@ -80,7 +79,7 @@ some_cells : (n : ℕ) → is_cell_count n ≡ true → (1 ≤ n) × (n ≤ 1048
 some_cells n e = let b = cell_count_bits n e in (let one = b.0 in omega (arith, ones_le_self n), b.1)
 
 -- a team may be made with options in their ranges
-pub options_in_range : (o : Options) → options_code o ≡ None → AreTeamSizes o.nodes o.cells o.workers o.forks
+pub options_in_range : (o : Options) → options_code o ≡ None → ((1 ≤ o.nodes) × (o.nodes ≤ 1048574)) × ((1 ≤ o.cells) × (o.cells ≤ 1048576)) × ((1 ≤ o.workers) × (o.workers ≤ 64)) × (o.forks ≤ 16)
 options_in_range o e =
     let t = all_tests (is_between 1 64 o.workers) (is_between 1 1048574 o.nodes) (is_cell_count o.cells) (is_between 0 16 o.forks) e in
     (between 1 1048574 o.nodes t.1, some_cells o.cells t.2, between 1 64 o.workers t.0, (between 0 16 o.forks t.3).1)

@@ -1,8 +1,12 @@
-//! The outputs that are left where a comparison is given up.
-ghost use Rattle.std.specs.Prelude.{◌≡◌, ◌⊎◌, ◌+◌, ◌<◌, ◌++◌, [], ◌∷◌, length, vec_len, is_some, false, Some};
+//! The outputs that are left where a comparison is given up, and what was seen of one that differs.
+ghost use Rattle.std.specs.Prelude.{◌≡◌, ◌⊎◌, ◌+◌, ◌<◌, ◌++◌, [], ◌∷◌, length, vec_len, slice_index_or, is_some, true, false, Some};
 ghost use Rattle.std.specs.Option.{option_copied};
+ghost use Rattle.eqc_compare.specs.Verdict.{differs_under};
+ghost use Rattle.eqc_compare.specs.Comparing.{netlist_of, assumption_of, is_chosen_at};
 ghost use Rattle.eqc_report.specs.Left.{is_left, told, AddsLeft, AddsNone};
+ghost use Rattle.eqc_report.specs.Seen.{IsLeftOf};
 
+use crate::found::{copied, shown};
 use crate::report::Difference;
 use eqc_blif::Name;
 use eqc_pair::Pair;
@@ -65,8 +69,8 @@ impl Undecided {
         }
     }
 
-    /// Takes the names of the chosen outputs of a pair that are not marked.
-    pub(crate) fn add_unmarked(&mut self, pair: &Pair<'_>, marks: &[bool])
+    /// Takes the names of the chosen outputs of a pair that are not marked: those that aren't known to be equal.
+    pub fn add_unmarked(&mut self, pair: &Pair<'_>, marks: &[bool])
         ensures seen { self.new.seen ≡ self.old.seen }
         ensures left { AddsLeft pair.now marks.now (length pair.now.first.outputs) self.old self.new }
     {
@@ -79,7 +83,7 @@ impl Undecided {
     }
 
     /// Takes what was seen of an output that differs.
-    pub(crate) fn see(&mut self, seen: Seen)
+    fn see(&mut self, seen: Seen)
         ensures seen { self.new.seen ≡ Some seen }
         ensures none { AddsNone self.old self.new }
     {
@@ -106,5 +110,28 @@ impl Undecided {
         ensures { result ≡ self.now.count }
     {
         self.count
+    }
+}
+
+/// Notes an output, by its position, that differs under an allowed assignment of the first netlist's inputs that was seen. Where
+/// memory is refused for it nothing is noted.
+pub fn note_seen(
+    alloc: Global,
+    pair: &Pair<'_>,
+    left: &mut Undecided,
+    output: usize,
+    values: Vec<bool>,
+)
+    requires within { output < length pair.now.first.outputs }
+    requires chosen { is_chosen_at pair.now output ≡ true }
+    requires size { length values.items ≡ length pair.now.first.inputs }
+    requires differs { differs_under (netlist_of pair.now.first) (netlist_of pair.now.second) (assumption_of pair.now) (slice_index_or pair.now.first.outputs output []) values.items ≡ true }
+    ensures seen { IsLeftOf pair.now left.old → IsLeftOf pair.now left.new }
+    ensures none { AddsNone left.old left.new }
+{
+    if let Ok(difference) = shown(alloc, pair.first(), output, values)
+        && let Ok(inputs) = copied(alloc, pair.first().inputs())
+    {
+        left.see(Seen { inputs, difference });
     }
 }

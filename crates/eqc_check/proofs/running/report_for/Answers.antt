@@ -1,11 +1,11 @@
 use Rattle.std.proofs.Common.{◌≡◌, ◌∙◌, sym, subst, None}
-use Rattle.eqc_check.specs.Answer.{IsComparison}
-use Rattle.eqc_check.specs.Sources.{given_of}
+use Rattle.eqc_case.specs.Answer.{IsComparison}
+use Rattle.eqc_case.specs.Sources.{given_of}
 use Rattle.eqc_report.specs.Options.{options_code}
 use Rattle.eqc_report.specs.ReportView.{report_of}
 use Rattle.eqc_report.specs.declared.report.Report.{Report}
-use Rattle.eqc_check.proofs.RunLaws.{memory_reports, read_reports, read_warns}
-use Rattle.eqc_check.proofs.TellingLaws.{told_or_stopped, warned_or_stopped}
+use Rattle.eqc_case.proofs.RunLaws.{memory_reports, read_reports, read_warns}
+use Rattle.eqc_case.proofs.TellingLaws.{told_or_stopped, warned_or_stopped}
 use Rattle.eqc_check.proofs.running.report_for.Goals as goal
 
 pub returns-in-Err : goal.returns-in-Err

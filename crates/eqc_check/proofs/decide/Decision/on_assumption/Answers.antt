@@ -1,8 +1,8 @@
 use Rattle.std.proofs.Common.{sym, ap}
 use Rattle.eqc_compare.specs.Comparing.{netlist_of}
-use Rattle.eqc_check.specs.Answer.{assumption_found, assumption_answer}
-use Rattle.eqc_check.specs.Sources.{given_of}
-use Rattle.eqc_check.proofs.ReportsLaws.{reported, stop_alike, assumption_fault}
+use Rattle.eqc_case.specs.Answer.{assumption_found, assumption_answer}
+use Rattle.eqc_case.specs.Sources.{given_of}
+use Rattle.eqc_case.proofs.ReportsLaws.{reported, stop_alike, assumption_fault}
 use Rattle.eqc_check.proofs.decide.Decision.on_assumption.Goals as goal
 
 pub returns-in-Err-clause-report : goal.returns-in-Err-clause-report

@@ -1,7 +1,7 @@
 use Rattle.eqc_pair.specs.declared.refused.Side.TheVariants as side
-use Rattle.eqc_check.specs.Answer.{MainOf}
-use Rattle.eqc_check.specs.Sources.{given_of}
-use Rattle.eqc_check.proofs.ReportsLaws.{reported, stop_alike, flat_models, first_fault, second_fault, refused_stop}
+use Rattle.eqc_case.specs.Answer.{MainOf}
+use Rattle.eqc_case.specs.Sources.{given_of}
+use Rattle.eqc_case.proofs.ReportsLaws.{reported, stop_alike, flat_models, first_fault, second_fault, refused_stop}
 use Rattle.eqc_check.proofs.decide.Decision.on_both.Goals as goal
 
 pub returns-in-Ok-clause-report : goal.returns-in-Ok-clause-report

@@ -5,10 +5,10 @@ use Rattle.eqc_report.specs.declared.options.Options.{Options}
 use Rattle.eqc_report.specs.PairReport.{pair_report}
 use Rattle.eqc_report.specs.ReportView.{report_of}
 use Rattle.eqc_compare.specs.Comparing.{netlist_of}
-use Rattle.eqc_check.specs.declared.given.Case.{Case}
-use Rattle.eqc_check.specs.Answer.{compared, assumption_found, assumption_answer, assumed_answer}
-use Rattle.eqc_check.specs.Sources.{items_of, given_of}
-use Rattle.eqc_check.proofs.ReportsLaws.{reported, stop_alike, pair_compared, compared_stop, behind_pair, refused_stop}
+use Rattle.eqc_case.specs.declared.given.Case.{Case}
+use Rattle.eqc_case.specs.Answer.{compared, assumption_found, assumption_answer, assumed_answer}
+use Rattle.eqc_case.specs.Sources.{items_of, given_of}
+use Rattle.eqc_case.proofs.ReportsLaws.{reported, stop_alike, pair_compared, compared_stop, behind_pair, refused_stop}
 use Rattle.eqc_check.proofs.decide.Decision.on_flats.Goals as goal
 
 pub returns-in-None-clause-report : goal.returns-in-None-clause-report
@@ -23,10 +23,10 @@ returns-in-None-clause-report g c =
     let taken : pair_refusal f k given.outputs given.order ≡ None = sym (ap₂ (pair_refusal f k) outputs order) ∙ c.in-Ok.ensures.taken in
     let unasked : assumed_answer given (netlist_of f) (netlist_of k) given.assume ≡ compared given (netlist_of f) (netlist_of k) None =
     ap (λ a. assumed_answer given (netlist_of f) (netlist_of k) (items_of a)) (sym asks ∙ c.in-None.is) in
-    let compares : IfOk c.check_alike.result (λ report. report_of report ≡ pair_report given.options.every c.in-Ok.pair) =
-    reported c.check_alike.result _ _ c.check_alike.ensures.report
+    let compares : IfOk c.decide_pair.result (λ report. report_of report ≡ pair_report given.options.every c.in-Ok.pair) =
+    reported c.decide_pair.result _ _ c.decide_pair.ensures.report
     (ap₂ (λ (o : Options) (x : PairOf). pair_report o.every x) c.comparison.ensures.options c.comparison.ensures.pair) in
-    reported c.check_alike.result _ _ compares
+    reported c.decide_pair.result _ _ compares
     (pair_compared given c.in-Ok.pair f k None c.in-Ok.ensures.netlists.0 c.in-Ok.ensures.netlists.1 c.in-Ok.ensures.chosen.0 (c.in-Ok.ensures.chosen.1 ∙ outputs)
     ∙ (sym unasked ∙ behind_pair f k given taken))
 
@@ -42,7 +42,7 @@ returns-in-None-clause-stop g c =
     let taken : pair_refusal f k given.outputs given.order ≡ None = sym (ap₂ (pair_refusal f k) outputs order) ∙ c.in-Ok.ensures.taken in
     let unasked : assumed_answer given (netlist_of f) (netlist_of k) given.assume ≡ compared given (netlist_of f) (netlist_of k) None =
     ap (λ a. assumed_answer given (netlist_of f) (netlist_of k) (items_of a)) (sym asks ∙ c.in-None.is) in
-    stop_alike c.check_alike.result _ _ (compared_stop given (netlist_of f) (netlist_of k) None c.check_alike.result) (sym unasked ∙ behind_pair f k given taken)
+    stop_alike c.decide_pair.result _ _ (compared_stop given (netlist_of f) (netlist_of k) None c.decide_pair.result) (sym unasked ∙ behind_pair f k given taken)
 
 pub returns-in-Some-clause-stop : goal.returns-in-Some-clause-stop
 returns-in-Some-clause-stop g c =

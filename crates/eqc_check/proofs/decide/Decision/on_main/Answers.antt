@@ -1,9 +1,9 @@
 use Rattle.std.proofs.Common.{refl, Ok}
 use Rattle.eqc_pair.specs.declared.refused.Side.TheVariants as side
 use Rattle.eqc_compare.specs.Comparing.{netlist_of}
-use Rattle.eqc_check.specs.Answer.{MainOf}
-use Rattle.eqc_check.specs.Sources.{given_of}
-use Rattle.eqc_check.proofs.ReportsLaws.{reported, stop_alike, assumption_hierarchy, flat_assumption, refused_stop}
+use Rattle.eqc_case.specs.Answer.{MainOf}
+use Rattle.eqc_case.specs.Sources.{given_of}
+use Rattle.eqc_case.proofs.ReportsLaws.{reported, stop_alike, assumption_hierarchy, flat_assumption, refused_stop}
 use Rattle.eqc_check.proofs.decide.Decision.on_main.Goals as goal
 
 pub returns-in-Ok-clause-report : goal.returns-in-Ok-clause-report

@@ -1,6 +1,6 @@
 use Rattle.eqc_pair.specs.declared.refused.Side.TheVariants as side
-use Rattle.eqc_check.specs.Sources.{given_of}
-use Rattle.eqc_check.proofs.ReportsLaws.{first_fault, refused_stop}
+use Rattle.eqc_case.specs.Sources.{given_of}
+use Rattle.eqc_case.proofs.ReportsLaws.{first_fault, refused_stop}
 use Rattle.eqc_check.proofs.decide.Decision.on_models.Goals as goal
 
 pub returns-in-Ok-clause-report : goal.returns-in-Ok-clause-report

@@ -1,9 +1,9 @@
 use Rattle.std.proofs.Common.{◌≡◌, ◌∙◌, sym, ap, Ok}
-use Rattle.eqc_check.specs.Answer.{MainOf, one_text, read_texts, main_of, chosen, first_found, second_found}
-use Rattle.eqc_check.specs.declared.given.Case.{Case}
-use Rattle.eqc_check.specs.Sources.{items_of, given_of}
-use Rattle.eqc_check.specs.Warning.{warnings_in_one, warnings_on}
-use Rattle.eqc_check.proofs.TellingLaws.{models_tell, one_warned, second_of_one}
+use Rattle.eqc_case.specs.Answer.{MainOf, one_text, read_texts, main_of, chosen, first_found, second_found}
+use Rattle.eqc_case.specs.declared.given.Case.{Case}
+use Rattle.eqc_case.specs.Sources.{items_of, given_of}
+use Rattle.eqc_case.specs.Warning.{warnings_in_one, warnings_on}
+use Rattle.eqc_case.proofs.TellingLaws.{models_tell, one_warned, second_of_one}
 use Rattle.eqc_check.proofs.decide.Decision.on_one.Goals as goal
 
 pub returns-in-Ok : goal.returns-in-Ok

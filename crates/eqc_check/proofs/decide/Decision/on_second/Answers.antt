@@ -1,6 +1,6 @@
 use Rattle.eqc_pair.specs.declared.refused.Side.TheVariants as side
-use Rattle.eqc_check.specs.Sources.{given_of}
-use Rattle.eqc_check.proofs.ReportsLaws.{reported, stop_alike, flat_models, second_fault, refused_stop}
+use Rattle.eqc_case.specs.Sources.{given_of}
+use Rattle.eqc_case.proofs.ReportsLaws.{reported, stop_alike, flat_models, second_fault, refused_stop}
 use Rattle.eqc_check.proofs.decide.Decision.on_second.Goals as goal
 
 pub returns-in-Err-clause-report : goal.returns-in-Err-clause-report

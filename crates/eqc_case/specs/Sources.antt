@@ -1,0 +1,48 @@
+-- What is read of what a run is given.
+use Rattle.std.specs.Prelude.{◌≡◌, ℕ, List, Option, Some, None, IfSome, Vec}
+use Rattle.std.specs.declared.alloc.Global.{Global}
+use Rattle.std.specs.Option.{option_map}
+use Rattle.eqc_case.specs.Answer.{GivenOf, read_texts}
+use Rattle.eqc_case.specs.Reading.{bytes_read}
+use Rattle.eqc_case.specs.declared.given.Given.{Given}
+use Rattle.eqc_case.specs.declared.given.Texts.{Texts}
+use Rattle.eqc_case.specs.declared.given.Texts.TheVariants.{One, Two}
+use Rattle.eqc_case.specs.declared.given.Case.{Case}
+
+-- the bytes of a text that may be missing
+abbrev pub items_of : Option (Vec ℕ Global) → Option (List ℕ)
+items_of text = option_map (λ v. v.items) text
+
+-- a case as what a run is given
+abbrev pub given_of : Case → GivenOf
+given_of case =
+    record { texts = read_texts case.names case.first.items (items_of case.second); order = items_of case.order; assume = items_of case.assume; outputs = case.outputs; options = case.options }
+
+-- a text is the second of two
+abbrev pub IsSecond : Case → List ℕ → Type 0
+IsSecond case text = items_of case.second ≡ Some text
+
+-- what is read of a reader whose bytes are known
+abbrev pub IsRead : Option (List ℕ) → List ℕ → Type 0
+IsRead known text = IfSome known (λ bytes. text ≡ bytes_read bytes)
+
+-- of one that may be missing
+abbrev pub MayBeRead : {R : Type 0} → (R → Option (List ℕ)) → Option R → Option (List ℕ) → Type 0
+MayBeRead remaining None None = Unit {0}
+MayBeRead remaining None (Some text) = ⊥
+MayBeRead remaining (Some reader) None = ⊥
+MayBeRead remaining (Some reader) (Some text) = IsRead (remaining reader) text
+
+-- of one text, or of two
+abbrev pub AreTextsRead : {R : Type 0} → (R → Option (List ℕ)) → Texts R → List ℕ → Option (List ℕ) → Type 0
+AreTextsRead remaining (One text) first second = IsRead (remaining text) first × (second ≡ None)
+AreTextsRead remaining (Two text other) first second = IsRead (remaining text) first × MayBeRead remaining (Some other) second
+
+-- of all that a run is given
+pub record AreRead {R : Type 0} (remaining : R → Option (List ℕ)) (given : Given R) (case : Case) : Type 0 where
+  pub texts : AreTextsRead remaining given.texts case.first.items (items_of case.second)
+  pub order : MayBeRead remaining given.order (items_of case.order)
+  pub assume : MayBeRead remaining given.assume (items_of case.assume)
+  pub names : case.names ≡ given.names
+  pub outputs : case.outputs ≡ given.outputs
+  pub options : case.options ≡ given.options

@@ -1,0 +1,123 @@
+//! What a run is given, and what is read of it.
+ghost use Rattle.std.specs.Prelude.{◌≡◌, IfOk};
+ghost use Rattle.std.specs.Option.{option_copied};
+ghost use Rattle.eqc_case.specs.Sources.{items_of, IsRead, MayBeRead, AreRead};
+
+use crate::choice::{ModelNames, OutputNames};
+use crate::reading::read_text;
+use eqc_pair::Side;
+use eqc_report::{Options, StreamFault};
+use std::alloc::Global;
+use std::io::Read;
+
+/// The texts of a run: one, of which the first two models are compared, or two, of which the main (first) models
+/// are.
+#[derive(Drop)]
+pub enum Texts<R> {
+    One(R),
+    Two(R, R),
+}
+
+/// What a run is given.
+#[derive(Drop)]
+pub struct Given<'a, R> {
+    pub texts: Texts<R>,
+    /// The names of the models that are compared.
+    pub names: ModelNames<'a>,
+    /// The order of variables; without it, the inputs' order in the first netlist.
+    pub order: Option<R>,
+    /// A netlist that says which assignments of the inputs count; without it, all do.
+    pub assume: Option<R>,
+    /// The outputs that are compared.
+    pub outputs: OutputNames<'a>,
+    pub options: Options,
+}
+
+/// What a run was given, with the bytes that were read.
+#[derive(Drop)]
+pub struct Case<'a> {
+    pub first: Vec<u8>,
+    /// None where the first text has both models.
+    pub second: Option<Vec<u8>>,
+    pub names: ModelNames<'a>,
+    pub order: Option<Vec<u8>>,
+    pub assume: Option<Vec<u8>>,
+    pub outputs: OutputNames<'a>,
+    pub options: Options,
+}
+
+/// The bytes of a text that may be missing.
+pub fn bytes_of(text: &Option<Vec<u8>>) -> Option<&[u8]>
+    ensures { option_copied result ≡ items_of text.now }
+{
+    match text {
+        Some(text) => Some(text.as_slice()),
+        None => None,
+    }
+}
+
+/// A text that was not read, and why.
+#[derive(Drop)]
+pub struct Unread {
+    pub side: Side,
+    pub fault: StreamFault,
+}
+
+/// Reads the text of a side.
+fn read_side<R: Read>(alloc: Global, side: Side, text: &mut R) -> Result<Vec<u8>, Unread>
+    ensures { IfOk result (λ read. IsRead (R.remaining text.old) read.items) }
+{
+    match read_text(alloc, text) {
+        Ok(read) => Ok(read),
+        Err(fault) => Err(Unread { side, fault }),
+    }
+}
+
+/// A text that may be missing.
+fn read_some<R: Read + Drop>(
+    alloc: Global,
+    side: Side,
+    text: Option<R>,
+) -> Result<Option<Vec<u8>>, Unread>
+    ensures { IfOk result (λ read. MayBeRead R.remaining text (items_of read)) }
+{
+    match text {
+        None => Ok(None),
+        Some(mut text) => Ok(Some(read_side(alloc, side, &mut text)?)),
+    }
+}
+
+/// Reads the first text whole, then the second, then the order text, then the assumption's. Of each at most one byte more is read
+/// than a text may have. It fails with the first text that was not read, and why: memory was refused, or its reader failed.
+pub fn read_given<'a, R: Read + Drop>(
+    alloc: Global,
+    given: Given<'a, R>,
+) -> Result<Case<'a>, Unread>
+    ensures { IfOk result (AreRead R.remaining given.entry) }
+{
+    let Given {
+        texts,
+        names,
+        order,
+        assume,
+        outputs,
+        options,
+    } = given;
+    let (mut first, second) = match texts {
+        Texts::One(text) => (text, None),
+        Texts::Two(first, second) => (first, Some(second)),
+    };
+    let first = read_side(alloc, Side::First, &mut first)?;
+    let second = read_some(alloc, Side::Second, second)?;
+    let order = read_some(alloc, Side::Order, order)?;
+    let assume = read_some(alloc, Side::Assume, assume)?;
+    Ok(Case {
+        first,
+        second,
+        names,
+        order,
+        assume,
+        outputs,
+        options,
+    })
+}

@@ -1,5 +1,0 @@
-use Rattle.eqc_check.proofs.AnswerProofs.{answer_differs}
-use Rattle.eqc_check.proofs.laws.answer_differs_at_first_difference.Goals as goal
-
-pub returns : goal.returns
-returns c = answer_differs

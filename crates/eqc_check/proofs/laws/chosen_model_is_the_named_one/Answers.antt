@@ -1,5 +1,0 @@
-use Rattle.eqc_check.proofs.ChoiceProofs.{model_is_chosen}
-use Rattle.eqc_check.proofs.laws.chosen_model_is_the_named_one.Goals as goal
-
-pub returns : goal.returns
-returns c = model_is_chosen

@@ -1,0 +1,344 @@
+//! The course of a run: what is tried on a pair, stage after stage. Each begins where the one before left an output open, which it
+//! says by `Stop::NodeLimit`.
+//!
+//! | | Stage | Call | What it decides |
+//! |---|---|---|---|
+//! | 1 | equal structure | `alike_or_nothing` | outputs whose two signals have one structure are equal |
+//! | 2 | diagrams on one thread | `first_diagrams` | all outputs, where they fit |
+//! | 3 | short rounds of sweeping | `Inside::of`, `sweep_more` | outputs whose two signals became one are equal |
+//! | 4 | a short search, where simulation saw an output differ | `by_search` | all outputs, or all up to the first that differs |
+//! | 5 | diagrams on one thread in a larger room | `in_room` | the outputs left, where they fit |
+//! | 6 | long rounds of sweeping, as long as they find nodes equal | `sweep_more` | the same as 3 |
+//! | 7 | short searches | `ask_outputs`, then `by_search` | the same as 4 |
+//! | 8 | diagrams by all workers | `in_room` | the outputs left, where they fit |
+//! | 9 | a longer search that refutes | `ask_outputs` | outputs that are found equal |
+//! | 10 | longer searches | `by_search` | the same as 4 |
+//! | 11 | diagrams by all workers once more, where 9 found some outputs equal | `in_room` | the outputs left, where they fit |
+//!
+//! `decide_pair` has 1 and 2, `behind_first` begins with 3, and `by_sweeping` goes on from there. With few nodes or without conflicts 8
+//! follows 2, and nothing else does.
+ghost use Rattle.std.specs.Prelude.{◌≡◌, Bool, List, None, length, IfOk, IfErr};
+ghost use Rattle.eqc_compare.specs.Alike.{AreEqual, IsKnown};
+ghost use Rattle.eqc_report.specs.PairReport.{pair_report};
+ghost use Rattle.eqc_report.specs.ReportView.{report_of};
+ghost use Rattle.eqc_report.specs.Options.{options_code};
+ghost use Rattle.eqc_report.specs.Seen.{IsLeftOf};
+ghost use Rattle.eqc_report.specs.Left.{AddsLeft, AddsNone};
+
+use crate::workers::{
+    Comparison, FIRST_NODES, check_by_team, check_first, first_nodes, has_large_room,
+};
+use eqc_compare::{Alike, Progress, Stage, alike_or_nothing, known_outcome};
+use eqc_inside::{Conflicts, Inside, Rounds, Searched};
+use eqc_report::{Options, Report, Undecided, found_report, note_seen};
+use eqc_tree::Stop;
+use std::sync::Wait;
+use std::thread::Threads;
+
+/// The fewest nodes with which a run does more than to make diagrams by all its workers. Who allows fewer asks about these.
+const SWEPT_NODES: u32 = 1_024;
+
+/// This part of the conflicts that a single output may have are given to all outputs left by sweeping at first, to find them equal.
+const FEW_PART: u64 = 20;
+
+/// With this part of them all outputs are searched for differences at first.
+const SEARCH_PART: u64 = 5;
+
+/// There are no more rounds of sweeping than so many, whatever they find.
+const MOST_ROUNDS: u32 = 100;
+
+/// Where a run's comparison is made.
+#[derive(Clone, Copy, PartialEq)]
+enum Room {
+    /// In a store of one thread, which is left as soon as it is full, or as the turns of its operations are spent.
+    First,
+    /// In a larger one, which is left in the same way. Where the first one was as large there is nothing to be had from it.
+    Large,
+    /// In the forest that the options ask for, by as many workers, which is left as the turns of one of them are spent.
+    Whole,
+}
+
+/// Tells of the stage in which outputs are compared in a room, before the first of them is.
+fn tell_room<R, P: Progress<R>>(comparison: &Comparison<'_, R, P>, room: Room) {
+    let Comparison {
+        rt,
+        pair,
+        watch,
+        ..
+    } = *comparison;
+    let stage = match room {
+        Room::First | Room::Large => Stage::FirstDiagrams,
+        Room::Whole => Stage::AllDiagrams,
+    };
+    watch.stage(rt, stage);
+    watch.step(rt, 0, pair.first().outputs().len());
+}
+
+/// The report by diagrams in a room, where this is known of the pair, or why it stopped.
+fn in_room<R: Threads + Wait + Sync, P: Progress<R> + Sync>(
+    comparison: &Comparison<'_, R, P>,
+    room: Room,
+    alike: &Alike,
+) -> Result<Report, Stop>
+    requires options { options_code comparison.now.options.now ≡ None }
+    requires known { IsKnown comparison.now.pair.now alike.now }
+    ensures report { IfOk result (λ report. report_of report ≡ pair_report comparison.now.options.now.every comparison.now.pair.now) }
+{
+    let Comparison {
+        alloc,
+        pair,
+        options,
+        ..
+    } = *comparison;
+    if let Some(outcome) = known_outcome(alloc, pair, &alike.equal) {
+        return found_report(alloc, pair, options.every, outcome);
+    }
+    let Ok(alike) = alike.clone() else {
+        return Err(Stop::Memory);
+    };
+    if room == Room::Large && !has_large_room(pair, options) {
+        return Err(Stop::NodeLimit);
+    }
+    tell_room(comparison, room);
+    match room {
+        Room::First => check_first(comparison, alike, first_nodes(pair, options)),
+        Room::Large => check_first(comparison, alike, FIRST_NODES),
+        Room::Whole => check_by_team(comparison, alike),
+    }
+}
+
+/// The report by diagrams on one thread, or why it stopped. Most comparisons take less time there than a forest to begin. Few nodes a
+/// forest has as fast, and uses again.
+fn first_diagrams<R: Threads + Wait + Sync, P: Progress<R> + Sync>(
+    comparison: &Comparison<'_, R, P>,
+    alike: &Alike,
+) -> Result<Report, Stop>
+    requires options { options_code comparison.now.options.now ≡ None }
+    requires known { IsKnown comparison.now.pair.now alike.now }
+    ensures report { IfOk result (λ report. report_of report ≡ pair_report comparison.now.options.now.every comparison.now.pair.now) }
+{
+    if comparison.options.nodes < SWEPT_NODES {
+        return Err(Stop::NodeLimit);
+    }
+    in_room(comparison, Room::First, alike)
+}
+
+/// The report by searches for differences with so many conflicts, or 71 where these don't do, with the difference that was seen
+/// then. The outputs found equal on the way become known.
+fn by_search<R: Threads + Wait + Sync, P: Progress<R> + Sync>(
+    comparison: &Comparison<'_, R, P>,
+    inside: &mut Inside<'_>,
+    alike: &mut Alike,
+    conflicts: Conflicts,
+    left: &mut Undecided,
+) -> Result<Report, Stop>
+    requires inside { inside.old ≡ comparison.now.pair.now }
+    requires known { IsKnown comparison.now.pair.now alike.old }
+    ensures inside { inside.new ≡ inside.old }
+    ensures known { IsKnown comparison.now.pair.now alike.new }
+    ensures report { IfOk result (λ report. report_of report ≡ pair_report comparison.now.options.now.every comparison.now.pair.now) }
+    ensures seen { IsLeftOf comparison.now.pair.now left.old → IsLeftOf comparison.now.pair.now left.new }
+    ensures none { AddsNone left.old left.new }
+{
+    let Comparison {
+        rt,
+        alloc,
+        pair,
+        options,
+        watch,
+    } = *comparison;
+    let Options { every, workers, .. } = *options;
+    watch.stage(rt, Stage::Searching);
+    match inside.search_outputs(rt, alloc, alike, every, conflicts, workers, watch) {
+        Ok(Searched::Found(outcome)) => found_report(alloc, pair, every, outcome),
+        Ok(Searched::Open(output, Some(values))) => {
+            note_seen(alloc, pair, left, output, values);
+            Err(Stop::NodeLimit)
+        }
+        // Where memory is refused nothing was learned, and the run goes on without it.
+        Ok(Searched::Open(_, None)) | Ok(Searched::Unasked) | Err(_) => Err(Stop::NodeLimit),
+    }
+}
+
+/// Searches for differences of the outputs that are left, with so many conflicts in all. Those for which there is none become
+/// known: whether there are any.
+fn ask_outputs<R, P: Progress<R>>(
+    comparison: &Comparison<'_, R, P>,
+    inside: &mut Inside<'_>,
+    alike: &mut Alike,
+    conflicts: u64,
+) -> bool
+    requires { IsKnown inside.old alike.old }
+    ensures pair { inside.new ≡ inside.old }
+    ensures known { IsKnown inside.new alike.new }
+{
+    let Comparison { rt, watch, .. } = *comparison;
+    watch.stage(rt, Stage::Asking);
+    inside.ask_outputs(rt, alike, conflicts, watch)
+}
+
+/// Sweeps what is left in further rounds, as long as these find something and outputs are left.
+fn sweep_more<R: Threads + Wait + Sync, P: Progress<R> + Sync>(
+    comparison: &Comparison<'_, R, P>,
+    inside: &mut Inside<'_>,
+    alike: &mut Alike,
+    rounds: &mut Rounds,
+)
+    requires { IsKnown inside.old alike.old }
+    ensures pair { inside.new ≡ inside.old }
+    ensures known { IsKnown inside.new alike.new }
+{
+    let Comparison {
+        rt,
+        alloc,
+        pair,
+        watch,
+        ..
+    } = *comparison;
+    for _ in 0..MOST_ROUNDS {
+        if !rounds.has_next() || known_outcome(alloc, pair, &alike.equal).is_some() {
+            return;
+        }
+        watch.stage(rt, Stage::Sweeping);
+        if inside.sweep_again(rt, alloc, alike, rounds.effort(), watch).is_err() {
+            return;
+        }
+        rounds.count(inside.tally());
+        if let Ok(more) = inside.known(alloc, alike) {
+            *alike = more;
+        }
+    }
+}
+
+/// The report over what sweeping finds equal, which becomes known: by short searches for differences, by diagrams in all the room
+/// that there is, and then by longer searches. Where these find some outputs equal, diagrams are tried for the others once more.
+fn by_sweeping<R: Threads + Wait + Sync, P: Progress<R> + Sync>(
+    comparison: &Comparison<'_, R, P>,
+    inside: &mut Inside<'_>,
+    alike: &mut Alike,
+    rounds: &mut Rounds,
+    left: &mut Undecided,
+) -> Result<Report, Stop>
+    requires options { options_code comparison.now.options.now ≡ None }
+    requires inside { inside.old ≡ comparison.now.pair.now }
+    requires known { IsKnown comparison.now.pair.now alike.old }
+    ensures known { IsKnown comparison.now.pair.now alike.new }
+    ensures report { IfOk result (λ report. report_of report ≡ pair_report comparison.now.options.now.every comparison.now.pair.now) }
+    ensures seen { IsLeftOf comparison.now.pair.now left.old → IsLeftOf comparison.now.pair.now left.new }
+    ensures none { AddsNone left.old left.new }
+{
+    if let Ok(more) = inside.known(comparison.alloc, alike) {
+        *alike = more;
+    }
+    rounds.count(inside.tally());
+    sweep_more(comparison, inside, alike, rounds);
+    let each = u64::from(comparison.options.conflicts);
+    let few = Conflicts {
+        each: each / SEARCH_PART,
+        all: each / SEARCH_PART,
+    };
+    if inside.sees_difference(alike) {
+        match by_search(comparison, inside, alike, few, left) {
+            Err(Stop::NodeLimit) => {}
+            report => return report,
+        }
+    }
+    match in_room(comparison, Room::Large, alike) {
+        Err(Stop::NodeLimit) => {}
+        report => return report,
+    }
+    rounds.lengthen();
+    sweep_more(comparison, inside, alike, rounds);
+    ask_outputs(comparison, inside, alike, each / FEW_PART);
+    match by_search(comparison, inside, alike, few, left) {
+        Err(Stop::NodeLimit) => {}
+        report => return report,
+    }
+    match in_room(comparison, Room::Whole, alike) {
+        Err(Stop::NodeLimit) => {}
+        report => return report,
+    }
+    let more = ask_outputs(comparison, inside, alike, each);
+    let many = Conflicts {
+        each,
+        all: u64::MAX,
+    };
+    match by_search(comparison, inside, alike, many, left) {
+        Err(Stop::NodeLimit) if more => in_room(comparison, Room::Whole, alike),
+        report => report,
+    }
+}
+
+/// The report where the first room didn't do: by the diagrams of all workers alone where there are few nodes or no conflicts, and
+/// else by all that there is.
+fn behind_first<R: Threads + Wait + Sync, P: Progress<R> + Sync>(
+    comparison: &Comparison<'_, R, P>,
+    alike: &mut Alike,
+    left: &mut Undecided,
+) -> Result<Report, Stop>
+    requires options { options_code comparison.now.options.now ≡ None }
+    requires known { IsKnown comparison.now.pair.now alike.old }
+    ensures known { IsKnown comparison.now.pair.now alike.new }
+    ensures report { IfOk result (λ report. report_of report ≡ pair_report comparison.now.options.now.every comparison.now.pair.now) }
+    ensures seen { IsLeftOf comparison.now.pair.now left.old → IsLeftOf comparison.now.pair.now left.new }
+    ensures none { AddsNone left.old left.new }
+{
+    let Comparison {
+        rt,
+        alloc,
+        pair,
+        options,
+        watch,
+    } = *comparison;
+    if options.nodes < SWEPT_NODES || options.conflicts == 0 {
+        return in_room(comparison, Room::Whole, alike);
+    }
+    watch.stage(rt, Stage::Sweeping);
+    let mut rounds = Rounds::of(pair, u64::from(options.conflicts));
+    let every = options.every;
+    match Inside::of(rt, alloc, pair, alike, every, &rounds, watch) {
+        Ok(inside) => {
+            let mut inside = inside;
+            by_sweeping(comparison, &mut inside, alike, &mut rounds, left)
+        }
+        // Nothing was learned, and the run goes on without it.
+        Err(_) => in_room(comparison, Room::Whole, alike),
+    }
+}
+
+/// Decides a pair for a run, which does more than `check`: an output whose two signals have one structure is equal, and is not
+/// compared, and one diagram is built for all signals of one structure, of both netlists. Where diagrams on one thread don't
+/// decide it, the same holds of signals that are proved equal inside the netlists, and outputs are searched for differences
+/// before all workers make diagrams, and once more where that doesn't do. Where memory for any of that is refused, the run goes
+/// on without it. Where there is an assumption, whether it allows an assignment is asked of diagrams on one thread all the same.
+///
+/// The options are in their ranges. With 0 conflicts, only diagrams are made; with fewer than 1,024 nodes, only by all workers. The
+/// call may wait, as `check` may. The watch is told of each stage as it begins, and how far it is; of each comparison by diagrams
+/// it is told before that begins. Where it is given up, the outputs that are left are added to those in `left`, with what was seen of
+/// one that differs. The errors are the node limit 71, also where operations took too many turns, want of memory 72, the limit of
+/// references 73, and 74 where a thread could not be started.
+pub fn decide_pair<R: Threads + Wait + Sync, P: Progress<R> + Sync>(
+    comparison: &Comparison<'_, R, P>,
+    left: &mut Undecided,
+) -> Result<Report, Stop>
+    requires { options_code comparison.now.options.now ≡ None }
+    ensures report { IfOk result (λ report. report_of report ≡ pair_report comparison.now.options.now.every comparison.now.pair.now) }
+    ensures seen { IsLeftOf comparison.now.pair.now left.old → IsLeftOf comparison.now.pair.now left.new }
+    ensures none { IfOk result (λ _. AddsNone left.old left.new) }
+    ensures left { IfErr result (λ _. (marks : List Bool) × AreEqual comparison.now.pair.now marks × AddsLeft comparison.now.pair.now marks (length comparison.now.pair.now.first.outputs) left.old left.new) }
+{
+    comparison.watch.stage(comparison.rt, Stage::Structure);
+    let mut alike = alike_or_nothing(comparison.alloc, comparison.pair);
+    let first = first_diagrams(comparison, &alike);
+    let report = match first {
+        Err(Stop::NodeLimit) => behind_first(comparison, &mut alike, left),
+        report => report,
+    };
+    match report {
+        Ok(report) => Ok(report),
+        Err(stop) => {
+            left.add_unmarked(comparison.pair, &alike.equal);
+            Err(stop)
+        }
+    }
+}

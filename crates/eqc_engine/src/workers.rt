@@ -1,0 +1,296 @@
+//! Reports by workers: outputs that differ, found by members in threads of their own.
+ghost use Rattle.std.specs.Prelude.{◌≡◌, ◌≤◌, None, length, vec_len, IfOk, IfErr};
+ghost use Rattle.std.specs.List.{All};
+ghost use Rattle.eqc_tree.specs.Holding.{Holding};
+ghost use Rattle.eqc_compare.specs.Alike.{AreEqual, IsKnown};
+ghost use Rattle.eqc_report.specs.PairReport.{pair_report};
+ghost use Rattle.eqc_report.specs.ReportView.{report_of};
+ghost use Rattle.eqc_report.specs.Options.{options_code};
+
+use crate::watched::{Watched, all_watched};
+use eqc_apply::{Allowance, Applier, team_with};
+use eqc_compare::{Alike, Gate, Progress, compare_known, is_settled};
+use eqc_members::{Patience, compare_by_members};
+use eqc_pair::Pair;
+use eqc_plain::Plain;
+use eqc_report::{Options, Report, found_report};
+use eqc_tree::{Diagrams, References, Stop};
+use std::alloc::Global;
+use std::sync::Wait;
+use std::thread::Threads;
+
+/// The report by these members, where this is known of the pair, or why it stopped.
+fn check_known<R: Threads + Wait + Sync, D: Diagrams<R> + Send + Drop, G: Gate<R> + Sync>(
+    rt: &R,
+    alloc: Global,
+    pair: &Pair<'_>,
+    every: bool,
+    members: Vec<D>,
+    alike: Alike,
+    patience: Patience,
+    gate: &G,
+) -> Result<Report, Stop>
+    requires some { 1 ≤ vec_len members }
+    requires variables { All (λ d. length pair.now.first.inputs ≤ (D.holding d).variables) members.items }
+    requires known { IsKnown pair.now alike }
+    ensures report { IfOk result (λ report. report_of report ≡ pair_report every pair.now) }
+{
+    let outcome = compare_by_members(rt, alloc, pair, every, members, alike, patience, gate)?;
+    found_report(alloc, pair, every, outcome)
+}
+
+/// Compares a pair by these members, of which each runs in a thread of its own: the report, or why it stopped.
+///
+/// There is at least one member, and each has at least as many variables as the pair has inputs; they are consumed. The first
+/// is asked whether the assumption, if there is one, allows an assignment, before any output is drawn. The gate is told of each
+/// comparison before it begins. With `every` each output that differs is told. Else the first alone is, and a member that has
+/// found a difference compares no later output. One that has drawn its last helps the others. The call may wait, since it waits
+/// for all members, and for the gate.
+///
+/// The errors are those of the members' diagrams, 71, 72 and 73; 72 also where memory is refused; and 74 where a thread could not
+/// be started. Where several came it is one of them.
+pub fn check_with<R: Threads + Wait + Sync, D: Diagrams<R> + Send + Drop, G: Gate<R> + Sync>(
+    rt: &R,
+    alloc: Global,
+    pair: &Pair<'_>,
+    every: bool,
+    members: Vec<D>,
+    gate: &G,
+) -> Result<Report, Stop>
+    requires some { 1 ≤ vec_len members }
+    requires variables { All (λ d. length pair.now.first.inputs ≤ (D.holding d).variables) members.items }
+    ensures report { IfOk result (λ report. report_of report ≡ pair_report every pair.now) }
+{
+    check_known(
+        rt,
+        alloc,
+        pair,
+        every,
+        members,
+        Alike::nothing(alloc),
+        Patience::short(),
+        gate,
+    )
+}
+
+/// The most nodes of the store of one thread in which a run's comparison begins. None is laid out before it is needed, and none
+/// is taken back: most comparisons end there before a forest would have begun.
+pub(crate) const FIRST_NODES: u32 = 524_288;
+
+/// Who allows as many nodes for all workers, which is the usual number, gets them in the larger room on one thread, too.
+const USUAL_NODES: u32 = 65_536;
+
+/// How many turns operations in it may take beyond the free ones: what isn't decided by then is better tried in other ways first.
+const FIRST_TURNS: u64 = 1_048_576;
+
+/// How many a worker's may take in the forest that the options ask for, and how many more for each of its nodes: an operation on
+/// two large diagrams may take as many as the product of their sizes, also where its result is small and the forest never full.
+/// A run that can't be decided ends then all the same.
+const TURNS: u64 = 8_388_608;
+
+const TURNS_PER_NODE: u64 = 8;
+
+/// A pair that is compared, what that may use, and what is told of it.
+#[derive(Drop)]
+pub struct Comparison<'x, R, P> {
+    /// The runtime that starts threads and lets them wait.
+    pub rt: &'x R,
+    pub alloc: Global,
+    pub pair: &'x Pair<'x>,
+    pub options: &'x Options,
+    /// Told how far the comparison is.
+    pub watch: &'x P,
+}
+
+/// Diagrams over so few inputs mostly fit into the larger room, which is then the first one.
+const FEW_INPUTS: usize = 20;
+
+/// The nodes of the first room: as many as the options allow, but for a pair of few inputs those of the larger one.
+pub(crate) fn first_nodes(pair: &Pair<'_>, options: &Options) -> u32 {
+    if options.nodes >= USUAL_NODES && pair.first().inputs().len() <= FEW_INPUTS {
+        return FIRST_NODES;
+    }
+    options.nodes
+}
+
+/// Whether there is a larger room on one thread than the first one was.
+pub(crate) fn has_large_room(pair: &Pair<'_>, options: &Options) -> bool {
+    options.nodes >= USUAL_NODES && first_nodes(pair, options) < FIRST_NODES
+}
+
+/// The store of a room on one thread, with a variable for each input of a pair. It has no more nodes than this.
+fn first_store(alloc: Global, pair: &Pair<'_>, nodes: u32) -> Result<Plain, Stop>
+    ensures nodes { IfOk result (λ p. p.store.limit ≤ nodes) }
+    ensures variables { IfOk result (λ p. length pair.now.first.inputs ≤ (⟦<Plain as References>⟧.holding p).variables) }
+    ensures only { IfErr result (λ s. s ≡ Stop.Memory) }
+{
+    pair.recall_laws();
+    let inputs = pair.first().inputs().len() as u16;
+    let nodes = nodes.min(FIRST_NODES);
+    Plain::with_turns(alloc, inputs, nodes, Some(FIRST_TURNS))
+}
+
+/// How many of so many workers are needed where they share no operations: as many as there are outputs to compare. Who draws none
+/// does nothing, and for its sake the others would put results into the shared cells.
+fn needed_workers(pair: &Pair<'_>, equal: &[bool], workers: u32) -> u32
+    requires equal { AreEqual pair.now equal.now }
+    requires some { 1 ≤ workers }
+    ensures some { 1 ≤ result }
+    ensures most { result ≤ workers }
+{
+    let mut open = 0;
+    for output in 0..pair.first().outputs().len() {
+        if open < workers && !is_settled(pair, equal, output) {
+            open += 1;
+        }
+    }
+    open.max(1).min(workers)
+}
+
+/// The options without the workers that aren't needed for a pair of which these outputs are known to be equal.
+fn needed_options(pair: &Pair<'_>, equal: &[bool], options: &Options) -> Options
+    requires equal { AreEqual pair.now equal.now }
+    requires options { options_code options.now ≡ None }
+    ensures options { options_code result ≡ None }
+{
+    if options.forks > 0 {
+        return *options;
+    }
+    let workers = needed_workers(pair, equal, options.workers);
+    Options {
+        workers,
+        ..*options
+    }
+}
+
+/// The team of workers that the options ask for, with a variable for each input of a pair: they share one forest, and as many
+/// levels of an operation as there are forks, and each of them may take so many turns.
+fn team_for(
+    alloc: Global,
+    pair: &Pair<'_>,
+    options: &Options,
+    turns: Option<u64>,
+) -> Result<Vec<Applier>, Stop>
+    requires { options_code options.now ≡ None }
+    ensures some { IfOk result (λ all. 1 ≤ vec_len all) }
+    ensures variables { IfOk result (λ all. All (λ a. length pair.now.first.inputs ≤ (⟦<Applier as References>⟧.holding a).variables) all.items) }
+    ensures only { IfErr result (λ s. s ≡ Stop.Memory) }
+{
+    pair.recall_laws();
+    let Options {
+        workers,
+        nodes,
+        cells,
+        forks,
+        ..
+    } = *options;
+    let inputs = pair.first().inputs().len() as u16;
+    let allowance = Allowance { anew: true, turns };
+    team_with(alloc, inputs, nodes, cells, workers, forks, allowance)
+}
+
+/// The report by diagrams on this thread, where this is known of the pair, or why it stopped. A store that is full is left at
+/// once: what was given back there makes no room. The watch is told of each comparison, and of the nodes in use behind each
+/// operation.
+pub(crate) fn check_first<R, P: Progress<R>>(
+    comparison: &Comparison<'_, R, P>,
+    alike: Alike,
+    nodes: u32,
+) -> Result<Report, Stop>
+    requires options { options_code comparison.now.options.now ≡ None }
+    requires known { IsKnown comparison.now.pair.now alike }
+    ensures report { IfOk result (λ report. report_of report ≡ pair_report comparison.now.options.now.every comparison.now.pair.now) }
+{
+    let Comparison {
+        rt,
+        alloc,
+        pair,
+        options,
+        watch,
+    } = *comparison;
+    let every = options.every;
+    let mut store = Watched {
+        diagrams: first_store(alloc, pair, nodes)?,
+        watch,
+    };
+    let outcome = compare_known(alloc, rt, &mut store, pair, every, alike, false, watch)?;
+    found_report(alloc, pair, every, outcome)
+}
+
+/// How many turns each worker of a team may take. Workers that share operations take them for one another, so all of them together
+/// may take twice what one may: else a run that can't be decided would take as many times longer as there are workers.
+fn turns_for(options: &Options) -> u64
+    requires { options_code options.now ≡ None }
+{
+    let alone = TURNS + TURNS_PER_NODE * u64::from(options.nodes);
+    if options.forks == 0 {
+        alone
+    } else {
+        alone * 2 / u64::from(options.workers.max(2))
+    }
+}
+
+/// The report by the team that the options ask for, without workers that aren't needed, where this is known of the pair, or why it
+/// stopped. It is given up as the turns of one of its workers are spent. The watch is told as in the first room.
+pub(crate) fn check_by_team<R: Threads + Wait + Sync, P: Progress<R> + Sync>(
+    comparison: &Comparison<'_, R, P>,
+    alike: Alike,
+) -> Result<Report, Stop>
+    requires options { options_code comparison.now.options.now ≡ None }
+    requires known { IsKnown comparison.now.pair.now alike }
+    ensures report { IfOk result (λ report. report_of report ≡ pair_report comparison.now.options.now.every comparison.now.pair.now) }
+{
+    let Comparison {
+        rt,
+        alloc,
+        pair,
+        options,
+        watch,
+    } = *comparison;
+    let turns = turns_for(options);
+    let needed = needed_options(pair, &alike.equal, options);
+    let team = team_for(alloc, pair, &needed, Some(turns))?;
+    let members = all_watched(alloc, team, watch)?;
+    let patience = Patience::of_forks(options.forks);
+    check_known(
+        rt,
+        alloc,
+        pair,
+        options.every,
+        members,
+        alike,
+        patience,
+        watch,
+    )
+}
+
+/// Compares a pair by as many workers as the options say, each in a thread of its own: they share one forest of `nodes` nodes
+/// and one operation cache of `cells` cells. In the first `forks` levels of an operation one half is offered to members that
+/// have nothing to do. Gives the report, or why it stopped.
+///
+/// The options are in their ranges. The gate is told of each comparison before it begins. The call may wait, as `check_with`
+/// may. The errors are the node limit 71, want of memory 72, the limit of references 73, and 74 where a thread could not be
+/// started. It takes as long as it needs: only a run is given up where its operations take too many turns.
+pub fn check<R: Threads + Wait + Sync, G: Gate<R> + Sync>(
+    rt: &R,
+    alloc: Global,
+    pair: &Pair<'_>,
+    options: &Options,
+    gate: &G,
+) -> Result<Report, Stop>
+    requires { options_code options.now ≡ None }
+    ensures report { IfOk result (λ report. report_of report ≡ pair_report options.now.every pair.now) }
+{
+    let members = team_for(alloc, pair, options, None)?;
+    let patience = Patience::of_forks(options.forks);
+    check_known(
+        rt,
+        alloc,
+        pair,
+        options.every,
+        members,
+        Alike::nothing(alloc),
+        patience,
+        gate,
+    )
+}

@@ -1,0 +1,12 @@
+use Rattle.std.proofs.Common.{refl}
+use Rattle.std.proofs.lemmas.Result.{IfOk-weaker}
+use Rattle.eqc_words.proofs.WordLemmas.{arg_added}
+use Rattle.eqc_words.proofs.command_line.with_numbers.Goals as goal
+
+pub returns : goal.returns
+returns c =
+    let workers = arg_added _ _ _ _ _ c.in_ok-arg.ensures c.number.ensures.own refl c.number.ensures.rule in
+    let nodes = arg_added _ _ _ _ _ c.in_ok-arg-2.ensures c.number-2.ensures.own workers c.number-2.ensures.rule in
+    let cells = arg_added _ _ _ _ _ c.in_ok-arg-3.ensures c.number-3.ensures.own nodes c.number-3.ensures.rule in
+    let forks = arg_added _ _ _ _ _ c.in_ok-arg-4.ensures c.number-4.ensures.own cells c.number-4.ensures.rule in
+    IfOk-weaker c.arg-5.result _ _ (λ r adds. arg_added _ _ _ _ _ adds c.number-5.ensures.own forks c.number-5.ensures.rule) c.arg-5.ensures
