@@ -4,7 +4,7 @@ use Rattle.std.specs.Map.{lookup}
 use Rattle.std.proofs.lemmas.Bool.{cases_eq}
 use Rattle.eqc_blif.specs.Cover.{cover_value}
 use Rattle.eqc_cover.specs.Table.{Tabulates}
-use Rattle.eqc_flat.specs.Graph.{FlatOf}
+use Rattle.eqc_netlist.specs.Graph.{FlatOf}
 use Rattle.eqc_build.specs.CoverTables.{AreTablesOf, IsTableOf}
 use Rattle.eqc_build.specs.declared.cover_tables.CoverTable.{CoverTable}
 

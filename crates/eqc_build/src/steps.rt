@@ -3,7 +3,7 @@
 ghost use Rattle.std.specs.Prelude.{◌≡◌, ◌+◌, ◌<◌, ◌≤◌, [], length, option_to_list, slice_index, slice_index_or, IfSome};
 ghost use Rattle.std.specs.Option.{option_copied};
 ghost use Rattle.eqc_cover.specs.Splits.{IsExpansionOf};
-ghost use Rattle.eqc_flat.specs.Graph.{FlatOf};
+ghost use Rattle.eqc_netlist.specs.Graph.{FlatOf};
 ghost use Rattle.eqc_pair.specs.PairOf.{ArePlaces};
 ghost use Rattle.eqc_build.specs.Steps.{AreSteps, IsChoice, IsSide, assumed_root, chosen_for, goals_of, roots_of, step_in, steps_in, uses_in, uses_of};
 ghost use Rattle.eqc_build.specs.Schedule.{AreWithin};
@@ -16,7 +16,7 @@ use crate::moments::Moments;
 use crate::wide_covers::WideCovers;
 use eqc_blif::Rows;
 use eqc_cover::Expansion;
-use eqc_flat::{Driver, Flat, Signals};
+use eqc_netlist::{Driver, Flat, Signals};
 use eqc_pair::{Pair, recall_laws};
 use indexmap::IndexMap;
 use std::alloc::Global;

@@ -8,7 +8,7 @@ use crate::moments::Moments;
 use eqc_blif::Rows;
 use eqc_cover::Expansion;
 use eqc_cover::table::MOST_COLUMNS;
-use eqc_flat::{Driver, Flat};
+use eqc_netlist::{Driver, Flat};
 use eqc_pair::recall_laws;
 use indexmap::IndexMap;
 use std::alloc::{AllocError, Global};
@@ -42,7 +42,7 @@ pub(crate) struct WideCovers<'a> {
 }
 
 impl<'a> Model for WideCovers<'a> {
-    ghost use Rattle.eqc_flat.specs.Graph.{FlatOf};
+    ghost use Rattle.eqc_netlist.specs.Graph.{FlatOf};
     ghost use Rattle.eqc_build.specs.WideCovers.{AreMetOf};
 
     ghost Value = { FlatOf };

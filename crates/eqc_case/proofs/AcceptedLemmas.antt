@@ -19,7 +19,7 @@ use Rattle.eqc_case.specs.AnswerLaws.{first_main, assumption_main, AreInRange, I
 use Rattle.eqc_pair.proofs.PlaceLemmas.{place_below, name_at, named_index, all_named}
 use Rattle.eqc_pair.proofs.OrderedLemmas.{both_ways}
 use Rattle.eqc_case.proofs.CheckLemmas.{PassAll, pass_none, pass_more, pass_each, pass_both}
-use Rattle.eqc_flat.proofs.Members.{same_test}
+use Rattle.eqc_netlist.proofs.Members.{same_test}
 
 -- ---- single checks
 

@@ -15,7 +15,7 @@ use Rattle.std.specs.Borrow.{Bor}
 use Rattle.std.specs.List.{list_any}
 use Rattle.std.specs.Str.{bytes_eq}
 use Rattle.eqc_blif.specs.Names.{is_named}
-use Rattle.eqc_flat.proofs.NameSetLaws.{any_mapped}
+use Rattle.eqc_netlist.proofs.NameSetLaws.{any_mapped}
 use Rattle.std.specs.Option.{option_copied}
 use Rattle.eqc_blif.specs.Netlist.{ModelOf}
 use Rattle.eqc_blif.specs.Reading.{outcome}

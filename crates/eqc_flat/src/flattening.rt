@@ -12,15 +12,13 @@ ghost use Rattle.eqc_hierarchy.specs.Columns.{all_columns};
 ghost use Rattle.eqc_hierarchy.specs.ModelFaults.{HasNoModelFault};
 ghost use Rattle.eqc_flat.specs.Flattening.{IsNumberable, IsFlatFault};
 
-use crate::drivers::Drivers;
 use crate::drivers::driver_table::{drivers_of, signals_of};
 use crate::drivers::row_table::RowTable;
-use crate::fault::{Fault, FaultOfTwo};
-use crate::flat::Flat;
-use crate::flat::signal_order::order_of;
 use crate::hierarchy::Hierarchy;
+use crate::signal_order::order_of;
 use eqc_blif::{Library, Name};
 use eqc_hierarchy::{Calls, Naming, Rule, first_model_fault};
+use eqc_netlist::{Drivers, Fault, FaultOfTwo, Flat};
 use smallvec::SmallVec;
 use std::alloc::{AllocError, Global};
 

@@ -45,8 +45,8 @@ use Rattle.eqc_hierarchy.specs.Signals.{cover_names, actuals, once_each, names_o
 use Rattle.eqc_hierarchy.specs.Codes.{formals, has_unknown_formal}
 use Rattle.eqc_hierarchy.proofs.Distinct.{Member, member_left, member_right, member_get, member_piece, member_map}
 use Rattle.eqc_hierarchy.proofs.PathLaws.{models_reached}
-use Rattle.eqc_hierarchy.proofs.Depth.{or_right}
-use Rattle.eqc_hierarchy.proofs.NameSetLaws.{bytes_same, bytes_self}
+use Rattle.eqc_netlist.proofs.Depth.{or_right}
+use Rattle.eqc_netlist.proofs.NameSetLaws.{bytes_same, bytes_self}
 use Rattle.std.proofs.lemmas.Grind.{flat_map-append}
 use Rattle.eqc_hierarchy.specs.Columns.{columns_of}
 

@@ -2,7 +2,7 @@
 use Rattle.std.specs.Prelude.{◌≡◌, ℕ, ◌<◌, true, false, List, [], ◌++◌, length, slice_index_or}
 use Rattle.eqc_blif.specs.Netlist.{ModelOf, InstanceOf}
 use Rattle.eqc_blif.specs.Names.{is_named}
-use Rattle.eqc_hierarchy.specs.Dependency.{among}
+use Rattle.eqc_netlist.specs.Dependency.{among}
 use Rattle.eqc_hierarchy.specs.Hierarchy.{model, model_number, reached}
 use Rattle.eqc_hierarchy.specs.Reaching.{no_instance}
 use Rattle.eqc_hierarchy.specs.Codes.{formals}

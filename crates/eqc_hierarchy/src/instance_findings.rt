@@ -16,8 +16,8 @@ use crate::condition::instance_conditions::{
 };
 use crate::condition::{Condition, first_instance};
 use crate::instance_findings::found_instance::{FoundFormal, FoundInstance};
-use crate::naming::name_set::NameSet;
 use eqc_blif::{Library, Name};
+use eqc_netlist::NameSet;
 use std::alloc::{AllocError, Global};
 
 /// The first instance in the models that model `top` reaches of which a condition holds, where it holds of one. Fails

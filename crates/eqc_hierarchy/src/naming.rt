@@ -8,13 +8,10 @@ ghost use Rattle.eqc_hierarchy.specs.Signals.{names_of};
 ghost use Rattle.eqc_hierarchy.specs.Columns.{all_columns};
 
 pub(crate) mod model_names;
-pub(crate) mod name_bytes;
-pub(crate) mod name_set;
-pub(crate) mod near_key;
 
 use crate::naming::model_names::names_of;
-use crate::naming::name_set::NameSet;
 use eqc_blif::Library;
+use eqc_netlist::NameSet;
 use smallvec::SmallVec;
 use std::alloc::{AllocError, Global};
 use std::marker::Model;

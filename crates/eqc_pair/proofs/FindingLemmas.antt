@@ -11,7 +11,7 @@ use Rattle.eqc_blif.specs.Finding.{StandsTwice}
 use Rattle.eqc_pair.specs.Matched.{has_all, same_names, order_words, order_code}
 use Rattle.eqc_pair.specs.Finding.{unmatched, AreCut, AreUnmatched}
 use Rattle.eqc_pair.proofs.NameLemmas.{bytes_more, named_found, named_missing}
-use Rattle.eqc_flat.proofs.NameSetLaws.{bytes_in}
+use Rattle.eqc_netlist.proofs.NameSetLaws.{bytes_in}
 
 -- one more name that the others have, or lack
 pub known_more : (others : List (List ℕ)) (names : List (Bor (List ℕ))) (i : ℕ) (d : Bor (List ℕ)) → i < length names →

@@ -8,9 +8,9 @@ use Rattle.std.proofs.lemmas.Bool.{true≢false, false≢true, false_from_ne_tru
 use Rattle.eqc_blif.specs.Names.{is_named, has_twice}
 use Rattle.eqc_blif.specs.Finding.{StandsTwice}
 use Rattle.eqc_pair.specs.Matched.{position_of, has_all}
-use Rattle.eqc_hierarchy.specs.NameSets.{with_name}
+use Rattle.eqc_netlist.specs.NameSets.{with_name}
 use Rattle.eqc_blif.proofs.NameLemmas.{once_more, twice_there, twice_at}
-use Rattle.eqc_flat.proofs.NameSetLaws.{first_mapped, ltb-suc, bytes_in}
+use Rattle.eqc_netlist.proofs.NameSetLaws.{first_mapped, ltb-suc, bytes_in}
 
 -- ---- where a name stands
 

@@ -12,7 +12,7 @@ use crate::pairing::pair;
 use crate::refused::{Refused, Side};
 use crate::rule::Rule;
 use eqc_blif::Name;
-use eqc_flat::Flat;
+use eqc_netlist::Flat;
 use std::alloc::{AllocError, Global};
 
 /// A refusal of an assumption.

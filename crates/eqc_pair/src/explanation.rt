@@ -11,7 +11,7 @@ use crate::name_index::{bytes_of, first_twice, set_of};
 use crate::order::{MAX_TEXT, order_words};
 use crate::unmatched::Unmatched;
 use eqc_blif::Name;
-use eqc_flat::Flat;
+use eqc_netlist::Flat;
 use std::alloc::{AllocError, Global};
 
 /// Those of these names that others lack, of which none may stand twice. Fails where memory is refused.

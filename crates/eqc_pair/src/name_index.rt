@@ -6,7 +6,7 @@ ghost use Rattle.eqc_blif.specs.Finding.{StandsTwice};
 ghost use Rattle.eqc_pair.specs.Matched.{ArePlaces, MarkLeftOut};
 
 use eqc_blif::{Key, Name};
-use eqc_flat::NameSet;
+use eqc_netlist::NameSet;
 use std::alloc::{AllocError, Global};
 
 /// The set of these names, in their order, of which none may stand twice. Fails where memory is refused.

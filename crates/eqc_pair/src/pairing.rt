@@ -11,7 +11,7 @@ use crate::order::order_of;
 use crate::refused::{Refused, Side};
 use crate::rule::Rule;
 use eqc_blif::Name;
-use eqc_flat::Flat;
+use eqc_netlist::Flat;
 use std::alloc::{AllocError, Global};
 
 impl From<AllocError> for Refused {

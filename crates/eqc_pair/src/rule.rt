@@ -63,7 +63,7 @@ pub(crate) enum Reason {
     #[error(transparent)]
     Text(eqc_blif::Rule),
     #[error(transparent)]
-    Hierarchy(eqc_flat::Rule),
+    Hierarchy(eqc_netlist::Rule),
     #[error(transparent)]
     Both(Rule),
     #[error("out of its range")]
@@ -77,7 +77,7 @@ pub(crate) fn reason_of(code: &u8) -> Reason {
             return Reason::Text(*rule);
         }
     }
-    for rule in &eqc_flat::RULES {
+    for rule in &eqc_netlist::RULES {
         if rule.code() == *code {
             return Reason::Hierarchy(*rule);
         }

@@ -10,7 +10,7 @@ use crate::evaluating::output_value;
 use crate::report::{Difference, Differences, Report};
 use eqc_blif::Name;
 use eqc_compare::{Difference as Found, Outcome};
-use eqc_flat::Flat;
+use eqc_netlist::Flat;
 use eqc_pair::Pair;
 use eqc_tree::Stop;
 use std::alloc::{AllocError, Global};

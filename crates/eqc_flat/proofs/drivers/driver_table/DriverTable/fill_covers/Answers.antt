@@ -5,7 +5,7 @@ use Rattle.eqc_blif.specs.Names.{is_named}
 use Rattle.eqc_hierarchy.specs.Hierarchy.{model}
 use Rattle.std.specs.Option.{option_map}
 use Rattle.eqc_hierarchy.specs.Columns.{places_in, all_columns}
-use Rattle.eqc_flat.specs.StoredDrivers.{driver_from}
+use Rattle.eqc_netlist.specs.StoredDrivers.{driver_from}
 use Rattle.eqc_hierarchy.specs.Signals.{Driving, names_of, signals, cover_driving}
 use Rattle.eqc_flat.specs.Flattened.{path_at, model_of, signal_at, signals_here}
 use Rattle.eqc_flat.specs.RowTable.{all_rows}

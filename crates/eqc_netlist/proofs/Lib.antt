@@ -1,0 +1,7 @@
+pub mod Depth
+pub mod Orders
+pub mod Members
+pub mod NameSetLaws
+pub mod Values
+pub mod EvaluationLaws
+pub mod DistanceLaws

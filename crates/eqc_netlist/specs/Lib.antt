@@ -1,0 +1,9 @@
+pub mod Rule
+pub mod Dependency
+pub mod NearHash
+pub mod NameSets
+pub mod Graph
+pub mod Drivers
+pub mod StoredDrivers
+pub mod Evaluating
+pub mod Known

@@ -1,0 +1,32 @@
+//! Flat netlists: numbered signals, each with what drives it, their values, and the names of inputs and outputs. What reads a text or
+//! flattens a hierarchy stands beside what compares netlists, and both stand on this.
+//!
+//! What a flat netlist is is said in `specs/Graph.antt`. Read the modules in this order:
+//!
+//! - `flat`, a netlist, with lists of its `signals`; `drivers`, what drives each signal; in it `driver`, how one is shown, and
+//!   `stored_driver`, how it is kept; `graph`, what is asked for an order of them
+//! - `evaluation`, values
+//! - `name_set`, names with their places, by their `name_bytes` and a `near_key`
+//! - `rule`, what a hierarchy is refused for, and `fault`, why there is no netlist or no value
+#![tactic(auto)]
+
+mod drivers;
+mod evaluation;
+mod fault;
+mod flat;
+mod graph;
+mod name_bytes;
+mod name_set;
+mod near_key;
+mod rule;
+
+pub use drivers::Drivers;
+pub use drivers::driver::Driver;
+pub use drivers::stored_driver::StoredDriver;
+pub use evaluation::eval;
+pub use fault::{Fault, FaultOfTwo};
+pub use flat::Flat;
+pub use flat::signals::Signals;
+pub use graph::Graph;
+pub use name_set::NameSet;
+pub use rule::{RULES, Rule};
