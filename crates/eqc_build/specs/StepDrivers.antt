@@ -1,6 +1,6 @@
 -- What makes the value of a step.
 use Rattle.std.specs.Prelude.{◌≡◌, ℕ, ◌<◌, ◌≤◌, Bool, List, [], ◌∷◌, length, map, slice_index, slice_index_or}
-use Rattle.eqc_blif.specs.Cover.{cover_value}
+use Rattle.eqc_netlist.specs.Cover.{cover_value}
 use Rattle.std.specs.Option.{IfSome}
 use Rattle.eqc_cover.specs.Splits.{IsExpansionOf}
 use Rattle.eqc_cover.specs.Table.{Tabulates, table_value}

@@ -5,10 +5,9 @@ ghost use Rattle.eqc_cover.specs.Splits.{IsExpansionOf};
 ghost use Rattle.eqc_build.specs.WideCovers.{IsMetOf};
 
 use crate::moments::Moments;
-use eqc_blif::Rows;
 use eqc_cover::Expansion;
 use eqc_cover::table::MOST_COLUMNS;
-use eqc_netlist::{Driver, Flat};
+use eqc_netlist::{Driver, Flat, Rows};
 use eqc_pair::recall_laws;
 use indexmap::IndexMap;
 use std::alloc::{AllocError, Global};

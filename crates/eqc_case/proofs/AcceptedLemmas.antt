@@ -7,7 +7,7 @@ use Rattle.std.proofs.lemmas.List.Elements.{All-from_get_or}
 use Rattle.std.proofs.lemmas.List.Folds.{Any-from_list_any, list_any_at}
 use Rattle.std.proofs.lemmas.List.Sums.{list_all-from_AllPass}
 use Rattle.std.proofs.lemmas.List.FromFn.{length-range_with_len, get_or-range_with_len}
-use Rattle.eqc_blif.specs.Names.{is_named}
+use Rattle.eqc_netlist.specs.Names.{is_named}
 use Rattle.eqc_report.specs.declared.options.Options.{Options}
 use Rattle.eqc_pair.specs.declared.refused.Refused.{Refused}
 use Rattle.eqc_pair.specs.declared.refused.Side.{Side}

@@ -8,8 +8,7 @@ ghost use Rattle.eqc_class.specs.Numbering.{AreRowClasses, AreNumbers, said_by};
 use crate::class_table::ClassTable;
 use crate::columns::Columns;
 use crate::shape::Shape;
-use eqc_blif::{Rows, is_on_set};
-use eqc_netlist::{Driver, Flat, Signals};
+use eqc_netlist::{Driver, Flat, Rows, Signals, is_on_set};
 use std::alloc::{AllocError, Global};
 
 /// Whether a row says of one column what it is.

@@ -6,8 +6,7 @@ ghost use Rattle.eqc_class.specs.Tables.{AreApart, Grows, Stands};
 ghost use Rattle.eqc_class.specs.Numbering.{rows_until, AreRowClasses};
 
 use crate::rows_key::RowsKey;
-use eqc_blif::{Key, Rows};
-use eqc_netlist::{Driver, Flat};
+use eqc_netlist::{Driver, Flat, Key, Rows};
 use indexmap::IndexSet;
 use std::alloc::{AllocError, Global};
 use std::marker::Model;

@@ -7,8 +7,7 @@ ghost use Rattle.eqc_class.specs.Numbering.{AreRowClasses};
 use crate::class_table::ClassTable;
 use crate::numbering::numbers_of;
 use crate::row_set::RowSet;
-use eqc_blif::Key;
-use eqc_netlist::Flat;
+use eqc_netlist::{Flat, Key};
 use std::alloc::{AllocError, Global};
 use std::marker::Model;
 

@@ -22,7 +22,7 @@ use Rattle.std.proofs.lemmas.List.FromFn.{get_or-enumerate_from, length-enumerat
 use Rattle.std.proofs.lemmas.Bool.{cases_lt, true≢false}
 use Rattle.std.proofs.lemmas.Grind.{flat_map-append}
 use Rattle.eqc_blif.specs.Netlist.{ModelOf, InstanceOf, CoverOf, no_model}
-use Rattle.eqc_blif.specs.Names.{is_named}
+use Rattle.eqc_netlist.specs.Names.{is_named}
 use Rattle.eqc_netlist.specs.Graph.{DriverOf, cover, IsWithinSizes}
 use Rattle.eqc_hierarchy.specs.Hierarchy.{model, model_at, paths}
 use Rattle.eqc_hierarchy.specs.Signals.{from_input, from_signal, from_cover, Driving, names_of, signals, input_drivings, cover_driving, pair_driving, instance_drivings, drivings_at, drivings}

@@ -6,7 +6,7 @@ use Rattle.std.proofs.lemmas.Bool.{true≢false, or_parts, cases_lt}
 use Rattle.std.proofs.lemmas.List.{length-map, get_or-map}
 use Rattle.std.proofs.lemmas.List.FromFn.{length-range_with_len}
 use Rattle.eqc_blif.specs.Netlist.{ModelOf}
-use Rattle.eqc_blif.specs.Names.{is_named, has_twice}
+use Rattle.eqc_netlist.specs.Names.{is_named, has_twice}
 use Rattle.eqc_netlist.specs.Graph.{DriverOf, input, tie, cover, dependencies, IsWithinSizes, IsFlat}
 use Rattle.eqc_netlist.specs.Dependency.{ends_within}
 use Rattle.eqc_hierarchy.specs.Hierarchy.{model, paths}

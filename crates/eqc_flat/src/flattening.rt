@@ -1,6 +1,6 @@
 //! Flattening: from a library and its main model to a flat netlist, or to the code of the hierarchy's first fault.
 ghost use Rattle.std.specs.Prelude.{◌≡◌, ◌⊎◌, ℕ, ◌<◌, ◌≤◌, false, length, map, slice_index_or, None, Some, IfOk, IfErr};
-ghost use Rattle.eqc_blif.specs.Names.{has_twice};
+ghost use Rattle.eqc_netlist.specs.Names.{has_twice};
 ghost use Rattle.eqc_hierarchy.specs.Hierarchy.{model};
 ghost use Rattle.eqc_hierarchy.specs.Signals.{signals};
 ghost use Rattle.eqc_hierarchy.specs.Codes.{flat_code};

@@ -6,7 +6,7 @@ use Rattle.std.proofs.lemmas.Bool.{true≢false, eq-eqb}
 use Rattle.std.proofs.lemmas.List.Quantifiers.{position-Some}
 use Rattle.std.proofs.lemmas.List.{append-nil, get_or-map, get_or-take, length-map, length-take-le}
 use Rattle.eqc_blif.specs.Netlist.{ModelOf, InstanceOf}
-use Rattle.eqc_blif.specs.Names.{is_named}
+use Rattle.eqc_netlist.specs.Names.{is_named}
 use Rattle.eqc_blif.proofs.CodeLemmas.{alone}
 use Rattle.eqc_hierarchy.specs.Hierarchy.{model_number, reached}
 use Rattle.eqc_hierarchy.specs.Codes.{

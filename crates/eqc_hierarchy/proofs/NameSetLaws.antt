@@ -49,12 +49,12 @@ use Rattle.std.proofs.lemmas.List.Folds.{list_any_at}
 use Rattle.std.proofs.lemmas.List.Sums.{fold-append}
 use Rattle.std.proofs.lemmas.List.Elements.{filter-append}
 use Rattle.std.proofs.lemmas.Bool.{cases_lt, and_parts, or_parts, eq-eqb, eqb-true, true≢false, false≢true, lt-ltb, le-ltb}
-use Rattle.eqc_blif.specs.Names.{is_named, has_twice}
+use Rattle.eqc_netlist.specs.Names.{is_named, has_twice}
 use Rattle.eqc_blif.specs.Netlist.{ModelOf, CoverOf}
 use Rattle.eqc_netlist.specs.NameSets.{with_name, place_in}
 use Rattle.eqc_hierarchy.specs.Columns.{places_in, columns_in}
 use Rattle.eqc_hierarchy.specs.Signals.{once_each, cover_names, actuals, names_of}
-use Rattle.eqc_blif.proofs.NameLemmas.{bytes_eq-sym, named_append, once_more, twice_there}
+use Rattle.eqc_netlist.proofs.NameLemmas.{bytes_eq-sym, named_append, once_more, twice_there}
 use Rattle.eqc_netlist.proofs.NameSetLaws.{any_mapped, bytes_same, with_new}
 
 -- names without one of them: the others are there as before

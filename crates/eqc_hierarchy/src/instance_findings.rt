@@ -1,6 +1,6 @@
 //! What is at fault in a hierarchy that is refused for an instance: the first that meets the condition, and its formal.
 ghost use Rattle.std.specs.Prelude.{◌≡◌, ◌<◌, [], length, map, take, true, not, position, Some, is_some, slice_index_or, IfOk, IfSome};
-ghost use Rattle.eqc_blif.specs.Names.{is_named, has_twice};
+ghost use Rattle.eqc_netlist.specs.Names.{is_named, has_twice};
 ghost use Rattle.eqc_hierarchy.specs.Codes.{flat_code};
 ghost use Rattle.eqc_hierarchy.specs.Hierarchy.{reached};
 ghost use Rattle.eqc_hierarchy.specs.Reaching.{some_instance_in};

@@ -2,7 +2,7 @@
 ghost use Rattle.std.specs.Prelude.{◌≡◌, ◌<◌, [], length, map, true, slice_index_or, IfOk};
 ghost use Rattle.std.specs.List.{position_or_len};
 ghost use Rattle.std.specs.Str.{bytes_eq};
-ghost use Rattle.eqc_blif.specs.Names.{is_named};
+ghost use Rattle.eqc_netlist.specs.Names.{is_named};
 ghost use Rattle.eqc_hierarchy.specs.Hierarchy.{model};
 ghost use Rattle.eqc_hierarchy.specs.Signals.{names_of};
 ghost use Rattle.eqc_hierarchy.specs.Columns.{all_columns};

@@ -3,7 +3,7 @@ use Rattle.std.proofs.Common.{◌≡◌, ℕ, suc, ◌+◌, ◌<◌, Bool, false
 use Rattle.std.proofs.lemmas.List.{get_or-set_same, get_or-set_other}
 use Rattle.std.proofs.lemmas.Bool.{cases_eq, true≢false}
 use Rattle.std.proofs.Math.ListN.{length-set}
-use Rattle.eqc_blif.specs.Cover.{cover_value}
+use Rattle.eqc_netlist.specs.Cover.{cover_value}
 use Rattle.eqc_netlist.specs.Graph.{FlatOf, IsFlat, DriverOf, input, tie, cover, driver_at, dependencies, driven, value_of, FollowsDrivers}
 use Rattle.eqc_netlist.specs.Evaluating.{values_of}
 use Rattle.eqc_netlist.specs.Known.{AreKnown}

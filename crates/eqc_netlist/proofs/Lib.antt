@@ -1,3 +1,6 @@
+pub mod NameLemmas
+pub mod CutLemmas
+pub mod RowLemmas
 pub mod Depth
 pub mod Orders
 pub mod Members

@@ -49,9 +49,9 @@ use Rattle.std.proofs.lemmas.List.Folds.{list_any_at}
 use Rattle.std.proofs.lemmas.List.Sums.{fold-append}
 use Rattle.std.proofs.lemmas.List.Elements.{filter-append}
 use Rattle.std.proofs.lemmas.Bool.{cases_lt, and_parts, or_parts, eq-eqb, eqb-true, true≢false, false≢true, lt-ltb, le-ltb}
-use Rattle.eqc_blif.specs.Names.{is_named, has_twice}
+use Rattle.eqc_netlist.specs.Names.{is_named, has_twice}
 use Rattle.eqc_netlist.specs.NameSets.{with_name, place_in}
-use Rattle.eqc_blif.proofs.NameLemmas.{bytes_eq-sym, named_append, once_more, twice_there}
+use Rattle.eqc_netlist.proofs.NameLemmas.{bytes_eq-sym, named_append, once_more, twice_there}
 
 -- the bytes of slices
 abbrev pub bytes_in : List (Bor (List ℕ)) → List (List ℕ)

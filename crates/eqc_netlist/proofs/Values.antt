@@ -2,7 +2,7 @@
 use Rattle.std.proofs.Common.{◌≡◌, ℕ, zero, suc, Bool, true, List, [], ◌∷◌, length, map, refl, sym, ap, subst}
 use Rattle.std.specs.List.{list_all}
 use Rattle.std.proofs.lemmas.Bool.{and_parts, true≢false}
-use Rattle.eqc_blif.specs.Cover.{cover_value}
+use Rattle.eqc_netlist.specs.Cover.{cover_value}
 use Rattle.eqc_netlist.specs.Dependency.{ends_within}
 use Rattle.eqc_netlist.specs.Graph.{DriverOf, input, tie, cover, FlatOf, driver_at, dependencies, driven, settled, value_of, IsFlat, FollowsDrivers}
 use Rattle.eqc_netlist.proofs.Depth.{ordered_ends}

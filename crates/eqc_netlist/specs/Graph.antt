@@ -1,7 +1,7 @@
 -- A flat netlist: numbered signals, each with what drives it, and the value of each under values of the inputs.
 use Rattle.std.specs.Prelude.{◌≡◌, ℕ, zero, suc, ◌-◌, ◌<◌, ◌≤◌, Bool, true, false, List, [], ◌∷◌, length, map, slice_index_or}
-use Rattle.eqc_blif.specs.Cover.{cover_value}
-use Rattle.eqc_blif.specs.Names.{has_twice}
+use Rattle.eqc_netlist.specs.Cover.{cover_value}
+use Rattle.eqc_netlist.specs.Names.{has_twice}
 use Rattle.eqc_netlist.specs.Dependency.{among, in_order}
 
 -- what drives a signal: the input at a position, the signal at the other end of a tie, or a cover over

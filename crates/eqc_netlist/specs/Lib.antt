@@ -1,3 +1,8 @@
+pub mod Names
+pub mod Pieces
+pub mod Rows
+pub mod Cover
+pub mod TextRule
 pub mod Rule
 pub mod Dependency
 pub mod NearHash

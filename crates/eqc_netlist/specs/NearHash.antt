@@ -1,7 +1,7 @@
 -- Hashes of names that differ in the lowest bits of their last byte alone: they stand in one group of a table.
 use Rattle.std.specs.Prelude.{ℕ, ◌+◌, ◌-◌, ◌*◌, ◌/◌, ◌%◌, ◌==◌, List, [], ◌∷◌, ◌++◌, length, take, drop, if◌then◌else◌, bit_xor, slice_index_or}
 use Rattle.std.specs.Hash.FoldHasher as folding
-use Rattle.eqc_blif.specs.Pieces.{pieces}
+use Rattle.eqc_netlist.specs.Pieces.{pieces}
 use Rattle.eqc_netlist.specs.declared.near_key.NearHasher.{NearHasher}
 
 -- the writes of a name: its bytes but the last in pieces, and the last

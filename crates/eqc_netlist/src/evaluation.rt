@@ -7,7 +7,7 @@ use crate::drivers::driver::Driver;
 use crate::fault::Fault;
 use crate::flat::Flat;
 use crate::flat::signals::Signals;
-use eqc_blif::cover_value;
+use crate::rows::cover_value;
 use std::alloc::{AllocError, Global};
 
 /// The values of these signals.

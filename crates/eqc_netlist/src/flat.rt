@@ -7,7 +7,9 @@ pub(crate) mod signals;
 
 use crate::drivers::Drivers;
 use crate::drivers::driver::Driver;
-use eqc_blif::{Key, Name, Rows};
+use crate::key::Key;
+use crate::name::Name;
+use crate::rows::Rows;
 use std::marker::Model;
 
 /// A flat netlist over the names and rows of a library: numbered signals, each with its driver.

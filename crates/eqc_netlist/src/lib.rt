@@ -6,8 +6,9 @@
 //! - `flat`, a netlist, with lists of its `signals`; `drivers`, what drives each signal; in it `driver`, how one is shown, and
 //!   `stored_driver`, how it is kept; `graph`, what is asked for an order of them
 //! - `evaluation`, values
-//! - `name_set`, names with their places, by their `name_bytes` and a `near_key`
-//! - `rule`, what a hierarchy is refused for, and `fault`, why there is no netlist or no value
+//! - `rows`, those of a cover and what they mean; `name`, how one name is stored, and `key` and `pieces`, how it is looked up;
+//!   `name_set`, names with their places, by their `name_bytes` and a `near_key`
+//! - `text_rule` and `rule`, what a text and a hierarchy are refused for; `refusal` and `fault`, that one is, or that memory was refused
 #![tactic(auto)]
 
 mod drivers;
@@ -15,10 +16,16 @@ mod evaluation;
 mod fault;
 mod flat;
 mod graph;
+mod key;
+mod name;
 mod name_bytes;
 mod name_set;
 mod near_key;
+mod pieces;
+mod refusal;
+mod rows;
 mod rule;
+pub mod text_rule;
 
 pub use drivers::Drivers;
 pub use drivers::driver::Driver;
@@ -28,5 +35,10 @@ pub use fault::{Fault, FaultOfTwo};
 pub use flat::Flat;
 pub use flat::signals::Signals;
 pub use graph::Graph;
+pub use key::Key;
+pub use name::Name;
 pub use name_set::NameSet;
+pub use pieces::write_pieces;
+pub use refusal::Refusal;
+pub use rows::{Rows, allows, cover_value, is_on, is_on_set, row_matches};
 pub use rule::{RULES, Rule};

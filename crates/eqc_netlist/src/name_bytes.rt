@@ -5,7 +5,7 @@ ghost use Rattle.std.specs.Cmp.Lexicographic.{nat_list_eq_equiv, bytes_decides};
 ghost use Rattle.std.specs.Hash.{same_Alike};
 ghost use Rattle.eqc_netlist.specs.NearHash.{near_pieces};
 
-use eqc_blif::write_pieces;
+use crate::pieces::write_pieces;
 use std::hash::{Hash, Hasher};
 use std::marker::Model;
 

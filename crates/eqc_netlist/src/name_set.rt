@@ -2,12 +2,13 @@
 ghost use Rattle.std.specs.Prelude.{◌≡◌, ℕ, ◌<◌, List, [], length, position, slice_index_or, not, Some, IfOk, OnOk, IfSome, IsTrue};
 ghost use Rattle.std.specs.List.{fold};
 ghost use Rattle.std.specs.Str.{bytes_eq};
-ghost use Rattle.eqc_blif.specs.Names.{is_named};
+ghost use Rattle.eqc_netlist.specs.Names.{is_named};
 ghost use Rattle.eqc_netlist.specs.NameSets.{with_name, place_in};
 
+use crate::key::Key;
+use crate::name::Name;
 use crate::name_bytes::NameBytes;
 use crate::near_key::NearKey;
-use eqc_blif::{Key, Name};
 use indexmap::IndexSet;
 use std::alloc::{AllocError, Global};
 use std::marker::Model;

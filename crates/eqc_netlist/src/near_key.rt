@@ -4,7 +4,7 @@ ghost use Rattle.std.specs.Prelude.{◌≡◌};
 ghost use Rattle.std.specs.Hash.FoldHasher as folding;
 ghost use Rattle.eqc_netlist.specs.NearHash.{near_write, near_finish};
 
-use eqc_blif::Key;
+use crate::key::Key;
 use std::hash::{BuildHasher, FoldHasher, Hasher};
 
 /// What a table of names is hashed with, made of the key of their text. Nothing but time depends on it.

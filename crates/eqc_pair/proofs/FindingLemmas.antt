@@ -6,8 +6,8 @@ use Rattle.std.proofs.lemmas.Bool.{true≢false, false≢true, ne_eqb, eq-eqb, l
 use Rattle.std.proofs.lemmas.List.{length-map, length-take}
 use Rattle.std.proofs.lemmas.List.Filters.{length-filter_both}
 use Rattle.std.proofs.lemmas.List.Elements.{filter-append}
-use Rattle.eqc_blif.specs.Names.{is_named, has_twice}
-use Rattle.eqc_blif.specs.Finding.{StandsTwice}
+use Rattle.eqc_netlist.specs.Names.{is_named, has_twice}
+use Rattle.eqc_netlist.specs.Names.{StandsTwice}
 use Rattle.eqc_pair.specs.Matched.{has_all, same_names, order_words, order_code}
 use Rattle.eqc_pair.specs.Finding.{unmatched, AreCut, AreUnmatched}
 use Rattle.eqc_pair.proofs.NameLemmas.{bytes_more, named_found, named_missing}

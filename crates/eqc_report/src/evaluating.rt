@@ -9,8 +9,7 @@ ghost use Rattle.eqc_compare.specs.Verdict.{first_value};
 ghost use Rattle.eqc_compare.specs.Comparing.{netlist_of};
 ghost use Rattle.eqc_report.specs.Evaluation.{AreRead, AreRight, AreThere, IsWalk};
 
-use eqc_blif::cover_value;
-use eqc_netlist::{Driver, Flat, Signals, eval};
+use eqc_netlist::{Driver, Flat, Signals, cover_value, eval};
 use eqc_pair::recall_laws;
 use indexmap::IndexMap;
 use std::alloc::{AllocError, Global};

@@ -1,6 +1,6 @@
 use Rattle.std.proofs.Common.{◌≡◌, ◌∙◌, ap, not, refl, sym, true, position}
 use Rattle.std.specs.Str.{bytes_eq}
-use Rattle.eqc_blif.specs.Names.{is_named}
+use Rattle.eqc_netlist.specs.Names.{is_named}
 use Rattle.eqc_netlist.specs.NameSets.{with_name}
 use Rattle.eqc_netlist.proofs.NameSetLaws.{named_if_found, some_answered}
 use Rattle.eqc_netlist.proofs.name_set.NameSet.insert_bytes.Goals as goal

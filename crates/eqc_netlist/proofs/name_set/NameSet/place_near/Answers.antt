@@ -1,6 +1,6 @@
 use Rattle.std.proofs.Common.{◌≡◌, ◌∙◌, ap, refl, sym, true, []}
 use Rattle.std.specs.List.{fold}
-use Rattle.eqc_blif.specs.Names.{is_named}
+use Rattle.eqc_netlist.specs.Names.{is_named}
 use Rattle.eqc_netlist.specs.NameSets.{with_name, place_in}
 use Rattle.eqc_netlist.proofs.NameSetLaws.{name_found}
 use Rattle.eqc_netlist.proofs.name_set.NameSet.place_near.Goals as goal

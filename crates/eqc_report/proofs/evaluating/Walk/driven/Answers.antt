@@ -1,5 +1,5 @@
 use Rattle.std.proofs.Common.{ap, ap₂, sym, ◌∙◌}
-use Rattle.eqc_blif.specs.Cover.{cover_value}
+use Rattle.eqc_netlist.specs.Cover.{cover_value}
 use Rattle.eqc_netlist.specs.Graph.{driven, value_of}
 use Rattle.eqc_netlist.specs.Evaluating.{values_of}
 use Rattle.eqc_report.specs.Evaluation.{AreRead}

@@ -1,7 +1,7 @@
 use Rattle.std.proofs.Common.{arith, ◌≡◌, ◌+◌, ◌<◌, true, ◌++◌, ◌∙◌, sym, ap, subst, [], ℕ, List, map, take, length, get_or}
 use Rattle.std.proofs.lemmas.List.{get_or_default, length-map}
 use Rattle.eqc_blif.specs.Netlist.{ModelOf, CoverOf, no_cover}
-use Rattle.eqc_blif.specs.Names.{is_named}
+use Rattle.eqc_netlist.specs.Names.{is_named}
 use Rattle.eqc_hierarchy.specs.Hierarchy.{model}
 use Rattle.std.specs.Option.{option_map}
 use Rattle.eqc_hierarchy.specs.Columns.{places_in, all_columns}
