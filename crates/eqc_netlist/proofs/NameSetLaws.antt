@@ -1,57 +1,12 @@
 -- Names each once, as a set that they are put into has them; and where a name stands among others.
-use Rattle.std.proofs.Common.{
-  ◌≡◌,
-  ℕ,
-  zero,
-  suc,
-  Bool,
-  true,
-  false,
-  not,
-  ◌||◌,
-  cond,
-  List,
-  [],
-  ◌∷◌,
-  ◌++◌,
-  map,
-  refl,
-  sym,
-  ◌∙◌,
-  ap,
-  nat_eq,
-  nat_lt,
-  inl,
-  inr,
-  arith,
-  ◌+◌,
-  ◌<◌,
-  length,
-  take,
-  drop,
-  get_or,
-  ltb,
-  position,
-  Bor,
-  is_some,
-  filter,
-  Option,
-  Some,
-  None,
-  IfSome,
-}
-use Rattle.std.specs.List.{list_any, position_or_len, fold, flat_map, IsDistinct}
+use Rattle.std.proofs.Common.{◌≡◌, ℕ, zero, suc, Bool, true, false, not, ◌||◌, cond, List, [], ◌∷◌, ◌++◌, map, refl, sym, ◌∙◌, ap, nat_eq, nat_lt, inl, inr, arith, ◌+◌, ◌<◌, length, get_or, ltb, position, Bor, is_some, Option, Some, None, IfSome}
+use Rattle.std.specs.List.{list_any, position_or_len, fold, IsDistinct}
 use Rattle.std.specs.Str.{bytes_eq}
-use Rattle.std.proofs.Math.Seq.{split_at}
-use Rattle.std.proofs.lemmas.List.{map-append, append-nil, append_assoc, length-map, take_more}
 use Rattle.std.proofs.lemmas.Map.Keys.{apart_from_distinct, IsDistinct-tail}
-use Rattle.std.proofs.lemmas.List.Folds.{list_any_at}
-use Rattle.std.proofs.lemmas.List.Sums.{fold-append}
-use Rattle.std.proofs.lemmas.List.Elements.{filter-append}
-use Rattle.std.proofs.lemmas.Bool.{cases_lt, and_parts, or_parts, eq-eqb, eqb-true, true≢false, false≢true, lt-ltb, le-ltb}
-use Rattle.eqc_netlist.specs.Names.{is_named, has_twice}
+use Rattle.std.proofs.lemmas.Bool.{cases_lt, and_parts, eq-eqb, eqb-true, true≢false, false≢true, lt-ltb, le-ltb}
+use Rattle.eqc_netlist.specs.Names.{is_named}
 use Rattle.eqc_netlist.specs.NameSets.{with_name, place_in}
-use Rattle.eqc_netlist.proofs.NameLemmas.{bytes_eq-sym, named_append, once_more, twice_there}
+use Rattle.eqc_netlist.proofs.NameLemmas.{bytes_eq-sym, named_append}
 
 -- the bytes of slices
 abbrev pub bytes_in : List (Bor (List ℕ)) → List (List ℕ)
