@@ -41,7 +41,7 @@ use Rattle.std.proofs.lemmas.List.Folds.{list_all-append}
 use Rattle.std.proofs.lemmas.Bool.{and_parts, or_parts, not-true, cases_Bool, eqb-true, eq-eqb, ne_eqb, true≢false}
 use Rattle.eqc_blif.specs.Netlist.{CoverOf, InstanceOf, ModelOf}
 use Rattle.eqc_blif.specs.Words.{first_of, behind_first, without_blanks, is_equals_sign, pair_of, is_pair, cover_of}
-use Rattle.eqc_blif.specs.Names.{is_named, has_twice}
+use Rattle.eqc_netlist.specs.Names.{is_named, has_twice}
 use Rattle.eqc_blif.specs.Kind.{kind_of}
 use Rattle.eqc_blif.specs.Reading.{
   After,
@@ -86,7 +86,7 @@ use Rattle.eqc_blif.specs.PlainText.{
 use Rattle.eqc_blif.specs.declared.reader.kind.Kind.{Kind}
 use Rattle.eqc_blif.specs.declared.reader.kind.Kind.TheVariants.{Model, Inputs, Outputs, Names, Subckt, End, Row}
 use Rattle.eqc_blif.proofs.CleanLaws.{before_cut}
-use Rattle.eqc_blif.proofs.NameLemmas.{twice_there}
+use Rattle.eqc_netlist.proofs.NameLemmas.{twice_there}
 use Rattle.eqc_blif.proofs.RowLemmas.{last_pushed, row_pushed}
 use Rattle.eqc_blif.proofs.PlainLaws.{before_none, no_bad_byte, word_without_blanks, plain_words, words_back, logical_back}
 use Rattle.eqc_blif.proofs.FitLaws.{one_holds}

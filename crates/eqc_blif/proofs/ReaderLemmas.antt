@@ -7,7 +7,7 @@ use Rattle.std.proofs.lemmas.List.{map_push, length-map}
 use Rattle.std.proofs.lemmas.Bool.{cases_Bool, or_parts, not-true}
 use Rattle.indexmap.specs.IndexMap.{insert_entry}
 use Rattle.eqc_blif.specs.Netlist.{ModelOf}
-use Rattle.eqc_blif.specs.Names.{is_named, has_twice}
+use Rattle.eqc_netlist.specs.Names.{is_named, has_twice}
 use Rattle.eqc_blif.specs.Words.{first_of}
 use Rattle.eqc_blif.specs.Reading.{After, OpenModel, begun, models}
 use Rattle.eqc_blif.specs.Steps.{Takes, DeclarationsOf, model_of, is_new_name}

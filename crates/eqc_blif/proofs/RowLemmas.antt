@@ -3,9 +3,8 @@ use Rattle.std.proofs.Common.{◌≡◌, ℕ, ◌+◌, ◌-◌, ◌≤◌, Bool,
 use Rattle.std.specs.List.{list_all}
 use Rattle.std.proofs.lemmas.List.{drop_all, drop_at, length_push, get_or_push, take_at, set_at}
 use Rattle.std.proofs.lemmas.Bool.{cases_eq, cases_Bool, ne_eqb, eq-eqb, eqb-true, and_parts}
-use Rattle.eqc_blif.specs.Cover.{row_matches}
 use Rattle.eqc_blif.specs.Netlist.{CoverOf, ModelOf, no_cover}
-use Rattle.eqc_blif.specs.Rows.{rows_in, AreWhole}
+use Rattle.eqc_netlist.specs.Rows.{rows_in, AreWhole}
 use Rattle.eqc_blif.proofs.CutLemmas.{row_pushed_behind, pushed_are_whole}
 use Rattle.eqc_blif.specs.Reading.{has_row_shape, is_column_value, is_output_value, last_cover, row_added, with_new_row}
 use Rattle.eqc_blif.specs.Steps.{TakesRow, MayChange, code_behind, row_code, row_code_in, with_open_cover, cover_with_row}
@@ -31,14 +30,6 @@ pub row_pushed : (covers : List CoverOf) (cover : CoverOf) (row : List ℕ) → 
 row_pushed covers cover row =
     let last : length (covers ++ cover ∷ []) - 1 ≡ length covers = omega (arith, length_push covers cover) in
     rw (last_pushed covers cover, last) (set_at covers cover [] (cover_with_row row cover) (length covers) refl)
-
--- a row that is over matches whatever is left
-pub row_over : (vs : List Bool) → row_matches [] vs ≡ true
-row_over [] = refl
-row_over (v ∷ vs) = refl
-
-pub row_matches-past : (i : ℕ) (row : List ℕ) (vs : List Bool) → length row ≤ i → true ≡ row_matches (drop i row) vs
-row_matches-past i row vs past = rw (drop_all i row past) (sym (row_over vs))
 
 -- a row of the cover that is being read is a row of the model's last cover
 pub row_taken : (m : ModelOf) (cover new : CoverOf) (row : List ℕ) (code : Option ℕ) → TakesRow cover row code new

@@ -4,7 +4,7 @@ use Rattle.std.specs.Prelude.{is_some, map}
 use Rattle.std.specs.List.{list_all}
 use Rattle.std.proofs.lemmas.Bool.{not-true, not-false, and_parts}
 use Rattle.eqc_blif.specs.Words.{first_of, behind_first, is_pair}
-use Rattle.eqc_blif.specs.Names.{is_named}
+use Rattle.eqc_netlist.specs.Names.{is_named}
 use Rattle.eqc_blif.specs.Reading.{
   After,
   models,

@@ -5,11 +5,11 @@ use Rattle.std.proofs.lemmas.List.Folds.{list_all-append}
 use Rattle.std.proofs.lemmas.Bool.{and_parts, not-true}
 use Rattle.eqc_blif.specs.Netlist.{ModelOf}
 use Rattle.eqc_blif.specs.Words.{first_of}
-use Rattle.eqc_blif.specs.Names.{is_named, has_twice}
+use Rattle.eqc_netlist.specs.Names.{is_named, has_twice}
 use Rattle.eqc_blif.specs.Reading.{begun, models_of}
 use Rattle.eqc_blif.specs.Laws.{lists_are_distinct, LibrariesHaveNoNameTwice}
 use Rattle.eqc_blif.specs.declared.reader.kind.Kind.TheVariants.{Model, Inputs, Outputs, Names, Subckt, End, Latch, Skipped, Unknown, Row}
-use Rattle.eqc_blif.proofs.NameLemmas.{once_more}
+use Rattle.eqc_netlist.proofs.NameLemmas.{once_more}
 use Rattle.eqc_blif.proofs.KeptLaws.{IsKept, library_has, unmet}
 
 -- no model name stands twice, and no name in a list

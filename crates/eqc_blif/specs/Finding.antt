@@ -4,7 +4,7 @@ use Rattle.std.specs.List.{list_any}
 use Rattle.std.specs.Result.{result_err}
 use Rattle.eqc_blif.specs.Lines.{physical, clean, logical_lines}
 use Rattle.eqc_blif.specs.Words.{words, first_of, behind_first, arguments, without_blanks, is_pair}
-use Rattle.eqc_blif.specs.Names.{is_named}
+use Rattle.eqc_netlist.specs.Names.{is_named, StandsTwice}
 use Rattle.eqc_blif.specs.Kind.{kind_of, kind_of_line}
 use Rattle.eqc_blif.specs.Reading.{
   After,
@@ -101,10 +101,6 @@ LacksWord line command = (command ≡ first_of (words line)) × (lacks_words (ki
 -- 11: a line opens a model of a name that a model before it has
 abbrev pub IsModelTwice : After → List ℕ → List ℕ → Type 0
 IsModelTwice st line name = (kind_of_line line ≡ Model) × (name ≡ first_of (arguments line)) × (is_named (map (λ m. m.name) (models st)) name ≡ true)
-
--- a name stands at two places of a list
-abbrev pub StandsTwice : List (List ℕ) → List ℕ → Type 0
-StandsTwice names name = (j : ℕ) × (k : ℕ) × (j < k) × (k < length names) × (slice_index_or names j [] ≡ name) × (slice_index_or names k [] ≡ name)
 
 -- 12: with the words of a line a name stands twice in the inputs of its model
 abbrev pub IsInputTwice : After → List ℕ → List ℕ → Type 0

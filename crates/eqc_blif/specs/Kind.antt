@@ -3,7 +3,7 @@
 use Rattle.std.specs.Prelude.{ℕ, not, List, [], ◌∷◌, slice_index, if◌then◌else◌, ◌==◌, codes}
 use Rattle.std.specs.Str.{bytes_eq}
 use Rattle.eqc_blif.specs.Words.{words, first_of}
-use Rattle.eqc_blif.specs.Names.{is_named}
+use Rattle.eqc_netlist.specs.Names.{is_named}
 use Rattle.eqc_blif.specs.declared.reader.kind.Kind.{Kind}
 use Rattle.eqc_blif.specs.declared.reader.kind.Kind.TheVariants.{Model, Inputs, Outputs, Names, Subckt, End, Latch, Skipped, Unknown, Row}
 

@@ -4,7 +4,7 @@ use Rattle.std.specs.Prelude.{◌≡◌, ℕ, ◌+◌, ◌≤◌, Bool, true, fa
 use Rattle.std.specs.List.{list_all, list_any}
 use Rattle.eqc_blif.specs.Netlist.{CoverOf, ModelOf}
 use Rattle.eqc_blif.specs.Lines.{is_blank, is_trailing, physical, clean, continues, numbered, logical, logical_lines}
-use Rattle.eqc_blif.specs.Names.{has_twice}
+use Rattle.eqc_netlist.specs.Names.{has_twice}
 use Rattle.eqc_blif.specs.Kind.{kind_of_line}
 use Rattle.eqc_blif.specs.Reading.{Outcome, start, is_bad_byte, row_output, line_code, after, first_fault, outcome_of_lines, is_too_long, outcome}
 use Rattle.eqc_blif.specs.declared.reader.kind.Kind.TheVariants.{Skipped}

@@ -1,14 +1,9 @@
 pub mod Netlist
-pub mod Cover
-pub mod Rows
 pub mod Lines
 pub mod Words
-pub mod Names
-pub mod Pieces
 pub mod Kind
 pub mod Reading
 pub mod Steps
 pub mod Laws
 pub mod PlainText
-pub mod Rule
 pub mod Finding

@@ -4,7 +4,7 @@ use Rattle.std.specs.List.{list_all, list_any, flat_map}
 use Rattle.eqc_blif.specs.Netlist.{CoverOf, InstanceOf, ModelOf}
 use Rattle.eqc_blif.specs.Lines.{continues, logical_lines}
 use Rattle.eqc_blif.specs.Words.{words, is_equals_sign}
-use Rattle.eqc_blif.specs.Names.{has_twice}
+use Rattle.eqc_netlist.specs.Names.{has_twice}
 use Rattle.eqc_blif.specs.Reading.{has_row_shape, is_too_long, outcome}
 use Rattle.eqc_blif.specs.Laws.{contents, lists_are_distinct, ends_alike}
 

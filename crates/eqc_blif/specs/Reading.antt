@@ -36,7 +36,7 @@ use Rattle.std.specs.Option.{option_map}
 use Rattle.eqc_blif.specs.Netlist.{CoverOf, ModelOf, no_model, no_cover}
 use Rattle.eqc_blif.specs.Lines.{logical_lines}
 use Rattle.eqc_blif.specs.Words.{first_of, behind_first, arguments, without_blanks, is_pair, cover_of, instance_of}
-use Rattle.eqc_blif.specs.Names.{is_named, has_twice}
+use Rattle.eqc_netlist.specs.Names.{is_named, has_twice}
 use Rattle.eqc_blif.specs.Kind.{kind_of_line}
 use Rattle.eqc_blif.specs.declared.reader.kind.Kind.{Kind}
 use Rattle.eqc_blif.specs.declared.reader.kind.Kind.TheVariants.{Model, Inputs, Outputs, Names, Subckt, End, Latch, Skipped, Unknown, Row}

@@ -5,7 +5,7 @@ use Rattle.std.specs.List.{list_all}
 use Rattle.eqc_blif.specs.Netlist.{CoverOf, InstanceOf, ModelOf}
 use Rattle.eqc_blif.specs.Lines.{numbered}
 use Rattle.eqc_blif.specs.Words.{is_pair, pair_of, behind_first}
-use Rattle.eqc_blif.specs.Names.{is_named, has_twice}
+use Rattle.eqc_netlist.specs.Names.{is_named, has_twice}
 use Rattle.eqc_blif.specs.Reading.{
   After,
   OpenModel,

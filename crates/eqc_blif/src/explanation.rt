@@ -8,13 +8,12 @@ use crate::finding::Finding;
 use crate::finding::bad_byte::bad_byte;
 use crate::finding::line_findings::line_finding;
 use crate::finding::refused_line::go_to_line;
-use crate::key::Key;
 use crate::reader::Reader;
 use crate::reader::kind::kind_of;
 use crate::reading::{MAX_BYTES, read};
-use crate::refusal::Refusal;
-use crate::rule::Rule;
 use crate::text::words::split_first;
+use eqc_netlist::text_rule::Rule;
+use eqc_netlist::{Key, Refusal};
 use std::alloc::{AllocError, Global};
 
 /// Why a text is refused, if it is. Fails where memory is refused.

@@ -3,7 +3,7 @@ pub(crate) mod bad_byte;
 pub(crate) mod line_findings;
 pub(crate) mod refused_line;
 
-use crate::name::Name;
+use eqc_netlist::Name;
 
 /// What is at fault in a text that is refused.
 #[derive(Drop)]

@@ -18,23 +18,21 @@
 
 mod explanation;
 mod finding;
-mod key;
 mod laws;
 mod library;
 mod model;
-mod name;
 mod names;
-mod pieces;
 mod reader;
 mod reading;
-mod refusal;
-mod rule;
 mod sparing;
 mod text;
 
+pub use eqc_netlist::text_rule::{RULES, Rule};
+pub use eqc_netlist::{
+    Key, Name, Refusal, Rows, allows, cover_value, is_on, is_on_set, row_matches, write_pieces,
+};
 pub use explanation::explain;
 pub use finding::Finding;
-pub use key::Key;
 pub use laws::{
     blank_lines_only_renumber, first_fault_is_one, first_fault_stays, libraries_have_no_name_twice,
     line_numbers_rise, lines_are_cut_again, plain_texts_are_read_back, rows_fit_their_covers,
@@ -43,9 +41,4 @@ pub use laws::{
 pub use library::Library;
 pub use model::cover::Cover;
 pub use model::instance::Instance;
-pub use model::rows::{Rows, allows, cover_value, is_on, is_on_set, row_matches};
-pub use name::Name;
-pub use pieces::write_pieces;
 pub use reading::read;
-pub use refusal::Refusal;
-pub use rule::{RULES, Rule};

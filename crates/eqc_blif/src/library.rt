@@ -1,14 +1,13 @@
 //! The models of a text, found by number or by name, with what each of them declares.
 ghost use Rattle.std.specs.Prelude.{◌≡◌, ◌<◌, ◌++◌, ◌∷◌, [], false, length, map, nat_lt, not, position, bytes_eq, slice_index_or, OnOk};
-ghost use Rattle.eqc_blif.specs.Names.{is_named, has_twice};
+ghost use Rattle.eqc_netlist.specs.Names.{is_named, has_twice};
 ghost use Rattle.eqc_blif.specs.Netlist.{no_model};
 ghost use Rattle.eqc_blif.specs.Steps.{model_of};
 
-use crate::key::Key;
 use crate::model::cover::Cover;
 use crate::model::declarations::Declarations;
 use crate::model::instance::Instance;
-use crate::name::Name;
+use eqc_netlist::{Key, Name};
 use indexmap::IndexMap;
 use std::alloc::{AllocError, Global};
 use std::marker::Model;

@@ -2,4 +2,3 @@
 pub(crate) mod cover;
 pub(crate) mod declarations;
 pub(crate) mod instance;
-pub(crate) mod rows;

@@ -1,15 +1,14 @@
 //! The names of a model's inputs or outputs, kept so that a model without any takes no memory for them.
 ghost use Rattle.std.specs.Prelude.{◌≡◌, [], ◌++◌, IfOk, not, true, false};
 ghost use Rattle.eqc_blif.specs.Words.{words};
-ghost use Rattle.eqc_blif.specs.Names.{has_twice};
-ghost use Rattle.eqc_blif.specs.Finding.{StandsTwice};
+ghost use Rattle.eqc_netlist.specs.Names.{has_twice};
+ghost use Rattle.eqc_netlist.specs.Names.{StandsTwice};
 
 pub(crate) mod list;
 pub(crate) mod many;
 
-use crate::key::Key;
-use crate::name::Name;
 use crate::names::list::NameList;
+use eqc_netlist::{Key, Name};
 use std::alloc::{AllocError, Global};
 use std::marker::Model;
 

@@ -3,21 +3,20 @@ ghost use Rattle.std.specs.Prelude.{◌≡◌, ◌++◌, IfOk, OnOk, IsTrue, tru
 ghost use Rattle.std.specs.List.{list_any};
 ghost use Rattle.eqc_blif.specs.Words.{words, without_blanks};
 ghost use Rattle.eqc_blif.specs.Reading.{start, begun, models, current, is_in_cover, last_cover, opened, stands_in_model, is_bad_byte};
-ghost use Rattle.eqc_blif.specs.Names.{is_named, has_twice};
-ghost use Rattle.eqc_blif.specs.Finding.{StandsTwice};
+ghost use Rattle.eqc_netlist.specs.Names.{is_named, has_twice};
+ghost use Rattle.eqc_netlist.specs.Names.{StandsTwice};
 ghost use Rattle.eqc_blif.specs.Steps.{Takes, TakesLine, declares};
 
 pub(crate) mod kind;
 pub(crate) mod open_model;
 
-use crate::key::Key;
 use crate::library::Library;
 use crate::model::cover::Cover;
-use crate::name::Name;
 use crate::reader::kind::{Kind, begins_row, kind_of};
 use crate::reader::open_model::OpenModel;
-use crate::rule::Rule;
 use crate::text::words::split_first;
+use eqc_netlist::text_rule::Rule;
+use eqc_netlist::{Key, Name};
 use std::alloc::{AllocError, Global};
 use std::marker::Model;
 

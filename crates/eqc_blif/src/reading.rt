@@ -3,12 +3,11 @@ ghost use Rattle.std.specs.Prelude.{◌≡◌, ◌<◌, ◌^◌, ◌⊎◌, leng
 ghost use Rattle.eqc_blif.specs.Lines.{logical_lines};
 ghost use Rattle.eqc_blif.specs.Reading.{start, after, models, first_fault, outcome};
 
-use crate::key::Key;
 use crate::library::Library;
 use crate::reader::Reader;
-use crate::refusal::Refusal;
-use crate::rule::Rule;
 use crate::text::lines::Lines;
+use eqc_netlist::text_rule::Rule;
+use eqc_netlist::{Key, Refusal};
 use std::alloc::Global;
 
 /// How many bytes a text may have.

@@ -2,9 +2,9 @@
 use Rattle.std.proofs.Common.{◌≡◌, ℕ, ◌≤◌, List, [], true, cond, nat_eq, eq-eqb, ne_eqb, get_or, sym, ◌∙◌, ap, Some, None, inl, inr, subst}
 use Rattle.std.specs.Map.{lookup}
 use Rattle.std.proofs.lemmas.Bool.{cases_eq}
-use Rattle.eqc_blif.specs.Cover.{cover_value}
+use Rattle.eqc_netlist.specs.Cover.{cover_value}
 use Rattle.eqc_cover.specs.Table.{Tabulates}
-use Rattle.eqc_flat.specs.Graph.{FlatOf}
+use Rattle.eqc_netlist.specs.Graph.{FlatOf}
 use Rattle.eqc_build.specs.CoverTables.{AreTablesOf, IsTableOf}
 use Rattle.eqc_build.specs.declared.cover_tables.CoverTable.{CoverTable}
 

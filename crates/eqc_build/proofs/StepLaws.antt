@@ -4,8 +4,8 @@ use Rattle.std.specs.Option.{option_map_or, option_copied, unwrap_or}
 use Rattle.std.specs.Borrow.{Bor}
 use Rattle.std.proofs.lemmas.List.{get_or-map, length-map}
 use Rattle.std.proofs.lemmas.Bool.{lt-ltb, le-ltb, cases_lt}
-use Rattle.eqc_flat.specs.Graph.{FlatOf, IsFlat, FollowsDrivers, DriverOf, input, tie, cover, driver_at, dependencies, driven, value_of}
-use Rattle.eqc_flat.proofs.EvaluationLaws.{dep_before}
+use Rattle.eqc_netlist.specs.Graph.{FlatOf, IsFlat, FollowsDrivers, DriverOf, input, tie, cover, driver_at, dependencies, driven, value_of}
+use Rattle.eqc_netlist.proofs.EvaluationLaws.{dep_before}
 use Rattle.eqc_pair.specs.PairOf.{PairOf, IsPair, IsAssumption, ArePlaces, no_netlist, assumed, first_variables, second_variables, assumed_variables, second_signals}
 use Rattle.eqc_pair.proofs.AssumptionLemmas.{assumed_flat}
 use Rattle.eqc_build.specs.Schedule.{AreWithin}

@@ -1,7 +1,7 @@
 -- The diagrams of the steps of a pair, while they are built.
 use Rattle.std.specs.Prelude.{◌≡◌, ℕ, ◌+◌, ◌<◌, ◌≤◌, Bool, List, length, Option, Some, None, slice_index, slice_index_or, sum_by, IsSome, slice_set, ◌⊎◌}
 use Rattle.eqc_tree.specs.Holding.{Entry, Holding, copies, weight, says}
-use Rattle.eqc_flat.specs.Graph.{FlatOf}
+use Rattle.eqc_netlist.specs.Graph.{FlatOf}
 use Rattle.eqc_pair.specs.PairOf.{PairOf}
 use Rattle.eqc_build.specs.Steps.{steps_in, value_at}
 use Rattle.eqc_build.specs.Demand.{IsOfUse}

@@ -1,9 +1,9 @@
 -- Truth tables of some covers of the netlists of a pair, each by the number that its rows have in its netlist.
 use Rattle.std.specs.Prelude.{◌≡◌, ℕ, ◌≤◌, List, [], nat_eq, Some, slice_index_or}
 use Rattle.std.specs.Map.{lookup}
-use Rattle.eqc_blif.specs.Cover.{cover_value}
+use Rattle.eqc_netlist.specs.Cover.{cover_value}
 use Rattle.eqc_cover.specs.Table.{Tabulates}
-use Rattle.eqc_flat.specs.Graph.{FlatOf}
+use Rattle.eqc_netlist.specs.Graph.{FlatOf}
 use Rattle.eqc_pair.specs.PairOf.{PairOf, assumed}
 use Rattle.eqc_build.specs.declared.cover_tables.CoverTable.{CoverTable}
 use Rattle.eqc_build.specs.declared.cover_tables.PairTables.{PairTables}

@@ -1,10 +1,10 @@
 -- What makes the value of a step.
 use Rattle.std.specs.Prelude.{◌≡◌, ℕ, ◌<◌, ◌≤◌, Bool, List, [], ◌∷◌, length, map, slice_index, slice_index_or}
-use Rattle.eqc_blif.specs.Cover.{cover_value}
+use Rattle.eqc_netlist.specs.Cover.{cover_value}
 use Rattle.std.specs.Option.{IfSome}
 use Rattle.eqc_cover.specs.Splits.{IsExpansionOf}
 use Rattle.eqc_cover.specs.Table.{Tabulates, table_value}
-use Rattle.eqc_flat.specs.Graph.{FlatOf, input, tie, cover, driver_at}
+use Rattle.eqc_netlist.specs.Graph.{FlatOf, input, tie, cover, driver_at}
 use Rattle.eqc_build.specs.Steps.{StepsOf, step_in, uses_of, value_at}
 use Rattle.eqc_build.specs.declared.steps.StepDriver.{StepDriver}
 use Rattle.eqc_build.specs.declared.steps.StepDriver.TheVariants.{Variable, Copy, Cover, Table}

@@ -3,7 +3,7 @@
 -- another value.
 use Rattle.std.specs.Prelude.{◌≡◌, ℕ, ◌+◌, ◌-◌, ◌<◌, ◌≤◌, Bool, List, [], ◌∷◌, ◌++◌, length, map, ltb, Option, slice_index, slice_index_or, if◌then◌else◌}
 use Rattle.std.specs.Option.{IfSome, option_map_or}
-use Rattle.eqc_flat.specs.Graph.{FlatOf, IsFlat, FollowsDrivers, driver_at, dependencies, value_of}
+use Rattle.eqc_netlist.specs.Graph.{FlatOf, IsFlat, FollowsDrivers, driver_at, dependencies, value_of}
 use Rattle.eqc_pair.specs.PairOf.{PairOf, IsPair, ArePlaces, assumed, first_variables, second_variables, assumed_variables, second_signals}
 use Rattle.eqc_build.specs.CoverTables.{TablesOf, AreTablesOf, ArePairTables}
 use Rattle.eqc_build.specs.declared.cover_tables.CoverTable.{CoverTable}

@@ -2,7 +2,7 @@
 use Rattle.std.specs.Prelude.{◌≡◌, ℕ, List, [], nat_eq, Some, slice_index_or}
 use Rattle.std.specs.Map.{lookup}
 use Rattle.eqc_cover.specs.Splits.{IsExpansionOf}
-use Rattle.eqc_flat.specs.Graph.{FlatOf}
+use Rattle.eqc_netlist.specs.Graph.{FlatOf}
 use Rattle.eqc_build.specs.declared.wide_covers.Met.{Met}
 use Rattle.eqc_build.specs.declared.wide_covers.Met.TheVariants.{Once, Left, Split}
 

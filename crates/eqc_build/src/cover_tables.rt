@@ -5,7 +5,7 @@ ghost use Rattle.eqc_pair.specs.PairOf.{PairOf};
 ghost use Rattle.eqc_build.specs.CoverTables.{AreTablesOf, ArePairTables, tables_in};
 
 use eqc_cover::table::{MOST_COLUMNS, cover_table};
-use eqc_flat::{Driver, Flat};
+use eqc_netlist::{Driver, Flat};
 use eqc_pair::{Pair, recall_laws};
 use indexmap::IndexMap;
 use std::alloc::{AllocError, Global};

@@ -5,10 +5,9 @@ ghost use Rattle.eqc_cover.specs.Splits.{IsExpansionOf};
 ghost use Rattle.eqc_build.specs.WideCovers.{IsMetOf};
 
 use crate::moments::Moments;
-use eqc_blif::Rows;
 use eqc_cover::Expansion;
 use eqc_cover::table::MOST_COLUMNS;
-use eqc_flat::{Driver, Flat};
+use eqc_netlist::{Driver, Flat, Rows};
 use eqc_pair::recall_laws;
 use indexmap::IndexMap;
 use std::alloc::{AllocError, Global};
@@ -42,7 +41,7 @@ pub(crate) struct WideCovers<'a> {
 }
 
 impl<'a> Model for WideCovers<'a> {
-    ghost use Rattle.eqc_flat.specs.Graph.{FlatOf};
+    ghost use Rattle.eqc_netlist.specs.Graph.{FlatOf};
     ghost use Rattle.eqc_build.specs.WideCovers.{AreMetOf};
 
     ghost Value = { FlatOf };

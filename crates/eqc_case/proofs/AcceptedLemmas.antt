@@ -7,7 +7,7 @@ use Rattle.std.proofs.lemmas.List.Elements.{All-from_get_or}
 use Rattle.std.proofs.lemmas.List.Folds.{Any-from_list_any, list_any_at}
 use Rattle.std.proofs.lemmas.List.Sums.{list_all-from_AllPass}
 use Rattle.std.proofs.lemmas.List.FromFn.{length-range_with_len, get_or-range_with_len}
-use Rattle.eqc_blif.specs.Names.{is_named}
+use Rattle.eqc_netlist.specs.Names.{is_named}
 use Rattle.eqc_report.specs.declared.options.Options.{Options}
 use Rattle.eqc_pair.specs.declared.refused.Refused.{Refused}
 use Rattle.eqc_pair.specs.declared.refused.Side.{Side}
@@ -19,7 +19,7 @@ use Rattle.eqc_case.specs.AnswerLaws.{first_main, assumption_main, AreInRange, I
 use Rattle.eqc_pair.proofs.PlaceLemmas.{place_below, name_at, named_index, all_named}
 use Rattle.eqc_pair.proofs.OrderedLemmas.{both_ways}
 use Rattle.eqc_case.proofs.CheckLemmas.{PassAll, pass_none, pass_more, pass_each, pass_both}
-use Rattle.eqc_flat.proofs.Members.{same_test}
+use Rattle.eqc_netlist.proofs.Members.{same_test}
 
 -- ---- single checks
 

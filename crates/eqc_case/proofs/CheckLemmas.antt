@@ -2,7 +2,7 @@
 use Rattle.std.proofs.Common.{◌≡◌, ◌⊎◌, inl, inr, ℕ, zero, suc, ◌<◌, Bool, true, false, not, List, [], ◌∷◌, ◌++◌, length, map, get_or, ◌==◌, Option, Some, None, Result, Ok, Err, sym, ap, refl, ◌∙◌, arith, subst, suc-le-suc, nat_lt, if◌then◌else◌}
 use Rattle.std.proofs.lemmas.Option.{none-some}
 use Rattle.std.proofs.lemmas.List.{get_or_past}
-use Rattle.eqc_blif.specs.Names.{has_twice}
+use Rattle.eqc_netlist.specs.Names.{has_twice}
 use Rattle.eqc_hierarchy.specs.Codes.{flat_code}
 use Rattle.eqc_pair.specs.declared.refused.Refused.{Refused}
 use Rattle.eqc_pair.specs.declared.refused.Side.TheVariants as side

@@ -4,7 +4,7 @@ use Rattle.std.specs.Str.{bytes_eq}
 use Rattle.std.proofs.lemmas.Bool.{cases_Bool, cases_lt, lt-ltb, le-ltb}
 use Rattle.std.proofs.lemmas.List.{get_or-map, length-map}
 use Rattle.std.proofs.lemmas.List.Sums.{passes_at_first}
-use Rattle.eqc_blif.specs.Names.{has_twice}
+use Rattle.eqc_netlist.specs.Names.{has_twice}
 use Rattle.eqc_blif.specs.Netlist.{ModelOf, no_model}
 use Rattle.eqc_blif.specs.Reading.{outcome}
 use Rattle.eqc_blif.proofs.TwiceLaws.{libraries_have_no_name_twice}

@@ -6,7 +6,7 @@ use Rattle.std.specs.Prelude.{unwrap_or}
 use Rattle.std.proofs.lemmas.Bool.{not-true, and_parts, true≢false}
 use Rattle.std.proofs.lemmas.List.{length-map, get_or-map, get_or_default, same_lists}
 use Rattle.eqc_blif.specs.Netlist.{ModelOf}
-use Rattle.eqc_blif.specs.Names.{is_named, has_twice}
+use Rattle.eqc_netlist.specs.Names.{is_named, has_twice}
 use Rattle.eqc_blif.specs.Reading.{Outcome, outcome}
 use Rattle.eqc_blif.specs.Laws.{lists_are_distinct}
 use Rattle.eqc_blif.proofs.TwiceLaws.{libraries_have_no_name_twice}

@@ -5,8 +5,8 @@ use Rattle.std.proofs.lemmas.Bool.{eqb-true}
 use Rattle.std.specs.Option.{option_map}
 use Rattle.eqc_tree.specs.declared.stopping.Stop.{Stop}
 use Rattle.eqc_tree.specs.declared.stopping.Stop.TheVariants as stops
-use Rattle.eqc_blif.specs.declared.refusal.Refusal.{Refusal}
-use Rattle.eqc_flat.specs.Graph.{FlatOf, IsFlat, value_of}
+use Rattle.eqc_netlist.specs.declared.refusal.Refusal.{Refusal}
+use Rattle.eqc_netlist.specs.Graph.{FlatOf, IsFlat, value_of}
 use Rattle.eqc_hierarchy.specs.Signals.{output_value}
 use Rattle.eqc_hierarchy.specs.Codes.{flat_code}
 use Rattle.eqc_flat.specs.Flattened.{IsFlatOf}

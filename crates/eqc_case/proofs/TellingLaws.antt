@@ -2,7 +2,7 @@
 use Rattle.std.proofs.Common.{◌≡◌, ◌⊎◌, inl, inr, ℕ, Bool, true, not, ◌&&◌, List, map, refl, sym, ◌∙◌, ap, subst, Option, Some, None, Result, Ok, Err, IfOk, IfErr}
 use Rattle.std.specs.declared.alloc.AllocError.{AllocError}
 use Rattle.eqc_tree.specs.declared.stopping.Stop.{Stop}
-use Rattle.eqc_blif.specs.declared.refusal.Refusal.{Refusal}
+use Rattle.eqc_netlist.specs.declared.refusal.Refusal.{Refusal}
 use Rattle.eqc_case.specs.declared.told.Told.{Told}
 use Rattle.eqc_report.specs.declared.report.Report.{Report}
 use Rattle.eqc_report.specs.declared.report.Report.TheVariants as kind
@@ -14,8 +14,8 @@ use Rattle.eqc_report.specs.ReportView.{report_of}
 use Rattle.std.specs.Borrow.{Bor}
 use Rattle.std.specs.List.{list_any}
 use Rattle.std.specs.Str.{bytes_eq}
-use Rattle.eqc_blif.specs.Names.{is_named}
-use Rattle.eqc_flat.proofs.NameSetLaws.{any_mapped}
+use Rattle.eqc_netlist.specs.Names.{is_named}
+use Rattle.eqc_netlist.proofs.NameSetLaws.{any_mapped}
 use Rattle.std.specs.Option.{option_copied}
 use Rattle.eqc_blif.specs.Netlist.{ModelOf}
 use Rattle.eqc_blif.specs.Reading.{outcome}

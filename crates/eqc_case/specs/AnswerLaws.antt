@@ -2,7 +2,7 @@
 -- order, and the values of outputs where each input has the value that is assigned to its name.
 use Rattle.std.specs.Prelude.{◌≡◌, ◌≢◌, ◌↔◌, ℕ, ◌==◌, true, ◌^◌, ◌≤◌, ◌<◌, Bool, false, not, List, [], ◌∷◌, ◌++◌, length, map, nat_lt, slice_index_or, Option, Some, None, IfSome, Result, Ok, Err, if◌then◌else◌}
 use Rattle.std.specs.List.{All}
-use Rattle.eqc_blif.specs.Names.{is_named, has_twice}
+use Rattle.eqc_netlist.specs.Names.{is_named, has_twice}
 use Rattle.eqc_hierarchy.specs.Signals.{output_value}
 use Rattle.eqc_hierarchy.specs.Codes.{flat_code}
 use Rattle.eqc_report.specs.declared.options.Options.{Options}

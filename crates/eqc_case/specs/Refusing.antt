@@ -1,7 +1,7 @@
 -- Refusals as reports, and the answer of two flat netlists.
 use Rattle.std.specs.Prelude.{◌≡◌, ◌≢◌, Option, Some, None, Result, Ok, Err}
-use Rattle.eqc_flat.specs.Graph.{FlatOf}
-use Rattle.eqc_blif.specs.declared.refusal.Refusal.{Refusal}
+use Rattle.eqc_netlist.specs.Graph.{FlatOf}
+use Rattle.eqc_netlist.specs.declared.refusal.Refusal.{Refusal}
 use Rattle.eqc_report.specs.declared.report.Report.{Report}
 use Rattle.eqc_report.specs.declared.report.Report.TheVariants as report
 use Rattle.eqc_pair.specs.declared.refused.Refused.{Refused}

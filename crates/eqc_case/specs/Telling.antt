@@ -1,6 +1,6 @@
 -- Reports with warnings.
 use Rattle.std.specs.Prelude.{◌≡◌, Result, Ok, Err}
-use Rattle.eqc_blif.specs.declared.refusal.Refusal.{Refusal}
+use Rattle.eqc_netlist.specs.declared.refusal.Refusal.{Refusal}
 use Rattle.eqc_case.specs.declared.told.Told.{Told}
 use Rattle.eqc_report.specs.declared.report.Report.{Report}
 use Rattle.eqc_pair.specs.declared.refused.Side.{Side}

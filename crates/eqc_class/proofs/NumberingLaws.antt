@@ -3,8 +3,8 @@ use Rattle.std.proofs.Common.{◌≡◌, ◌⊎◌, ℕ, ◌+◌, ◌<◌, ◌�
 use Rattle.std.proofs.lemmas.List.{get_or-set_same, get_or-set_other}
 use Rattle.std.proofs.lemmas.Bool.{cases_eq}
 use Rattle.std.proofs.Math.ListN.{length-set}
-use Rattle.eqc_flat.specs.Graph.{FlatOf, IsFlat, FollowsDrivers, driver_at, dependencies}
-use Rattle.eqc_flat.proofs.EvaluationLaws.{dep_before, step_of}
+use Rattle.eqc_netlist.specs.Graph.{FlatOf, IsFlat, FollowsDrivers, driver_at, dependencies}
+use Rattle.eqc_netlist.proofs.EvaluationLaws.{dep_before, step_of}
 use Rattle.eqc_class.specs.Structure.{Structure, constant, driver_structure, structure_of}
 use Rattle.eqc_class.specs.Classes.{ClassesOf, TellStructures, AreClasses, HaveOneValue, HaveOneValueEach, inputs_under}
 use Rattle.eqc_class.specs.Shapes.{structure_at}

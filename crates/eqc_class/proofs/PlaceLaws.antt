@@ -3,7 +3,7 @@ use Rattle.std.proofs.Common.{◌≡◌, ◌⊎◌, ℕ, ◌+◌, ◌<◌, ◌�
 use Rattle.std.proofs.Math.ListN.{get_or-append}
 use Rattle.std.proofs.Math.Seq.{get_or-append_seam}
 use Rattle.std.proofs.lemmas.Bool.{cases_eq}
-use Rattle.eqc_flat.specs.Graph.{FlatOf, IsFlat, DriverOf, input, tie, cover, driver_at, IsWithinSizes}
+use Rattle.eqc_netlist.specs.Graph.{FlatOf, IsFlat, DriverOf, input, tie, cover, driver_at, IsWithinSizes}
 use Rattle.eqc_class.specs.Tables.{Grows, Stands}
 use Rattle.eqc_class.specs.Numbering.{rows_until, AreRowClasses}
 use Rattle.eqc_class.proofs.KeyLaws.{stands_still}

@@ -1,7 +1,7 @@
 -- The structure of a signal is what its driver makes of the structures of the signals that it depends on.
 use Rattle.std.proofs.Common.{◌≡◌, ℕ, zero, suc, ◌<◌, List, [], length, get_or, refl, ◌∙◌, ap, subst, arith}
-use Rattle.eqc_flat.specs.Graph.{FlatOf, IsFlat, DriverOf, input, tie, cover, driver_at, dependencies}
-use Rattle.eqc_flat.proofs.EvaluationLaws.{dep_before, step_of}
+use Rattle.eqc_netlist.specs.Graph.{FlatOf, IsFlat, DriverOf, input, tie, cover, driver_at, dependencies}
+use Rattle.eqc_netlist.proofs.EvaluationLaws.{dep_before, step_of}
 use Rattle.eqc_class.specs.Structure.{Structure, driver_structure, cover_structure, followed, structure_of}
 use Rattle.eqc_class.proofs.ShapeLaws.{map_alike}
 

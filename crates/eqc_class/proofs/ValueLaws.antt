@@ -3,10 +3,10 @@ use Rattle.std.proofs.Common.{◌≡◌, ℕ, zero, suc, ◌<◌, Bool, true, fa
 use Rattle.std.specs.List.{list_any}
 use Rattle.std.specs.Str.{bytes_eq}
 use Rattle.std.proofs.lemmas.Bool.{and_parts, true≢false, eqb-true}
-use Rattle.eqc_blif.specs.Cover.{cover_value, is_on, is_on_set, row_matches}
-use Rattle.eqc_flat.specs.Graph.{FlatOf, IsFlat, FollowsDrivers, DriverOf, input, tie, cover, driver_at, dependencies, driven, value_of}
-use Rattle.eqc_flat.proofs.EvaluationLaws.{dep_before, step_of}
-use Rattle.eqc_flat.proofs.NameSetLaws.{bytes_same}
+use Rattle.eqc_netlist.specs.Cover.{cover_value, is_on, is_on_set, row_matches}
+use Rattle.eqc_netlist.specs.Graph.{FlatOf, IsFlat, FollowsDrivers, DriverOf, input, tie, cover, driver_at, dependencies, driven, value_of}
+use Rattle.eqc_netlist.proofs.EvaluationLaws.{dep_before, step_of}
+use Rattle.eqc_netlist.proofs.NameSetLaws.{bytes_same}
 use Rattle.eqc_class.specs.Structure.{Structure, Structures, variable, constant, gate, no_more, then_more, in_row, is_constant, repeats, passes_on, cover_structure, driver_structure, structure_of}
 use Rattle.eqc_class.specs.Classes.{inputs_under}
 use Rattle.eqc_class.proofs.ShapeLaws.{map_alike}

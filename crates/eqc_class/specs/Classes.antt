@@ -1,6 +1,6 @@
 -- Classes of the signals of two netlists: signals of equal structure are one class.
 use Rattle.std.specs.Prelude.{◌≡◌, ℕ, ◌+◌, ◌<◌, ◌≤◌, Bool, List, length, slice_index}
-use Rattle.eqc_flat.specs.Graph.{FlatOf, value_of}
+use Rattle.eqc_netlist.specs.Graph.{FlatOf, value_of}
 use Rattle.eqc_class.specs.Structure.{Structure, structure_of}
 
 -- the number of the class of each signal of the first netlist and of the second; and how many classes there are

@@ -1,6 +1,6 @@
 -- Laws of structures, which hold of every flat netlist.
 use Rattle.std.specs.Prelude.{◌≡◌, ℕ, ◌<◌, Bool, List, length}
-use Rattle.eqc_flat.specs.Graph.{FlatOf, IsFlat, FollowsDrivers, driver_at, value_of}
+use Rattle.eqc_netlist.specs.Graph.{FlatOf, IsFlat, FollowsDrivers, driver_at, value_of}
 use Rattle.eqc_class.specs.Structure.{driver_structure, structure_of}
 use Rattle.eqc_class.specs.Classes.{inputs_under}
 

@@ -1,6 +1,6 @@
 -- For the proofs alone: numbers of rows and of signals while they are found.
 use Rattle.std.specs.Prelude.{◌≡◌, ℕ, ◌+◌, ◌<◌, ◌≤◌, false, List, [], length, slice_index, slice_index_or}
-use Rattle.eqc_flat.specs.Graph.{FlatOf, DriverOf, input, tie, cover, driver_at}
+use Rattle.eqc_netlist.specs.Graph.{FlatOf, DriverOf, input, tie, cover, driver_at}
 use Rattle.eqc_class.specs.Structure.{Structure, constant, structure_of}
 use Rattle.eqc_class.specs.Shapes.{structure_at}
 use Rattle.eqc_class.specs.Tables.{Stands}

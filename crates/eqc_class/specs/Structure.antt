@@ -3,8 +3,8 @@
 -- on, leave no trace in it.
 use Rattle.std.specs.Prelude.{ℕ, zero, suc, Bool, false, ◌||◌, ◌&&◌, ◌==◌, List, [], ◌∷◌, length, map, slice_index, slice_index_or, if◌then◌else◌}
 use Rattle.std.specs.Str.{bytes_eq}
-use Rattle.eqc_blif.specs.Cover.{is_on_set}
-use Rattle.eqc_flat.specs.Graph.{FlatOf, DriverOf, input, tie, cover, driver_at}
+use Rattle.eqc_netlist.specs.Cover.{is_on_set}
+use Rattle.eqc_netlist.specs.Graph.{FlatOf, DriverOf, input, tie, cover, driver_at}
 
 -- a variable, a constant, or a gate: the rows of a cover over the structures of its columns
 mutual

@@ -6,7 +6,7 @@ ghost use Rattle.eqc_class.specs.Tables.{AreApart, Grows, Stands, structures_in}
 
 use crate::row_set::RowSet;
 use crate::shape::Shape;
-use eqc_blif::Key;
+use eqc_netlist::Key;
 use indexmap::IndexSet;
 use std::alloc::{AllocError, Global};
 use std::marker::Model;

@@ -1,6 +1,6 @@
 //! The class of each signal of one netlist, by its driver and by the classes of the signals that this depends on.
 ghost use Rattle.std.specs.Prelude.{◌≡◌, ℕ, ◌<◌, false, true, [], IfOk, OnOk, length, map, slice_index, slice_index_or, slice_get};
-ghost use Rattle.eqc_flat.specs.Graph.{driver_at, dependencies};
+ghost use Rattle.eqc_netlist.specs.Graph.{driver_at, dependencies};
 ghost use Rattle.eqc_class.specs.Structure.{constant, passes_on, repeats, cover_structure, driver_structure};
 ghost use Rattle.eqc_class.specs.Tables.{Grows, Stands, structures_in};
 ghost use Rattle.eqc_class.specs.Numbering.{AreRowClasses, AreNumbers, said_by};
@@ -8,8 +8,7 @@ ghost use Rattle.eqc_class.specs.Numbering.{AreRowClasses, AreNumbers, said_by};
 use crate::class_table::ClassTable;
 use crate::columns::Columns;
 use crate::shape::Shape;
-use eqc_blif::{Rows, is_on_set};
-use eqc_flat::{Driver, Flat, Signals};
+use eqc_netlist::{Driver, Flat, Rows, Signals, is_on_set};
 use std::alloc::{AllocError, Global};
 
 /// Whether a row says of one column what it is.

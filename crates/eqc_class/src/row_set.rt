@@ -1,13 +1,12 @@
 //! The rows of the covers of both netlists, each once, so that equal rows have one number.
 ghost use Rattle.std.specs.Prelude.{◌≡◌, ℕ, ◌<◌, ◌≤◌, [], IfOk, IfErr, length};
-ghost use Rattle.eqc_flat.specs.Graph.{driver_at};
-ghost use Rattle.eqc_flat.specs.Drivers.{driver_of};
+ghost use Rattle.eqc_netlist.specs.Graph.{driver_at};
+ghost use Rattle.eqc_netlist.specs.Drivers.{driver_of};
 ghost use Rattle.eqc_class.specs.Tables.{AreApart, Grows, Stands};
 ghost use Rattle.eqc_class.specs.Numbering.{rows_until, AreRowClasses};
 
 use crate::rows_key::RowsKey;
-use eqc_blif::{Key, Rows};
-use eqc_flat::{Driver, Flat};
+use eqc_netlist::{Driver, Flat, Key, Rows};
 use indexmap::IndexSet;
 use std::alloc::{AllocError, Global};
 use std::marker::Model;

@@ -5,7 +5,7 @@ ghost use Rattle.std.specs.Cmp.Lexicographic.{pointwise, lists_equiv, nat_list_e
 ghost use Rattle.std.specs.Str.{bytes_eq};
 ghost use Rattle.std.specs.Hash.{same_Alike};
 
-use eqc_blif::Rows;
+use eqc_netlist::Rows;
 use std::hash::{Hash, Hasher};
 use std::marker::Model;
 

@@ -1,14 +1,13 @@
 //! The classes of the signals of two netlists, which are numbered one after the other over one table.
 ghost use Rattle.std.specs.Prelude.{◌≡◌, IfOk, length};
-ghost use Rattle.eqc_flat.specs.Graph.{IsFlat, FollowsDrivers};
+ghost use Rattle.eqc_netlist.specs.Graph.{IsFlat, FollowsDrivers};
 ghost use Rattle.eqc_class.specs.Classes.{AreClasses, HaveOneValueEach};
 ghost use Rattle.eqc_class.specs.Numbering.{AreRowClasses};
 
 use crate::class_table::ClassTable;
 use crate::numbering::numbers_of;
 use crate::row_set::RowSet;
-use eqc_blif::Key;
-use eqc_flat::Flat;
+use eqc_netlist::{Flat, Key};
 use std::alloc::{AllocError, Global};
 use std::marker::Model;
 

@@ -5,7 +5,7 @@ use Rattle.std.proofs.Math.ListN.{length-set}
 use Rattle.std.proofs.Math.Nat.{min-eq_left, min-eq_right}
 use Rattle.std.proofs.Math.Seq.{get_or-append_seam}
 use Rattle.std.proofs.lemmas.Bool.{cases_eq, cases_lt, eqb-true, eq-eqb, lt-ltb, le-ltb}
-use Rattle.eqc_flat.specs.Graph.{FlatOf, IsFlat, FollowsDrivers, value_of}
+use Rattle.eqc_netlist.specs.Graph.{FlatOf, IsFlat, FollowsDrivers, value_of}
 use Rattle.eqc_class.specs.Structure.{structure_of}
 use Rattle.eqc_class.proofs.ValueLaws.{equal_values}
 use Rattle.eqc_class.specs.Classes.{ClassesOf, AreClasses, HaveOneValueEach, TellStructures}

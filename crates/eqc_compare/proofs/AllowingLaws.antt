@@ -4,7 +4,7 @@ use Rattle.std.specs.Option.{option_map_or, unwrap_or}
 use Rattle.std.proofs.lemmas.List.{length-map}
 use Rattle.eqc_tree.specs.Assigned.{assigned, DependsOnlyOn}
 use Rattle.eqc_tree.proofs.AssignedLemmas.{assigned_values}
-use Rattle.eqc_flat.specs.Graph.{FlatOf, value_of}
+use Rattle.eqc_netlist.specs.Graph.{FlatOf, value_of}
 use Rattle.eqc_pair.specs.Matched.{position_of}
 use Rattle.eqc_pair.specs.PairOf.{PairOf, IsPair, no_netlist, assumed, first_variables, assumed_variables}
 use Rattle.eqc_pair.proofs.AssumptionLemmas.{assumed_flat}

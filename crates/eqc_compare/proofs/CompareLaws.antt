@@ -4,8 +4,8 @@ use Rattle.std.specs.List.{All}
 use Rattle.std.proofs.lemmas.List.{get_or_default}
 use Rattle.eqc_tree.specs.Operation.{operate}
 use Rattle.eqc_tree.specs.declared.operation.Op.TheVariants.{Xor}
-use Rattle.eqc_blif.specs.Cover.{cover_value}
-use Rattle.eqc_flat.specs.Graph.{FlatOf, IsFlat, IsWithin, DriverOf, input, tie, cover, driver_at, driven, settled, value_of}
+use Rattle.eqc_netlist.specs.Cover.{cover_value}
+use Rattle.eqc_netlist.specs.Graph.{FlatOf, IsFlat, IsWithin, DriverOf, input, tie, cover, driver_at, driven, settled, value_of}
 use Rattle.eqc_compare.specs.Verdict.{is_different}
 
 pub xor_differs : (x y : Bool) → is_different x y ≡ operate Xor x y

@@ -4,7 +4,7 @@ use Rattle.eqc_tree.specs.Holding.{Entry, Holding, IsHeld, says, Keeps, Gains, L
 use Rattle.eqc_tree.specs.Operation.{operate}
 use Rattle.eqc_tree.specs.declared.operation.Op.TheVariants.{Xor, And}
 use Rattle.eqc_tree.proofs.HoldingLemmas.{counts_itself}
-use Rattle.eqc_flat.specs.Graph.{value_of}
+use Rattle.eqc_netlist.specs.Graph.{value_of}
 use Rattle.eqc_build.specs.Building.{IsBuilt, AreReady, reference_of}
 use Rattle.eqc_build.specs.Steps.{StepsOf, AreSteps, inputs_under, value_at, first_root, second_root, roots_of, assumed_root, goals_of}
 use Rattle.eqc_tree.specs.Assigned.{assigned, DependsOnlyOn, assignments}

@@ -1,6 +1,6 @@
 -- Inputs that are matched by name, and the variables of declared inputs.
 use Rattle.std.proofs.Common.{◌≡◌, ℕ, ◌<◌, Bool, false, List, [], length, find, Option, None, get_or, sym, ap, ◌∙◌}
-use Rattle.eqc_blif.specs.Names.{has_twice}
+use Rattle.eqc_netlist.specs.Names.{has_twice}
 use Rattle.eqc_tree.specs.Assigned.{assigned, AreDistinct, assignments}
 use Rattle.eqc_pair.specs.Matched.{position_of}
 use Rattle.eqc_compare.specs.Verdict.{NetlistOf, values_for, differs_under, least_difference}

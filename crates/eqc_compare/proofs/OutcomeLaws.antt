@@ -3,7 +3,7 @@ use Rattle.std.proofs.Common.{◌≡◌, ◌<◌, length, Option, Some, is_some,
 use Rattle.std.proofs.lemmas.List.Elements.{All-nil}
 use Rattle.std.specs.Borrow.{Bor}
 use Rattle.std.specs.Option.{option_copied}
-use Rattle.eqc_flat.specs.Graph.{FlatOf}
+use Rattle.eqc_netlist.specs.Graph.{FlatOf}
 use Rattle.eqc_pair.specs.PairOf.{PairOf}
 use Rattle.eqc_compare.specs.Verdict.{vacuous, compared, allows_none, told}
 use Rattle.eqc_compare.specs.Comparing.{netlist_of, assumption_of, differences_in, AreTold, IsOutcome}

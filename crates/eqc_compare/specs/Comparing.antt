@@ -2,7 +2,7 @@
 use Rattle.std.specs.Prelude.{◌≡◌, ℕ, ◌<◌, Bool, true, ◌&&◌, List, length, map, slice_index, slice_index_or, [], Option, None, Vec, All, if◌then◌else◌}
 use Rattle.std.specs.declared.alloc.Global.{Global}
 use Rattle.std.specs.Option.{option_map, option_map_or}
-use Rattle.eqc_flat.specs.Graph.{FlatOf, value_of}
+use Rattle.eqc_netlist.specs.Graph.{FlatOf, value_of}
 use Rattle.eqc_build.specs.Steps.{inputs_under}
 use Rattle.eqc_pair.specs.PairOf.{PairOf, first_variables, second_variables, assumed_variables, second_signals}
 use Rattle.eqc_pair.specs.Matched.{position_of, is_chosen, chosen_outputs}

@@ -4,7 +4,7 @@
 use Rattle.std.specs.Prelude.{◌≡◌, ◌≢◌, ◌↔◌, ◌⊎◌, ℕ, ◌<◌, Bool, true, false, List, [], ◌∷◌, length, map, filter, Option, Some, None, slice_index_or, option_to_list}
 use Rattle.std.specs.List.{All}
 use Rattle.std.specs.Option.{is_some}
-use Rattle.eqc_blif.specs.Names.{has_twice}
+use Rattle.eqc_netlist.specs.Names.{has_twice}
 use Rattle.eqc_compare.specs.Verdict.{NetlistOf, values_for, first_value, second_value, is_allowed, allows_none, differs_under, least_difference, first_difference, differences, told}
 
 -- an assignment is below another where it is false at the first place where they differ

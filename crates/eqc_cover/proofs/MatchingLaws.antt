@@ -35,10 +35,10 @@ use Rattle.std.proofs.Common.{
 use Rattle.std.proofs.lemmas.Bool.{false≢true}
 use Rattle.std.proofs.lemmas.List.{take_more, map-append}
 use Rattle.std.specs.Borrow.{Bor}
-use Rattle.eqc_blif.specs.Cover.{allows, row_matches, is_on, is_on_set, cover_value}
+use Rattle.eqc_netlist.specs.Cover.{allows, row_matches, is_on, is_on_set, cover_value}
 use Rattle.eqc_tree.specs.Holding.{Entry, says}
 use Rattle.eqc_cover.specs.Matching.{some_match, cofactor, agrees, said, MatchAlike}
-use Rattle.eqc_blif.proofs.RowLemmas.{row_over}
+use Rattle.eqc_netlist.proofs.RowLemmas.{row_over}
 
 -- a row matches where both its parts do
 pub row_matches-split : (n : ℕ) (row : List ℕ) (vs : List Bool) → row_matches row vs ≡ (row_matches (take n row) (take n vs) && row_matches (drop n row) (drop n vs))

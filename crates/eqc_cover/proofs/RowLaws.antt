@@ -41,7 +41,7 @@ use Rattle.std.proofs.lemmas.Slice.Eq.{bytes_eq-Decides}
 use Rattle.std.proofs.lemmas.List.{take_more, take_all, map-append}
 use Rattle.std.proofs.lemmas.List.Folds.{list_any-append}
 use Rattle.std.proofs.lemmas.Bool.{or_parts, or_cases, true≢false, false≢true}
-use Rattle.eqc_blif.specs.Cover.{allows, row_matches}
+use Rattle.eqc_netlist.specs.Cover.{allows, row_matches}
 use Rattle.eqc_tree.specs.Holding.{Entry, says}
 use Rattle.eqc_cover.specs.Matching.{some_match, cofactor, agrees, said, is_literal, has_free_row, constrains_first, RowsAlike, MatchAlike}
 use Rattle.eqc_cover.proofs.MatchingLaws.{expansion_said, row_matches-empty}

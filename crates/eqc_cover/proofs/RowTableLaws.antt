@@ -5,8 +5,8 @@ use Rattle.std.proofs.lemmas.Bool.{cases_lt, false≢true, ne_eqb}
 use Rattle.std.proofs.lemmas.List.{take_all, get_or-map, length-map}
 use Rattle.std.specs.Borrow.{Bor}
 use Rattle.std.proofs.lemmas.List.Folds.{list_any_more}
-use Rattle.eqc_blif.specs.Cover.{allows, row_matches, is_on_set, cover_value}
-use Rattle.eqc_blif.proofs.RowLemmas.{row_over}
+use Rattle.eqc_netlist.specs.Cover.{allows, row_matches, is_on_set, cover_value}
+use Rattle.eqc_netlist.proofs.RowLemmas.{row_over}
 use Rattle.eqc_cover.specs.Table.{table_value, Tabulates, IsColumn, SaysOfColumn}
 use Rattle.eqc_cover.proofs.TableLaws.{table-and, table-or, table-not, table-zero, table-ones, table_of_column}
 

@@ -2,7 +2,7 @@
 use Rattle.std.specs.Prelude.{◌≡◌, ℕ, Bool, true, false, List, [], ◌∷◌, length, map, take, ◌||◌, ◌==◌, ◌≤◌, if◌then◌else◌, ◌+◌}
 use Rattle.std.specs.List.{list_any, AllByRecursion}
 use Rattle.std.specs.Borrow.{Bor}
-use Rattle.eqc_blif.specs.Cover.{allows, row_matches}
+use Rattle.eqc_netlist.specs.Cover.{allows, row_matches}
 use Rattle.eqc_tree.specs.Holding.{Entry, Holding, IsHeld, says, copies, weight}
 
 -- whether one of the rows matches

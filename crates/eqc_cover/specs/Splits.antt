@@ -1,7 +1,7 @@
 -- A cover over its own columns as splits: tables of the last six columns, and choices by a column between two splits before them.
 use Rattle.std.specs.Prelude.{◌≡◌, ℕ, ◌+◌, ◌-◌, ◌<◌, ◌≤◌, Bool, false, List, [], ◌∷◌, ◌++◌, drop, length, map, slice_index_or, sum_by, if◌then◌else◌}
 use Rattle.std.specs.Borrow.{Bor}
-use Rattle.eqc_blif.specs.Cover.{cover_value}
+use Rattle.eqc_netlist.specs.Cover.{cover_value}
 use Rattle.eqc_tree.specs.Holding.{Entry, Holding, copies, weight, says}
 use Rattle.eqc_cover.specs.declared.covers.Expansion.{Expansion}
 use Rattle.eqc_cover.specs.declared.splits.Split.{Split}

@@ -1,7 +1,7 @@
 //! The diagram of a cover over the diagrams of its columns: by its truth table, by Shannon's expansion, or row by row.
 ghost use Rattle.std.specs.Prelude.{◌≡◌, ◌≢◌, ℕ, ◌<◌, ◌≤◌, ◌-◌, ◌==◌, IfSome, IfNone, Bool, true, false, List, [], ◌∷◌, length, map, not, if◌then◌else◌};
 ghost use Rattle.eqc_tree.specs.Holding.{IsHeld, Gains, Keeps, says};
-ghost use Rattle.eqc_blif.specs.Cover.{allows, row_matches, cover_value};
+ghost use Rattle.eqc_netlist.specs.Cover.{allows, row_matches, cover_value};
 ghost use Rattle.eqc_cover.specs.Matching.{some_match, cofactor, agrees, AreHeld, said};
 ghost use Rattle.eqc_cover.specs.Making.{Makes};
 ghost use Rattle.eqc_cover.specs.Splits.{IsExpansionOf};
@@ -12,7 +12,7 @@ use crate::making::{chosen, inverted, joined};
 use crate::rows::{cofactors, has_free_row, plan_cover};
 use crate::splitting::by_splits;
 use crate::table::{MOST_COLUMNS, cover_table, matching_table};
-use eqc_blif::{Rows, is_on_set};
+use eqc_netlist::{Rows, is_on_set};
 use eqc_tree::{Diagrams, Op, References, Stop};
 use std::alloc::Global;
 

@@ -5,7 +5,7 @@ ghost use Rattle.eqc_cover.specs.Splits.{CoverSplits, IsExpansionOf};
 use crate::rows::plan_cover;
 use crate::splits::{Split, Splits, expand};
 use crate::table::MOST_COLUMNS;
-use eqc_blif::{Rows, is_on_set};
+use eqc_netlist::{Rows, is_on_set};
 use std::alloc::{AllocError, Global};
 use std::collections::BTreeMap;
 use std::marker::Model;

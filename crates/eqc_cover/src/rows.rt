@@ -4,7 +4,7 @@ ghost use Rattle.std.specs.List.{list_any};
 ghost use Rattle.std.specs.Option.{option_copied};
 ghost use Rattle.eqc_cover.specs.Matching.{some_match, cofactor, is_literal, has_free_row, constrains_first, RowsAlike, MatchAlike};
 
-use eqc_blif::{Rows, allows, row_matches};
+use eqc_netlist::{Rows, allows, row_matches};
 use indexmap::IndexSet;
 use std::alloc::{AllocError, Global};
 

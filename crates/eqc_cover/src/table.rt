@@ -2,11 +2,11 @@
 ghost use Rattle.std.specs.Prelude.{◌≡◌, ℕ, ◌<◌, ◌≤◌, ◌==◌, ◌||◌, Bool, true, false, length, map, slice_index_or};
 ghost use Rattle.std.specs.List.{list_any};
 ghost use Rattle.std.specs.Option.{IfSome, IfNone};
-ghost use Rattle.eqc_blif.specs.Cover.{allows, row_matches, cover_value};
+ghost use Rattle.eqc_netlist.specs.Cover.{allows, row_matches, cover_value};
 ghost use Rattle.eqc_cover.specs.Matching.{some_match};
 ghost use Rattle.eqc_cover.specs.Table.{Tabulates, IsColumn, IsCofactor, SaysOfColumn};
 
-use eqc_blif::{Rows, is_on_set};
+use eqc_netlist::{Rows, is_on_set};
 
 /// The most columns of a table.
 pub const MOST_COLUMNS: usize = 6;

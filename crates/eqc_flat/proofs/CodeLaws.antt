@@ -6,11 +6,12 @@ use Rattle.std.proofs.lemmas.List.{length-map}
 use Rattle.eqc_hierarchy.specs.Signals.{signals}
 use Rattle.eqc_blif.specs.Netlist.{ModelOf}
 use Rattle.eqc_hierarchy.specs.Codes.{is_too_large, has_many_inputs, is_driven_twice, is_undriven, is_cyclic, flat_code}
-use Rattle.eqc_flat.specs.Graph.{DriverOf}
+use Rattle.eqc_netlist.specs.Graph.{DriverOf}
 use Rattle.eqc_hierarchy.specs.Hierarchy.{model, paths}
 use Rattle.eqc_hierarchy.specs.Searching.{IsClosed}
 use Rattle.eqc_flat.specs.DriverTable.{IsDriven, IsDriverFault}
-use Rattle.eqc_flat.specs.Ordering.{signal_deps, IsOrder, IsCircular}
+use Rattle.eqc_flat.specs.Ordering.{IsOrder, IsCircular}
+use Rattle.eqc_netlist.specs.Drivers.{signal_deps}
 use Rattle.eqc_hierarchy.proofs.Distinct.{Member}
 use Rattle.eqc_flat.proofs.DriverTableLaws.{not_driven_twice, not_undriven}
 use Rattle.eqc_flat.proofs.FlatLaws.{are_sourced, in_order_not_cyclic, circular_cyclic}

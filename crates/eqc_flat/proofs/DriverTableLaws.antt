@@ -61,7 +61,7 @@ use Rattle.std.proofs.lemmas.List.{
   length-replicate,
 }
 use Rattle.eqc_blif.specs.Netlist.{ModelOf}
-use Rattle.eqc_flat.specs.Graph.{DriverOf, input, IsWithinSizes}
+use Rattle.eqc_netlist.specs.Graph.{DriverOf, input, IsWithinSizes}
 use Rattle.eqc_hierarchy.specs.Hierarchy.{model}
 use Rattle.eqc_hierarchy.specs.Signals.{SignalOf, SourceOf, Driving, same_signal, sources_in, signals, drivings, sources}
 use Rattle.eqc_hierarchy.specs.Codes.{is_driven_twice, is_undriven}

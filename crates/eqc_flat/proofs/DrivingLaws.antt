@@ -22,17 +22,17 @@ use Rattle.std.proofs.lemmas.List.FromFn.{get_or-enumerate_from, length-enumerat
 use Rattle.std.proofs.lemmas.Bool.{cases_lt, true≢false}
 use Rattle.std.proofs.lemmas.Grind.{flat_map-append}
 use Rattle.eqc_blif.specs.Netlist.{ModelOf, InstanceOf, CoverOf, no_model}
-use Rattle.eqc_blif.specs.Names.{is_named}
-use Rattle.eqc_flat.specs.Graph.{DriverOf, cover, IsWithinSizes}
+use Rattle.eqc_netlist.specs.Names.{is_named}
+use Rattle.eqc_netlist.specs.Graph.{DriverOf, cover, IsWithinSizes}
 use Rattle.eqc_hierarchy.specs.Hierarchy.{model, model_at, paths}
 use Rattle.eqc_hierarchy.specs.Signals.{from_input, from_signal, from_cover, Driving, names_of, signals, input_drivings, cover_driving, pair_driving, instance_drivings, drivings_at, drivings}
 use Rattle.eqc_flat.specs.Flattened.{path_at, model_of, first_signal, signal_at, signals_here, source_of}
 use Rattle.eqc_flat.specs.RowTable.{all_rows}
 use Rattle.eqc_flat.specs.DriverTable.{IsFilled}
-use Rattle.eqc_hierarchy.specs.NameSets.{place_in}
+use Rattle.eqc_netlist.specs.NameSets.{place_in}
 use Rattle.eqc_hierarchy.specs.Columns.{places_in}
-use Rattle.eqc_flat.specs.StoredDrivers.{driver_from}
-use Rattle.eqc_flat.specs.declared.drivers.stored_driver.StoredDriver.{StoredDriver}
+use Rattle.eqc_netlist.specs.StoredDrivers.{driver_from}
+use Rattle.eqc_netlist.specs.declared.drivers.stored_driver.StoredDriver.{StoredDriver}
 use Rattle.eqc_flat.proofs.DriverTableLaws.{filled_free, filled_again}
 use Rattle.eqc_hierarchy.proofs.NamingLaws.{no_instance, found_first, named_at}
 use Rattle.eqc_flat.proofs.ExpandedLaws.{signal_is, signal_within}

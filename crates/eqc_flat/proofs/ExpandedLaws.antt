@@ -7,9 +7,9 @@ use Rattle.std.proofs.lemmas.List.{ext_get_or, take-append-drop, length-append, 
 use Rattle.std.proofs.lemmas.List.FromFn.{get_or-map-range_with_len, length-map-range_with_len, map-range_with_len_more}
 use Rattle.std.proofs.lemmas.Grind.{flat_map-append}
 use Rattle.eqc_blif.specs.Netlist.{ModelOf, no_model, CoverOf, no_cover}
-use Rattle.eqc_blif.specs.Names.{is_named}
+use Rattle.eqc_netlist.specs.Names.{is_named}
 use Rattle.eqc_hierarchy.specs.Hierarchy.{model, callees, paths, model_number, model_at}
-use Rattle.eqc_hierarchy.specs.Dependency.{ends_within}
+use Rattle.eqc_netlist.specs.Dependency.{ends_within}
 use Rattle.eqc_hierarchy.specs.Codes.{is_recursive, has_unknown_formal}
 use Rattle.eqc_flat.specs.RowTable.{rows_of, IsRowTable, all_rows}
 use Rattle.eqc_hierarchy.specs.Signals.{names_of, signals_at, signals}

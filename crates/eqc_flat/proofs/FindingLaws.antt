@@ -43,9 +43,10 @@ use Rattle.std.proofs.lemmas.List.Quantifiers.{position-Some}
 use Rattle.std.proofs.lemmas.List.{append_assoc, append-nil, get_or-map, get_or-take, get_or-drop, length-map, length-take-le, length-drop, take_all, take_more}
 use Rattle.eqc_blif.specs.Netlist.{ModelOf}
 use Rattle.eqc_blif.proofs.CodeLemmas.{alone}
-use Rattle.eqc_flat.specs.Graph.{DriverOf, input, tie, cover, dependencies}
+use Rattle.eqc_netlist.specs.Graph.{DriverOf, input, tie, cover, dependencies}
 use Rattle.eqc_flat.specs.HierarchyLaws.{needed}
-use Rattle.eqc_flat.specs.Ordering.{signal_deps, IsTrail, HasNoOrder}
+use Rattle.eqc_flat.specs.Ordering.{IsTrail, HasNoOrder}
+use Rattle.eqc_netlist.specs.Drivers.{signal_deps}
 use Rattle.eqc_hierarchy.specs.Walks.{IsWalk, from_on, StandOnce}
 use Rattle.eqc_hierarchy.specs.Hierarchy.{model, model_at, paths_within, paths}
 use Rattle.eqc_hierarchy.specs.Signals.{SignalOf, needs, names_of, signals, sources, drivings}
@@ -67,12 +68,12 @@ use Rattle.eqc_flat.specs.Flattened.{path_at, model_of, first_signal, signal_at,
 use Rattle.eqc_flat.specs.DriverTable.{in_slot, IsFilled, IsTable, IsDriven, driven_code, first_driven, IsDrivenSo}
 use Rattle.eqc_hierarchy.specs.Columns.{all_columns}
 use Rattle.eqc_flat.specs.RowTable.{all_rows}
-use Rattle.eqc_flat.specs.StoredDrivers.{driver_from}
+use Rattle.eqc_netlist.specs.StoredDrivers.{driver_from}
 use Rattle.eqc_flat.specs.Finding.{steps_of, hierarchical_name, IsCircle}
-use Rattle.eqc_hierarchy.specs.Rule.{rule_code}
+use Rattle.eqc_netlist.specs.Rule.{rule_code}
 use Rattle.eqc_flat.specs.declared.finding.hierarchical_name.Step.{Step}
-use Rattle.eqc_hierarchy.specs.declared.rule.Rule.{Rule}
-use Rattle.eqc_flat.specs.declared.drivers.stored_driver.StoredDriver.{StoredDriver}
+use Rattle.eqc_netlist.specs.declared.rule.Rule.{Rule}
+use Rattle.eqc_netlist.specs.declared.drivers.stored_driver.StoredDriver.{StoredDriver}
 use Rattle.eqc_flat.specs.declared.drivers.driver_table.Driven.{Driven}
 use Rattle.eqc_flat.specs.declared.drivers.driver_table.Driven.TheVariants.{Twice, Never}
 use Rattle.eqc_flat.proofs.InstanceLaws.{first_more, first_all}

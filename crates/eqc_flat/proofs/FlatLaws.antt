@@ -6,22 +6,23 @@ use Rattle.std.proofs.lemmas.Bool.{true≢false, or_parts, cases_lt}
 use Rattle.std.proofs.lemmas.List.{length-map, get_or-map}
 use Rattle.std.proofs.lemmas.List.FromFn.{length-range_with_len}
 use Rattle.eqc_blif.specs.Netlist.{ModelOf}
-use Rattle.eqc_blif.specs.Names.{is_named, has_twice}
-use Rattle.eqc_flat.specs.Graph.{DriverOf, input, tie, cover, dependencies, IsWithinSizes, IsFlat}
-use Rattle.eqc_hierarchy.specs.Dependency.{ends_within}
+use Rattle.eqc_netlist.specs.Names.{is_named, has_twice}
+use Rattle.eqc_netlist.specs.Graph.{DriverOf, input, tie, cover, dependencies, IsWithinSizes, IsFlat}
+use Rattle.eqc_netlist.specs.Dependency.{ends_within}
 use Rattle.eqc_hierarchy.specs.Hierarchy.{model, paths}
 use Rattle.eqc_hierarchy.specs.Signals.{SignalOf, signals}
 use Rattle.eqc_flat.specs.Flattened.{no_signal, path_at, signal_at, signals_here, named_here, all_named, IsFlatOf}
 use Rattle.eqc_flat.specs.RowTable.{all_rows}
 use Rattle.eqc_flat.specs.DriverTable.{IsDriven}
-use Rattle.eqc_flat.specs.Ordering.{signal_deps, IsOrder, IsCircular}
+use Rattle.eqc_flat.specs.Ordering.{IsOrder, IsCircular}
+use Rattle.eqc_netlist.specs.Drivers.{signal_deps}
 use Rattle.eqc_flat.specs.Flattening.{put_together}
 use Rattle.eqc_flat.specs.Instances.{IsExpanded}
 use Rattle.eqc_flat.proofs.InstanceLaws.{found_signals}
 use Rattle.eqc_hierarchy.specs.Codes.{is_cyclic}
 use Rattle.eqc_hierarchy.proofs.Distinct.{Member, Distinct, member_get, member_map, member_of_map, all_pieces, distinct_map}
 use Rattle.eqc_hierarchy.proofs.NamingLaws.{member_named}
-use Rattle.eqc_hierarchy.proofs.Depth.{ordered_ends}
+use Rattle.eqc_netlist.proofs.Depth.{ordered_ends}
 use Rattle.eqc_flat.proofs.DriverTableLaws.{sourced}
 use Rattle.eqc_flat.proofs.ExpandedLaws.{signals_named}
 use Rattle.eqc_flat.proofs.OrderLaws.{at_most}

@@ -5,8 +5,8 @@ use Rattle.std.specs.List.{list_all, list_any}
 use Rattle.std.specs.Option.{option_map, option_and_then}
 use Rattle.std.proofs.lemmas.Bool.{true≢false, and_parts}
 use Rattle.eqc_blif.specs.Netlist.{ModelOf}
-use Rattle.eqc_flat.specs.Graph.{DriverOf, input, tie, cover, FlatOf, driver_at, dependencies, driven, settled, value_of}
-use Rattle.eqc_hierarchy.specs.Dependency.{ends_within}
+use Rattle.eqc_netlist.specs.Graph.{DriverOf, input, tie, cover, FlatOf, driver_at, dependencies, driven, settled, value_of}
+use Rattle.eqc_netlist.specs.Dependency.{ends_within}
 use Rattle.eqc_hierarchy.specs.Signals.{SignalOf, signals, sources, needs, all_some, made, value_at, output_value}
 use Rattle.eqc_hierarchy.specs.Codes.{is_cyclic}
 use Rattle.eqc_flat.specs.Flattened.{no_signal, signal_at, source_of}

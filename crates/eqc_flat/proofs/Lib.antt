@@ -1,6 +1,4 @@
-pub mod Values
 pub mod Growing
-pub mod EvaluationLaws
 pub mod NumberLaws
 pub mod HierarchyValues
 pub mod InstanceLaws
@@ -19,6 +17,4 @@ pub mod NeedLaws
 pub mod CyclicLaws
 pub mod InputLaws
 pub mod FindingLaws
-pub use Rattle.eqc_hierarchy.proofs.Members
 pub use Rattle.eqc_hierarchy.proofs.CallLaws
-pub use Rattle.eqc_hierarchy.proofs.NameSetLaws

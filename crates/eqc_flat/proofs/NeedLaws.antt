@@ -3,7 +3,7 @@ use Rattle.std.proofs.Common.{◌≡◌, ℕ, suc, ◌+◌, ◌<◌, inl, inr, B
 use Rattle.std.specs.Prelude.{filter}
 use Rattle.std.specs.List.{flat_map, enumerate_from}
 use Rattle.eqc_blif.specs.Netlist.{ModelOf, InstanceOf, CoverOf}
-use Rattle.eqc_blif.specs.Names.{is_named}
+use Rattle.eqc_netlist.specs.Names.{is_named}
 use Rattle.eqc_hierarchy.specs.Hierarchy.{model, model_number, model_at, paths}
 use Rattle.eqc_hierarchy.specs.Signals.{
   SignalOf,

@@ -14,7 +14,7 @@ use Rattle.eqc_hierarchy.specs.Signals.{SignalOf, same_signal, cover_names, actu
 use Rattle.eqc_flat.specs.Flattened.{no_signal, signal_at, path_at, first_signal}
 use Rattle.eqc_hierarchy.proofs.Distinct.{Member, Distinct, member_of_map, distinct_flat_map, distinct_map, distinct_places}
 use Rattle.eqc_hierarchy.proofs.PathLaws.{paths_distinct}
-use Rattle.eqc_hierarchy.proofs.NameSetLaws.{bytes_same, bytes_self}
+use Rattle.eqc_netlist.proofs.NameSetLaws.{bytes_same, bytes_self}
 
 -- signals are the same where the test says so
 pub signals_same : (s t : SignalOf) → same_signal s t ≡ true → s ≡ t

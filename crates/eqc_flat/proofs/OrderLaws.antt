@@ -4,15 +4,16 @@ use Rattle.std.specs.List.{range_with_len, list_all}
 use Rattle.std.proofs.lemmas.Bool.{true≢false, or_cases, eqb-true, cases_lt, cases_eq, ltb-true, lt-ltb}
 use Rattle.std.proofs.lemmas.List.{length-append, length-take-le, length-drop}
 use Rattle.std.proofs.lemmas.List.FromFn.{length-range_with_len}
-use Rattle.eqc_flat.specs.Graph.{DriverOf}
-use Rattle.eqc_hierarchy.specs.Dependency.{among}
+use Rattle.eqc_netlist.specs.Graph.{DriverOf}
+use Rattle.eqc_netlist.specs.Dependency.{among}
 use Rattle.eqc_hierarchy.specs.Searching.{IsSearch}
-use Rattle.eqc_flat.specs.Ordering.{signal_deps, IsOrder, HasNoOrder}
+use Rattle.eqc_flat.specs.Ordering.{IsOrder, HasNoOrder}
+use Rattle.eqc_netlist.specs.Drivers.{signal_deps}
 use Rattle.eqc_hierarchy.specs.declared.search.Stage.{Stage}
-use Rattle.eqc_hierarchy.proofs.Depth.{all_more}
+use Rattle.eqc_netlist.proofs.Depth.{all_more}
 use Rattle.eqc_hierarchy.proofs.Distinct.{Member, Distinct, member_append, member_left, member_right, distinct_range}
 use Rattle.eqc_hierarchy.proofs.PathLaws.{range_below}
-use Rattle.eqc_hierarchy.proofs.Members.{all_at}
+use Rattle.eqc_netlist.proofs.Members.{all_at}
 
 pub among_member : (xs : List ℕ) (x : ℕ) → among xs x ≡ true → Member x xs
 among_member [] x e = absurd (true≢false (sym e))

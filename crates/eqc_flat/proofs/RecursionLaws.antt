@@ -4,13 +4,13 @@ use Rattle.std.specs.List.{range_with_len}
 use Rattle.std.proofs.lemmas.Bool.{true≢false, cases_eq}
 use Rattle.std.proofs.lemmas.List.FromFn.{length-range_with_len}
 use Rattle.eqc_blif.specs.Netlist.{ModelOf}
-use Rattle.eqc_hierarchy.specs.Dependency.{among, ends_within}
+use Rattle.eqc_netlist.specs.Dependency.{among, ends_within}
 use Rattle.eqc_hierarchy.specs.Hierarchy.{callees}
 use Rattle.eqc_hierarchy.specs.Codes.{is_recursive}
 use Rattle.eqc_flat.specs.HierarchyLaws.{Reaches, RecursiveWhereReached}
 use Rattle.eqc_hierarchy.proofs.Distinct.{Member}
-use Rattle.eqc_hierarchy.proofs.Depth.{or_right}
-use Rattle.eqc_hierarchy.proofs.Members.{among_here}
+use Rattle.eqc_netlist.proofs.Depth.{or_right}
+use Rattle.eqc_netlist.proofs.Members.{among_here}
 use Rattle.eqc_hierarchy.proofs.ReachingLaws.{callee_within}
 use Rattle.eqc_flat.proofs.SignalLaws.{range_has}
 use Rattle.eqc_flat.proofs.CircleLaws.{IsFinite, circle_found, never_ends}

@@ -5,13 +5,13 @@ use Rattle.std.specs.List.{flat_map}
 use Rattle.std.proofs.lemmas.List.{length-map, length-append, get_or-map}
 use Rattle.std.proofs.lemmas.List.Concat.{get_or-flat_map}
 use Rattle.eqc_blif.specs.Netlist.{ModelOf, CoverOf, no_cover, no_model}
-use Rattle.eqc_flat.specs.Graph.{DriverOf, input, tie, cover, IsWithinSizes}
+use Rattle.eqc_netlist.specs.Graph.{DriverOf, input, tie, cover, IsWithinSizes}
 use Rattle.eqc_hierarchy.specs.Hierarchy.{model}
 use Rattle.eqc_hierarchy.specs.Signals.{names_of, signals}
 use Rattle.eqc_flat.specs.RowTable.{rows_of, all_rows}
 use Rattle.eqc_flat.specs.DriverTable.{IsDriven}
 use Rattle.eqc_hierarchy.specs.Columns.{places_in, columns_of, all_columns}
-use Rattle.eqc_flat.specs.StoredDrivers.{AreInRange}
+use Rattle.eqc_netlist.specs.StoredDrivers.{AreInRange}
 
 -- there are columns for as many covers as there are rows
 pub same_count : (library : List ModelOf) → length (flat_map columns_of library) ≡ length (flat_map rows_of library)
@@ -45,11 +45,3 @@ in_range library top drivers inputs few driven = λ s inside.
     (sym (same_count library))
     (driven.within s (slice_index_or drivers s (input 0)) (omega (arith, inside, length-map drivers (λ (d : DriverOf). Some d)))
     (get_or-map (λ (d : DriverOf). Some d) drivers s (input 0) None inside))
-
--- distances from the signal 0 are signals
-pub from_zero : (n : ℕ) (xs : List ℕ) → n ≡ 0 → map (λ d. n + d) xs ≡ xs
-from_zero n [] e = refl
-from_zero n (x ∷ xs) e =
-    let here : n + x ≡ x = omega (arith, e) in
-    let others = from_zero n xs e in
-    cc

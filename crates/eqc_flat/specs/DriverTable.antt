@@ -2,17 +2,17 @@
 use Rattle.std.specs.Prelude.{◌≡◌, ◌⊎◌, ℕ, ◌<◌, true, false, List, [], ◌∷◌, length, map, Option, Some, None, is_some, is_none, position, slice_index_or}
 use Rattle.std.specs.Option.{option_map}
 use Rattle.eqc_blif.specs.Netlist.{ModelOf}
-use Rattle.eqc_flat.specs.Graph.{DriverOf, IsWithinSizes}
+use Rattle.eqc_netlist.specs.Graph.{DriverOf, IsWithinSizes}
 use Rattle.eqc_hierarchy.specs.Hierarchy.{model}
 use Rattle.eqc_hierarchy.specs.Signals.{Driving, sources_in, signals, sources, drivings}
 use Rattle.eqc_hierarchy.specs.Codes.{is_driven_twice, is_undriven}
 use Rattle.eqc_flat.specs.Flattened.{signal_at, source_of}
 use Rattle.eqc_flat.specs.RowTable.{all_rows}
 use Rattle.eqc_hierarchy.specs.Columns.{all_columns}
-use Rattle.eqc_flat.specs.StoredDrivers.{driver_from}
+use Rattle.eqc_netlist.specs.StoredDrivers.{driver_from}
 use Rattle.eqc_flat.specs.Finding.{hierarchical_name, IsFirstDrivenTwice}
 use Rattle.eqc_flat.specs.declared.finding.hierarchical_name.Step.{Step}
-use Rattle.eqc_flat.specs.declared.drivers.stored_driver.StoredDriver.{StoredDriver}
+use Rattle.eqc_netlist.specs.declared.drivers.stored_driver.StoredDriver.{StoredDriver}
 use Rattle.eqc_flat.specs.declared.drivers.driver_table.Driven.{Driven}
 use Rattle.eqc_flat.specs.declared.drivers.driver_table.Driven.TheVariants.{Twice, Never}
 

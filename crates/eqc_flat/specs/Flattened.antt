@@ -4,9 +4,9 @@ use Rattle.std.specs.Prelude.{◌≡◌, ◌⊎◌, ℕ, ◌<◌, ◌≤◌, Boo
 use Rattle.std.specs.List.{flat_map, range_with_len}
 use Rattle.eqc_blif.specs.Netlist.{ModelOf}
 use Rattle.eqc_hierarchy.specs.Codes.{flat_code}
-use Rattle.eqc_flat.specs.declared.fault.FaultOfTwo.{FaultOfTwo}
-use Rattle.eqc_flat.specs.declared.fault.FaultOfTwo.TheVariants.{First, Second}
-use Rattle.eqc_flat.specs.Graph.{DriverOf, input, tie, cover, FlatOf, driver_at, value_of}
+use Rattle.eqc_netlist.specs.declared.fault.FaultOfTwo.{FaultOfTwo}
+use Rattle.eqc_netlist.specs.declared.fault.FaultOfTwo.TheVariants.{First, Second}
+use Rattle.eqc_netlist.specs.Graph.{DriverOf, input, tie, cover, FlatOf, driver_at, value_of}
 use Rattle.eqc_hierarchy.specs.Hierarchy.{model, model_at, paths}
 use Rattle.eqc_hierarchy.specs.Signals.{SignalOf, SourceOf, from_input, from_signal, from_cover, names_of, signals_at, signals, sources, output_value}
 

@@ -1,7 +1,7 @@
 -- For the proofs alone: what is known on the way to a flat netlist, and the netlist put together from its parts.
 use Rattle.std.specs.Prelude.{ℕ, List, ◌≡◌, ◌⊎◌, ◌≤◌, false, length, Some}
 use Rattle.eqc_blif.specs.Netlist.{ModelOf}
-use Rattle.eqc_flat.specs.Graph.{DriverOf, FlatOf}
+use Rattle.eqc_netlist.specs.Graph.{DriverOf, FlatOf}
 use Rattle.eqc_hierarchy.specs.Hierarchy.{model}
 use Rattle.eqc_flat.specs.RowTable.{all_rows}
 use Rattle.eqc_hierarchy.specs.Codes.{is_too_large, flat_code}

@@ -2,7 +2,7 @@
 use Rattle.std.specs.Prelude.{◌≡◌, ◌⊎◌, ◌↔◌, ℕ, ◌<◌, true, false, List, [], ◌∷◌, ◌++◌, length, Contains, None, Some}
 use Rattle.std.specs.List.{flat_map}
 use Rattle.eqc_blif.specs.Netlist.{ModelOf}
-use Rattle.eqc_blif.specs.Names.{is_named}
+use Rattle.eqc_netlist.specs.Names.{is_named}
 use Rattle.eqc_hierarchy.specs.Hierarchy.{model, callees, model_at}
 use Rattle.eqc_hierarchy.specs.Signals.{SignalOf, cover_names, actuals, signals, sources, needs}
 use Rattle.eqc_hierarchy.specs.Codes.{is_recursive, flat_code}

@@ -1,14 +1,9 @@
-pub mod Graph
-pub mod Drivers
-pub mod Evaluating
 pub mod Flattened
 pub mod ValueLaws
 pub mod HierarchyLaws
 pub mod Instances
 pub mod RowTable
-pub mod StoredDrivers
 pub mod DriverTable
 pub mod Ordering
-pub mod Known
 pub mod Flattening
 pub mod Finding

@@ -3,12 +3,9 @@ use Rattle.std.specs.Prelude.{◌≡◌, ℕ, ◌<◌, true, false, List, [], le
 use Rattle.eqc_blif.specs.Netlist.{ModelOf}
 use Rattle.eqc_flat.specs.DriverTable.{IsDriven}
 use Rattle.eqc_hierarchy.specs.Walks.{WalksBack}
-use Rattle.eqc_flat.specs.Graph.{DriverOf, input, dependencies}
-use Rattle.eqc_hierarchy.specs.Dependency.{among, in_order, ends_within}
-
--- what each signal depends on
-abbrev pub signal_deps : List DriverOf → ℕ → List ℕ
-signal_deps drivers s = dependencies (slice_index_or drivers s (input 0))
+use Rattle.eqc_netlist.specs.Graph.{DriverOf}
+use Rattle.eqc_netlist.specs.Drivers.{signal_deps}
+use Rattle.eqc_netlist.specs.Dependency.{among, in_order, ends_within}
 
 -- an order that has each signal once, after those that it depends on
 pub record IsOrder (drivers : List DriverOf) (steps : List ℕ) : Type 0 where

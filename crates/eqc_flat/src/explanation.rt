@@ -3,7 +3,7 @@ ghost use Rattle.std.specs.Prelude.{◌≡◌, ◌<◌, length, IfOk, Some};
 ghost use Rattle.std.specs.Option.{option_map};
 ghost use Rattle.eqc_hierarchy.specs.Codes.{flat_code};
 ghost use Rattle.eqc_flat.specs.Finding.{IsAtFault, IsExplained};
-ghost use Rattle.eqc_hierarchy.specs.Rule.{rule_code};
+ghost use Rattle.eqc_netlist.specs.Rule.{rule_code};
 
 use crate::drivers::driver_table::Driven;
 use crate::finding::Finding;

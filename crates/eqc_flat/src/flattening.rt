@@ -1,6 +1,6 @@
 //! Flattening: from a library and its main model to a flat netlist, or to the code of the hierarchy's first fault.
 ghost use Rattle.std.specs.Prelude.{◌≡◌, ◌⊎◌, ℕ, ◌<◌, ◌≤◌, false, length, map, slice_index_or, None, Some, IfOk, IfErr};
-ghost use Rattle.eqc_blif.specs.Names.{has_twice};
+ghost use Rattle.eqc_netlist.specs.Names.{has_twice};
 ghost use Rattle.eqc_hierarchy.specs.Hierarchy.{model};
 ghost use Rattle.eqc_hierarchy.specs.Signals.{signals};
 ghost use Rattle.eqc_hierarchy.specs.Codes.{flat_code};
@@ -12,15 +12,13 @@ ghost use Rattle.eqc_hierarchy.specs.Columns.{all_columns};
 ghost use Rattle.eqc_hierarchy.specs.ModelFaults.{HasNoModelFault};
 ghost use Rattle.eqc_flat.specs.Flattening.{IsNumberable, IsFlatFault};
 
-use crate::drivers::Drivers;
 use crate::drivers::driver_table::{drivers_of, signals_of};
 use crate::drivers::row_table::RowTable;
-use crate::fault::{Fault, FaultOfTwo};
-use crate::flat::Flat;
-use crate::flat::signal_order::order_of;
 use crate::hierarchy::Hierarchy;
+use crate::signal_order::order_of;
 use eqc_blif::{Library, Name};
 use eqc_hierarchy::{Calls, Naming, Rule, first_model_fault};
+use eqc_netlist::{Drivers, Fault, FaultOfTwo, Flat};
 use smallvec::SmallVec;
 use std::alloc::{AllocError, Global};
 

@@ -1,6 +1,6 @@
 //! The numbers of instances and signals below a main model: the signal of an instance and a name, and the way back.
 ghost use Rattle.std.specs.Prelude.{◌≡◌, ℕ, ◌+◌, ◌<◌, ◌≤◌, ◌++◌, ◌∷◌, [], length, map, true, false, slice_index_or, IfOk, OnOk, MatchOption};
-ghost use Rattle.eqc_blif.specs.Names.{is_named};
+ghost use Rattle.eqc_netlist.specs.Names.{is_named};
 ghost use Rattle.eqc_hierarchy.specs.Hierarchy.{model, model_at, paths};
 ghost use Rattle.eqc_hierarchy.specs.Signals.{names_of, signals};
 ghost use Rattle.eqc_hierarchy.specs.Codes.{is_recursive, is_too_large};

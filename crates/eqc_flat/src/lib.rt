@@ -15,25 +15,19 @@
 #![tactic(auto)]
 
 mod drivers;
-mod evaluation;
 mod explanation;
-mod fault;
 mod finding;
-mod flat;
 mod flattening;
 mod hierarchy;
 mod laws;
+mod signal_order;
 
-pub use drivers::driver::Driver;
-pub use eqc_hierarchy::{FoundFormal, FoundInstance, NameSet, RULES, Rule};
-pub use evaluation::eval;
+pub use eqc_hierarchy::{FoundFormal, FoundInstance};
+pub use eqc_netlist::{Driver, Fault, FaultOfTwo, Flat, NameSet, RULES, Rule, Signals, eval};
 pub use explanation::explain;
-pub use fault::{Fault, FaultOfTwo};
 pub use finding::Finding;
 pub use finding::circle::Circle;
 pub use finding::hierarchical_name::{HierarchicalName, Step};
-pub use flat::Flat;
-pub use flat::signals::Signals;
 pub use flattening::{flatten, flatten_two};
 pub use laws::{
     accepted_have_values, covers_depend_on_columns_alone, cyclic_where_reached,

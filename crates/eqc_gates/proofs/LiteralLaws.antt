@@ -5,8 +5,8 @@ use Rattle.std.specs.List.{list_all}
 use Rattle.std.proofs.lemmas.Bool.{or_cases, eqb-true, cases_eq, ne_eqb}
 use Rattle.std.proofs.lemmas.List.{drop_more, drop-append-le, take_all, get_or-map, length_push, get_or_append_left, get_or_at, length-map}
 use Rattle.std.proofs.lemmas.List.Folds.{list_all-append, list_any_more}
-use Rattle.eqc_blif.specs.Cover.{allows, row_matches}
-use Rattle.eqc_blif.proofs.RowLemmas.{row_over}
+use Rattle.eqc_netlist.specs.Cover.{allows, row_matches}
+use Rattle.eqc_netlist.proofs.RowLemmas.{row_over}
 use Rattle.eqc_graph.specs.declared.node.Node.{Node}
 use Rattle.eqc_graph.specs.Graph.{literal_value, IsWithin, Extends, differ}
 use Rattle.eqc_graph.proofs.GraphLemmas.{extends_itself, extends_along}

@@ -1,7 +1,7 @@
 -- Lists of literals of a graph: a cover's columns, and what a row asks of them.
 use Rattle.std.specs.Prelude.{◌≡◌, ℕ, ◌<◌, Bool, List, length, map, slice_index}
 use Rattle.std.specs.List.{list_all}
-use Rattle.eqc_blif.specs.Cover.{row_matches}
+use Rattle.eqc_netlist.specs.Cover.{row_matches}
 use Rattle.eqc_graph.specs.declared.node.Node.{Node}
 use Rattle.eqc_graph.specs.Graph.{literal_value, IsWithin}
 

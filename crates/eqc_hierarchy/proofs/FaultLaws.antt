@@ -6,7 +6,7 @@ use Rattle.std.proofs.lemmas.Bool.{true≢false, eq-eqb}
 use Rattle.std.proofs.lemmas.List.Quantifiers.{position-Some}
 use Rattle.std.proofs.lemmas.List.{append-nil, get_or-map, get_or-take, length-map, length-take-le}
 use Rattle.eqc_blif.specs.Netlist.{ModelOf, InstanceOf}
-use Rattle.eqc_blif.specs.Names.{is_named}
+use Rattle.eqc_netlist.specs.Names.{is_named}
 use Rattle.eqc_blif.proofs.CodeLemmas.{alone}
 use Rattle.eqc_hierarchy.specs.Hierarchy.{model_number, reached}
 use Rattle.eqc_hierarchy.specs.Codes.{
@@ -25,16 +25,17 @@ use Rattle.eqc_hierarchy.specs.Codes.{
   flat_code,
 }
 use Rattle.eqc_hierarchy.specs.InstanceFinding.{callee}
-use Rattle.eqc_hierarchy.specs.NameSets.{with_name}
+use Rattle.eqc_netlist.specs.NameSets.{with_name}
 use Rattle.eqc_hierarchy.specs.Reaching.{some_instance_in}
 use Rattle.eqc_hierarchy.specs.ModelFaults.{names_no_model, names_no_formal, names_formal_twice, leaves_input_out, ports}
-use Rattle.eqc_hierarchy.specs.Rule.{rule_code}
-use Rattle.eqc_hierarchy.specs.declared.rule.Rule.{Rule}
-use Rattle.eqc_hierarchy.specs.declared.rule.Rule.TheVariants.{NoSuchModel, Recursion, UnknownFormal, FormalTwice, MissingInput, DrivenTwice, Undriven, Circle, TooLarge, ManyInputs}
+use Rattle.eqc_netlist.specs.Rule.{rule_code}
+use Rattle.eqc_netlist.specs.declared.rule.Rule.{Rule}
+use Rattle.eqc_netlist.specs.declared.rule.Rule.TheVariants.{NoSuchModel, Recursion, UnknownFormal, FormalTwice, MissingInput, DrivenTwice, Undriven, Circle, TooLarge, ManyInputs}
 use Rattle.eqc_hierarchy.proofs.NamingLaws.{front_place, member_named, named_member}
-use Rattle.eqc_hierarchy.proofs.Depth.{or_right}
+use Rattle.eqc_netlist.proofs.Depth.{or_right}
 use Rattle.eqc_hierarchy.proofs.Distinct.{member_get, member_place}
-use Rattle.eqc_hierarchy.proofs.NameSetLaws.{any_mapped, once_named, fold_once}
+use Rattle.eqc_netlist.proofs.NameSetLaws.{any_mapped}
+use Rattle.eqc_hierarchy.proofs.NameSetLaws.{once_named, fold_once}
 use Rattle.eqc_hierarchy.proofs.ModelFaultLaws.{no_formal_is, input_out_is}
 
 pub none_some : (n : ℕ) → None ≡ Some n → ⊥

@@ -1,6 +1,3 @@
-pub mod Depth
-pub mod Orders
-pub mod Members
 pub mod Distinct
 pub mod CallLaws
 pub mod ReachingLaws

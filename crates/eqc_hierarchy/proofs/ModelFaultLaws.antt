@@ -4,8 +4,8 @@ use Rattle.std.specs.List.{list_any, fold}
 use Rattle.std.specs.Str.{bytes_eq}
 use Rattle.std.proofs.lemmas.Bool.{cases_eq}
 use Rattle.eqc_blif.specs.Netlist.{ModelOf, InstanceOf}
-use Rattle.eqc_blif.specs.Names.{is_named}
-use Rattle.eqc_hierarchy.specs.Dependency.{among, ends_within}
+use Rattle.eqc_netlist.specs.Names.{is_named}
+use Rattle.eqc_netlist.specs.Dependency.{among, ends_within}
 use Rattle.eqc_hierarchy.specs.Hierarchy.{model, model_number, callees, reached}
 use Rattle.eqc_hierarchy.specs.Codes.{
   formals,
@@ -22,13 +22,13 @@ use Rattle.eqc_hierarchy.specs.Codes.{
   code_if,
   flat_code,
 }
-use Rattle.eqc_hierarchy.specs.NameSets.{with_name}
+use Rattle.eqc_netlist.specs.NameSets.{with_name}
 use Rattle.eqc_hierarchy.specs.Reaching.{some_instance_in}
 use Rattle.eqc_hierarchy.specs.Searching.{IsSearch}
 use Rattle.eqc_hierarchy.specs.ModelFaults.{names_no_model, names_no_formal, names_formal_twice, leaves_input_out, ports, HasNoModelFault}
 use Rattle.eqc_hierarchy.specs.declared.search.Stage.{Stage}
-use Rattle.eqc_hierarchy.proofs.Depth.{ends_more, ordered_ends}
-use Rattle.eqc_hierarchy.proofs.Members.{any_same_members}
+use Rattle.eqc_netlist.proofs.Depth.{ends_more, ordered_ends}
+use Rattle.eqc_netlist.proofs.Members.{any_same_members}
 use Rattle.eqc_hierarchy.proofs.NameSetLaws.{once_named, fold_once, formal_named}
 
 -- ---- conditions over all instances of the models that are reached

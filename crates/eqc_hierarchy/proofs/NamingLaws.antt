@@ -39,14 +39,14 @@ use Rattle.std.proofs.lemmas.Bool.{true≢false, or_cases, or_left, or_parts, ca
 use Rattle.std.proofs.lemmas.List.{get_or-map, get_or_past, length-map, map-append, take_more, append_assoc, append-nil}
 use Rattle.std.proofs.lemmas.List.Sums.{passes_at_first}
 use Rattle.eqc_blif.specs.Netlist.{ModelOf, InstanceOf, no_cover, no_model}
-use Rattle.eqc_blif.specs.Names.{is_named, has_twice}
+use Rattle.eqc_netlist.specs.Names.{is_named, has_twice}
 use Rattle.eqc_hierarchy.specs.Hierarchy.{model, model_number, callees, reached, model_at, paths}
 use Rattle.eqc_hierarchy.specs.Signals.{cover_names, actuals, once_each, names_of}
 use Rattle.eqc_hierarchy.specs.Codes.{formals, has_unknown_formal}
 use Rattle.eqc_hierarchy.proofs.Distinct.{Member, member_left, member_right, member_get, member_piece, member_map}
 use Rattle.eqc_hierarchy.proofs.PathLaws.{models_reached}
-use Rattle.eqc_hierarchy.proofs.Depth.{or_right}
-use Rattle.eqc_hierarchy.proofs.NameSetLaws.{bytes_same, bytes_self}
+use Rattle.eqc_netlist.proofs.Depth.{or_right}
+use Rattle.eqc_netlist.proofs.NameSetLaws.{bytes_same, bytes_self}
 use Rattle.std.proofs.lemmas.Grind.{flat_map-append}
 use Rattle.eqc_hierarchy.specs.Columns.{columns_of}
 

@@ -10,7 +10,7 @@ use Rattle.std.proofs.lemmas.List.Folds.{length-flat_map-take}
 use Rattle.std.proofs.lemmas.List.FromFn.{get_or-map-range_with_len, length-map-range_with_len}
 use Rattle.std.proofs.lemmas.Grind.{flat_map-append}
 use Rattle.eqc_blif.specs.Netlist.{ModelOf}
-use Rattle.eqc_hierarchy.specs.Dependency.{ends_within}
+use Rattle.eqc_netlist.specs.Dependency.{ends_within}
 use Rattle.eqc_hierarchy.specs.Hierarchy.{callees, reached_within, model_at, below, paths_within, paths}
 use Rattle.eqc_hierarchy.proofs.Distinct.{Member, Distinct, member_of_map, all_pieces, distinct_flat_map, distinct_map, distinct_range}
 

@@ -53,13 +53,13 @@ use Rattle.std.proofs.lemmas.List.{
 use Rattle.std.proofs.lemmas.List.Sums.{sum_by-set, prefix_len-le-length}
 use Rattle.std.proofs.lemmas.List.Folds.{sum_by-replicate}
 use Rattle.eqc_blif.specs.Netlist.{ModelOf, InstanceOf}
-use Rattle.eqc_hierarchy.specs.Dependency.{among}
+use Rattle.eqc_netlist.specs.Dependency.{among}
 use Rattle.eqc_hierarchy.specs.Hierarchy.{model, model_number, callees, reached_within, reached}
 use Rattle.eqc_hierarchy.specs.Searching.{IsClosed}
 use Rattle.eqc_hierarchy.specs.Reaching.{IsReaching, IsAdding}
-use Rattle.eqc_hierarchy.proofs.Depth.{all_more, or_right, among_cases}
-use Rattle.eqc_hierarchy.proofs.Orders.{all_push, all_among, among_left, among_end}
-use Rattle.eqc_hierarchy.proofs.Members.{same_test, among_at, at_among, among_head, among_here, among_other, among_flat, flat_among, all_members, among_get}
+use Rattle.eqc_netlist.proofs.Depth.{all_more, or_right, among_cases}
+use Rattle.eqc_netlist.proofs.Orders.{all_push, all_among, among_left, among_end}
+use Rattle.eqc_netlist.proofs.Members.{same_test, among_at, at_among, among_head, among_here, among_other, among_flat, flat_among, all_members, among_get}
 
 -- ---- callees
 

@@ -44,14 +44,14 @@ use Rattle.std.proofs.lemmas.Bool.{cases_eq, cases_lt, true≢false, and_parts, 
 use Rattle.std.proofs.lemmas.List.{get_or-set_same, get_or-set_other, take_all, take_more, map_push, length-set, length_push, get_or-replicate, get_or_past, length-replicate, get_or_push, get_or_append_left}
 use Rattle.std.proofs.lemmas.List.Sums.{sum_by-set, sum_by-cons}
 use Rattle.std.proofs.lemmas.Option.{slice_get_within, get_or_from_slice_get}
-use Rattle.eqc_hierarchy.specs.Dependency.{among, ends_within}
+use Rattle.eqc_netlist.specs.Dependency.{among, ends_within}
 use Rattle.eqc_hierarchy.specs.declared.search.Stage.{Stage}
 use Rattle.eqc_hierarchy.specs.declared.search.Stage.TheVariants.{Fresh, Open, Done}
 use Rattle.eqc_hierarchy.specs.Searching.{is_fresh, stage_at, IsPath, on, IsSearch}
 use Rattle.eqc_hierarchy.specs.Walks.{StandOnce}
-use Rattle.eqc_hierarchy.proofs.Depth.{all_more, or_right}
-use Rattle.eqc_hierarchy.proofs.Members.{among_at}
-use Rattle.eqc_hierarchy.proofs.Orders.{same_all, all_push, all_front, all_last, all_among, among_left, among_end, among_push, order_more, stuck_never_ends, any_at}
+use Rattle.eqc_netlist.proofs.Depth.{all_more, or_right}
+use Rattle.eqc_netlist.proofs.Members.{among_at}
+use Rattle.eqc_netlist.proofs.Orders.{same_all, all_push, all_front, all_last, all_among, among_left, among_end, among_push, order_more, stuck_never_ends, any_at}
 
 -- one more element of a list that is there
 take_get : (xs : List ℕ) (k t : ℕ) → slice_get xs k ≡ Some t → take (k + 1) xs ≡ take k xs ++ t ∷ []

@@ -37,16 +37,16 @@ use Rattle.std.proofs.lemmas.List.{length-map, length-take-le, take_more, get_or
 use Rattle.std.proofs.lemmas.List.Sums.{sum_by-cons, sum_by-append, sum_by_more}
 use Rattle.std.proofs.lemmas.List.Concat.{length-flat_map}
 use Rattle.eqc_blif.specs.Netlist.{ModelOf}
-use Rattle.eqc_hierarchy.specs.Dependency.{among, ends_within}
+use Rattle.eqc_netlist.specs.Dependency.{among, ends_within}
 use Rattle.eqc_hierarchy.specs.Hierarchy.{model, callees, model_at, reached_within, reached, paths}
 use Rattle.eqc_hierarchy.specs.Signals.{SignalOf, names_of, signals_at, signals}
 use Rattle.eqc_hierarchy.specs.Sizes.{IsTold, size_within, model_size, IsCallOrder}
 use Rattle.eqc_hierarchy.specs.Codes.{is_recursive}
 use Rattle.eqc_hierarchy.specs.Searching.{IsSearch}
 use Rattle.eqc_hierarchy.specs.declared.search.Stage.{Stage}
-use Rattle.eqc_hierarchy.proofs.Depth.{ordered_ends}
-use Rattle.eqc_hierarchy.proofs.Orders.{among_push}
-use Rattle.eqc_hierarchy.proofs.Members.{among_at, before_at, all_at}
+use Rattle.eqc_netlist.proofs.Depth.{ordered_ends}
+use Rattle.eqc_netlist.proofs.Orders.{among_push}
+use Rattle.eqc_netlist.proofs.Members.{among_at, before_at, all_at}
 use Rattle.eqc_hierarchy.proofs.ModelFaultLaws.{ends_below, recursive_is}
 use Rattle.eqc_hierarchy.proofs.PathLaws.{models_reached, first_inside}
 

@@ -40,13 +40,13 @@ use Rattle.std.proofs.lemmas.Bool.{and_parts, ltb-true, not-true, true≢false, 
 use Rattle.std.proofs.lemmas.List.{take_all, take_more, get_or_read_under, get_or_push, get_or_append_left, set_at, length_push, nil_from_length}
 use Rattle.std.proofs.lemmas.List.Sums.{sum_by_push}
 use Rattle.std.proofs.lemmas.Option.{slice_get_within, slice_get-get_or, get_or_from_slice_get}
-use Rattle.eqc_hierarchy.specs.Dependency.{among, ends_within}
+use Rattle.eqc_netlist.specs.Dependency.{among, ends_within}
 use Rattle.eqc_hierarchy.specs.declared.search.Stage.{Stage}
 use Rattle.eqc_hierarchy.specs.declared.search.Stage.TheVariants.{Fresh, Open, Done}
 use Rattle.eqc_hierarchy.specs.Walks.{IsWalk, WalksBack}
-use Rattle.eqc_hierarchy.proofs.Members.{at_among}
+use Rattle.eqc_netlist.proofs.Members.{at_among}
 use Rattle.eqc_hierarchy.specs.Searching.{is_fresh, stage_at, IsPath, on, IsSearch, IsRooted, IsVisit}
-use Rattle.eqc_hierarchy.proofs.Orders.{all_last, among_left, among_end}
+use Rattle.eqc_netlist.proofs.Orders.{all_last, among_left, among_end}
 use Rattle.eqc_hierarchy.proofs.SearchLaws as steps
 use Rattle.eqc_hierarchy.proofs.SearchLaws.{fresh_work, path_work, fresh_begun, fresh_done, on_push, path_push, circle}
 

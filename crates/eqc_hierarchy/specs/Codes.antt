@@ -2,8 +2,8 @@
 use Rattle.std.specs.Prelude.{ℕ, suc, ◌+◌, ◌-◌, Bool, false, not, ◌==◌, List, ◌++◌, length, map, Option, Some, None, is_none, nat_lt, if◌then◌else◌}
 use Rattle.std.specs.List.{list_any}
 use Rattle.eqc_blif.specs.Netlist.{ModelOf, InstanceOf}
-use Rattle.eqc_blif.specs.Names.{is_named, has_twice}
-use Rattle.eqc_hierarchy.specs.Dependency.{ends_within}
+use Rattle.eqc_netlist.specs.Names.{is_named, has_twice}
+use Rattle.eqc_netlist.specs.Dependency.{ends_within}
 use Rattle.eqc_hierarchy.specs.Hierarchy.{model, model_number, callees, reached, paths}
 use Rattle.eqc_hierarchy.specs.Signals.{signals, sources, value_at}
 

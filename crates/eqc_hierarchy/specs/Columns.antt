@@ -3,7 +3,7 @@ use Rattle.std.specs.Prelude.{ℕ, List, map}
 use Rattle.std.specs.List.{flat_map}
 use Rattle.eqc_blif.specs.Netlist.{ModelOf, CoverOf}
 use Rattle.eqc_hierarchy.specs.Signals.{names_of}
-use Rattle.eqc_hierarchy.specs.NameSets.{place_in}
+use Rattle.eqc_netlist.specs.NameSets.{place_in}
 
 -- the places of some columns, those of covers, those of a model's covers, and those of all covers of a library
 abbrev pub places_in : List (List ℕ) → List (List ℕ) → List ℕ

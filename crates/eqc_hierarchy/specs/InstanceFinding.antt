@@ -1,8 +1,8 @@
 -- What is at fault in an instance, in a hierarchy that is refused, named so that it can be found in the text.
 use Rattle.std.specs.Prelude.{◌≡◌, ℕ, ◌<◌, true, false, List, [], ◌++◌, length, slice_index_or}
 use Rattle.eqc_blif.specs.Netlist.{ModelOf, InstanceOf}
-use Rattle.eqc_blif.specs.Names.{is_named}
-use Rattle.eqc_hierarchy.specs.Dependency.{among}
+use Rattle.eqc_netlist.specs.Names.{is_named}
+use Rattle.eqc_netlist.specs.Dependency.{among}
 use Rattle.eqc_hierarchy.specs.Hierarchy.{model, model_number, reached}
 use Rattle.eqc_hierarchy.specs.Reaching.{no_instance}
 use Rattle.eqc_hierarchy.specs.Codes.{formals}

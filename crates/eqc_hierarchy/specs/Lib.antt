@@ -1,10 +1,6 @@
 pub mod Hierarchy
 pub mod Signals
-pub mod Dependency
 pub mod Codes
-pub mod Rule
-pub mod NearHash
-pub mod NameSets
 pub mod Columns
 pub mod Walks
 pub mod Reaching

@@ -2,7 +2,7 @@
 use Rattle.std.specs.Prelude.{◌≡◌, ℕ, ◌+◌, ◌==◌, Bool, false, not, List, ◌++◌, length, map}
 use Rattle.std.specs.List.{list_any, range_with_len}
 use Rattle.eqc_blif.specs.Netlist.{ModelOf, InstanceOf}
-use Rattle.eqc_blif.specs.Names.{is_named, has_twice}
+use Rattle.eqc_netlist.specs.Names.{is_named, has_twice}
 use Rattle.eqc_hierarchy.specs.Hierarchy.{model, model_number}
 use Rattle.eqc_hierarchy.specs.Signals.{once_each}
 use Rattle.eqc_hierarchy.specs.Codes.{formals, has_no_such_model, is_recursive, has_unknown_formal, has_formal_twice, has_missing_formal}

@@ -1,7 +1,7 @@
 -- What a search in depth along dependencies keeps.
 use Rattle.std.specs.Prelude.{◌≡◌, ℕ, ◌+◌, ◌<◌, Bool, true, false, not, ◌&&◌, List, [], ◌∷◌, length, take, map, slice_get, slice_index_or, Some, nat_lt}
 use Rattle.std.specs.List.{list_all, count_by}
-use Rattle.eqc_hierarchy.specs.Dependency.{among, in_order}
+use Rattle.eqc_netlist.specs.Dependency.{among, in_order}
 use Rattle.eqc_hierarchy.specs.Walks.{StandOnce}
 use Rattle.eqc_hierarchy.specs.declared.search.Stage.{Stage}
 use Rattle.eqc_hierarchy.specs.declared.search.Stage.TheVariants.{Fresh, Open, Done}

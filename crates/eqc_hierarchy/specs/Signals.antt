@@ -5,8 +5,8 @@ use Rattle.std.specs.List.{flat_map, enumerate_from}
 use Rattle.std.specs.Option.{option_map, option_and_then}
 use Rattle.std.specs.Str.{bytes_eq}
 use Rattle.eqc_blif.specs.Netlist.{ModelOf, InstanceOf, CoverOf}
-use Rattle.eqc_blif.specs.Names.{is_named}
-use Rattle.eqc_blif.specs.Cover.{cover_value}
+use Rattle.eqc_netlist.specs.Names.{is_named}
+use Rattle.eqc_netlist.specs.Cover.{cover_value}
 use Rattle.eqc_hierarchy.specs.Hierarchy.{model, model_at, paths}
 
 -- a flat signal: an instance by its path, and a name in its model

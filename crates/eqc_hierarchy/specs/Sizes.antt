@@ -2,7 +2,7 @@
 use Rattle.std.specs.Prelude.{◌≡◌, ℕ, zero, suc, ◌+◌, ◌≤◌, true, List, [], length, nat_lt, ◌<◌, Option, Some, None}
 use Rattle.std.specs.List.{list_all, sum_by}
 use Rattle.eqc_blif.specs.Netlist.{ModelOf}
-use Rattle.eqc_hierarchy.specs.Dependency.{in_order}
+use Rattle.eqc_netlist.specs.Dependency.{in_order}
 use Rattle.eqc_hierarchy.specs.Hierarchy.{model, callees}
 use Rattle.eqc_hierarchy.specs.Signals.{names_of}
 

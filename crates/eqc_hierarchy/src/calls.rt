@@ -5,8 +5,8 @@ ghost use Rattle.eqc_hierarchy.specs.Hierarchy.{model, model_number, callees};
 pub(crate) mod reach;
 pub(crate) mod recursion;
 
-use crate::search::graph::Graph;
 use eqc_blif::{Instance, Library, Name};
+use eqc_netlist::Graph;
 use std::alloc::{AllocError, Global};
 use std::marker::Model;
 

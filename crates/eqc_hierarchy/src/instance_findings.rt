@@ -1,6 +1,6 @@
 //! What is at fault in a hierarchy that is refused for an instance: the first that meets the condition, and its formal.
 ghost use Rattle.std.specs.Prelude.{◌≡◌, ◌<◌, [], length, map, take, true, not, position, Some, is_some, slice_index_or, IfOk, IfSome};
-ghost use Rattle.eqc_blif.specs.Names.{is_named, has_twice};
+ghost use Rattle.eqc_netlist.specs.Names.{is_named, has_twice};
 ghost use Rattle.eqc_hierarchy.specs.Codes.{flat_code};
 ghost use Rattle.eqc_hierarchy.specs.Hierarchy.{reached};
 ghost use Rattle.eqc_hierarchy.specs.Reaching.{some_instance_in};
@@ -16,8 +16,8 @@ use crate::condition::instance_conditions::{
 };
 use crate::condition::{Condition, first_instance};
 use crate::instance_findings::found_instance::{FoundFormal, FoundInstance};
-use crate::naming::name_set::NameSet;
 use eqc_blif::{Library, Name};
+use eqc_netlist::NameSet;
 use std::alloc::{AllocError, Global};
 
 /// The first instance in the models that model `top` reaches of which a condition holds, where it holds of one. Fails

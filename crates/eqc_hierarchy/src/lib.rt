@@ -5,11 +5,11 @@
 //! order:
 //!
 //! - `calls`, which models a model's instances name; in it `reach`, which models are reached, and `recursion`, a chain of
-//!   models that comes back; `search`, an order over its `graph`
-//! - `rule`, the rules of hierarchies; `model_faults`, the first that a model breaks, by a `condition`, whose
+//!   models that comes back; `search`, an order over a graph
+//! - `model_faults`, the first rule that a model breaks, by a `condition`, whose
 //!   `instance_conditions` are those of instances
 //! - `instance_findings`, what is at fault, told by a `found_instance`
-//! - `naming`, the names of each model, by its `model_names`, `name_set` and `near_key`; `size`, how large the hierarchy is
+//! - `naming`, the names of each model, by its `model_names`; `size`, how large the hierarchy is
 #![tactic(auto)]
 
 mod calls;
@@ -17,18 +17,15 @@ mod condition;
 mod instance_findings;
 mod model_faults;
 mod naming;
-mod rule;
 mod search;
 mod size;
 
 pub use calls::recursion::recursive_chain;
 pub use calls::{Calls, instances};
+pub use eqc_netlist::{Graph, NameSet, RULES, Rule};
 pub use instance_findings::found_instance::{FoundFormal, FoundInstance};
 pub use instance_findings::{formal_twice, missing_input, missing_model, unknown_formal};
 pub use model_faults::first_model_fault;
 pub use naming::Naming;
-pub use naming::name_set::NameSet;
-pub use rule::{RULES, Rule};
-pub use search::graph::Graph;
 pub use search::{Search, Stage};
 pub use size::hierarchy_size;

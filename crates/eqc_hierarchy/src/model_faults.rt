@@ -1,6 +1,6 @@
 //! The first rule that is broken by the models that a main model reaches, told before any instance is numbered.
 ghost use Rattle.std.specs.Prelude.{◌≡◌, ℕ, ◌<◌, ◌≤◌, length, Some, IfOk, MatchOption};
-ghost use Rattle.eqc_hierarchy.specs.Dependency.{among};
+ghost use Rattle.eqc_netlist.specs.Dependency.{among};
 ghost use Rattle.eqc_hierarchy.specs.Hierarchy.{reached};
 ghost use Rattle.eqc_hierarchy.specs.Codes.{flat_code, has_no_such_model, is_recursive, has_unknown_formal, has_formal_twice, has_missing_formal};
 ghost use Rattle.eqc_hierarchy.specs.ModelFaults.{HasNoModelFault};
@@ -11,9 +11,9 @@ use crate::condition::instance_conditions::{
     LeavesInputOut, NamesFormalTwice, NamesNoFormal, NamesNoModel,
 };
 use crate::condition::some_instance;
-use crate::rule::Rule;
 use crate::search::Search;
 use eqc_blif::Library;
+use eqc_netlist::Rule;
 use std::alloc::{AllocError, Global};
 
 /// Whether an instance in one of these models is one of a model that isn't in the library.

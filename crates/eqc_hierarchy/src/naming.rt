@@ -2,19 +2,16 @@
 ghost use Rattle.std.specs.Prelude.{◌≡◌, ◌<◌, [], length, map, true, slice_index_or, IfOk};
 ghost use Rattle.std.specs.List.{position_or_len};
 ghost use Rattle.std.specs.Str.{bytes_eq};
-ghost use Rattle.eqc_blif.specs.Names.{is_named};
+ghost use Rattle.eqc_netlist.specs.Names.{is_named};
 ghost use Rattle.eqc_hierarchy.specs.Hierarchy.{model};
 ghost use Rattle.eqc_hierarchy.specs.Signals.{names_of};
 ghost use Rattle.eqc_hierarchy.specs.Columns.{all_columns};
 
 pub(crate) mod model_names;
-pub(crate) mod name_bytes;
-pub(crate) mod name_set;
-pub(crate) mod near_key;
 
 use crate::naming::model_names::names_of;
-use crate::naming::name_set::NameSet;
 use eqc_blif::Library;
+use eqc_netlist::NameSet;
 use smallvec::SmallVec;
 use std::alloc::{AllocError, Global};
 use std::marker::Model;

@@ -1,12 +1,10 @@
 //! A depth-first search along dependencies, for an order in which each node stands behind those it depends on, or for a circle.
 ghost use Rattle.std.specs.Prelude.{◌≡◌, ℕ, ◌+◌, ◌<◌, List, [], ◌∷◌, vec_len, IfOk, OnOk, true, false, ◌++◌, ◌-◌, ◌↔◌, take, slice_set, IsTrue};
-ghost use Rattle.eqc_hierarchy.specs.Dependency.{among, ends_within};
+ghost use Rattle.eqc_netlist.specs.Dependency.{among, ends_within};
 ghost use Rattle.eqc_hierarchy.specs.Walks.{WalksBack};
 ghost use Rattle.eqc_hierarchy.specs.Searching.{stage_at, on, IsClosed, IsSearch};
 
-pub(crate) mod graph;
-
-use crate::search::graph::Graph;
+use eqc_netlist::Graph;
 use std::alloc::{AllocError, Global};
 
 /// How far the search is with a node.

@@ -2,7 +2,7 @@
 ghost use Rattle.std.specs.Prelude.{◌≡◌, ℕ, ◌+◌, ◌-◌, ◌<◌, ◌≤◌, None, length, vec_len, true, false, slice_index_or, IfOk};
 ghost use Rattle.std.specs.List.{sum_by};
 ghost use Rattle.eqc_hierarchy.specs.Codes.{is_recursive};
-ghost use Rattle.eqc_hierarchy.specs.Dependency.{among};
+ghost use Rattle.eqc_netlist.specs.Dependency.{among};
 ghost use Rattle.eqc_hierarchy.specs.Hierarchy.{model, callees, paths};
 ghost use Rattle.eqc_hierarchy.specs.Signals.{names_of, signals};
 ghost use Rattle.eqc_hierarchy.specs.Sizes.{IsTold, model_size, IsCallOrder};

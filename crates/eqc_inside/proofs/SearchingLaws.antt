@@ -1,7 +1,7 @@
 -- What is found of literals that are true where an output differs, or where the assumption allows the inputs' values.
 use Rattle.std.proofs.Common.{◌≡◌, ◌≢◌, ℕ, ◌<◌, Bool, true, false, true≢false, ◌&&◌, List, [], ◌∷◌, length, find, get_or, is_none, refl, sym, ◌∙◌, ap, ap₂, Option, Some, None, Vec, Global, Result, Ok, Err, IfOk, subst, arith}
 use Rattle.eqc_tree.specs.Assigned.{assigned, assignments}
-use Rattle.eqc_flat.specs.Graph.{value_of}
+use Rattle.eqc_netlist.specs.Graph.{value_of}
 use Rattle.eqc_graph.specs.declared.node.Node.{Node}
 use Rattle.eqc_graph.specs.Graph.{differ, literal_value, Extends}
 use Rattle.eqc_sweep.specs.Sweeping.{HasValue}

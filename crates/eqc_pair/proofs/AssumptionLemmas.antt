@@ -2,7 +2,7 @@
 use Rattle.std.proofs.Common.{◌≡◌, ℕ, suc, ◌+◌, ◌<◌, ◌≤◌, Bool, true, false, not, List, [], ◌∷◌, map, length, nat_eq, eqb, get_or, refl, sym, ◌∙◌, ap, arith, Option, Some, None, IfSome}
 use Rattle.std.specs.Option.{unwrap_or}
 use Rattle.std.proofs.lemmas.Bool.{eq-eqb, ne_eqb}
-use Rattle.eqc_flat.specs.Graph.{FlatOf, IsFlat, FollowsDrivers}
+use Rattle.eqc_netlist.specs.Graph.{FlatOf, IsFlat, FollowsDrivers}
 use Rattle.eqc_pair.specs.Matched.{position_of, has_all}
 use Rattle.eqc_pair.specs.PairOf.{PairOf, IsPair, IsAssumption, ArePlaces, no_netlist, assumed, assumption_refusal, assumption_refused}
 

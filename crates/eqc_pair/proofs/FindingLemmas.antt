@@ -6,12 +6,12 @@ use Rattle.std.proofs.lemmas.Bool.{true≢false, false≢true, ne_eqb, eq-eqb, l
 use Rattle.std.proofs.lemmas.List.{length-map, length-take}
 use Rattle.std.proofs.lemmas.List.Filters.{length-filter_both}
 use Rattle.std.proofs.lemmas.List.Elements.{filter-append}
-use Rattle.eqc_blif.specs.Names.{is_named, has_twice}
-use Rattle.eqc_blif.specs.Finding.{StandsTwice}
+use Rattle.eqc_netlist.specs.Names.{is_named, has_twice}
+use Rattle.eqc_netlist.specs.Names.{StandsTwice}
 use Rattle.eqc_pair.specs.Matched.{has_all, same_names, order_words, order_code}
 use Rattle.eqc_pair.specs.Finding.{unmatched, AreCut, AreUnmatched}
 use Rattle.eqc_pair.proofs.NameLemmas.{bytes_more, named_found, named_missing}
-use Rattle.eqc_flat.proofs.NameSetLaws.{bytes_in}
+use Rattle.eqc_netlist.proofs.NameSetLaws.{bytes_in}
 
 -- one more name that the others have, or lack
 pub known_more : (others : List (List ℕ)) (names : List (Bor (List ℕ))) (i : ℕ) (d : Bor (List ℕ)) → i < length names →

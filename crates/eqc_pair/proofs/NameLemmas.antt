@@ -5,12 +5,12 @@ use Rattle.std.proofs.Math.Seq.{split_at}
 use Rattle.std.proofs.lemmas.List.{map-append, take_more, take_all, get_or-map, length-map}
 use Rattle.std.proofs.lemmas.List.Folds.{list_all-append, list_all_at}
 use Rattle.std.proofs.lemmas.Bool.{true≢false, false≢true, false_from_ne_true, lt-ltb}
-use Rattle.eqc_blif.specs.Names.{is_named, has_twice}
-use Rattle.eqc_blif.specs.Finding.{StandsTwice}
+use Rattle.eqc_netlist.specs.Names.{is_named, has_twice}
+use Rattle.eqc_netlist.specs.Names.{StandsTwice}
 use Rattle.eqc_pair.specs.Matched.{position_of, has_all}
-use Rattle.eqc_hierarchy.specs.NameSets.{with_name}
-use Rattle.eqc_blif.proofs.NameLemmas.{once_more, twice_there, twice_at}
-use Rattle.eqc_flat.proofs.NameSetLaws.{first_mapped, ltb-suc, bytes_in}
+use Rattle.eqc_netlist.specs.NameSets.{with_name}
+use Rattle.eqc_netlist.proofs.NameLemmas.{once_more, twice_there, twice_at}
+use Rattle.eqc_netlist.proofs.NameSetLaws.{first_mapped, ltb-suc, bytes_in}
 
 -- ---- where a name stands
 

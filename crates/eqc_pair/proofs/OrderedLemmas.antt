@@ -4,7 +4,7 @@ use Rattle.std.specs.List.{range_with_len}
 use Rattle.std.proofs.lemmas.List.{length-map, get_or-map}
 use Rattle.std.proofs.lemmas.List.FromFn.{length-range_with_len, get_or-range_with_len, get_or-map-range_with_len, length-map-range_with_len}
 use Rattle.std.proofs.lemmas.Grind.{same_number_lists}
-use Rattle.eqc_blif.specs.Names.{has_twice}
+use Rattle.eqc_netlist.specs.Names.{has_twice}
 use Rattle.eqc_pair.specs.Matched.{position_of, has_all, same_names, order_words, order_code}
 use Rattle.eqc_pair.specs.PairOf.{IsOrder, variable_in, variables_in}
 use Rattle.eqc_pair.proofs.PlaceLemmas.{place_below, all_named, place_within, word_below, word_back, same_count, variable_at, position_back, variables_all, declared_at, declared_all}

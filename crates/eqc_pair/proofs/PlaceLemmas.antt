@@ -10,13 +10,13 @@ use Rattle.std.proofs.lemmas.List.FromFn.{length-range_with_len, get_or-range_wi
 use Rattle.std.proofs.lemmas.List.Sums.{position_or_len_is, passes_at_first}
 use Rattle.std.proofs.lemmas.Grind.{same_number_lists}
 use Rattle.std.proofs.lemmas.Map.Steps.{le-length_from_below}
-use Rattle.eqc_blif.specs.Names.{is_named, has_twice}
+use Rattle.eqc_netlist.specs.Names.{is_named, has_twice}
 use Rattle.std.specs.Option.{is_some}
 use Rattle.std.specs.declared.alloc.Global.{Global}
 use Rattle.std.specs.declared.alloc.AllocError.{AllocError}
 use Rattle.eqc_pair.specs.Matched.{position_of, has_all, same_names, ArePlaces}
 use Rattle.eqc_pair.proofs.NameLemmas.{named_at}
-use Rattle.eqc_blif.proofs.NameLemmas.{bytes_eq-sym}
+use Rattle.eqc_netlist.proofs.NameLemmas.{bytes_eq-sym}
 
 pub same_bytes : (a b : List ℕ) → bytes_eq a b ≡ true → a ≡ b
 same_bytes a b e = search (rules, bytes_eq-Decides a b)

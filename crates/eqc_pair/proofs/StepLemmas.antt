@@ -1,7 +1,7 @@
 -- The step of each signal of a netlist.
 use Rattle.std.proofs.Common.{◌≡◌, ℕ, ◌<◌, List, length, get_or, sym, ◌∙◌, ap, arith}
-use Rattle.eqc_flat.specs.Graph.{FlatOf, IsFlat}
-use Rattle.eqc_flat.proofs.EvaluationLaws.{step_of}
+use Rattle.eqc_netlist.specs.Graph.{FlatOf, IsFlat}
+use Rattle.eqc_netlist.proofs.EvaluationLaws.{step_of}
 use Rattle.eqc_pair.specs.PairOf.{ArePlaces}
 
 -- the steps of all signals, from the steps of those of an order

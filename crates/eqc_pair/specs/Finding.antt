@@ -2,9 +2,9 @@
 -- assumption.
 use Rattle.std.specs.Prelude.{◌≡◌, ℕ, ◌<◌, not, List, [], length, filter, take, Option, Some, None}
 use Rattle.std.specs.Option.{option_map_or}
-use Rattle.eqc_blif.specs.Names.{is_named}
-use Rattle.eqc_blif.specs.Finding.{StandsTwice}
-use Rattle.eqc_flat.specs.Graph.{FlatOf}
+use Rattle.eqc_netlist.specs.Names.{is_named}
+use Rattle.eqc_netlist.specs.Names.{StandsTwice}
+use Rattle.eqc_netlist.specs.Graph.{FlatOf}
 use Rattle.eqc_pair.specs.Matched.{order_words, order_code}
 use Rattle.eqc_pair.specs.PairOf.{pair_refusal, pair_refused, order_refused, assumption_refusal, assumption_refused}
 use Rattle.eqc_pair.specs.declared.finding.Finding.{Finding}

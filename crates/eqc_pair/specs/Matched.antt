@@ -4,7 +4,7 @@ use Rattle.std.specs.Prelude.{◌≡◌, ℕ, ◌<◌, Bool, true, false, ◌||�
 use Rattle.std.specs.declared.alloc.Global.{Global}
 use Rattle.std.specs.List.{list_all, position_or_len, before_first, slice_split, flat_map}
 use Rattle.std.specs.Str.{bytes_eq}
-use Rattle.eqc_blif.specs.Names.{is_named, has_twice}
+use Rattle.eqc_netlist.specs.Names.{is_named, has_twice}
 
 -- where a name first stands in a list, or its length
 abbrev pub position_of : List (List ℕ) → List ℕ → ℕ

@@ -3,7 +3,7 @@
 use Rattle.std.specs.Prelude.{◌≡◌, ℕ, ◌<◌, ◌≤◌, Bool, true, false, not, List, [], length, map, slice_index, slice_index_or, ◌==◌, Option, Some, None, IfSome, if◌then◌else◌}
 use Rattle.std.specs.List.{position_or_len, range_with_len}
 use Rattle.std.specs.Option.{option_map, option_map_or, option_or, option_and_then, unwrap_or}
-use Rattle.eqc_flat.specs.Graph.{FlatOf, IsFlat}
+use Rattle.eqc_netlist.specs.Graph.{FlatOf, IsFlat}
 use Rattle.eqc_pair.specs.Matched.{position_of, has_all, same_names, AreLeftOut, order_words, order_code}
 use Rattle.eqc_pair.specs.declared.refused.Refused.{Refused}
 use Rattle.eqc_pair.specs.declared.refused.Side.TheVariants.{Pair, Order, Assume}

@@ -1,7 +1,7 @@
 //! Pairs with an assumption: a netlist whose one output says which assignments of the inputs count.
 ghost use Rattle.std.specs.Prelude.{◌≡◌, ◌⊎◌, [], Some, None, false, IfOk, IfErr};
 ghost use Rattle.std.specs.Option.{option_copied};
-ghost use Rattle.eqc_blif.specs.Names.{has_twice};
+ghost use Rattle.eqc_netlist.specs.Names.{has_twice};
 ghost use Rattle.eqc_pair.specs.Matched.{ArePlaces};
 ghost use Rattle.eqc_pair.specs.Rule.{rule_code};
 ghost use Rattle.eqc_pair.specs.PairOf.{assumption_refusal, assumption_refused, assuming_refusal, order_for, no_memory};
@@ -11,8 +11,7 @@ use crate::name_index::{bytes_of, places_among};
 use crate::pairing::pair;
 use crate::refused::{Refused, Side};
 use crate::rule::Rule;
-use eqc_blif::Name;
-use eqc_flat::Flat;
+use eqc_netlist::{Flat, Name};
 use std::alloc::{AllocError, Global};
 
 /// A refusal of an assumption.

@@ -1,7 +1,7 @@
 //! What is at fault in two netlists that make no pair, or in what is given for them.
 ghost use Rattle.std.specs.Prelude.{◌≡◌, ◌==◌, map, true, false, IfOk, MatchOption};
 ghost use Rattle.std.specs.Option.{option_copied};
-ghost use Rattle.eqc_blif.specs.Names.{has_twice};
+ghost use Rattle.eqc_netlist.specs.Names.{has_twice};
 ghost use Rattle.eqc_pair.specs.Matched.{has_all, same_names};
 ghost use Rattle.eqc_pair.specs.Finding.{AreUnmatched, IsExplained, IsAssumptionExplained, IsOrderExplained};
 
@@ -10,8 +10,7 @@ use crate::matched_pair::recall_laws;
 use crate::name_index::{bytes_of, first_twice, set_of};
 use crate::order::{MAX_TEXT, order_words};
 use crate::unmatched::Unmatched;
-use eqc_blif::Name;
-use eqc_flat::Flat;
+use eqc_netlist::{Flat, Name};
 use std::alloc::{AllocError, Global};
 
 /// Those of these names that others lack, of which none may stand twice. Fails where memory is refused.

@@ -4,11 +4,11 @@ ghost use Rattle.std.specs.Prelude.{◌≡◌, [], None, Some, map, length, IfOk
 ghost use Rattle.std.specs.Option.{option_copied};
 ghost use Rattle.eqc_pair.specs.Matched.{position_of, is_chosen};
 ghost use Rattle.eqc_pair.specs.PairOf.{IsPair, IsOrder, IsAssumption, AreMatched, ArePlaces, assumed, variables_in, first_variables, second_variables, assumed_variables, second_signals};
-ghost use Rattle.eqc_flat.specs.Graph.{IsFlat, FollowsDrivers};
+ghost use Rattle.eqc_netlist.specs.Graph.{IsFlat, FollowsDrivers};
 
 use crate::order::Order;
 use crate::places::places_of;
-use eqc_flat::Flat;
+use eqc_netlist::Flat;
 use std::alloc::{AllocError, Global};
 use std::marker::Model;
 

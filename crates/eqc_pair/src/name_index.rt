@@ -1,12 +1,11 @@
 //! Where names stand among others, whether one of them stands twice, and which outputs are not among those that are named.
 ghost use Rattle.std.specs.Prelude.{◌≡◌, ℕ, ◌<◌, map, true, false, not, nat_eq, IfOk, EachIndex, MatchOption, slice_index, slice_index_or};
 ghost use Rattle.std.specs.List.{list_any};
-ghost use Rattle.eqc_blif.specs.Names.{has_twice};
-ghost use Rattle.eqc_blif.specs.Finding.{StandsTwice};
+ghost use Rattle.eqc_netlist.specs.Names.{has_twice};
+ghost use Rattle.eqc_netlist.specs.Names.{StandsTwice};
 ghost use Rattle.eqc_pair.specs.Matched.{ArePlaces, MarkLeftOut};
 
-use eqc_blif::{Key, Name};
-use eqc_flat::NameSet;
+use eqc_netlist::{Key, Name, NameSet};
 use std::alloc::{AllocError, Global};
 
 /// The set of these names, in their order, of which none may stand twice. Fails where memory is refused.

@@ -2,14 +2,14 @@
 ghost use Rattle.std.specs.Prelude.{◌≡◌, ◌⊎◌, ◌==◌, ◌++◌, ◌+◌, ◌<◌, ◌≤◌, [], ◌∷◌, Some, None, false, length, drop, map, filter, slice_index, EachIndex, IfOk, IfErr, OnOk, MatchOption};
 ghost use Rattle.std.specs.List.{position_or_len, range_with_len};
 ghost use Rattle.std.specs.Option.{option_map, option_copied};
-ghost use Rattle.eqc_blif.specs.Names.{has_twice};
+ghost use Rattle.eqc_netlist.specs.Names.{has_twice};
 ghost use Rattle.eqc_pair.specs.Matched.{position_of, order_words, order_code, is_blank, is_word, line_words};
 ghost use Rattle.eqc_pair.specs.PairOf.{IsOrder, variables_in, order_for, order_refusal, order_refused, no_memory};
 
 use crate::name_index::{bytes_of, has_twice, places_among};
 use crate::refused::{Refused, Side};
 use crate::rule::Rule;
-use eqc_blif::Name;
+use eqc_netlist::Name;
 use std::alloc::{AllocError, Global};
 
 /// Where a byte first stands, or the length.
@@ -162,7 +162,7 @@ fn read_places(
     ensures refused { IfErr result (λ refused. (refused ≡ no_memory) ⊎ (option_map order_refused (order_code (map (λ input. input.now) inputs.now) text.now) ≡ Some refused)) }
 {
     if text.len() > MAX_TEXT {
-        return Err(refusal(eqc_blif::Rule::TextTooLong.code()));
+        return Err(refusal(eqc_netlist::text_rule::Rule::TextTooLong.code()));
     }
     let words = order_words(alloc, text)?;
     let Some(positions) = places_among(alloc, inputs, &words)? else {

@@ -1,7 +1,7 @@
 //! The matching of two flat netlists by the names of their inputs and outputs: a pair, or the first refusal.
 ghost use Rattle.std.specs.Prelude.{◌≡◌, ◌⊎◌, [], Some, None, true, false, map, IfOk, IfErr, MatchOption};
 ghost use Rattle.std.specs.Option.{option_copied};
-ghost use Rattle.eqc_blif.specs.Names.{has_twice};
+ghost use Rattle.eqc_netlist.specs.Names.{has_twice};
 ghost use Rattle.eqc_pair.specs.Matched.{position_of, same_names};
 ghost use Rattle.eqc_pair.specs.PairOf.{AreMatched, order_for, pair_refusal, pair_refused, no_memory};
 
@@ -10,8 +10,7 @@ use crate::name_index::{bytes_of, left_out, places_among};
 use crate::order::order_of;
 use crate::refused::{Refused, Side};
 use crate::rule::Rule;
-use eqc_blif::Name;
-use eqc_flat::Flat;
+use eqc_netlist::{Flat, Name};
 use std::alloc::{AllocError, Global};
 
 impl From<AllocError> for Refused {
@@ -20,7 +19,7 @@ impl From<AllocError> for Refused {
     ghost from_gives = { λ _ refused. refused ≡ no_memory };
 
     fn from(_error: AllocError) -> Refused {
-        refusal(eqc_blif::Rule::Memory.code())
+        refusal(eqc_netlist::text_rule::Rule::Memory.code())
     }
 }
 

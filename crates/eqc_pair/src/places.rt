@@ -2,7 +2,7 @@
 ghost use Rattle.std.specs.Prelude.{IfOk};
 ghost use Rattle.eqc_pair.specs.PairOf.{ArePlaces};
 
-use eqc_flat::Flat;
+use eqc_netlist::Flat;
 use std::alloc::{AllocError, Global};
 
 /// The step of each signal. Fails where memory is refused.

@@ -61,9 +61,9 @@ impl Rule {
 #[derive(Clone, Copy, Debug, PartialEq, Eq, Error)]
 pub(crate) enum Reason {
     #[error(transparent)]
-    Text(eqc_blif::Rule),
+    Text(eqc_netlist::text_rule::Rule),
     #[error(transparent)]
-    Hierarchy(eqc_flat::Rule),
+    Hierarchy(eqc_netlist::Rule),
     #[error(transparent)]
     Both(Rule),
     #[error("out of its range")]
@@ -72,12 +72,12 @@ pub(crate) enum Reason {
 
 /// The reason of a code of a refusal.
 pub(crate) fn reason_of(code: &u8) -> Reason {
-    for rule in &eqc_blif::RULES {
+    for rule in &eqc_netlist::text_rule::RULES {
         if rule.code() == *code {
             return Reason::Text(*rule);
         }
     }
-    for rule in &eqc_flat::RULES {
+    for rule in &eqc_netlist::RULES {
         if rule.code() == *code {
             return Reason::Hierarchy(*rule);
         }

@@ -3,7 +3,7 @@ ghost use Rattle.std.specs.Prelude.{◌≡◌, ◌==◌, ◌<◌, ℕ, List, [],
 ghost use Rattle.eqc_pair.specs.Matched.{has_all};
 ghost use Rattle.eqc_pair.specs.Finding.{AreCut, AreUnmatched};
 
-use eqc_flat::NameSet;
+use eqc_netlist::NameSet;
 use std::alloc::{AllocError, Global};
 use std::marker::Model;
 

@@ -2,8 +2,8 @@
 use Rattle.std.proofs.Common.{◌≡◌, ℕ, Bool, false, List, get_or, map, Option, Some, IfSome, sym, subst, ◌∙◌, arith}
 use Rattle.std.proofs.lemmas.List.{length-map, get_or-map, get_or_default, same_lists}
 use Rattle.indexmap.specs.IndexMap.{IndexMap}
-use Rattle.eqc_flat.specs.Graph.{FlatOf, value_of}
-use Rattle.eqc_flat.specs.Evaluating.{values_of}
+use Rattle.eqc_netlist.specs.Graph.{FlatOf, value_of}
+use Rattle.eqc_netlist.specs.Evaluating.{values_of}
 use Rattle.eqc_report.specs.Evaluation.{AreRight, AreRead}
 
 pub read_values : {S : Type 0} (f : FlatOf) (inputs : List Bool) (known : IndexMap ℕ Bool S) (signals : List ℕ) (read : List Bool) →

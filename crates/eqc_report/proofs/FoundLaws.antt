@@ -5,7 +5,7 @@ use Rattle.std.specs.List.{zip, All}
 use Rattle.std.proofs.lemmas.Bool.{and_parts}
 use Rattle.std.proofs.lemmas.List.{map-append}
 use Rattle.std.proofs.lemmas.List.Elements.{All-nil, All-head, All-tail, All-cons}
-use Rattle.eqc_flat.specs.Graph.{FlatOf, IsFlat, value_of}
+use Rattle.eqc_netlist.specs.Graph.{FlatOf, IsFlat, value_of}
 use Rattle.eqc_pair.specs.PairOf.{PairOf}
 use Rattle.eqc_pair.specs.Matched.{chosen_outputs}
 use Rattle.eqc_compare.specs.Verdict.{VerdictOf, values_for, is_different, first_value, second_value, allows_none, told}
@@ -16,7 +16,7 @@ use Rattle.eqc_compare.specs.declared.outcome.Outcome.{Outcome}
 use Rattle.eqc_compare.specs.declared.outcome.Outcome.TheVariants as kind
 use Rattle.eqc_report.specs.Report.{DifferenceOf, equivalent, differs, shown, differences_report, verdict_report}
 use Rattle.eqc_report.specs.PairReport.{IsFoundOf, shown_of, pair_report}
-use Rattle.eqc_flat.specs.Evaluating.{values_of}
+use Rattle.eqc_netlist.specs.Evaluating.{values_of}
 use Rattle.eqc_compare.proofs.CompareLaws.{value_agrees}
 use Rattle.eqc_compare.proofs.VerdictLemmas.{each_difference}
 use Rattle.eqc_compare.specs.Comparing.{netlist_of, assumption_of, differences_in, found_in, found_differences, outcome_of, IsOutcome}

@@ -1,8 +1,8 @@
 -- For proofs alone: what a walk over the signals of a flat netlist knows. No public promise cites it.
 use Rattle.std.specs.Prelude.{◌≡◌, ℕ, ◌<◌, Bool, false, List, length, slice_index, slice_index_or, Some, nat_eq}
 use Rattle.indexmap.specs.IndexMap.{IndexMap, get}
-use Rattle.eqc_flat.specs.Graph.{FlatOf, value_of}
-use Rattle.eqc_flat.specs.Evaluating.{values_of}
+use Rattle.eqc_netlist.specs.Graph.{FlatOf, value_of}
+use Rattle.eqc_netlist.specs.Evaluating.{values_of}
 use Rattle.eqc_report.specs.declared.evaluating.Walk.{Walk}
 
 module _ {S : Type 0} where

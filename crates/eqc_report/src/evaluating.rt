@@ -3,14 +3,13 @@
 ghost use Rattle.std.specs.Prelude.{◌≡◌, ◌<◌, ℕ, Bool, Some, [], length, slice_index, slice_index_or, nat_eq, IfOk, OnOk, IfSome};
 ghost use Rattle.std.specs.List.{All};
 ghost use Rattle.indexmap.specs.IndexMap.{get};
-ghost use Rattle.eqc_flat.specs.Graph.{value_of};
-ghost use Rattle.eqc_flat.specs.Evaluating.{values_of};
+ghost use Rattle.eqc_netlist.specs.Graph.{value_of};
+ghost use Rattle.eqc_netlist.specs.Evaluating.{values_of};
 ghost use Rattle.eqc_compare.specs.Verdict.{first_value};
 ghost use Rattle.eqc_compare.specs.Comparing.{netlist_of};
 ghost use Rattle.eqc_report.specs.Evaluation.{AreRead, AreRight, AreThere, IsWalk};
 
-use eqc_blif::cover_value;
-use eqc_flat::{Driver, Flat, Signals, eval};
+use eqc_netlist::{Driver, Flat, Signals, cover_value, eval};
 use eqc_pair::recall_laws;
 use indexmap::IndexMap;
 use std::alloc::{AllocError, Global};

@@ -8,9 +8,8 @@ ghost use Rattle.eqc_compare.specs.Comparing.{netlist_of, IsOutcome};
 
 use crate::evaluating::output_value;
 use crate::report::{Difference, Differences, Report};
-use eqc_blif::Name;
 use eqc_compare::{Difference as Found, Outcome};
-use eqc_flat::Flat;
+use eqc_netlist::{Flat, Name};
 use eqc_pair::Pair;
 use eqc_tree::Stop;
 use std::alloc::{AllocError, Global};

@@ -4,7 +4,7 @@ ghost use Rattle.eqc_report.specs.ReportView.{report_of, status_of};
 
 pub(crate) mod text;
 
-use eqc_blif::Name;
+use eqc_netlist::Name;
 use eqc_pair::Refused;
 use eqc_tree::Stop;
 

@@ -8,7 +8,7 @@ ghost use Rattle.eqc_report.specs.Seen.{IsLeftOf};
 
 use crate::found::{copied, shown};
 use crate::report::Difference;
-use eqc_blif::Name;
+use eqc_netlist::Name;
 use eqc_pair::Pair;
 use std::alloc::Global;
 

@@ -91,11 +91,11 @@ fn push_code<M: Display>(
 /// Appends the numbers of refused texts and hierarchies.
 fn push_netlist_codes(alloc: Global, text: &mut String) -> Result<(), AllocError> {
     text.push_str("\n\nCodes of reading a netlist (an order text can have 2):")?;
-    for rule in &eqc_blif::RULES {
+    for rule in &eqc_netlist::text_rule::RULES {
         push_code(alloc, text, rule.code(), rule)?;
     }
     text.push_str("\n\nCodes of following instances:")?;
-    for rule in &eqc_flat::RULES {
+    for rule in &eqc_netlist::RULES {
         push_code(alloc, text, rule.code(), rule)?;
     }
     Ok(())

@@ -9,11 +9,11 @@ ghost use Rattle.eqc_blif.specs.declared.reader.kind.Kind.TheVariants.{Subckt, R
 
 use crate::finding::Finding;
 use crate::model::cover::row_output;
-use crate::name::Name;
 use crate::reader::Reader;
 use crate::reader::kind::{Kind, kind_of};
-use crate::rule::Rule;
 use crate::text::words::{append_without_blanks, first_no_pair, split_first};
+use eqc_netlist::Name;
+use eqc_netlist::text_rule::Rule;
 use smallvec::SmallVec;
 use std::alloc::{AllocError, Global};
 

@@ -5,8 +5,8 @@ ghost use Rattle.eqc_blif.specs.Reading.{start, first_fault, line_code};
 ghost use Rattle.eqc_blif.specs.Finding.{line_at};
 
 use crate::reader::Reader;
-use crate::refusal::Refusal;
 use crate::text::lines::Lines;
+use eqc_netlist::Refusal;
 use std::alloc::{AllocError, Global};
 
 /// Brings a new reader to what stands before the line that a text is refused for, and that line into `line`. Fails where

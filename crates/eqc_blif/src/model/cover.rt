@@ -1,15 +1,14 @@
 //! Covers (`.names`): their columns, output and rows, the reading of a row, and the value of the output.
 ghost use Rattle.std.specs.Prelude.{◌≡◌, IfOk, length, MatchOption, [], nat_lt, IsTrue};
 ghost use Rattle.std.specs.List.{list_all};
-ghost use Rattle.eqc_blif.specs.Cover.{cover_value};
+ghost use Rattle.eqc_netlist.specs.Cover.{cover_value};
 ghost use Rattle.eqc_blif.specs.Words.{words, without_blanks, cover_of};
 ghost use Rattle.eqc_blif.specs.Reading.{is_column_value, is_output_value, row_output, has_row_shape, differs_from_first};
 ghost use Rattle.eqc_blif.specs.Steps.{TakesRow, code_behind};
 
-use crate::model::rows::{Rows, cover_value};
-use crate::name::Name;
-use crate::rule::Rule;
 use crate::text::words::{append_without_blanks, names_in};
+use eqc_netlist::text_rule::Rule;
+use eqc_netlist::{Name, Rows, cover_value};
 use smallvec::SmallVec;
 use std::alloc::{AllocError, Global};
 use std::marker::Model;
@@ -27,7 +26,7 @@ pub struct Cover {
 impl Model for Cover {
     ghost use Rattle.std.specs.Prelude.{◌+◌, length};
     ghost use Rattle.eqc_blif.specs.Netlist.{CoverOf};
-    ghost use Rattle.eqc_blif.specs.Rows.{rows_in, AreWhole};
+    ghost use Rattle.eqc_netlist.specs.Rows.{rows_in, AreWhole};
 
     ghost Value = { CoverOf };
 

@@ -2,10 +2,10 @@
 ghost use Rattle.std.specs.Prelude.{◌≡◌, []};
 ghost use Rattle.eqc_blif.specs.Steps.{no_declarations};
 
-use crate::key::Key;
 use crate::model::cover::Cover;
 use crate::model::instance::Instance;
 use crate::names::Names;
+use eqc_netlist::Key;
 use std::alloc::Global;
 use std::marker::Model;
 

@@ -1,6 +1,6 @@
 //! Instances of models (`.subckt`): the model that an instance names, and which formal is connected to which actual.
 
-use crate::name::Name;
+use eqc_netlist::Name;
 use std::marker::Model;
 
 /// An instance (`.subckt`): the name of its model, and its pairs of formal and actual.

@@ -2,14 +2,13 @@
 ghost use Rattle.std.specs.Prelude.{◌≡◌, [], ◌∷◌, ◌++◌, IfOk, not, if◌then◌else◌, true, false};
 ghost use Rattle.std.specs.List.{list_any};
 ghost use Rattle.eqc_blif.specs.Words.{words};
-ghost use Rattle.eqc_blif.specs.Names.{is_named, has_twice};
-ghost use Rattle.eqc_blif.specs.Finding.{StandsTwice};
+ghost use Rattle.eqc_netlist.specs.Names.{is_named, has_twice};
+ghost use Rattle.eqc_netlist.specs.Names.{StandsTwice};
 
-use crate::key::Key;
-use crate::name::Name;
 use crate::names::many::ManyNames;
 use crate::sparing::push_sparing;
 use crate::text::words::{room_for_words, split_word};
+use eqc_netlist::{Key, Name};
 use std::alloc::{AllocError, Global};
 use std::marker::Model;
 
@@ -27,7 +26,7 @@ pub(crate) struct NameList {
 impl Model for NameList {
     ghost use Rattle.std.specs.Prelude.{List, ℕ, ◌≡◌, false};
     ghost use Rattle.std.specs.Option.{option_map};
-    ghost use Rattle.eqc_blif.specs.Names.{has_twice};
+    ghost use Rattle.eqc_netlist.specs.Names.{has_twice};
     ghost use Rattle.eqc_blif.specs.Steps.{few_or_many};
 
     ghost Value = { List (List ℕ) };

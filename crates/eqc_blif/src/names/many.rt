@@ -1,9 +1,8 @@
 //! A set of names in their order, for those that are too many to be compared one by one.
 ghost use Rattle.std.specs.Prelude.{◌≡◌, [], ◌∷◌, ◌++◌, IfOk, IfErr, not, if◌then◌else◌, false};
-ghost use Rattle.eqc_blif.specs.Names.{is_named, has_twice};
+ghost use Rattle.eqc_netlist.specs.Names.{is_named, has_twice};
 
-use crate::key::Key;
-use crate::name::Name;
+use eqc_netlist::{Key, Name};
 use indexmap::IndexSet;
 use std::alloc::{AllocError, Global};
 use std::marker::Model;

@@ -1,7 +1,7 @@
 //! Which kind of statement a logical line is, by the command that it begins with, or a row of a cover.
 ghost use Rattle.std.specs.Prelude.{◌≡◌, true};
 ghost use Rattle.eqc_blif.specs.Kind.{kind_of, kind_of_line, skipped};
-ghost use Rattle.eqc_blif.specs.Names.{is_named};
+ghost use Rattle.eqc_netlist.specs.Names.{is_named};
 
 use crate::text::words::is_blank;
 

@@ -1,20 +1,19 @@
 //! The model that is open while a text is read, and what each statement adds to it or is refused for.
 ghost use Rattle.std.specs.Prelude.{◌≡◌, ◌++◌, IfOk, OnOk, IsTrue, true, false, None};
 ghost use Rattle.eqc_blif.specs.Words.{words, without_blanks};
-ghost use Rattle.eqc_blif.specs.Names.{has_twice};
-ghost use Rattle.eqc_blif.specs.Finding.{StandsTwice};
+ghost use Rattle.eqc_netlist.specs.Names.{has_twice};
+ghost use Rattle.eqc_netlist.specs.Names.{StandsTwice};
 ghost use Rattle.eqc_blif.specs.Reading.{begun, OpenModel, last_cover, declared, with_inputs, with_outputs, with_instance, with_new_cover, with_new_row};
 ghost use Rattle.eqc_blif.specs.Steps.{MayChange, model_of, declares, declaration, declaration_code, inputs_code, outputs_code, cover_code, instance_code, row_code_in};
 
-use crate::key::Key;
 use crate::model::cover::Cover;
 use crate::model::declarations::Declarations;
 use crate::model::instance::Instance;
-use crate::name::Name;
 use crate::reader::kind::Kind;
-use crate::rule::Rule;
 use crate::sparing::push_sparing;
 use crate::text::words::{pairs_in, split_word};
+use eqc_netlist::text_rule::Rule;
+use eqc_netlist::{Key, Name};
 use std::alloc::{AllocError, Global};
 use std::marker::Model;
 

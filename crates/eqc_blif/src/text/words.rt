@@ -5,12 +5,12 @@ ghost use Rattle.std.specs.Option.{option_map};
 ghost use Rattle.smallvec.specs.SmallVec.{HasRoomFor};
 ghost use Rattle.eqc_blif.specs.Lines.{is_blank};
 ghost use Rattle.eqc_blif.specs.Words.{words, first_of, arguments, without_blanks, is_equals_sign, is_pair};
-ghost use Rattle.eqc_blif.specs.Names.{is_named};
+ghost use Rattle.eqc_netlist.specs.Names.{is_named};
 ghost use Rattle.eqc_blif.specs.Steps.{ArePairs, IsPair};
 
-use crate::name::Name;
 use crate::sparing::reserve_sparing;
 use crate::text::near::{NEAR, find_either};
+use eqc_netlist::Name;
 use smallvec::SmallVec;
 use std::alloc::{AllocError, Global};
 

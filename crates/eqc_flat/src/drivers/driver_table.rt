@@ -2,10 +2,10 @@
 ghost use Rattle.std.specs.Prelude.{◌≡◌, ℕ, ◌+◌, ◌<◌, ◌≤◌, ◌++◌, ◌∷◌, [], List, length, map, true, false, Some, None, is_some, is_none, position, slice_index_or, IfOk, IfErr, MatchOption};
 ghost use Rattle.std.specs.List.{flat_map, enumerate_from};
 ghost use Rattle.eqc_blif.specs.Netlist.{ModelOf};
-ghost use Rattle.eqc_blif.specs.Names.{is_named};
-ghost use Rattle.eqc_flat.specs.Graph.{IsWithinSizes};
+ghost use Rattle.eqc_netlist.specs.Names.{is_named};
+ghost use Rattle.eqc_netlist.specs.Graph.{IsWithinSizes};
 ghost use Rattle.eqc_hierarchy.specs.Columns.{all_columns};
-ghost use Rattle.eqc_flat.specs.StoredDrivers.{driver_from};
+ghost use Rattle.eqc_netlist.specs.StoredDrivers.{driver_from};
 ghost use Rattle.eqc_hierarchy.specs.Hierarchy.{model, paths};
 ghost use Rattle.eqc_hierarchy.specs.Signals.{Driving, names_of, signals, input_drivings, cover_driving, pair_driving, instance_drivings, drivings};
 ghost use Rattle.eqc_hierarchy.specs.Codes.{has_unknown_formal};
@@ -14,13 +14,11 @@ ghost use Rattle.eqc_flat.specs.Instances.{first_below};
 ghost use Rattle.eqc_flat.specs.RowTable.{all_rows};
 ghost use Rattle.eqc_flat.specs.DriverTable.{IsTable, IsDriven, IsDriverFault, first_driven};
 
-use crate::drivers::Drivers;
 use crate::drivers::row_table::RowTable;
-use crate::drivers::stored_driver::StoredDriver;
-use crate::fault::Fault;
 use crate::hierarchy::Hierarchy;
 use eqc_blif::{Cover, Library, Name};
 use eqc_hierarchy::{Rule, instances};
+use eqc_netlist::{Drivers, Fault, StoredDriver};
 use smallvec::SmallVec;
 use std::alloc::{AllocError, Global};
 use std::marker::Model;
@@ -42,7 +40,7 @@ pub(crate) struct DriverTable {
 
 impl Model for DriverTable {
     ghost use Rattle.std.specs.Prelude.{ℕ, List, Option};
-    ghost use Rattle.eqc_flat.specs.declared.drivers.stored_driver.StoredDriver.{StoredDriver};
+    ghost use Rattle.eqc_netlist.specs.declared.drivers.stored_driver.StoredDriver.{StoredDriver};
 
     ghost Value = { List (Option StoredDriver) × Option ℕ };
 

@@ -1,7 +1,7 @@
 //! The models that a main model reaches by instances, itself among them.
 ghost use Rattle.std.specs.Prelude.{◌≡◌, ℕ, ◌+◌, ◌<◌, ◌≤◌, [], length, replicate, IfOk, OnOk, true, false, nat_lt};
 ghost use Rattle.std.specs.List.{list_all};
-ghost use Rattle.eqc_hierarchy.specs.Dependency.{among};
+ghost use Rattle.eqc_netlist.specs.Dependency.{among};
 ghost use Rattle.eqc_hierarchy.specs.Hierarchy.{reached};
 ghost use Rattle.eqc_hierarchy.specs.Reaching.{IsReaching};
 

@@ -2,16 +2,16 @@
 ghost use Rattle.std.specs.Prelude.{◌≡◌, ◌<◌, [], true, not, map, take, length, position, is_some, slice_index_or, IfOk, OnOk, IfSome};
 ghost use Rattle.std.specs.List.{list_any, fold};
 ghost use Rattle.std.specs.Str.{bytes_eq};
-ghost use Rattle.eqc_blif.specs.Names.{is_named, has_twice};
+ghost use Rattle.eqc_netlist.specs.Names.{is_named, has_twice};
 ghost use Rattle.eqc_hierarchy.specs.Codes.{formals};
 ghost use Rattle.eqc_hierarchy.specs.Hierarchy.{model, model_number};
-ghost use Rattle.eqc_hierarchy.specs.NameSets.{with_name};
+ghost use Rattle.eqc_netlist.specs.NameSets.{with_name};
 ghost use Rattle.eqc_hierarchy.specs.ModelFaults.{ports, ports_of};
 
 use crate::calls::model_number;
 use crate::condition::Condition;
-use crate::naming::name_set::NameSet;
 use eqc_blif::{Instance, Key, Library, Name};
+use eqc_netlist::NameSet;
 use std::alloc::{AllocError, Global};
 use std::marker::Model;
 

@@ -2,12 +2,12 @@
 ghost use Rattle.std.specs.Prelude.{◌≡◌, ℕ, ◌<◌, ◌++◌, List, [], length, map, IfOk, OnOk};
 ghost use Rattle.std.specs.List.{fold, flat_map};
 ghost use Rattle.eqc_hierarchy.specs.Hierarchy.{model};
-ghost use Rattle.eqc_hierarchy.specs.NameSets.{with_name};
+ghost use Rattle.eqc_netlist.specs.NameSets.{with_name};
 ghost use Rattle.eqc_hierarchy.specs.Signals.{cover_names, actuals, names_of};
 ghost use Rattle.eqc_hierarchy.specs.Columns.{places_in, columns_in, columns_of};
 
-use crate::naming::name_set::NameSet;
 use eqc_blif::{Cover, Instance, Library, Name};
+use eqc_netlist::NameSet;
 use smallvec::SmallVec;
 use std::alloc::{AllocError, Global};
 

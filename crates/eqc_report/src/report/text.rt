@@ -13,7 +13,7 @@ use crate::io::fault::{RunFault, StreamFault};
 use crate::io::spool::Spool;
 use crate::io::writing::write_whole;
 use crate::report::{Difference, Differences, Report, Status};
-use eqc_blif::Name;
+use eqc_netlist::Name;
 use eqc_pair::Refused;
 use eqc_tree::Stop;
 use std::alloc::{AllocError, Global};

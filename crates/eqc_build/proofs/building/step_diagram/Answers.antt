@@ -1,7 +1,7 @@
 use Rattle.std.proofs.Common.{◌≡◌, ◌∙◌, ap, arith, length, map, subst, Some, IfSome}
 use Rattle.eqc_cover.specs.Splits.{IsExpansionOf}
 use Rattle.std.proofs.lemmas.List.{length-map}
-use Rattle.eqc_blif.specs.Cover.{cover_value}
+use Rattle.eqc_netlist.specs.Cover.{cover_value}
 use Rattle.eqc_cover.specs.Table.{table_value}
 use Rattle.eqc_cover.proofs.TableLaws.{all_open}
 use Rattle.eqc_build.specs.Building.{reference_of}

@@ -1,5 +1,5 @@
 use Rattle.std.proofs.Common.{◌∙◌, ◌≡◌, ◌<◌, ap, arith, length}
-use Rattle.eqc_flat.specs.Graph.{driver_at}
+use Rattle.eqc_netlist.specs.Graph.{driver_at}
 use Rattle.eqc_class.specs.Numbering.{rows_until}
 use Rattle.eqc_class.proofs.PlaceLaws.{rows_within, named_more}
 use Rattle.eqc_class.proofs.row_set.rows_named.Goals as goal

@@ -1,5 +1,5 @@
 use Rattle.std.proofs.Common.{take}
-use Rattle.eqc_blif.specs.Cover.{row_matches}
+use Rattle.eqc_netlist.specs.Cover.{row_matches}
 use Rattle.eqc_cover.specs.Table.{Tabulates}
 use Rattle.eqc_cover.proofs.table.row_table.Given as goal
 

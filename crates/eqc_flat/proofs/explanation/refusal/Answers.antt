@@ -1,7 +1,7 @@
 use Rattle.std.proofs.Common.{◌≡◌, ◌⊎◌, ◌∙◌, ℕ, Some, inl, inr, sym, ap}
 use Rattle.std.proofs.lemmas.Bool.{true≢false}
 use Rattle.eqc_hierarchy.specs.Codes.{flat_code}
-use Rattle.eqc_hierarchy.specs.Rule.{rule_code}
+use Rattle.eqc_netlist.specs.Rule.{rule_code}
 use Rattle.eqc_flat.proofs.FindingLaws.{code_rule}
 use Rattle.eqc_flat.proofs.explanation.refusal.Goals as goal
 

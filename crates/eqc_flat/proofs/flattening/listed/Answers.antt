@@ -1,6 +1,6 @@
 use Rattle.std.proofs.Common.{◌≡◌, ◌∙◌, [], ℕ, List, length, get_or, ap, arith}
 use Rattle.eqc_blif.specs.Netlist.{ModelOf}
-use Rattle.eqc_blif.specs.Names.{is_named}
+use Rattle.eqc_netlist.specs.Names.{is_named}
 use Rattle.eqc_hierarchy.specs.Hierarchy.{model}
 use Rattle.eqc_hierarchy.specs.Signals.{names_of}
 use Rattle.eqc_flat.specs.Flattened.{signals_here}

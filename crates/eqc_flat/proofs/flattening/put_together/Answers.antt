@@ -1,7 +1,7 @@
 use Rattle.std.proofs.Common.{◌≡◌, ◌≤◌, ◌∙◌, [], ℕ, List, Bor, map, length, sym, ap, subst}
 use Rattle.eqc_blif.specs.Netlist.{ModelOf}
-use Rattle.eqc_blif.specs.Names.{has_twice}
-use Rattle.eqc_flat.specs.Graph.{FlatOf, IsFlat}
+use Rattle.eqc_netlist.specs.Names.{has_twice}
+use Rattle.eqc_netlist.specs.Graph.{FlatOf, IsFlat}
 use Rattle.eqc_hierarchy.specs.Signals.{signals}
 use Rattle.eqc_flat.specs.Flattened.{path_at, IsFlatOf}
 use Rattle.eqc_flat.specs.RowTable.{all_rows}

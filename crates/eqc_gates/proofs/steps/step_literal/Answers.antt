@@ -1,6 +1,6 @@
 use Rattle.std.proofs.Common.{◌≡◌, arith, length, map, ap, ◌∙◌, Some}
 use Rattle.std.proofs.lemmas.List.{length-map}
-use Rattle.eqc_blif.specs.Cover.{cover_value}
+use Rattle.eqc_netlist.specs.Cover.{cover_value}
 use Rattle.eqc_cover.specs.Table.{table_value}
 use Rattle.eqc_cover.proofs.TableLaws.{all_open}
 use Rattle.eqc_graph.specs.Graph.{literal_value}

@@ -2,7 +2,7 @@ use Rattle.std.proofs.Common.{◌≡◌, ◌<◌, List, length, subst, true}
 use Rattle.std.specs.Prelude.{slice_index_or}
 use Rattle.eqc_blif.specs.Netlist.{InstanceOf}
 use Rattle.eqc_hierarchy.specs.Reaching.{no_instance}
-use Rattle.eqc_hierarchy.proofs.Members.{among_at}
+use Rattle.eqc_netlist.proofs.Members.{among_at}
 use Rattle.eqc_hierarchy.proofs.condition.first_instance.Goals as goal
 
 pub returns-in-Some-clause-first : goal.returns-in-Some-clause-first

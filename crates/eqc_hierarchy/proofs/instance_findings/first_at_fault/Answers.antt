@@ -1,6 +1,6 @@
 use Rattle.std.proofs.Common.{◌∙◌, ap, ℕ, List}
 use Rattle.eqc_blif.specs.Netlist.{ModelOf}
-use Rattle.eqc_hierarchy.specs.Dependency.{among}
+use Rattle.eqc_netlist.specs.Dependency.{among}
 use Rattle.eqc_hierarchy.specs.Hierarchy.{reached}
 use Rattle.eqc_hierarchy.proofs.ModelFaultLaws.{same_instances}
 use Rattle.eqc_hierarchy.proofs.instance_findings.first_at_fault.Goals as goal

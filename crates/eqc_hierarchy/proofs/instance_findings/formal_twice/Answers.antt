@@ -1,7 +1,7 @@
 use Rattle.std.proofs.Common.{◌≡◌, ◌<◌, ◌∙◌, map, take, true, sym, ap, subst, arith, get_or, length, [], ℕ, List}
 use Rattle.std.specs.Prelude.{slice_index_or}
 use Rattle.std.proofs.lemmas.List.{get_or_default}
-use Rattle.eqc_blif.specs.Names.{is_named}
+use Rattle.eqc_netlist.specs.Names.{is_named}
 use Rattle.eqc_blif.specs.Netlist.{InstanceOf}
 use Rattle.eqc_hierarchy.specs.InstanceFinding.{IsRepeatedFormal}
 use Rattle.eqc_hierarchy.proofs.FaultLaws.{formal_repeated, repeated_is}

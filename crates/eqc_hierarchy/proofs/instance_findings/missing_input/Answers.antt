@@ -5,7 +5,7 @@ use Rattle.std.proofs.lemmas.List.{get_or_default}
 use Rattle.eqc_blif.specs.Netlist.{ModelOf, InstanceOf}
 use Rattle.eqc_hierarchy.specs.Codes.{formals}
 use Rattle.eqc_hierarchy.specs.Hierarchy.{model, model_number, reached}
-use Rattle.eqc_hierarchy.specs.NameSets.{with_name}
+use Rattle.eqc_netlist.specs.NameSets.{with_name}
 use Rattle.eqc_hierarchy.specs.Reaching.{some_instance_in}
 use Rattle.eqc_hierarchy.specs.ModelFaults.{leaves_input_out}
 use Rattle.eqc_hierarchy.specs.InstanceFinding.{callee, IsMissingInput}

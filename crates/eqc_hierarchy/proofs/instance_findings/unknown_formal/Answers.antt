@@ -1,7 +1,7 @@
 use Rattle.std.proofs.Common.{◌≡◌, ◌∙◌, not, true, sym, ap, subst, arith, get_or, length, [], ℕ, List, Option}
 use Rattle.std.specs.Prelude.{position, is_some}
 use Rattle.std.proofs.lemmas.List.{get_or_default}
-use Rattle.eqc_blif.specs.Names.{is_named}
+use Rattle.eqc_netlist.specs.Names.{is_named}
 use Rattle.eqc_blif.specs.Netlist.{ModelOf, InstanceOf}
 use Rattle.eqc_hierarchy.specs.Hierarchy.{model_number, reached}
 use Rattle.eqc_hierarchy.specs.Reaching.{some_instance_in}

@@ -1,5 +1,5 @@
 use Rattle.std.proofs.Common.{◌≡◌, sym, subst, ℕ, List}
-use Rattle.eqc_hierarchy.specs.Dependency.{among}
+use Rattle.eqc_netlist.specs.Dependency.{among}
 use Rattle.eqc_hierarchy.specs.Hierarchy.{reached}
 use Rattle.eqc_hierarchy.proofs.model_faults.first_model_fault.Goals as goal
 

@@ -2,7 +2,7 @@ use Rattle.std.proofs.Common.{◌≡◌, ◌<◌, ◌∙◌, ℕ, List, Vec, Glo
 use Rattle.std.proofs.lemmas.List.{get_or_default}
 use Rattle.eqc_blif.specs.Netlist.{ModelOf}
 use Rattle.eqc_hierarchy.specs.Codes.{is_recursive}
-use Rattle.eqc_hierarchy.specs.Dependency.{among}
+use Rattle.eqc_netlist.specs.Dependency.{among}
 use Rattle.eqc_hierarchy.specs.Hierarchy.{callees}
 use Rattle.eqc_hierarchy.specs.Sizes.{IsTold, model_size, IsCallOrder}
 use Rattle.eqc_hierarchy.proofs.ReachingLaws.{calls_closed}

@@ -1,6 +1,6 @@
 use Rattle.std.proofs.Common.{◌≡◌, ◌∙◌, ℕ, List, None, true, get_or, arith, subst}
 use Rattle.std.proofs.lemmas.List.{take_all, length-set}
-use Rattle.eqc_hierarchy.specs.Dependency.{among}
+use Rattle.eqc_netlist.specs.Dependency.{among}
 use Rattle.eqc_hierarchy.specs.Sizes.{IsTold, model_size}
 use Rattle.eqc_hierarchy.proofs.SizeLaws.{sized_more, callees_before}
 use Rattle.eqc_hierarchy.proofs.size.sizes_of.Goals as goal

@@ -1,5 +1,5 @@
 use Rattle.std.proofs.Common.{◌≡◌, ◌+◌, ℕ, length, take, get_or, true, None}
-use Rattle.eqc_hierarchy.specs.Dependency.{among}
+use Rattle.eqc_netlist.specs.Dependency.{among}
 use Rattle.eqc_hierarchy.specs.Sizes.{IsTold, model_size}
 use Rattle.eqc_hierarchy.proofs.size.sizes_of.Given as goal
 

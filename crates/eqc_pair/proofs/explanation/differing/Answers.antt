@@ -1,6 +1,6 @@
 use Rattle.std.proofs.Common.{◌≡◌, ap, ◌∙◌}
 use Rattle.eqc_pair.proofs.FindingLemmas.{not_the_same}
-use Rattle.eqc_flat.proofs.NameSetLaws.{bytes_in}
+use Rattle.eqc_netlist.proofs.NameSetLaws.{bytes_in}
 use Rattle.eqc_pair.proofs.explanation.differing.Goals as goal
 use Rattle.eqc_pair.proofs.explanation.differing.Goals.{else-count-eq0-via-then-count-eq0+else-count-eq0-2, else-count-eq0-via-else-count-eq0}
 

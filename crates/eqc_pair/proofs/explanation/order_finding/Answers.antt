@@ -1,8 +1,8 @@
 use Rattle.std.proofs.Common.{◌≡◌, false, ap, ◌∙◌, arith}
-use Rattle.eqc_blif.specs.Names.{has_twice}
+use Rattle.eqc_netlist.specs.Names.{has_twice}
 use Rattle.eqc_pair.specs.Matched.{order_words}
 use Rattle.eqc_pair.proofs.FindingLemmas.{some_lacked, none_left, once_left, code_of_unknown, code_of_left_out}
-use Rattle.eqc_flat.proofs.NameSetLaws.{bytes_in}
+use Rattle.eqc_netlist.proofs.NameSetLaws.{bytes_in}
 use Rattle.eqc_pair.proofs.explanation.order_finding.Goals as goal
 
 pub returns-then-count-gt0 : goal.returns-then-count-gt0

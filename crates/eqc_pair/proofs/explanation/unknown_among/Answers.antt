@@ -1,6 +1,6 @@
 use Rattle.std.proofs.Common.{ap, ◌∙◌, arith, refl}
 use Rattle.eqc_pair.proofs.FindingLemmas.{some_lacked}
-use Rattle.eqc_flat.proofs.NameSetLaws.{bytes_in}
+use Rattle.eqc_netlist.proofs.NameSetLaws.{bytes_in}
 use Rattle.eqc_pair.proofs.explanation.unknown_among.Goals as goal
 
 pub returns-then-count-gt0 : goal.returns-then-count-gt0

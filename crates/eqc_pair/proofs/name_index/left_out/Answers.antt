@@ -1,7 +1,7 @@
 use Rattle.std.proofs.Common.{◌≡◌, ap, sym, ◌∙◌, length, eq-eqb, true≢false, Bor, List, ℕ}
 use Rattle.std.proofs.lemmas.List.{length-map}
 use Rattle.eqc_pair.proofs.ChosenLemmas.{chosen_within, marked_left_out}
-use Rattle.eqc_flat.proofs.NameSetLaws.{bytes_in}
+use Rattle.eqc_netlist.proofs.NameSetLaws.{bytes_in}
 use Rattle.eqc_pair.proofs.name_index.left_out.Goals as goal
 
 pub marks_but-requires : goal.marks_but-requires

@@ -3,7 +3,7 @@ use Rattle.std.specs.List.{flat_map}
 use Rattle.eqc_pair.specs.Matched.{line_words, order_words}
 use Rattle.eqc_pair.proofs.OrderLemmas.{made_more, made_last, flat_joins}
 use Rattle.eqc_pair.proofs.order.order_words.Goals as goal
-use Rattle.eqc_flat.proofs.NameSetLaws.{bytes_in}
+use Rattle.eqc_netlist.proofs.NameSetLaws.{bytes_in}
 
 pub lines-preserved : goal.lines-preserved
 lines-preserved c =

@@ -2,7 +2,7 @@ use Rattle.std.proofs.Common.{◌++◌, filter}
 use Rattle.eqc_pair.specs.Matched.{is_blank, is_word, line_words}
 use Rattle.eqc_pair.proofs.OrderLemmas.{made_more, made_last, filter_joins}
 use Rattle.eqc_pair.proofs.order.push_words.Goals as goal
-use Rattle.eqc_flat.proofs.NameSetLaws.{bytes_in}
+use Rattle.eqc_netlist.proofs.NameSetLaws.{bytes_in}
 
 pub parts-preserved : goal.parts-preserved
 parts-preserved c =

@@ -5,7 +5,7 @@ use Rattle.eqc_pair.specs.PairOf.{no_memory, order_refused}
 use Rattle.eqc_pair.specs.Matched.{position_of, order_code, order_words}
 use Rattle.eqc_pair.proofs.OrderedLemmas.{positions_small, variables_small, taken_order, taken_variables}
 use Rattle.eqc_pair.proofs.order.read_order.Goals as goal
-use Rattle.eqc_flat.proofs.NameSetLaws.{bytes_in}
+use Rattle.eqc_netlist.proofs.NameSetLaws.{bytes_in}
 
 pub returns-in_err-positions-clause-refused : goal.returns-in_err-positions-clause-refused
 returns-in_err-positions-clause-refused c =

@@ -1,7 +1,7 @@
 use Rattle.std.proofs.Common.{ap, ◌∙◌}
 use Rattle.eqc_pair.proofs.PlaceLemmas.{places_as, same_places}
 use Rattle.eqc_pair.proofs.pairing.matched.Goals as goal
-use Rattle.eqc_flat.proofs.NameSetLaws.{bytes_in}
+use Rattle.eqc_netlist.proofs.NameSetLaws.{bytes_in}
 
 pub returns : goal.returns
 returns c =

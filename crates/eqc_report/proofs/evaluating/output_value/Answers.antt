@@ -1,6 +1,6 @@
 use Rattle.std.proofs.Common.{◌≡◌, ap, sym, ◌∙◌, ℕ, List, get_or}
-use Rattle.eqc_flat.specs.Graph.{value_of}
-use Rattle.eqc_flat.specs.Evaluating.{values_of}
+use Rattle.eqc_netlist.specs.Graph.{value_of}
+use Rattle.eqc_netlist.specs.Evaluating.{values_of}
 use Rattle.eqc_report.proofs.FoundLaws.{own_value}
 use Rattle.eqc_report.proofs.EvaluationLaws.{holds_of}
 use Rattle.eqc_report.proofs.evaluating.output_value.Goals as goal

@@ -1,7 +1,7 @@
 use Rattle.std.proofs.Common.{◌<◌, ◌∙◌, sym, ap, arith, List, Bool, get_or, length}
 use Rattle.std.proofs.lemmas.List.{get_or-map}
-use Rattle.eqc_flat.specs.Graph.{value_of}
-use Rattle.eqc_flat.specs.Evaluating.{values_of}
+use Rattle.eqc_netlist.specs.Graph.{value_of}
+use Rattle.eqc_netlist.specs.Evaluating.{values_of}
 use Rattle.eqc_report.proofs.FoundLaws.{own_value}
 use Rattle.eqc_report.proofs.evaluating.whole_value.Goals as goal
 

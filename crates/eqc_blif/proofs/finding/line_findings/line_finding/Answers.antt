@@ -1,7 +1,7 @@
 use Rattle.std.proofs.Common.{◌≢◌, ◌∙◌, Some, ap, sym, ℕ, List, map}
 use Rattle.eqc_blif.specs.Words.{arguments, without_blanks}
 use Rattle.eqc_blif.specs.Kind.{kind_of, kind_of_line}
-use Rattle.eqc_blif.specs.Names.{is_named}
+use Rattle.eqc_netlist.specs.Names.{is_named}
 use Rattle.eqc_blif.specs.Reading.{stands_in_model, lacks_words, models}
 use Rattle.eqc_blif.proofs.ToldLemmas.{told_unknown, told_behind, told_outside, told_misshapen, told_mixed, told_pair, told_word, told_model, IsNoOther, told_twice}
 use Rattle.eqc_blif.proofs.finding.line_findings.line_finding.Goals as goal

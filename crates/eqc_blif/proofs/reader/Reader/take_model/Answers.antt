@@ -1,5 +1,5 @@
 use Rattle.std.proofs.Common.{◌≡◌, ◌∙◌, sym, ap, map}
-use Rattle.eqc_blif.specs.Names.{is_named}
+use Rattle.eqc_netlist.specs.Names.{is_named}
 use Rattle.eqc_blif.specs.Reading.{After}
 use Rattle.eqc_blif.specs.Words.{words}
 use Rattle.eqc_blif.proofs.ReaderLemmas.{model_again, model_opened}

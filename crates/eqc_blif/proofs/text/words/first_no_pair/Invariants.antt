@@ -1,7 +1,7 @@
 use Rattle.std.proofs.Common.{◌≡◌, ℕ, List, true, false, length}
 use Rattle.std.specs.List.{list_all}
 use Rattle.eqc_blif.specs.Words.{words, is_pair}
-use Rattle.eqc_blif.specs.Names.{is_named}
+use Rattle.eqc_netlist.specs.Names.{is_named}
 use Rattle.eqc_blif.proofs.text.words.first_no_pair.Given as goal
 
 abbrev pub invariant-words : goal.invariant-words

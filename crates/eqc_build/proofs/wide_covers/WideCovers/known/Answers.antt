@@ -1,7 +1,7 @@
 use Rattle.std.proofs.Common.{◌≡◌, nat_eq, Some, [], get_or, sym, subst}
 use Rattle.std.specs.Map.{lookup}
 use Rattle.eqc_cover.specs.Splits.{IsExpansionOf}
-use Rattle.eqc_flat.specs.Graph.{FlatOf}
+use Rattle.eqc_netlist.specs.Graph.{FlatOf}
 use Rattle.eqc_build.specs.declared.wide_covers.Met.TheVariants.{Split}
 use Rattle.eqc_build.proofs.wide_covers.WideCovers.known.Goals as goal
 

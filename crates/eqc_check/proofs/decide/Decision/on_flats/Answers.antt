@@ -1,5 +1,5 @@
 use Rattle.std.proofs.Common.{◌≡◌, ◌∙◌, sym, ap, ap₂, None, IfOk}
-use Rattle.eqc_flat.specs.Graph.{FlatOf}
+use Rattle.eqc_netlist.specs.Graph.{FlatOf}
 use Rattle.eqc_pair.specs.PairOf.{PairOf, pair_refusal}
 use Rattle.eqc_report.specs.declared.options.Options.{Options}
 use Rattle.eqc_report.specs.PairReport.{pair_report}

@@ -1,12 +1,12 @@
 use Rattle.std.proofs.Common.{◌≡◌, ◌∙◌, sym, arith, ap, subst, inl, inr, map, length, List, ℕ, Option, Some, None}
 use Rattle.std.proofs.lemmas.List.{length-map}
 use Rattle.std.specs.Option.{option_map}
-use Rattle.eqc_flat.specs.Graph.{DriverOf}
+use Rattle.eqc_netlist.specs.Graph.{DriverOf}
 use Rattle.eqc_hierarchy.specs.Signals.{drivings}
 use Rattle.eqc_flat.specs.DriverTable.{IsFilled, IsTable, IsDriven}
 use Rattle.eqc_hierarchy.specs.Columns.{all_columns}
-use Rattle.eqc_flat.specs.StoredDrivers.{driver_from, AreInRange}
-use Rattle.eqc_flat.specs.declared.drivers.stored_driver.StoredDriver.{StoredDriver}
+use Rattle.eqc_netlist.specs.StoredDrivers.{driver_from, AreInRange}
+use Rattle.eqc_netlist.specs.declared.drivers.stored_driver.StoredDriver.{StoredDriver}
 use Rattle.eqc_flat.proofs.DriverTableLaws.{some_known, none_known, driven_twice, not_driven_twice, undriven}
 use Rattle.eqc_flat.proofs.DrivingLaws.{some_mapped, slot_empty}
 use Rattle.eqc_flat.proofs.StoredDriverLaws.{in_range}

@@ -1,6 +1,6 @@
 use Rattle.std.proofs.Common.{arith, ◌∙◌, ap, [], ℕ, List, map, length}
 use Rattle.std.proofs.lemmas.List.{take_all, get_or_default}
-use Rattle.eqc_blif.specs.Names.{is_named}
+use Rattle.eqc_netlist.specs.Names.{is_named}
 use Rattle.eqc_hierarchy.specs.Signals.{names_of, signals}
 use Rattle.eqc_flat.specs.Flattened.{path_at, model_of, signals_here, signal_at}
 use Rattle.eqc_flat.proofs.DrivingLaws.{signals_more, within_more}

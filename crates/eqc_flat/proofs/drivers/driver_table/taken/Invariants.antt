@@ -1,5 +1,5 @@
 use Rattle.std.proofs.Common.{◌≡◌, map, Option, Some}
-use Rattle.eqc_flat.specs.declared.drivers.stored_driver.StoredDriver.{StoredDriver}
+use Rattle.eqc_netlist.specs.declared.drivers.stored_driver.StoredDriver.{StoredDriver}
 use Rattle.eqc_flat.proofs.drivers.driver_table.taken.Given as goal
 
 abbrev pub invariant-slots : goal.invariant-slots

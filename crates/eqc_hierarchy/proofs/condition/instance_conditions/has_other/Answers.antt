@@ -1,6 +1,6 @@
 use Rattle.std.proofs.Common.{◌∙◌, sym, ap, not, ℕ, List, map}
 use Rattle.std.specs.List.{list_any}
-use Rattle.eqc_blif.specs.Names.{is_named}
+use Rattle.eqc_netlist.specs.Names.{is_named}
 use Rattle.eqc_blif.specs.Netlist.{InstanceOf}
 use Rattle.eqc_hierarchy.specs.Codes.{formals}
 use Rattle.eqc_hierarchy.proofs.NameSetLaws.{some_other}

@@ -1,6 +1,6 @@
 use Rattle.std.proofs.Common.{◌≡◌, false, not, take, map, ℕ, List}
 use Rattle.std.specs.List.{list_any}
-use Rattle.eqc_blif.specs.Names.{is_named}
+use Rattle.eqc_netlist.specs.Names.{is_named}
 use Rattle.eqc_hierarchy.proofs.condition.instance_conditions.has_other.Given as goal
 
 abbrev pub invariant-pairs : goal.invariant-pairs

@@ -1,5 +1,5 @@
 use Rattle.std.proofs.Common.{◌≡◌, false, take, map, ℕ, List}
-use Rattle.eqc_blif.specs.Names.{has_twice}
+use Rattle.eqc_netlist.specs.Names.{has_twice}
 use Rattle.eqc_hierarchy.proofs.condition.instance_conditions.stands_twice.Given as goal
 
 abbrev pub invariant-loop-k : goal.invariant-loop-k

@@ -1,6 +1,6 @@
 use Rattle.std.proofs.Common.{◌≡◌, ℕ, List, nat_lt, length, arith, sym, ◌∙◌, ap}
 use Rattle.eqc_blif.specs.Netlist.{ModelOf}
-use Rattle.eqc_blif.specs.Names.{has_twice}
+use Rattle.eqc_netlist.specs.Names.{has_twice}
 use Rattle.eqc_hierarchy.specs.Hierarchy.{model}
 use Rattle.eqc_hierarchy.proofs.NamingLaws.{named_there, input_place}
 use Rattle.eqc_hierarchy.proofs.naming.Naming.port.Goals as goal

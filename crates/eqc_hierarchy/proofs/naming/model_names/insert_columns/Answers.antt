@@ -1,5 +1,5 @@
 use Rattle.std.proofs.Common.{◌∙◌, ap}
-use Rattle.eqc_hierarchy.specs.NameSets.{with_name}
+use Rattle.eqc_netlist.specs.NameSets.{with_name}
 use Rattle.eqc_hierarchy.proofs.NameSetLaws.{put_more, places_more}
 use Rattle.eqc_hierarchy.proofs.naming.model_names.insert_columns.Goals as goal
 

@@ -1,6 +1,6 @@
 use Rattle.std.proofs.Common.{◌≡◌, take, ℕ, List}
 use Rattle.std.specs.List.{fold}
-use Rattle.eqc_hierarchy.specs.NameSets.{with_name}
+use Rattle.eqc_netlist.specs.NameSets.{with_name}
 use Rattle.eqc_hierarchy.specs.Columns.{places_in}
 use Rattle.eqc_hierarchy.proofs.naming.model_names.insert_columns.Given as goal
 

@@ -3,7 +3,7 @@ use Rattle.std.proofs.lemmas.List.{map-append}
 use Rattle.smallvec.specs.SmallVec.{SmallVec}
 use Rattle.std.specs.List.{fold}
 use Rattle.eqc_blif.specs.Netlist.{CoverOf}
-use Rattle.eqc_hierarchy.specs.NameSets.{with_name}
+use Rattle.eqc_netlist.specs.NameSets.{with_name}
 use Rattle.eqc_hierarchy.specs.Columns.{places_in}
 use Rattle.eqc_hierarchy.proofs.NameSetLaws.{cover_put, columns_grown}
 use Rattle.eqc_hierarchy.proofs.naming.model_names.insert_covers.Goals as goal

@@ -1,7 +1,7 @@
 use Rattle.std.proofs.Common.{◌≡◌, ◌++◌, take, map, ℕ, List}
 use Rattle.smallvec.specs.SmallVec.{SmallVec}
 use Rattle.std.specs.List.{fold, flat_map}
-use Rattle.eqc_hierarchy.specs.NameSets.{with_name}
+use Rattle.eqc_netlist.specs.NameSets.{with_name}
 use Rattle.eqc_hierarchy.specs.Signals.{cover_names}
 use Rattle.eqc_hierarchy.specs.Columns.{columns_in}
 use Rattle.eqc_hierarchy.proofs.naming.model_names.insert_covers.Given as goal

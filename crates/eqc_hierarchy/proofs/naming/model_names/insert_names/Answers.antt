@@ -2,7 +2,7 @@ use Rattle.std.proofs.Common.{◌≡◌, ◌++◌, ◌∙◌, sym, ap, map, ℕ}
 use Rattle.smallvec.specs.SmallVec.{SmallVec}
 use Rattle.std.specs.List.{fold, flat_map}
 use Rattle.eqc_hierarchy.specs.Hierarchy.{model}
-use Rattle.eqc_hierarchy.specs.NameSets.{with_name}
+use Rattle.eqc_netlist.specs.NameSets.{with_name}
 use Rattle.eqc_hierarchy.specs.Signals.{names_of, actuals}
 use Rattle.eqc_hierarchy.specs.Columns.{columns_in}
 use Rattle.eqc_hierarchy.proofs.NameSetLaws.{names_made}

@@ -1,6 +1,6 @@
 use Rattle.std.proofs.Common.{◌≡◌, take, map, ℕ, List}
 use Rattle.std.specs.List.{fold}
-use Rattle.eqc_hierarchy.specs.NameSets.{with_name}
+use Rattle.eqc_netlist.specs.NameSets.{with_name}
 use Rattle.eqc_hierarchy.proofs.naming.model_names.insert_pairs.Given as goal
 
 abbrev pub invariant-pairs : goal.invariant-pairs

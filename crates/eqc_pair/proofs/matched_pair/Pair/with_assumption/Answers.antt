@@ -1,5 +1,5 @@
 use Rattle.std.proofs.Common.{◌≡◌, ap, sym, ◌∙◌, length, map, subst}
-use Rattle.eqc_flat.specs.Graph.{FlatOf}
+use Rattle.eqc_netlist.specs.Graph.{FlatOf}
 use Rattle.eqc_pair.specs.Matched.{position_of}
 use Rattle.eqc_pair.specs.PairOf.{PairOf, IsAssumption, first_variables, second_variables, assumed_variables, second_signals}
 use Rattle.eqc_pair.proofs.OrderedLemmas.{places_fit, length-variables_in, variables_picked}

@@ -4,7 +4,7 @@ use Rattle.eqc_pair.specs.Finding.{unmatched}
 use Rattle.eqc_pair.proofs.FindingLemmas.{with_lacked, with_known, few_lacked, none_lacked}
 use Rattle.eqc_pair.proofs.unmatched.Unmatched.among.Goals as goal
 use Rattle.eqc_pair.proofs.unmatched.Unmatched.among.Goals.{then-is_none+in_ok-add, else-is_none}
-use Rattle.eqc_flat.proofs.NameSetLaws.{bytes_in}
+use Rattle.eqc_netlist.proofs.NameSetLaws.{bytes_in}
 
 pub add-requires : goal.add-requires
 add-requires c = omega (arith, c.names.invariant.1, few_lacked c.args.others.now c.args.names.now c.names.name-index)

@@ -1,7 +1,7 @@
 use Rattle.std.proofs.Common.{ap, ap₂, sym, ◌∙◌}
-use Rattle.eqc_blif.specs.Cover.{cover_value}
-use Rattle.eqc_flat.specs.Graph.{driven, value_of}
-use Rattle.eqc_flat.specs.Evaluating.{values_of}
+use Rattle.eqc_netlist.specs.Cover.{cover_value}
+use Rattle.eqc_netlist.specs.Graph.{driven, value_of}
+use Rattle.eqc_netlist.specs.Evaluating.{values_of}
 use Rattle.eqc_report.specs.Evaluation.{AreRead}
 use Rattle.eqc_report.proofs.EvaluationLaws.{read_values, holds_of}
 use Rattle.eqc_report.proofs.evaluating.Walk.driven.Goals as goal

@@ -1,5 +1,5 @@
 use Rattle.std.proofs.Common.{rules, ◌≡◌, ◌+◌, [], length, arith, ap, ◌∙◌}
-use Rattle.eqc_blif.specs.Rows.{rows_in}
+use Rattle.eqc_netlist.specs.Rows.{rows_in}
 use Rattle.eqc_blif.proofs.CutLemmas.{no_rows}
 use Rattle.eqc_blif.proofs.model.cover.Cover.opened.Goals as goal
 

@@ -1,6 +1,6 @@
 use Rattle.std.proofs.Common.{◌≡◌, ◌+◌, ◌∙◌, None, sym, length, subst}
 use Rattle.eqc_blif.specs.Netlist.{CoverOf}
-use Rattle.eqc_blif.specs.Rows.{rows_in}
+use Rattle.eqc_netlist.specs.Rows.{rows_in}
 use Rattle.eqc_blif.specs.Words.{without_blanks}
 use Rattle.eqc_blif.specs.Steps.{TakesRow, code_behind}
 use Rattle.eqc_blif.proofs.RowLemmas.{cut_code, row_put_behind, row_put_whole}

@@ -1,6 +1,7 @@
 use Rattle.std.proofs.Common.{◌≡◌, false, sym, ◌∙◌}
-use Rattle.eqc_blif.specs.Names.{is_named, has_twice}
-use Rattle.eqc_blif.proofs.NameLemmas.{added_once, once_more, few_once, few_pushed}
+use Rattle.eqc_netlist.specs.Names.{is_named, has_twice}
+use Rattle.eqc_netlist.proofs.NameLemmas.{once_more}
+use Rattle.eqc_blif.proofs.NameLemmas.{added_once, few_once, few_pushed}
 use Rattle.eqc_blif.proofs.names.list.NameList.add.Goals as goal
 
 pub invariant_of-self-in-Some : goal.invariant_of-self-in-Some

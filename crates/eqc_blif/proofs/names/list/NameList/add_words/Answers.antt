@@ -1,8 +1,8 @@
 use Rattle.std.proofs.Common.{sym, ◌∙◌, ap, not, ◌++◌, ◌∷◌, true, ◌≡◌}
 use Rattle.std.proofs.lemmas.Bool.{not-false}
-use Rattle.eqc_blif.specs.Names.{is_named, has_twice}
+use Rattle.eqc_netlist.specs.Names.{is_named, has_twice}
 use Rattle.eqc_blif.specs.Words.{words}
-use Rattle.eqc_blif.proofs.NameLemmas.{twice_there}
+use Rattle.eqc_netlist.proofs.NameLemmas.{twice_there}
 use Rattle.eqc_blif.proofs.names.list.NameList.add_words.Goals as goal
 
 pub returns-then-not-branch-clause-once : goal.returns-then-not-branch-clause-once

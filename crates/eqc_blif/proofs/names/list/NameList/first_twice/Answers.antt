@@ -1,10 +1,11 @@
 use Rattle.std.proofs.Common.{sym, ◌∙◌, true, ◌≡◌, ◌++◌, ℕ, List, subst}
 use Rattle.std.proofs.lemmas.Bool.{not-false, some_since}
 use Rattle.std.proofs.lemmas.Result.{IfOk-weaker}
-use Rattle.eqc_blif.specs.Names.{is_named}
+use Rattle.eqc_netlist.specs.Names.{is_named}
 use Rattle.eqc_blif.specs.Words.{words}
-use Rattle.eqc_blif.specs.Finding.{StandsTwice}
-use Rattle.eqc_blif.proofs.NameLemmas.{word_left, twice_at}
+use Rattle.eqc_netlist.specs.Names.{StandsTwice}
+use Rattle.eqc_netlist.proofs.NameLemmas.{twice_at}
+use Rattle.eqc_blif.proofs.NameLemmas.{word_left}
 use Rattle.eqc_blif.proofs.names.list.NameList.first_twice.Goals as goal
 
 pub unwrap-requires : goal.unwrap-requires

@@ -1,6 +1,6 @@
 use Rattle.std.proofs.Common.{◌<◌, ◌∙◌, sym, ap, subst, arith, ℕ, List, Option, length}
 use Rattle.eqc_hierarchy.specs.Columns.{all_columns}
-use Rattle.eqc_flat.specs.declared.drivers.stored_driver.StoredDriver.{StoredDriver}
+use Rattle.eqc_netlist.specs.declared.drivers.stored_driver.StoredDriver.{StoredDriver}
 use Rattle.eqc_flat.specs.DriverTable.{IsTable}
 use Rattle.eqc_flat.proofs.DrivingLaws.{drive_taken, drive_free}
 use Rattle.eqc_flat.proofs.drivers.driver_table.DriverTable.drive.Goals as goal

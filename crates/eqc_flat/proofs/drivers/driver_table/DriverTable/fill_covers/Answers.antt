@@ -1,11 +1,11 @@
 use Rattle.std.proofs.Common.{arith, ◌≡◌, ◌+◌, ◌<◌, true, ◌++◌, ◌∙◌, sym, ap, subst, [], ℕ, List, map, take, length, get_or}
 use Rattle.std.proofs.lemmas.List.{get_or_default, length-map}
 use Rattle.eqc_blif.specs.Netlist.{ModelOf, CoverOf, no_cover}
-use Rattle.eqc_blif.specs.Names.{is_named}
+use Rattle.eqc_netlist.specs.Names.{is_named}
 use Rattle.eqc_hierarchy.specs.Hierarchy.{model}
 use Rattle.std.specs.Option.{option_map}
 use Rattle.eqc_hierarchy.specs.Columns.{places_in, all_columns}
-use Rattle.eqc_flat.specs.StoredDrivers.{driver_from}
+use Rattle.eqc_netlist.specs.StoredDrivers.{driver_from}
 use Rattle.eqc_hierarchy.specs.Signals.{Driving, names_of, signals, cover_driving}
 use Rattle.eqc_flat.specs.Flattened.{path_at, model_of, signal_at, signals_here}
 use Rattle.eqc_flat.specs.RowTable.{all_rows}

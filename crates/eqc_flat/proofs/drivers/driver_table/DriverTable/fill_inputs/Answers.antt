@@ -2,7 +2,7 @@ use Rattle.std.proofs.Common.{arith, ◌≡◌, ◌<◌, ◌++◌, ◌∙◌, sy
 use Rattle.std.specs.List.{enumerate_from}
 use Rattle.std.proofs.lemmas.List.{get_or_default}
 use Rattle.eqc_blif.specs.Netlist.{ModelOf}
-use Rattle.eqc_blif.specs.Names.{is_named}
+use Rattle.eqc_netlist.specs.Names.{is_named}
 use Rattle.eqc_hierarchy.specs.Hierarchy.{model}
 use Rattle.eqc_hierarchy.specs.Signals.{Driving, names_of, input_drivings}
 use Rattle.eqc_flat.specs.Flattened.{signal_at}

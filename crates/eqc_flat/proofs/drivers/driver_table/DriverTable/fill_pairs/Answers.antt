@@ -1,7 +1,7 @@
 use Rattle.std.proofs.Common.{arith, ◌≡◌, ◌<◌, ◌+◌, ◌++◌, ◌∷◌, ◌∙◌, sym, ap, subst, [], ℕ, List, map, take, length, get_or, Option}
 use Rattle.std.proofs.lemmas.List.{get_or_default, length-map}
-use Rattle.eqc_blif.specs.Names.{is_named}
-use Rattle.eqc_flat.specs.declared.drivers.stored_driver.StoredDriver.{StoredDriver}
+use Rattle.eqc_netlist.specs.Names.{is_named}
+use Rattle.eqc_netlist.specs.declared.drivers.stored_driver.StoredDriver.{StoredDriver}
 use Rattle.eqc_hierarchy.specs.Signals.{Driving, from_signal, names_of, pair_driving}
 use Rattle.eqc_flat.specs.Flattened.{path_at, model_of, signal_at}
 use Rattle.eqc_flat.specs.DriverTable.{IsTable}

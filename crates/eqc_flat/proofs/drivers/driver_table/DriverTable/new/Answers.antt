@@ -1,10 +1,10 @@
 use Rattle.std.proofs.Common.{◌≡◌, ◌∙◌, ◌++◌, ◌∷◌, [], arith, ap, map, replicate, ℕ, List, Option, None}
 use Rattle.std.proofs.lemmas.List.{replicate_more}
-use Rattle.eqc_flat.specs.declared.drivers.stored_driver.StoredDriver.{StoredDriver}
+use Rattle.eqc_netlist.specs.declared.drivers.stored_driver.StoredDriver.{StoredDriver}
 use Rattle.std.specs.Option.{option_map}
-use Rattle.eqc_flat.specs.Graph.{DriverOf}
+use Rattle.eqc_netlist.specs.Graph.{DriverOf}
 use Rattle.eqc_hierarchy.specs.Columns.{all_columns}
-use Rattle.eqc_flat.specs.StoredDrivers.{driver_from}
+use Rattle.eqc_netlist.specs.StoredDrivers.{driver_from}
 use Rattle.eqc_flat.proofs.DriverTableLaws.{filled_none}
 use Rattle.eqc_flat.proofs.DrivingLaws.{none_mapped}
 use Rattle.eqc_flat.proofs.drivers.driver_table.DriverTable.new.Goals as goal

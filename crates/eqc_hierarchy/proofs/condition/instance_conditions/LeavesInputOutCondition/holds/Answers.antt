@@ -1,7 +1,7 @@
 use Rattle.std.proofs.Common.{◌∙◌, ap, not, ℕ, List}
 use Rattle.std.specs.List.{list_any}
 use Rattle.std.specs.Str.{bytes_eq}
-use Rattle.eqc_blif.specs.Names.{is_named}
+use Rattle.eqc_netlist.specs.Names.{is_named}
 use Rattle.eqc_blif.specs.Netlist.{InstanceOf}
 use Rattle.eqc_hierarchy.specs.Hierarchy.{model, model_number}
 use Rattle.eqc_hierarchy.specs.ModelFaults.{leaves_input_out}

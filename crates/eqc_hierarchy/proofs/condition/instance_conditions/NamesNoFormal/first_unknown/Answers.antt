@@ -1,6 +1,6 @@
 use Rattle.std.proofs.Common.{◌∙◌, ◌+◌, ◌<◌, ap, arith, not, length, ℕ, List}
 use Rattle.std.specs.Prelude.{position}
-use Rattle.eqc_blif.specs.Names.{is_named}
+use Rattle.eqc_netlist.specs.Names.{is_named}
 use Rattle.eqc_blif.specs.Netlist.{ModelOf, InstanceOf}
 use Rattle.eqc_hierarchy.specs.Hierarchy.{model_number}
 use Rattle.eqc_hierarchy.specs.ModelFaults.{ports}

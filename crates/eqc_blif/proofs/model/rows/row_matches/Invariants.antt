@@ -1,7 +1,0 @@
-use Rattle.std.proofs.Common.{◌≡◌, drop}
-use Rattle.eqc_blif.specs.Cover.{row_matches}
-use Rattle.eqc_blif.proofs.model.rows.row_matches.Given as goal
-
--- what is left decides
-abbrev pub invariant-loop-i : goal.invariant-loop-i
-invariant-loop-i l = row_matches (drop l.i l.row) (drop l.i l.values) ≡ row_matches l.row l.values

@@ -1,0 +1,10 @@
+pub mod NameLemmas
+pub mod CutLemmas
+pub mod RowLemmas
+pub mod Depth
+pub mod Orders
+pub mod Members
+pub mod NameSetLaws
+pub mod Values
+pub mod EvaluationLaws
+pub mod DistanceLaws

@@ -1,0 +1,14 @@
+pub mod Names
+pub mod Pieces
+pub mod Rows
+pub mod Cover
+pub mod TextRule
+pub mod Rule
+pub mod Dependency
+pub mod NearHash
+pub mod NameSets
+pub mod Graph
+pub mod Drivers
+pub mod StoredDrivers
+pub mod Evaluating
+pub mod Known
