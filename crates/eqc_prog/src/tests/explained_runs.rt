@@ -303,6 +303,7 @@ fn is_said_of(alloc: Global, stop: Stop, said: &str) -> bool {
             cells: 1,
             forks: 0,
             conflicts: 100_000,
+            inputs: 2_048,
             every: false,
         },
         explain: true,
