@@ -15,7 +15,7 @@ from dataclasses import dataclass, field
 
 LONGEST_TEXT = 16_777_216
 MOST_SIGNALS = 1_048_576
-MOST_INPUTS = 2_048
+MOST_INPUTS = 65_535
 # So many steps are shown at each end of a long way to an instance.
 SHOWN_STEPS = 10
 SKIPPED = frozenset(

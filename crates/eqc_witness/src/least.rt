@@ -154,7 +154,7 @@ fn lesser_near(
 }
 
 /// The least values under which a cone's root is true, from some under which it is: each that is true is tried at false, with
-/// those before it as they are. Fails where memory is refused.
+/// those before it as they are, and first of all together with those behind it. Fails where memory is refused.
 fn least_from(
     alloc: Global,
     cone: &Cone,
@@ -172,7 +172,8 @@ fn least_from(
             continue;
         }
         let first = lowered(alloc, &values, position)?;
-        match complete(alloc, cone, &first, &values, means)? {
+        let guess = means.trials.lowered(alloc, cone, &values, position)?;
+        match complete(alloc, cone, &first, &guess, means)? {
             Completion::Found(lower) => values = lower,
             Completion::Nothing => {}
             Completion::Unknown => return Ok(Witness::Unknown(Some(values))),

@@ -21,20 +21,20 @@ left library top limit code same (inr told) = inr (same ∙ told)
 pub returns-in-Err-clause-refused : goal.returns-in-Err-clause-refused
 returns-in-Err-clause-refused c = anyway c.args.library.now c.args.top c.args.limit c.in-Err.fault.code c.in-Err.ensures.refused
 
-pub returns-then-inputs-gt-most-clause-refused : goal.returns-then-inputs-gt-most-clause-refused
-returns-then-inputs-gt-most-clause-refused c =
+pub returns-then-inputs-most-clause-refused : goal.returns-then-inputs-most-clause-refused
+returns-then-inputs-most-clause-refused c =
     let library = c.args.library.now in
     let top = c.args.top in
     let none = rw c.in-Ok.is at c.expanded.ensures.models in
     let made = rw c.in-Ok.is at c.expanded.ensures.made in
-    rw c.of.ensures (inr (code_30 library top c.args.limit none made.small (many_inputs library top c.args.limit (omega (arith, c.if-inputs-gt-most.true, ap length c.inputs.ensures.names)))))
+    rw c.of.ensures (inr (code_30 library top c.args.limit none made.small (many_inputs library top c.args.limit (omega (arith, c.if-inputs-most.true, ap length c.inputs.ensures.names)))))
 
 pub netlist-requires-clause-numbered : goal.netlist-requires-clause-numbered
 netlist-requires-clause-numbered c =
     let none = rw c.in-Ok.is at c.expanded.ensures.models in
     let made = rw c.in-Ok.is at c.expanded.ensures.made in
     let P : List ModelOf × ℕ → Type 0 = λ v. IsNumberable v.0 v.1 in
-    subst P (sym made.same) (record { models = none; small = made.small; few = omega (arith, c.if-inputs-gt-most.false, ap length c.inputs.ensures.names, c.ranges.limit) })
+    subst P (sym made.same) (record { models = none; small = made.small; few = omega (arith, c.if-inputs-most.false, ap length c.inputs.ensures.names, c.ranges.limit) })
 
 pub returns-clause-accepted : goal.returns-clause-accepted
 returns-clause-accepted c =
@@ -42,7 +42,7 @@ returns-clause-accepted c =
     let top = c.args.top in
     let none = rw c.in-Ok.is at c.expanded.ensures.models in
     let made = rw c.in-Ok.is at c.expanded.ensures.made in
-    let few : has_many_inputs library top c.args.limit ≡ false = few_inputs library top c.args.limit (omega (arith, c.if-inputs-gt-most.false, ap length c.inputs.ensures.names)) in
+    let few : has_many_inputs library top c.args.limit ≡ false = few_inputs library top c.args.limit (omega (arith, c.if-inputs-most.false, ap length c.inputs.ensures.names)) in
     let P : List ModelOf × ℕ → Type 0 = λ v. IfOk c.netlist.result (λ flat. code_of_drivers v.0 v.1 ≡ None) in
     IfOk-weaker _ _ (λ flat. flat_code library top c.args.limit ≡ None)
     (λ flat is. drivers_left library top c.args.limit none made.small few ∙ is) (subst P made.same c.netlist.ensures.accepted)
@@ -59,7 +59,7 @@ returns-clause-refused c =
     let top = c.args.top in
     let none = rw c.in-Ok.is at c.expanded.ensures.models in
     let made = rw c.in-Ok.is at c.expanded.ensures.made in
-    let few : has_many_inputs library top c.args.limit ≡ false = few_inputs library top c.args.limit (omega (arith, c.if-inputs-gt-most.false, ap length c.inputs.ensures.names)) in
+    let few : has_many_inputs library top c.args.limit ≡ false = few_inputs library top c.args.limit (omega (arith, c.if-inputs-most.false, ap length c.inputs.ensures.names)) in
     let same = drivers_left library top c.args.limit none made.small few in
     let P : List ModelOf × ℕ → Type 0 = λ v. IfErr c.netlist.result (λ fault. IsDriversFault v.0 v.1 fault.code) in
     IfErr-weaker _ _ (λ fault. IsFlatFault library top c.args.limit fault.code)
