@@ -72,6 +72,8 @@ static COMPARING: &[Row<Told>] = &[
     ("no node", UNEQUAL, ("--nodes 0", "refused options 0 82;", &["eqc: --nodes 0: 1 to 1048574 are allowed (82)"])),
     ("three cells", UNEQUAL, ("--cells 3", "refused options 0 83;", &["eqc: --cells 3: a power of two up to 1048576 is wanted (83)"])),
     ("too many forks", UNEQUAL, ("--forks 17", "refused options 0 84;", &["eqc: --forks 17: 0 to 16 are allowed (84)"])),
+    ("too many inputs allowed", UNEQUAL, ("--inputs 65536", "refused options 0 85;", &["eqc: --inputs 65536: 0 to 65535 are allowed (85)"])),
+    ("no input allowed", UNEQUAL, ("--inputs 0", "refused first 0 30;", &["eqc: standard input: the main model has 2 inputs, and may have 0 (30)"])),
     ("a missing file", "", ("and nofile", "", &["eqc: nofile: entity not found (91)"])),
     ("a missing order text", "", ("and or --order nofile", "", &["eqc: nofile: entity not found (91)"])),
     ("a file that fails", "", ("and broken!", "", &["eqc: broken!: operation interrupted (91)"])),
