@@ -13,6 +13,7 @@ use Rattle.eqc_compare.specs.Verdict as found
 use Rattle.eqc_compare.specs.VerdictLaws.{NeverDiffers}
 use Rattle.eqc_report.specs.Report.{DifferenceOf, ReportOf, equivalent, differs, vacuous, refused, stopped, shown, differences_report, verdict_report, comparison}
 use Rattle.eqc_check.specs.Answer.{TextsOf, GivenOf, inputs_of, options_answer, texts_answer, answer, IsAccepting, Answers, as_wanted}
+use Rattle.eqc_pair.specs.declared.refused.Refused.{Refused}
 use Rattle.eqc_report.specs.Options.{options_code}
 use Rattle.eqc_check.specs.Running.{known_texts, known_some, all_known, known_given, IsReport, IsReportBehind}
 use Rattle.eqc_check.specs.declared.given.Given.{Given}
