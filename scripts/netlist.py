@@ -15,7 +15,9 @@ from dataclasses import dataclass, field
 
 LONGEST_TEXT = 16_777_216
 MOST_SIGNALS = 1_048_576
-MOST_INPUTS = 2_048
+# As many as `eqc --inputs` may allow, and as many as are allowed without it.
+MOST_INPUTS = 65_535
+DEFAULT_INPUTS = 2_048
 # So many steps are shown at each end of a long way to an instance.
 SHOWN_STEPS = 10
 SKIPPED = frozenset(

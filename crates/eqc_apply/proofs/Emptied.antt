@@ -71,10 +71,10 @@ module _ (s0 s1 : Standing) (alone : IsAlone s0.known.core) (rest : IsAtRest s0.
           (ap (λ (v : View). v.out) w.core ∙ (ap (λ (v : View). v.out) t.core ∙ ap (λ (v : View). v.out) c.step.known.core))
           alone
 
-      pub none_told : (counted : ℕ) → IsTallied counted s3.known → s0.known.core.held ≡ [] → s0.known.core.sizes.variables ≤ 2048 → counted ≡ 0
-      none_told counted told none few =
+      pub none_told : (counted : ℕ) → IsTallied counted s3.known → s0.known.core.held ≡ [] → counted ≡ 0
+      none_told counted told none =
           let may =
           may_empty s1 s2 c.words c.copy (ap (λ (v : View). v.held) c.step.known.core ∙ none)
-          (subst (λ (v : View). v.sizes.variables ≤ 2048) (sym c.step.known.core) few) (λ k p lt at. unboxed_rest.quiet k p at) t u in
+          (λ k p lt at. unboxed_rest.quiet k p at) t u in
           let left = w.copy may.words may.copy in
           tells_none counted left.0 s3.known (e may) left.1 told

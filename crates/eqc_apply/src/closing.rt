@@ -19,7 +19,7 @@ fn finish<R: Wait>(worker: Worker, rt: &R) -> Tally
     requires cells { 0 < worker.known.core.sizes.cells }
     requires room { length worker.known.core.held ≤ 2 ^ 39 }
     ensures left { IsLeft result.counted worker.known }
-    ensures none { worker.known.core.held ≡ [] → worker.known.core.sizes.variables ≤ 2048 → result.counted ≡ 0 }
+    ensures none { worker.known.core.held ≡ [] → result.counted ≡ 0 }
 {
     let mut worker = worker;
     // It takes a copy of all words.
@@ -47,7 +47,7 @@ impl Held {
         requires { IsAlone self.worker.known.core }
         ensures told { IsTold result.counted self }
         ensures some { result.counted ≡ 0 → (holding_in self).held ≡ [] }
-        ensures none { (holding_in self).held ≡ [] → self.variables ≤ 2048 → result.counted ≡ 0 }
+        ensures none { (holding_in self).held ≡ [] → result.counted ≡ 0 }
     {
         let mut names = self;
         names.give_up();
@@ -70,12 +70,11 @@ impl Applier {
     /// Closes the forest, where the applier's worker is alone: it is worker 0, and no worker is
     /// outstanding. All boxes and cells are emptied, and dead nodes are taken back. Then it tells
     /// how many slots have a count above 0, while the worker holds the nodes on which references
-    /// stand, each once, and no other: none exactly where no references are held, as long as there
-    /// are at most 2,048 variables.
+    /// stand, each once, and no other: none exactly where no references are held.
     ///
     /// The error is the applier itself, as it was, where it is not alone. The call may wait.
     pub fn close<R: Wait>(self, rt: &R) -> Result<Tally, Applier>
-        ensures closed { IfOk result (λ tally. IsAlone self.names.worker.known.core × ((holding_in self.names).held ≡ [] → self.names.variables ≤ 2048 → tally.counted ≡ 0)) }
+        ensures closed { IfOk result (λ tally. IsAlone self.names.worker.known.core × ((holding_in self.names).held ≡ [] → tally.counted ≡ 0)) }
         ensures told { IfOk result (λ tally. IsTold tally.counted self.names) }
         ensures some { IfOk result (λ tally. tally.counted ≡ 0 → (holding_in self.names).held ≡ []) }
         ensures kept { IfErr result (λ applier. (applier ≡ self) × (IsAlone self.names.worker.known.core → ⊥)) }

@@ -140,8 +140,8 @@ module _ (n stripe taken : ℕ) (k : Known) (b : IsBetween [] n stripe taken k) 
       go (yes e) = absurd (shared (least x counted e))
       go (no other) = omega (arith, b.from x counted)
 
-  -- no variable is beyond the last
-  pub all_turns : k.core.sizes.variables ≤ n → HasNoCounts k
+  -- no variable is beyond the last that a node's word has room for
+  pub all_turns : 65536 ≤ n → HasNoCounts k
   all_turns past ws has x two lt = go (dec_le 1 (count_in k.core.sizes ws x))
     where
       same : b.words ≡ ws
@@ -154,7 +154,7 @@ module _ (n stripe taken : ℕ) (k : Known) (b : IsBetween [] n stripe taken k) 
           let counted : IsCounted k.core.sizes b.words x = (two, lt, subst (λ (l : List ℕ). 0 < count_in k.core.sizes l x) (sym same) is) in
           let shaped = c.lawful.tables.shaped x (is_tabled x counted) in
           let e = ap variable_of (nodes_are k b.words c x lt) in
-          omega (arith, b.from x counted, shaped.few))
+          omega (arith, b.from x counted, shaped.few, c.lawful.sized.few_variables))
 
 in_stripes : (word : ℕ) → stripe_of word < 16
 unfolding stripe_of

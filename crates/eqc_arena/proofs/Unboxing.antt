@@ -127,9 +127,9 @@ one_unboxed n a b c same first then ws e =
         subst (λ (z : Sizes). get_or u.0 (boxes_from z + d) 0 ≡ get_or t.0 (boxes_from z + d) 0) same (u.3 d is) ∙ t.2 d (omega arith)
 
 -- a worker that is alone, holds nothing and has emptied the boxes may empty the forest
-pub may_empty : (old new : Standing) (ws : List ℕ) → old.known.copy ≡ Some ws → old.known.core.held ≡ [] → old.known.core.sizes.variables ≤ 2048 → IsSilent new.known.core → Exchanges [] [] old new
+pub may_empty : (old new : Standing) (ws : List ℕ) → old.known.copy ≡ Some ws → old.known.core.held ≡ [] → IsSilent new.known.core → Exchanges [] [] old new
     → AreUnboxed (16 * old.known.core.sizes.workers) old.known new.known → MayEmpty new.known
-may_empty old new ws copy none few silent t empty =
+may_empty old new ws copy none silent t empty =
     let u = empty ws copy in
     let same : old.known.core.sizes ≡ new.known.core.sizes = sym (ap (λ (v : View). v.sizes) t.core) in
     record {
@@ -138,7 +138,6 @@ may_empty old new ws copy none few silent t empty =
       holds = none_left new.known.core.held (let e = ap {B = ℕ} (λ (l : List ℕ). length l) none in omega (arith, lengths_now t));
       silent = silent;
       boxes = λ b lt. subst (λ (z : Sizes). get_or u.0 (boxes_from z + b) 0 ≡ 0) same (u.2 b (subst (λ (z : Sizes). b < 16 * z.workers) (sym same) lt));
-      few = subst (λ (z : Sizes). z.variables ≤ 2048) same few;
     }
   where
     none_left : (xs : List ℕ) → length xs ≤ 0 → xs ≡ []

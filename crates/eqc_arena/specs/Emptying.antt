@@ -25,14 +25,13 @@ IsCounted z ws x = (2 ≤ x) × (x < z.names) × (0 < count_in z ws x)
 abbrev pub HasNoCounts : Known → Type 0
 HasNoCounts k = (ws : List ℕ) → k.copy ≡ Some ws → (x : ℕ) → 2 ≤ x → x < k.core.sizes.names → count_in k.core.sizes ws x ≡ 0
 
--- a worker that is alone has a copy of the words, holds nothing, announces nothing by any of its announcement words but the first, and finds all boxes empty, and there are as few variables as a collection makes turns
+-- a worker that is alone has a copy of the words, holds nothing, announces nothing by any of its announcement words but the first, and finds all boxes empty
 pub record MayEmpty (k : Known) : Type 0 where
   pub words : List ℕ
   pub copy : k.copy ≡ Some words
   pub holds : k.core.held ≡ []
   pub silent : IsSilent k.core
   pub boxes : (b : ℕ) → b < 16 * k.core.sizes.workers → get_or words (boxes_from k.core.sizes + b) 0 ≡ 0
-  pub few : k.core.sizes.variables ≤ 2048
 
 -- all cells and boxes are empty
 abbrev pub AreBlank : Sizes → List ℕ → Type 0

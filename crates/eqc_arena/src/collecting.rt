@@ -16,9 +16,9 @@ use eqc_tree::unpack_node;
 use indexmap::IndexMap;
 use std::sync::Wait;
 
-// Each turn takes at least the nodes of the least variable back, so as many turns empty a forest of
-// so many variables.
-const TURNS: u32 = 2048;
+// Each turn takes at least the nodes of the least variable back, so that these turns, as many as a
+// node's word has room for variables, empty every forest.
+const TURNS: u32 = 65_536;
 
 // How many words of fallen nodes are tried at most between two stripes of a turn: as many as there
 // can be nodes. What is left then is tried after the next stripe.
@@ -207,8 +207,8 @@ fn turn<R: Wait>(worker: &mut Worker, rt: &R, fallen: &mut Fallen) -> u32
 ///
 /// No scan is under way, the worker's first announcement word announces nothing, and nothing is claimed or in hand. There is
 /// a cell, and at most 2^39 names are held. The worker holds what it held.
-/// Where it is alone, holds nothing, none of its announcement words but the first announces a name,
-/// all boxes are empty and there are at most 2,048 variables, no slot has a count above 0 then.
+/// Where it is alone, holds nothing, none of its announcement words but the first announces a name
+/// and all boxes are empty, no slot has a count above 0 then.
 #[inline(never)]
 pub fn collect<R: Wait>(worker: &mut Worker, rt: &R) -> u32
     requires rest { MayBegin worker.old.known.core }

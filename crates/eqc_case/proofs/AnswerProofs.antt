@@ -1,5 +1,5 @@
 -- The laws of the answer.
-use Rattle.std.proofs.Common.{◌≡◌, ◌≢◌, inl, inr, ℕ, Bool, true, false, List, [], ◌∷◌, ◌++◌, length, map, find, get_or, Option, Some, None, IfSome, All, sym, ap, refl, ◌∙◌, subst, if◌then◌else◌}
+use Rattle.std.proofs.Common.{◌≡◌, ◌≢◌, inl, inr, ℕ, Bool, true, false, List, [], ◌∷◌, ◌++◌, length, map, find, get_or, Option, Some, None, IfSome, All, sym, ap, ap₂, refl, ◌∙◌, subst, if◌then◌else◌}
 use Rattle.std.specs.Prelude.{unwrap_or, is_none}
 use Rattle.std.specs.Option.{option_to_list}
 use Rattle.std.proofs.lemmas.Bool.{cases_Bool, true≢false}
@@ -13,6 +13,7 @@ use Rattle.eqc_compare.specs.Verdict as found
 use Rattle.eqc_compare.specs.VerdictLaws.{NeverDiffers}
 use Rattle.eqc_report.specs.Report.{DifferenceOf, ReportOf, equivalent, differs, vacuous, refused, stopped, shown, differences_report, verdict_report, comparison}
 use Rattle.eqc_case.specs.Answer.{TextsOf, GivenOf, inputs_of, options_answer, texts_answer, answer, IsAccepting, Answers, as_wanted}
+use Rattle.eqc_pair.specs.declared.refused.Refused.{Refused}
 use Rattle.eqc_report.specs.Options.{options_code}
 use Rattle.eqc_case.specs.Running.{known_texts, known_some, all_known, known_given, IsReport, IsReportBehind}
 use Rattle.eqc_case.specs.declared.given.Given.{Given}
@@ -59,11 +60,11 @@ answer_is_no_stop given code e = never_stopped (checks given) (decided given) co
 -- ---- one answer
 
 -- two netlists whose texts pass are accepted with neither order text nor assumption
-accepted_alone : (given : GivenOf) → AreInRange given.options → PassAll (text_checks given.texts given.outputs) → IsAccepted (alone given)
+accepted_alone : (given : GivenOf) → AreInRange given.options → PassAll (text_checks given.texts given.outputs given.options.inputs) → IsAccepted (alone given)
 accepted_alone given range pass =
     let inputs = inputs_of (first_main given.texts) in
     let options = option_checks given.options in
-    let texts = text_checks given.texts given.outputs in
+    let texts = text_checks given.texts given.outputs given.options.inputs in
     let orders = order_checks inputs None in
     passed_accepted (alone given)
     (pass_both options (texts ++ orders ++ []) (range_passes given.options range)
@@ -71,12 +72,13 @@ accepted_alone given range pass =
 
 -- where the options are in range and the order fits, the texts and the assumption decide
 texts_decide : (given : GivenOf) → AreInRange given.options → FitsInputs given
-    → answer given ≡ verdict (text_checks given.texts given.outputs ++ assumption_checks (inputs_of (first_main given.texts)) given.assume) (decided given)
+    → answer given ≡ verdict (text_checks given.texts given.outputs given.options.inputs ++ assumption_checks (inputs_of (first_main given.texts)) given.options.inputs given.assume)
+    (decided given)
 texts_decide given range fits =
     let inputs = inputs_of (first_main given.texts) in
     let orders = order_checks inputs given.order in
-    let texts = text_checks given.texts given.outputs in
-    let assumptions = assumption_checks inputs given.assume in
+    let texts = text_checks given.texts given.outputs given.options.inputs in
+    let assumptions = assumption_checks inputs given.options.inputs given.assume in
     let rest = decided given in
     answer_checked given
     ∙ passed_before (option_checks given.options) (texts ++ orders ++ assumptions) rest (range_passes given.options range)
@@ -88,10 +90,12 @@ texts_decide given range fits =
     ]
 
 pub answer_is_one : AnswerIsOne
-answer_is_one given order options range ranges every fits fit =
-    let all = text_checks given.texts given.outputs ++ assumption_checks (inputs_of (first_main given.texts)) given.assume in
+answer_is_one given order options range ranges inputs every fits fit =
+    let all : ℕ → List (Option Refused) = λ limit.
+    text_checks given.texts given.outputs limit ++ assumption_checks (inputs_of (first_main given.texts)) limit given.assume in
     texts_decide given range fits
-    ∙ (ap (λ e. verdict all (comparison e (first_of given) (second_of given) (assumed_of given) (compared_outputs given))) every ∙ sym (texts_decide (with_others given order options) ranges fit))
+    ∙ (ap₂ (λ limit e. verdict (all limit) (comparison e (first_of given) (second_of given) (assumed_of given) (compared_outputs given))) inputs every
+    ∙ sym (texts_decide (with_others given order options) ranges fit))
 
 -- ---- what a comparison says
 
@@ -109,7 +113,7 @@ Says given report = SaysFor given.options.every given report
 fits : (given : GivenOf) → IsAccepted given → Fit given
 fits given accepted = record { same = accepted.inputs; known = by given.assume accepted.assumed }
   where
-    by : (assume : Option (List ℕ)) → IfSome assume (IsAssumptionOver (inputs_of (first_main given.texts))) → AreKnown (first_main given.texts) assume
+    by : (assume : Option (List ℕ)) → IfSome assume (IsAssumptionOver (inputs_of (first_main given.texts)) given.options.inputs) → AreKnown (first_main given.texts) assume
     by None h = tt
     by (Some text) h = h.known
 

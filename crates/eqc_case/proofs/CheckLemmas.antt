@@ -124,18 +124,21 @@ is_accepting f g (found ds) = by (map (shown f g) ds)
     by [] = tt
     by (d ∷ ds) = tt
 
-options_checked : (a b c d : Bool) (all : List (Option Refused)) (rest : ReportOf) →
-    options_answer (if not a then Some 81 else if not b then Some 82 else if not c then Some 83 else if not d then Some 84 else None) (verdict all rest)
-    ≡ verdict (refused_if (not a) side.Options 81 ∷ refused_if (not b) side.Options 82 ∷ refused_if (not c) side.Options 83 ∷ refused_if (not d) side.Options 84 ∷ all) rest
-options_checked false b c d all rest = refl
-options_checked true false c d all rest = refl
-options_checked true true false d all rest = refl
-options_checked true true true false all rest = refl
-options_checked true true true true all rest = refl
+options_checked : (a b c d e : Bool) (all : List (Option Refused)) (rest : ReportOf) →
+    options_answer (if not a then Some 81 else if not b then Some 82 else if not c then Some 83 else if not d then Some 84 else if not e then Some 85 else None)
+    (verdict all rest)
+    ≡ verdict (refused_if (not a) side.Options 81 ∷ refused_if (not b) side.Options 82 ∷ refused_if (not c) side.Options 83 ∷ refused_if (not d) side.Options 84
+    ∷ refused_if (not e) side.Options 85 ∷ all) rest
+options_checked false b c d e all rest = refl
+options_checked true false c d e all rest = refl
+options_checked true true false d e all rest = refl
+options_checked true true true false e all rest = refl
+options_checked true true true true false all rest = refl
+options_checked true true true true true all rest = refl
 
 -- of an assumption
 assumption_checked : (given : GivenOf) (f g : NetlistOf) (assume : Option (List ℕ)) →
-    assumed_answer given f g assume ≡ verdict (assumption_checks f.inputs assume) (compared given f g (option_map (λ text. netlist_of_model (assumption_main text)) assume))
+    assumed_answer given f g assume ≡ verdict (assumption_checks f.inputs given.options.inputs assume) (compared given f g (option_map (λ text. netlist_of_model (assumption_main text)) assume))
 assumption_checked given f g None = refl
 assumption_checked given f g (Some text) = by (assumption_found text)
   where
@@ -149,11 +152,11 @@ assumption_checked given f g (Some text) = by (assumption_found text)
 
     by : (h : Result MainOf (ℕ × ℕ)) →
         assumption_answer given f g h
-        ≡ verdict (refused_by_fault side.Assume h ∷ refused_by_code side.Assume (flat_code (main_or_none h).0 (main_or_none h).1)
+        ≡ verdict (refused_by_fault side.Assume h ∷ refused_by_code side.Assume (flat_code (main_or_none h).0 (main_or_none h).1 given.options.inputs)
         ∷ refused_if (not (has_all f.inputs (inputs_of (main_or_none h)))) side.Assume 61 ∷ refused_if (not (length (outputs_of (main_or_none h)) == 1)) side.Assume 62 ∷ [])
         (compared given f g (Some (netlist_of_model (main_or_none h))))
     by (Err fault) = refl
-    by (Ok h) = parts (flat_code h.0 h.1) (has_all f.inputs (inputs_of h)) (length (outputs_of h) == 1) (compared given f g (Some (netlist_of_model h)))
+    by (Ok h) = parts (flat_code h.0 h.1 given.options.inputs) (has_all f.inputs (inputs_of h)) (length (outputs_of h) == 1) (compared given f g (Some (netlist_of_model h)))
 
 -- of an order text, before others
 order_checked : (inputs : List (List ℕ)) (order : Option (List ℕ)) (all : List (Option Refused)) (rest : ReportOf) →
@@ -172,7 +175,7 @@ order_checked inputs (Some text) all rest = by (nat_lt 16777216 (length text)) (
 
 -- of an order text and an assumption
 abbrev last_checks : MainOf → GivenOf → List (Option Refused)
-last_checks m given = order_checks (inputs_of m) given.order ++ assumption_checks (inputs_of m) given.assume
+last_checks m given = order_checks (inputs_of m) given.order ++ assumption_checks (inputs_of m) given.options.inputs given.assume
 
 -- the report on two main models behind them
 abbrev on_models : MainOf → MainOf → GivenOf → ReportOf
@@ -189,7 +192,7 @@ pair_checked m n given =
     ap (λ (rest : ReportOf). if not (same_names (inputs_of m) (inputs_of n)) then refused side.Pair 0 41 else if not (same_names (outputs_of m) (outputs_of n)) then refused side.Pair 0 42
     else if not (has_all (outputs_of m) given.outputs) then refused side.Pair 0 43 else rest)
     (ap (or_code side.Order (code_of_order (inputs_of m) given.order)) (assumption_checked given (netlist_of_model m) (netlist_of_model n) given.assume)
-    ∙ order_checked (inputs_of m) given.order (assumption_checks (inputs_of m) given.assume) (on_models m n given))
+    ∙ order_checked (inputs_of m) given.order (assumption_checks (inputs_of m) given.options.inputs given.assume) (on_models m n given))
     ∙ by (same_names (inputs_of m) (inputs_of n)) (same_names (outputs_of m) (outputs_of n)) (has_all (outputs_of m) given.outputs) (last_checks m given) (on_models m n given)
   where
     by : (a b c : Bool) (all : List (Option Refused)) (rest : ReportOf) →
@@ -201,10 +204,10 @@ pair_checked m n given =
     by true true true all rest = refl
 
 abbrev models_checks : MainOf → MainOf → GivenOf → List (Option Refused)
-models_checks m n given = refused_by_code side.First (flat_code m.0 m.1) ∷ refused_by_code side.Second (flat_code n.0 n.1) ∷ pair_checks m n given
+models_checks m n given = refused_by_code side.First (flat_code m.0 m.1 given.options.inputs) ∷ refused_by_code side.Second (flat_code n.0 n.1 given.options.inputs) ∷ pair_checks m n given
 
 models_checked : (m n : MainOf) (given : GivenOf) → models_answer m n given ≡ verdict (models_checks m n given) (on_models m n given)
-models_checked m n given = by (flat_code m.0 m.1) (flat_code n.0 n.1)
+models_checked m n given = by (flat_code m.0 m.1 given.options.inputs) (flat_code n.0 n.1 given.options.inputs)
   where
     by : (x y : Option ℕ) →
         or_code side.First x (or_code side.Second y (pair_answer m n given)) ≡ verdict (refused_by_code side.First x ∷ refused_by_code side.Second y ∷ pair_checks m n given) (on_models m n given)
@@ -223,7 +226,9 @@ found_checked (Ok m) (Ok n) given = models_checked m n given
 
 -- the checks behind those of the options
 abbrev pub read_checks : GivenOf → List (Option Refused)
-read_checks given = text_checks given.texts given.outputs ++ order_checks (inputs_of (first_main given.texts)) given.order ++ assumption_checks (inputs_of (first_main given.texts)) given.assume
+read_checks given =
+    text_checks given.texts given.outputs given.options.inputs ++ order_checks (inputs_of (first_main given.texts)) given.order
+    ++ assumption_checks (inputs_of (first_main given.texts)) given.options.inputs given.assume
 
 texts_checked : (given : GivenOf) → texts_answer given ≡ verdict (read_checks given) (decided given)
 texts_checked given = found_checked (first_found given.texts) (second_found given.texts) given
@@ -233,4 +238,4 @@ pub answer_checked : (given : GivenOf) → answer given ≡ verdict (checks give
 answer_checked given =
     let options = given.options in
     ap (options_answer (options_code options)) (texts_checked given)
-    ∙ options_checked (is_between 1 64 options.workers) (is_between 1 1048574 options.nodes) (is_cell_count options.cells) (is_between 0 16 options.forks) (read_checks given) (decided given)
+    ∙ options_checked (is_between 1 64 options.workers) (is_between 1 1048574 options.nodes) (is_cell_count options.cells) (is_between 0 16 options.forks) (is_between 0 65535 options.inputs) (read_checks given) (decided given)

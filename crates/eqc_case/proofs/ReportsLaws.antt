@@ -115,8 +115,8 @@ assumed_alike given f g m n (Some text) hf hg mf ng same = by (assumption_found 
     by : (found : Result MainOf (ℕ × ℕ)) → assumption_answer given (netlist_of f) (netlist_of g) found ≡ assumption_answer given (netlist_of_model m) (netlist_of_model n) found
     by (Err fault) = refl
     by (Ok h) =
-        ap (λ r. or_code side.Assume (flat_code h.0 h.1) (or_code side.Assume (assumption_code f.inputs h) r)) (compared_alike given f g m n (Some (netlist_of_model h)) hf hg mf ng same)
-        ∙ ap (λ names. or_code side.Assume (flat_code h.0 h.1) (or_code side.Assume (assumption_code names h) (compared given (netlist_of_model m) (netlist_of_model n) (Some (netlist_of_model h)))))
+        ap (λ r. or_code side.Assume (flat_code h.0 h.1 given.options.inputs) (or_code side.Assume (assumption_code f.inputs h) r)) (compared_alike given f g m n (Some (netlist_of_model h)) hf hg mf ng same)
+        ∙ ap (λ names. or_code side.Assume (flat_code h.0 h.1 given.options.inputs) (or_code side.Assume (assumption_code names h) (compared given (netlist_of_model m) (netlist_of_model n) (Some (netlist_of_model h)))))
         mf.inputs
 
 -- the refusals of a pair before a report
@@ -163,16 +163,16 @@ flat_pair f g m n given hf hg mf ng =
     named rest = rw (mf.inputs, ng.inputs, mf.outputs, ng.outputs) refl
 
 -- the answer of two main models' flat netlists
-pub flat_models : (f g : FlatOf) (m n : MainOf) (given : GivenOf) → IsFlat f → IsFlat g → flat_code m.0 m.1 ≡ None → flat_code n.0 n.1 ≡ None →
+pub flat_models : (f g : FlatOf) (m n : MainOf) (given : GivenOf) → IsFlat f → IsFlat g → flat_code m.0 m.1 given.options.inputs ≡ None → flat_code n.0 n.1 given.options.inputs ≡ None →
     IsFlatOf m.0 m.1 f → IsFlatOf n.0 n.1 g → flat_answer f g given ≡ models_answer m n given
 flat_models f g m n given hf hg em en mf ng = flat_pair f g m n given hf hg mf ng ∙ sym (accepted em en)
   where
-    accepted : flat_code m.0 m.1 ≡ None → flat_code n.0 n.1 ≡ None → models_answer m n given ≡ pair_answer m n given
+    accepted : flat_code m.0 m.1 given.options.inputs ≡ None → flat_code n.0 n.1 given.options.inputs ≡ None → models_answer m n given ≡ pair_answer m n given
     accepted em en = rw (em, en) refl
 
 -- hierarchies that are refused
 pub first_fault : (m n : MainOf) (given : GivenOf) (code : ℕ) (result : Result Report Stop) →
-    IsRefused side.First (record { line = 0; code = code }) result → (code ≡ 72) ⊎ (flat_code m.0 m.1 ≡ Some code) →
+    IsRefused side.First (record { line = 0; code = code }) result → (code ≡ 72) ⊎ (flat_code m.0 m.1 given.options.inputs ≡ Some code) →
     IfOk result (λ report. report_of report ≡ models_answer m n given)
 first_fault m n given code (Err stop) h e = tt
 first_fault m n given code (Ok report) h e = elim e [
@@ -180,8 +180,8 @@ first_fault m n given code (Ok report) h e = elim e [
   | inr is ↦ ap report_of h.1 ∙ rw is refl
 ]
 
-pub second_fault : (m n : MainOf) (given : GivenOf) (code : ℕ) (result : Result Report Stop) → flat_code m.0 m.1 ≡ None →
-    IsRefused side.Second (record { line = 0; code = code }) result → (code ≡ 72) ⊎ (flat_code n.0 n.1 ≡ Some code) →
+pub second_fault : (m n : MainOf) (given : GivenOf) (code : ℕ) (result : Result Report Stop) → flat_code m.0 m.1 given.options.inputs ≡ None →
+    IsRefused side.Second (record { line = 0; code = code }) result → (code ≡ 72) ⊎ (flat_code n.0 n.1 given.options.inputs ≡ Some code) →
     IfOk result (λ report. report_of report ≡ models_answer m n given)
 second_fault m n given code (Err stop) none h e = tt
 second_fault m n given code (Ok report) none h e = elim e [
@@ -246,7 +246,7 @@ assumption_fault given f g found refusal (Ok report) h e = elim e [
 -- a hierarchy of it that is
 pub assumption_hierarchy : (given : GivenOf) (f g : NetlistOf) (found : Result MainOf (ℕ × ℕ)) (h : MainOf) (code : ℕ) (result : Result Report Stop) →
     found ≡ Ok h → IsRefused side.Assume (record { line = 0; code = code }) result
-    → (code ≡ 72) ⊎ (flat_code h.0 h.1 ≡ Some code) → IfOk result (λ report. report_of report ≡ assumption_answer given f g found)
+    → (code ≡ 72) ⊎ (flat_code h.0 h.1 given.options.inputs ≡ Some code) → IfOk result (λ report. report_of report ≡ assumption_answer given f g found)
 assumption_hierarchy given f g found h code (Err stop) there r e = tt
 assumption_hierarchy given f g found h code (Ok report) there r e = elim e [
   | inl memory ↦ absurd (r.0 memory)
@@ -294,7 +294,7 @@ refusals_coded true false x y e = refl
 refusals_coded true true x y e = e refl
 
 -- the answer of an assumption's flat netlist is that of its model
-pub flat_assumption : (given : GivenOf) (f g h : FlatOf) (k : MainOf) (found : Result MainOf (ℕ × ℕ)) → found ≡ Ok k → flat_code k.0 k.1 ≡ None → IsFlat h → IsFlatOf k.0 k.1 h
+pub flat_assumption : (given : GivenOf) (f g h : FlatOf) (k : MainOf) (found : Result MainOf (ℕ × ℕ)) → found ≡ Ok k → flat_code k.0 k.1 given.options.inputs ≡ None → IsFlat h → IsFlatOf k.0 k.1 h
     → flat_assumed given f g h ≡ assumption_answer given (netlist_of f) (netlist_of g) found
 flat_assumption given f g h k found there accepted flat is =
     refusals_coded (has_all f.inputs h.inputs) (length h.outputs == 1) _ _ (λ one. assumption_compared given (netlist_of f) (netlist_of g) h k flat is (eqb-true (length h.outputs) 1 one))

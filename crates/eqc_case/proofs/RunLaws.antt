@@ -93,7 +93,7 @@ given_read given = record given { texts = texts_read given.texts; order = option
 models_read : (m n : MainOf) (given : GivenOf) → models_answer m n (given_read given) ≡ models_answer m n given
 unfolding given_read
 models_read m n given =
-    ap₂ (λ code rest. or_code side.First (flat_code m.0 m.1) (or_code side.Second (flat_code n.0 n.1)
+    ap₂ (λ code rest. or_code side.First (flat_code m.0 m.1 given.options.inputs) (or_code side.Second (flat_code n.0 n.1 given.options.inputs)
     (if not (same_names (inputs_of m) (inputs_of n)) then refused side.Pair 0 41 else if not (same_names (outputs_of m) (outputs_of n)) then refused side.Pair 0 42
     else if not (has_all (outputs_of m) given.outputs) then refused side.Pair 0 43 else or_code side.Order code rest)))
     (code_read (inputs_of m) given.order) (assumption_read given (netlist_of_model m) (netlist_of_model n) given.assume)

@@ -1,7 +1,7 @@
 -- The answer of a run: the refusal of the first check that fails, else the report on the two netlists. The checks are, in this
 -- order: the options, the reading of the first text and the choice of its model, those of the second, the hierarchies, the pair
 -- with the names of chosen outputs, the order text, the reading of the assumption and its hierarchy, and what is asked of it. The
--- order of variables plays no part, and of the options only whether each difference is wanted.
+-- order of variables plays no part, and of the options only how many inputs are allowed and whether each difference is wanted.
 use Rattle.std.specs.Prelude.{ℕ, not, nat_lt, List, length, ◌==◌, Option, Some, None, Result, Ok, Err, if◌then◌else◌}
 use Rattle.eqc_blif.specs.Netlist.{ModelOf}
 use Rattle.eqc_blif.specs.Reading.{Outcome, outcome}
@@ -104,7 +104,7 @@ assumption_code inputs h =
 
 abbrev pub assumption_answer : GivenOf → NetlistOf → NetlistOf → Result MainOf (ℕ × ℕ) → ReportOf
 assumption_answer given f g (Err fault) = refused side.Assume fault.0 fault.1
-assumption_answer given f g (Ok h) = or_code side.Assume (flat_code h.0 h.1) (or_code side.Assume (assumption_code f.inputs h) (compared given f g (Some (netlist_of_model h))))
+assumption_answer given f g (Ok h) = or_code side.Assume (flat_code h.0 h.1 given.options.inputs) (or_code side.Assume (assumption_code f.inputs h) (compared given f g (Some (netlist_of_model h))))
 
 -- the refusal of an assumption, if there is one, else the report on two netlists
 abbrev pub assumed_answer : GivenOf → NetlistOf → NetlistOf → Option (List ℕ) → ReportOf
@@ -124,7 +124,7 @@ pair_answer m n given =
     else or_code side.Order (code_of_order (inputs_of m) given.order) (assumed_answer given (netlist_of_model m) (netlist_of_model n) given.assume)
 
 abbrev pub models_answer : MainOf → MainOf → GivenOf → ReportOf
-models_answer m n given = or_code side.First (flat_code m.0 m.1) (or_code side.Second (flat_code n.0 n.1) (pair_answer m n given))
+models_answer m n given = or_code side.First (flat_code m.0 m.1 given.options.inputs) (or_code side.Second (flat_code n.0 n.1 given.options.inputs) (pair_answer m n given))
 
 abbrev pub found_answer : Result MainOf (ℕ × ℕ) → Result MainOf (ℕ × ℕ) → GivenOf → ReportOf
 found_answer (Err fault) second given = refused side.First fault.0 fault.1

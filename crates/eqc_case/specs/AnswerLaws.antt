@@ -45,7 +45,8 @@ IsChoice models None place m = (m.0 ≡ models) × (m.1 < length models) × (m.1
 
 -- ---- what is accepted
 
--- 1 to 64 workers, 1 to 1,048,574 nodes, a power of two from 1 to 1,048,576 as the number of cells, at most 16 forks
+-- 1 to 64 workers, 1 to 1,048,574 nodes, a power of two from 1 to 1,048,576 as the number of cells, at most 16 forks, at most
+-- 65,535 inputs
 pub record AreInRange (options : Options) : Type 0 where
   pub some_workers : 1 ≤ options.workers
   pub few_workers : options.workers ≤ 64
@@ -53,6 +54,7 @@ pub record AreInRange (options : Options) : Type 0 where
   pub few_nodes : options.nodes ≤ 1048574
   pub power : (k : ℕ) × (k ≤ 20) × (options.cells ≡ 2 ^ k)
   pub few_forks : options.forks ≤ 16
+  pub few_inputs : options.inputs ≤ 65535
 
 -- a text has no fault, and the model that is chosen of it is there
 abbrev pub IsFound : Result MainOf (ℕ × ℕ) → Type 0
@@ -72,25 +74,26 @@ pub record IsOrderOf (inputs : List (List ℕ)) (text : List ℕ) : Type 0 where
   pub words : HaveSameNames (order_words text) inputs
   pub once : has_twice (order_words text) ≡ false
 
--- an assumption over these inputs: a netlist without a fault, whose inputs are among them, with one output
-pub record IsAssumptionOver (inputs : List (List ℕ)) (text : List ℕ) : Type 0 where
+-- an assumption over these inputs: a netlist without a fault, with as many inputs as the limit at most, which are among them, and
+-- with one output
+pub record IsAssumptionOver (inputs : List (List ℕ)) (limit : ℕ) (text : List ℕ) : Type 0 where
   pub readable : IsFound (assumption_found text)
-  pub hierarchy : flat_code (assumption_main text).0 (assumption_main text).1 ≡ None
+  pub hierarchy : flat_code (assumption_main text).0 (assumption_main text).1 limit ≡ None
   pub known : All (λ name. is_named inputs name ≡ true) (inputs_of (assumption_main text))
   pub one_output : length (outputs_of (assumption_main text)) ≡ 1
 
--- two netlists are accepted, and the assumption, if there is one: options, texts, hierarchies, names and the order text are
--- as they have to be
+-- two netlists are accepted, and the assumption, if there is one: options, texts, hierarchies, which have as many inputs as the
+-- options allow at most, names and the order text are as they have to be
 pub record IsAccepted (given : GivenOf) : Type 0 where
   pub range : AreInRange given.options
   pub readable : AreReadable given.texts
-  pub first_hierarchy : flat_code (first_main given.texts).0 (first_main given.texts).1 ≡ None
-  pub second_hierarchy : flat_code (second_main given.texts).0 (second_main given.texts).1 ≡ None
+  pub first_hierarchy : flat_code (first_main given.texts).0 (first_main given.texts).1 given.options.inputs ≡ None
+  pub second_hierarchy : flat_code (second_main given.texts).0 (second_main given.texts).1 given.options.inputs ≡ None
   pub inputs : HaveSameNames (inputs_of (first_main given.texts)) (inputs_of (second_main given.texts))
   pub outputs : HaveSameNames (outputs_of (first_main given.texts)) (outputs_of (second_main given.texts))
   pub chosen : All (λ name. is_named (outputs_of (first_main given.texts)) name ≡ true) given.outputs
   pub ordered : IfSome given.order (IsOrderOf (inputs_of (first_main given.texts)))
-  pub assumed : IfSome given.assume (IsAssumptionOver (inputs_of (first_main given.texts)))
+  pub assumed : IfSome given.assume (IsAssumptionOver (inputs_of (first_main given.texts)) given.options.inputs)
 
 -- ---- values
 
@@ -186,22 +189,23 @@ abbrev pub order_fails : Option (List ℕ) → (List ℕ → Bool) → Bool
 order_fails None test = false
 order_fails (Some text) test = test text
 
--- the checks of the options, of the texts and their main models with the names of chosen outputs, of the order text, and of the
--- assumption
+-- the checks of the options, of the texts and their main models, which may have so many inputs, with the names of chosen outputs,
+-- of the order text, and of the assumption
 abbrev pub option_checks : Options → List (Option Refused)
 option_checks options =
     refused_if (not (is_between 1 64 options.workers)) side.Options 81
     ∷ refused_if (not (is_between 1 1048574 options.nodes)) side.Options 82
     ∷ refused_if (not (is_cell_count options.cells)) side.Options 83
     ∷ refused_if (not (is_between 0 16 options.forks)) side.Options 84
+    ∷ refused_if (not (is_between 0 65535 options.inputs)) side.Options 85
     ∷ []
 
-abbrev pub text_checks : TextsOf → List (List ℕ) → List (Option Refused)
-text_checks texts outputs =
+abbrev pub text_checks : TextsOf → List (List ℕ) → ℕ → List (Option Refused)
+text_checks texts outputs limit =
     refused_by_fault side.First (first_found texts)
     ∷ refused_by_fault side.Second (second_found texts)
-    ∷ refused_by_code side.First (flat_code (first_main texts).0 (first_main texts).1)
-    ∷ refused_by_code side.Second (flat_code (second_main texts).0 (second_main texts).1)
+    ∷ refused_by_code side.First (flat_code (first_main texts).0 (first_main texts).1 limit)
+    ∷ refused_by_code side.Second (flat_code (second_main texts).0 (second_main texts).1 limit)
     ∷ refused_if (not (same_names (inputs_of (first_main texts)) (inputs_of (second_main texts)))) side.Pair 41
     ∷ refused_if (not (same_names (outputs_of (first_main texts)) (outputs_of (second_main texts)))) side.Pair 42
     ∷ refused_if (not (has_all (outputs_of (first_main texts)) outputs)) side.Pair 43
@@ -215,11 +219,11 @@ order_checks inputs order =
     ∷ refused_if (order_fails order (λ text. not (has_all (order_words text) inputs))) side.Order 53
     ∷ []
 
-abbrev pub assumption_checks : List (List ℕ) → Option (List ℕ) → List (Option Refused)
-assumption_checks inputs None = []
-assumption_checks inputs (Some text) =
+abbrev pub assumption_checks : List (List ℕ) → ℕ → Option (List ℕ) → List (Option Refused)
+assumption_checks inputs limit None = []
+assumption_checks inputs limit (Some text) =
     refused_by_fault side.Assume (assumption_found text)
-    ∷ refused_by_code side.Assume (flat_code (assumption_main text).0 (assumption_main text).1)
+    ∷ refused_by_code side.Assume (flat_code (assumption_main text).0 (assumption_main text).1 limit)
     ∷ refused_if (not (has_all inputs (inputs_of (assumption_main text)))) side.Assume 61
     ∷ refused_if (not (length (outputs_of (assumption_main text)) == 1)) side.Assume 62
     ∷ []
@@ -228,8 +232,9 @@ assumption_checks inputs (Some text) =
 -- where one of these refuses
 abbrev pub checks : GivenOf → List (Option Refused)
 checks given =
-    option_checks given.options ++ text_checks given.texts given.outputs
-    ++ order_checks (inputs_of (first_main given.texts)) given.order ++ assumption_checks (inputs_of (first_main given.texts)) given.assume
+    option_checks given.options ++ text_checks given.texts given.outputs given.options.inputs
+    ++ order_checks (inputs_of (first_main given.texts)) given.order
+    ++ assumption_checks (inputs_of (first_main given.texts)) given.options.inputs given.assume
 
 -- a check of a list refuses, and all before it pass
 pub record IsFirstRefusal (all : List (Option Refused)) (refusal : Refused) : Type 0 where
@@ -251,11 +256,12 @@ with_others given order options = record given { order = order; options = option
 abbrev pub FitsInputs : GivenOf → Type 0
 FitsInputs given = IsAccepted (alone given) → IfSome given.order (IsOrderOf (inputs_of (first_main given.texts)))
 
--- the answer is one for all options in their ranges that want as many differences, and all orders that name the inputs; what is
--- refused is refused alike whatever order there is
+-- the answer is one for all options in their ranges that allow as many inputs and want as many differences, and all orders that name
+-- the inputs; what is refused is refused alike whatever order there is
 abbrev pub AnswerIsOne : Type 0
 AnswerIsOne =
-    (given : GivenOf) (order : Option (List ℕ)) (options : Options) → AreInRange given.options → AreInRange options → given.options.every ≡ options.every
+    (given : GivenOf) (order : Option (List ℕ)) (options : Options) → AreInRange given.options → AreInRange options → given.options.inputs ≡ options.inputs
+    → given.options.every ≡ options.every
     → FitsInputs given → FitsInputs (with_others given order options) → answer given ≡ answer (with_others given order options)
 
 -- it is `vacuous` exactly where two netlists and an assumption are accepted and no assignment is allowed

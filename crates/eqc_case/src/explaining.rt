@@ -5,7 +5,7 @@ use crate::choice::{Main, choose, read_main};
 use crate::diagnostics::Diagnostics;
 use crate::given::{Case, bytes_of};
 use eqc_blif::{Library, Refusal, read};
-use eqc_flat::{Flat, flatten};
+use eqc_flat::{Flat, flatten_within};
 use eqc_pair::{Side, explain_assumption, explain_pair};
 use std::alloc::{AllocError, Global};
 
@@ -48,16 +48,18 @@ fn main_or_told<T: Diagnostics>(
     }
 }
 
-/// Tells of the hierarchy below a model, if it is refused, and answers whether it did. Fails where memory is refused.
+/// Tells of the hierarchy below a model, if it is refused with this limit of inputs, and answers whether it did. Fails where
+/// memory is refused.
 fn tell_hierarchy<T: Diagnostics>(
     alloc: Global,
     side: Side,
     main: (&Library, usize),
+    limit: u16,
     told: &mut T,
 ) -> Result<bool, AllocError>
     requires { main.1 < length main.0.now }
 {
-    match eqc_flat::explain(alloc, main.0, main.1)? {
+    match eqc_flat::explain(alloc, main.0, main.1, limit)? {
         Some(finding) => {
             told.hierarchy(side, main.0, &finding);
             Ok(true)
@@ -77,13 +79,14 @@ fn tell_models<T: Diagnostics>(
     requires m { first.1 < length first.0.now }
     requires n { second.1 < length second.0.now }
 {
-    if tell_hierarchy(alloc, Side::First, first, told)? {
+    let limit = case.options.input_limit();
+    if tell_hierarchy(alloc, Side::First, first, limit, told)? {
         return Ok(());
     }
-    if tell_hierarchy(alloc, Side::Second, second, told)? {
+    if tell_hierarchy(alloc, Side::Second, second, limit, told)? {
         return Ok(());
     }
-    match flatten(alloc, first.0, first.1) {
+    match flatten_within(alloc, first.0, first.1, limit) {
         Ok(f) => tell_second(alloc, &f, second, case, told),
         Err(_) => Ok(()),
     }
@@ -99,7 +102,7 @@ fn tell_second<T: Diagnostics>(
 ) -> Result<(), AllocError>
     requires { second.1 < length second.0.now }
 {
-    match flatten(alloc, second.0, second.1) {
+    match flatten_within(alloc, second.0, second.1, case.options.input_limit()) {
         Ok(g) => tell_flats(alloc, first, &g, case, told),
         Err(_) => Ok(()),
     }
@@ -119,7 +122,7 @@ fn tell_flats<T: Diagnostics>(
         return Ok(());
     }
     match &case.assume {
-        Some(text) => tell_assumption(alloc, first, text, told),
+        Some(text) => tell_assumption(alloc, first, text, case.options.input_limit(), told),
         None => Ok(()),
     }
 }
@@ -142,31 +145,34 @@ fn tell_assuming<T: Diagnostics>(
     alloc: Global,
     first: &Flat<'_>,
     assumption: &Main,
+    limit: u16,
     told: &mut T,
 ) -> Result<(), AllocError>
     requires { assumption.now.model < length assumption.now.library }
 {
     let Main { library, model } = assumption;
-    if tell_hierarchy(alloc, Side::Assume, (library, *model), told)? {
+    if tell_hierarchy(alloc, Side::Assume, (library, *model), limit, told)? {
         return Ok(());
     }
-    match flatten(alloc, library, *model) {
+    match flatten_within(alloc, library, *model, limit) {
         Ok(assumed) => tell_assumed(alloc, first, &assumed, told),
         Err(_) => Ok(()),
     }
 }
 
-/// Tells of an assumption that is refused for the first netlist's inputs. Fails where memory is refused.
+/// Tells of an assumption that is refused for the first netlist's inputs, or with this limit of inputs. Fails where memory is
+/// refused.
 fn tell_assumption<T: Diagnostics>(
     alloc: Global,
     first: &Flat<'_>,
     text: &[u8],
+    limit: u16,
     told: &mut T,
 ) -> Result<(), AllocError> {
     let Some(main) = main_or_told(alloc, Side::Assume, text, None, told)? else {
         return Ok(());
     };
-    tell_assuming(alloc, first, &main, told)
+    tell_assuming(alloc, first, &main, limit, told)
 }
 
 /// Tells of what stands behind the first text's model, where there is one text. Fails where memory is refused.

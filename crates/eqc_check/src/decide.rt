@@ -28,7 +28,7 @@ use eqc_case::{
 };
 use eqc_compare::Progress;
 use eqc_engine::{Comparison, decide_pair};
-use eqc_flat::{Fault, FaultOfTwo, Flat, flatten, flatten_two};
+use eqc_flat::{Fault, FaultOfTwo, Flat, flatten_two, flatten_within};
 use eqc_pair::{Pair, Refused, Side, pair_choosing, recall_laws};
 use eqc_report::{Report, Undecided};
 use eqc_tree::Stop;
@@ -132,7 +132,7 @@ impl<'x, R: Threads + Wait + Sync, P: Progress<R> + Sync> Decision<'x, R, P> {
         ensures report { IfOk result (λ report. report_of report ≡ models_answer (library.now, m) (library.now, n) (given_of self.now.case.now)) }
         ensures stop { IfErr result (MayStop (models_answer (library.now, m) (library.now, n) (given_of self.now.case.now))) }
     {
-        match flatten_two(self.alloc, library, m, n) {
+        match flatten_two(self.alloc, library, m, n, self.limit()) {
             Ok((f, g)) => {
                 recall_laws(&f);
                 recall_laws(&g);
@@ -160,7 +160,7 @@ impl<'x, R: Threads + Wait + Sync, P: Progress<R> + Sync> Decision<'x, R, P> {
         ensures report { IfOk result (λ report. report_of report ≡ models_answer (first.entry.0.now, first.entry.1) (second.entry.0.now, second.entry.1) (given_of self.now.case.now)) }
         ensures stop { IfErr result (MayStop (models_answer (first.entry.0.now, first.entry.1) (second.entry.0.now, second.entry.1) (given_of self.now.case.now))) }
     {
-        match flatten(self.alloc, first.0, first.1) {
+        match flatten_within(self.alloc, first.0, first.1, self.limit()) {
             Ok(f) => self.on_second(&f, second, left),
             Err(Fault { code }) => refused(Side::First, Refusal { line: 0, code }),
         }
@@ -176,11 +176,11 @@ impl<'x, R: Threads + Wait + Sync, P: Progress<R> + Sync> Decision<'x, R, P> {
     ) -> Result<Report, Stop>
         requires options { options_code self.now.case.now.options ≡ None }
         requires n { second.1 < length second.0.now }
-        ensures report { (m : MainOf) → flat_code m.0 m.1 ≡ None → IsFlatOf m.0 m.1 first.now → IfOk result (λ report. report_of report ≡ models_answer m (second.entry.0.now, second.entry.1) (given_of self.now.case.now)) }
-        ensures stop { (m : MainOf) → flat_code m.0 m.1 ≡ None → IsFlatOf m.0 m.1 first.now → IfErr result (MayStop (models_answer m (second.entry.0.now, second.entry.1) (given_of self.now.case.now))) }
+        ensures report { (m : MainOf) → flat_code m.0 m.1 self.now.case.now.options.inputs ≡ None → IsFlatOf m.0 m.1 first.now → IfOk result (λ report. report_of report ≡ models_answer m (second.entry.0.now, second.entry.1) (given_of self.now.case.now)) }
+        ensures stop { (m : MainOf) → flat_code m.0 m.1 self.now.case.now.options.inputs ≡ None → IsFlatOf m.0 m.1 first.now → IfErr result (MayStop (models_answer m (second.entry.0.now, second.entry.1) (given_of self.now.case.now))) }
     {
         recall_laws(first);
-        match flatten(self.alloc, second.0, second.1) {
+        match flatten_within(self.alloc, second.0, second.1, self.limit()) {
             Ok(g) => {
                 recall_laws(&g);
                 self.on_flats(first, &g, left)
@@ -243,7 +243,7 @@ impl<'x, R: Threads + Wait + Sync, P: Progress<R> + Sync> Decision<'x, R, P> {
         ensures stop { IfErr result (MayStop (assumption_answer (given_of self.now.case.now) (netlist_of pair.entry.first) (netlist_of pair.entry.second) (Ok (assumption.now.library, assumption.now.model)))) }
     {
         let Main { library, model } = assumption;
-        match flatten(self.alloc, library, *model) {
+        match flatten_within(self.alloc, library, *model, self.limit()) {
             Ok(assumed) => {
                 recall_laws(&assumed);
                 self.on_assumed(pair, &assumed, left)
@@ -271,6 +271,14 @@ impl<'x, R: Threads + Wait + Sync, P: Progress<R> + Sync> Decision<'x, R, P> {
                 refused(side, Refusal { line, code })
             }
         }
+    }
+
+    /// How many inputs a main model may have.
+    fn limit(&self) -> u16
+        requires { options_code self.now.case.now.options ≡ None }
+        ensures { result ≡ self.now.case.now.options.inputs }
+    {
+        self.case.options.input_limit()
     }
 
     /// The comparison behind all checks.

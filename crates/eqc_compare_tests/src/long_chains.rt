@@ -64,6 +64,7 @@ fn reports(rt: &(impl AllocGlobal + Threads + Wait + Sync), text: &str, report: 
         cells: 8_192,
         forks: 0,
         conflicts: 100_000,
+        inputs: 2_048,
         every: false,
     };
     let mut out = Vec::new(rt.alloc());

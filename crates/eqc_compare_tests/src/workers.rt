@@ -114,6 +114,7 @@ fn compared_in_course<R: Threads + Wait + Sync>(
         cells: 1,
         forks: 0,
         conflicts: 1_000,
+        inputs: 2_048,
         every: false,
     };
     let comparison = Comparison {
@@ -152,6 +153,7 @@ fn compared<R: Threads + Wait + Sync, G: Gate<R> + Sync>(
         cells: 1,
         forks: 0,
         conflicts: 0,
+        inputs: 2_048,
         every: false,
     };
     match options_fault(&options) {
@@ -341,6 +343,7 @@ fn is_second<R: AllocGlobal + Threads + Wait + Sync>(rt: &R, text: &[u8]) -> boo
         cells: 8_192,
         forks: 0,
         conflicts: 100_000,
+        inputs: 2_048,
         every: false,
     };
     let mut out = Vec::new(rt.alloc());

@@ -5,7 +5,7 @@ use Rattle.std.proofs.lemmas.Bool.{lt-ltb, le-ltb, cases_lt, true≢false}
 use Rattle.std.proofs.lemmas.List.{length-map}
 use Rattle.eqc_hierarchy.specs.Signals.{signals}
 use Rattle.eqc_blif.specs.Netlist.{ModelOf}
-use Rattle.eqc_hierarchy.specs.Codes.{is_too_large, has_many_inputs, is_driven_twice, is_undriven, is_cyclic, flat_code}
+use Rattle.eqc_hierarchy.specs.Codes.{is_too_large, has_many_inputs, is_driven_twice, is_undriven, is_cyclic, code_of_drivers, flat_code}
 use Rattle.eqc_netlist.specs.Graph.{DriverOf}
 use Rattle.eqc_hierarchy.specs.Hierarchy.{model, paths}
 use Rattle.eqc_hierarchy.specs.Searching.{IsClosed}
@@ -17,65 +17,60 @@ use Rattle.eqc_flat.proofs.DriverTableLaws.{not_driven_twice, not_undriven}
 use Rattle.eqc_flat.proofs.FlatLaws.{are_sourced, in_order_not_cyclic, circular_cyclic}
 use Rattle.eqc_hierarchy.specs.ModelFaults.{HasNoModelFault}
 
-pub code_29 : (library : List ModelOf) (top : ℕ) → HasNoModelFault library top → is_too_large library top ≡ true → flat_code library top ≡ Some 29
+pub code_29 : (library : List ModelOf) (top limit : ℕ) → HasNoModelFault library top → is_too_large library top ≡ true → flat_code library top limit ≡ Some 29
 unfolding flat_code
-code_29 library top h large = rw (h.models_there, h.not_recursive, h.formals_known, h.formals_once, h.inputs_given, large) refl
+code_29 library top limit h large = rw (h.models_there, h.not_recursive, h.formals_known, h.formals_once, h.inputs_given, large) refl
 
-pub code_30 : (library : List ModelOf) (top : ℕ) → HasNoModelFault library top → is_too_large library top ≡ false → has_many_inputs library top ≡ true → flat_code library top ≡ Some 30
+pub code_30 : (library : List ModelOf) (top limit : ℕ) → HasNoModelFault library top → is_too_large library top ≡ false
+    → has_many_inputs library top limit ≡ true → flat_code library top limit ≡ Some 30
 unfolding flat_code
-code_30 library top h large many = rw (h.models_there, h.not_recursive, h.formals_known, h.formals_once, h.inputs_given, large, many) refl
+code_30 library top limit h large many = rw (h.models_there, h.not_recursive, h.formals_known, h.formals_once, h.inputs_given, large, many) refl
 
-pub code_26 : (library : List ModelOf) (top : ℕ) → HasNoModelFault library top → is_too_large library top ≡ false
-    → has_many_inputs library top ≡ false → is_driven_twice library top ≡ true → flat_code library top ≡ Some 26
+-- where no other code applies, the first is that of what drives the signals
+pub drivers_left : (library : List ModelOf) (top limit : ℕ) → HasNoModelFault library top → is_too_large library top ≡ false
+    → has_many_inputs library top limit ≡ false → flat_code library top limit ≡ code_of_drivers library top
 unfolding flat_code
-code_26 library top h large many twice = rw (h.models_there, h.not_recursive, h.formals_known, h.formals_once, h.inputs_given, large, many, twice) refl
+drivers_left library top limit h large many = rw (h.models_there, h.not_recursive, h.formals_known, h.formals_once, h.inputs_given, large, many) refl
 
-pub code_27 : (library : List ModelOf) (top : ℕ) → HasNoModelFault library top → is_too_large library top ≡ false
-    → has_many_inputs library top ≡ false → is_driven_twice library top ≡ false → is_undriven library top ≡ true
-    → flat_code library top ≡ Some 27
-unfolding flat_code
-code_27 library top h large many twice none = rw (h.models_there, h.not_recursive, h.formals_known, h.formals_once, h.inputs_given, large, many, twice, none) refl
+code_26 : (library : List ModelOf) (top : ℕ) → is_driven_twice library top ≡ true → code_of_drivers library top ≡ Some 26
+code_26 library top twice = rw twice refl
 
-pub code_28 : (library : List ModelOf) (top : ℕ) → HasNoModelFault library top → is_too_large library top ≡ false
-    → has_many_inputs library top ≡ false → is_driven_twice library top ≡ false → is_undriven library top ≡ false
-    → is_cyclic library top ≡ true → flat_code library top ≡ Some 28
-unfolding flat_code
-code_28 library top h large many twice none circle = rw (h.models_there, h.not_recursive, h.formals_known, h.formals_once, h.inputs_given, large, many, twice, none, circle) refl
+code_27 : (library : List ModelOf) (top : ℕ) → is_driven_twice library top ≡ false → is_undriven library top ≡ true → code_of_drivers library top ≡ Some 27
+code_27 library top twice none = rw (twice, none) refl
 
-pub code_none : (library : List ModelOf) (top : ℕ) → HasNoModelFault library top → is_too_large library top ≡ false
-    → has_many_inputs library top ≡ false → is_driven_twice library top ≡ false → is_undriven library top ≡ false
-    → is_cyclic library top ≡ false → flat_code library top ≡ None
-unfolding flat_code
-code_none library top h large many twice none circle = rw (h.models_there, h.not_recursive, h.formals_known, h.formals_once, h.inputs_given, large, many, twice, none, circle) refl
+code_28 : (library : List ModelOf) (top : ℕ) → is_driven_twice library top ≡ false → is_undriven library top ≡ false
+    → is_cyclic library top ≡ true → code_of_drivers library top ≡ Some 28
+code_28 library top twice none circle = rw (twice, none, circle) refl
+
+code_none : (library : List ModelOf) (top : ℕ) → is_driven_twice library top ≡ false → is_undriven library top ≡ false
+    → is_cyclic library top ≡ false → code_of_drivers library top ≡ None
+code_none library top twice none circle = rw (twice, none, circle) refl
 
 -- why some signal has not one driver, as a code of the hierarchy
-pub driver_code : (library : List ModelOf) (top code : ℕ) → HasNoModelFault library top → is_too_large library top ≡ false
-    → has_many_inputs library top ≡ false → IsDriverFault library top code → (code ≡ 72) ⊎ (flat_code library top ≡ Some code)
-driver_code library top code h large many (inl refused) = inl refused
-driver_code library top code h large many (inr (inl (is, twice))) = inr (code_26 library top h large many twice ∙ ap Some (sym is))
-driver_code library top code h large many (inr (inr (is, once, none))) = inr (code_27 library top h large many once none ∙ ap Some (sym is))
+pub driver_code : (library : List ModelOf) (top code : ℕ) → IsDriverFault library top code → (code ≡ 72) ⊎ (code_of_drivers library top ≡ Some code)
+driver_code library top code (inl refused) = inl refused
+driver_code library top code (inr (inl (is, twice))) = inr (code_26 library top twice ∙ ap Some (sym is))
+driver_code library top code (inr (inr (is, once, none))) = inr (code_27 library top once none ∙ ap Some (sym is))
 
-pub many_inputs : (library : List ModelOf) (top : ℕ) → 2048 < length (model library top).inputs → has_many_inputs library top ≡ true
+pub many_inputs : (library : List ModelOf) (top limit : ℕ) → limit < length (model library top).inputs → has_many_inputs library top limit ≡ true
 unfolding has_many_inputs
-many_inputs library top more = lt-ltb 2048 (length (model library top).inputs) more
+many_inputs library top limit more = lt-ltb limit (length (model library top).inputs) more
 
-pub few_inputs : (library : List ModelOf) (top : ℕ) → length (model library top).inputs ≤ 2048 → has_many_inputs library top ≡ false
+pub few_inputs : (library : List ModelOf) (top limit : ℕ) → length (model library top).inputs ≤ limit → has_many_inputs library top limit ≡ false
 unfolding has_many_inputs
-few_inputs library top few = le-ltb 2048 (length (model library top).inputs) few
+few_inputs library top limit few = le-ltb limit (length (model library top).inputs) few
 
 -- the codes behind the drivers, where there is an order of the signals
-pub accepted : (library : List ModelOf) (top : ℕ) (drivers : List DriverOf) (steps : List ℕ) → HasNoModelFault library top
-    → is_too_large library top ≡ false → has_many_inputs library top ≡ false → IsDriven library top drivers
-    → IsOrder drivers steps → flat_code library top ≡ None
-accepted library top drivers steps h large many driven order =
-    code_none library top h large many (not_driven_twice library top (map (λ (d : DriverOf). Some d) drivers) driven)
+pub accepted : (library : List ModelOf) (top : ℕ) (drivers : List DriverOf) (steps : List ℕ) → IsDriven library top drivers
+    → IsOrder drivers steps → code_of_drivers library top ≡ None
+accepted library top drivers steps driven order =
+    code_none library top (not_driven_twice library top (map (λ (d : DriverOf). Some d) drivers) driven)
     (not_undriven library top drivers driven) (in_order_not_cyclic library top drivers steps driven order)
 
-pub circular : (library : List ModelOf) (top : ℕ) (drivers : List DriverOf) → HasNoModelFault library top
-    → is_too_large library top ≡ false → has_many_inputs library top ≡ false → IsDriven library top drivers → IsCircular drivers
-    → flat_code library top ≡ Some 28
-circular library top drivers h large many driven circle =
-    code_28 library top h large many (not_driven_twice library top (map (λ (d : DriverOf). Some d) drivers) driven)
+pub circular : (library : List ModelOf) (top : ℕ) (drivers : List DriverOf) → IsDriven library top drivers → IsCircular drivers
+    → code_of_drivers library top ≡ Some 28
+circular library top drivers driven circle =
+    code_28 library top (not_driven_twice library top (map (λ (d : DriverOf). Some d) drivers) driven)
     (not_undriven library top drivers driven) (circular_cyclic library top drivers driven circle)
 
 -- drivers of a hierarchy depend on signals that have drivers

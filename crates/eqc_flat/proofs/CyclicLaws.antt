@@ -111,10 +111,10 @@ is_circular library top h = by (is_cyclic library top) h.left
     by false e = absurd (let none : None ≡ Some 28 = e in cc)
 
 -- a signal that depends on itself is found
-found : (library : List ModelOf) (top : ℕ) → flat_code library top ≡ Some 28
+found : (library : List ModelOf) (top limit : ℕ) → flat_code library top limit ≡ Some 28
     → (k : ℕ) × (k < length (signals library top)) × Reaches (needed library top) (signal_at library top k) (signal_at library top k)
-found library top e =
-    let h = no_other_code library top (Some 28) (inr refl) e in
+found library top limit e =
+    let h = no_other_code library top limit (Some 28) (inr refl) e in
     let (s, inside, without) = some_without library top (is_circular library top h) in
     let (t, there, _at, circle) = circle_found (needed library top) (signals library top) (has_value library top) (signals_finite library top (Some 28) h) s inside without in
     let (k, less, is) = member_place (signals library top) t no_signal there in
@@ -122,18 +122,18 @@ found library top e =
     (k, less, subst P (sym is) circle)
 
 -- a signal that depends on itself is no signal of an accepted netlist
-refused : (library : List ModelOf) (top k : ℕ) → flat_code library top ≡ None → k < length (signals library top) → Reaches (needed library top) (signal_at library top k) (signal_at library top k) → ⊥
-refused library top k e inside circle =
-    let h = no_other_code library top None (inl refl) e in
+refused : (library : List ModelOf) (top limit k : ℕ) → flat_code library top limit ≡ None → k < length (signals library top) → Reaches (needed library top) (signal_at library top k) (signal_at library top k) → ⊥
+refused library top limit k e inside circle =
+    let h = no_other_code library top limit None (inl refl) e in
     never_ends (needed library top) (signals library top) (has_value library top) (signals_finite library top None h)
     (signal_at library top k) (signal_at library top k) (member_get (signals library top) k no_signal inside) (inl refl) circle
-    (length (signals library top)) (accepted_have_values library top e (λ _. false) k inside)
+    (length (signals library top)) (accepted_have_values library top limit e (λ _. false) k inside)
 
 pub cyclic_where_reached : CyclicWhereReached
-cyclic_where_reached = λ library top kind. (
-  (λ e. found library top e),
+cyclic_where_reached = λ library top limit kind. (
+  (λ e. found library top limit e),
   (λ w. elim kind [
-    | inl none ↦ absurd (refused library top w.0 none w.1 w.2)
+    | inl none ↦ absurd (refused library top limit w.0 none w.1 w.2)
     | inr some ↦ some
   ]),
 )

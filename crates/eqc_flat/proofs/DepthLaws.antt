@@ -141,16 +141,16 @@ pub record HasNoOtherCode (library : List ModelOf) (top : ℕ) (o : Option ℕ) 
   pub driven : is_undriven library top ≡ false
   pub left : code_if (is_cyclic library top) 28 None ≡ o
 
-pub no_other_code : (library : List ModelOf) (top : ℕ) (o : Option ℕ) → (o ≡ None) ⊎ (o ≡ Some 28) → flat_code library top ≡ o → HasNoOtherCode library top o
+pub no_other_code : (library : List ModelOf) (top limit : ℕ) (o : Option ℕ) → (o ≡ None) ⊎ (o ≡ Some 28) → flat_code library top limit ≡ o → HasNoOtherCode library top o
 unfolding flat_code
-no_other_code library top o kind e =
+no_other_code library top limit o kind e =
     let a = no_code o (has_no_such_model library top) 21 _ (other 21 (λ k. omega (arith, k))) e in
     let b = no_code o (is_recursive library top) 22 _ (other 22 (λ k. omega (arith, k))) a.1 in
     let c = no_code o (has_unknown_formal library top) 23 _ (other 23 (λ k. omega (arith, k))) b.1 in
     let d = no_code o (has_formal_twice library top) 24 _ (other 24 (λ k. omega (arith, k))) c.1 in
     let f = no_code o (has_missing_formal library top) 25 _ (other 25 (λ k. omega (arith, k))) d.1 in
     let g = no_code o (is_too_large library top) 29 _ (other 29 (λ k. omega (arith, k))) f.1 in
-    let h = no_code o (has_many_inputs library top) 30 _ (other 30 (λ k. omega (arith, k))) g.1 in
+    let h = no_code o (has_many_inputs library top limit) 30 _ (other 30 (λ k. omega (arith, k))) g.1 in
     let i = no_code o (is_driven_twice library top) 26 _ (other 26 (λ k. omega (arith, k))) h.1 in
     let j = no_code o (is_undriven library top) 27 _ (other 27 (λ k. omega (arith, k))) i.1 in
     record { not_recursive = b.0; formals_known = c.0; driven_once = i.0; driven = j.0; left = j.1 }
@@ -165,16 +165,16 @@ no_other_code library top o kind e =
             inside : Some code ≡ Some 28 → code ≡ 28
             inside e = cc
 
-not_cyclic_code : (library : List ModelOf) (top : ℕ) → flat_code library top ≡ None → is_cyclic library top ≡ false
-not_cyclic_code library top e = (no_code None (is_cyclic library top) 28 None (λ k. absurd (let some : Some 28 ≡ None = k in cc)) (no_other_code library top None (inl refl) e).left).0
+not_cyclic_code : (library : List ModelOf) (top limit : ℕ) → flat_code library top limit ≡ None → is_cyclic library top ≡ false
+not_cyclic_code library top limit e = (no_code None (is_cyclic library top) 28 None (λ k. absurd (let some : Some 28 ≡ None = k in cc)) (no_other_code library top limit None (inl refl) e).left).0
 
 pub accepted_have_values : AcceptedHaveValues
 unfolding is_cyclic
-accepted_have_values library top e a s inside =
+accepted_have_values library top limit e a s inside =
     values_are_there_for_all library top a (λ _. false) (length (signals library top)) (signal_at library top s)
     ∙ there (value_at library top (λ _. false) (length (signals library top)) (signal_at library top s))
     (none_passes (λ s. is_none (value_at library top (λ _. false) (length (signals library top)) s)) (signals library top) s
-    (not_cyclic_code library top e) inside)
+    (not_cyclic_code library top limit e) inside)
   where
     there : (o : Option Bool) → is_none o ≡ false → is_some o ≡ true
     there None k = absurd (true≢false k)

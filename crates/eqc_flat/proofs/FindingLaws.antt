@@ -63,6 +63,7 @@ use Rattle.eqc_hierarchy.specs.Codes.{
   is_cyclic,
   code_if,
   flat_code,
+  IsRefusedWith,
 }
 use Rattle.eqc_flat.specs.Flattened.{path_at, model_of, first_signal, signal_at, source_of}
 use Rattle.eqc_flat.specs.DriverTable.{in_slot, IsFilled, IsTable, IsDriven, driven_code, first_driven, IsDrivenSo}
@@ -134,28 +135,28 @@ pub record IsNumbered (library : List ModelOf) (top code : ℕ) : Type 0 where
   pub not_recursive : is_recursive library top ≡ false
   pub formals_known : has_unknown_formal library top ≡ false
   pub small : is_too_large library top ≡ false
-  pub few : length (model library top).inputs ≤ 2048
+  pub few : length (model library top).inputs ≤ 65535
   pub left : code_if (is_driven_twice library top) 26 (code_if (is_undriven library top) 27 (code_if (is_cyclic library top) 28 None)) ≡ Some code
 
-pub numbered : (library : List ModelOf) (top code : ℕ) → 25 < code → code < 29 → flat_code library top ≡ Some code → IsNumbered library top code
+pub numbered : (library : List ModelOf) (top code : ℕ) → 25 < code → code < 29 → IsRefusedWith library top code → IsNumbered library top code
 unfolding flat_code has_many_inputs
-numbered library top code low high e =
+numbered library top code low high (limit, most, e) =
     let a = no_code (Some code) (has_no_such_model library top) 21 _ (other 21 (λ k. omega (arith, k, low))) e in
     let b = no_code (Some code) (is_recursive library top) 22 _ (other 22 (λ k. omega (arith, k, low))) a.1 in
     let c = no_code (Some code) (has_unknown_formal library top) 23 _ (other 23 (λ k. omega (arith, k, low))) b.1 in
     let d = no_code (Some code) (has_formal_twice library top) 24 _ (other 24 (λ k. omega (arith, k, low))) c.1 in
     let f = no_code (Some code) (has_missing_formal library top) 25 _ (other 25 (λ k. omega (arith, k, low))) d.1 in
     let g = no_code (Some code) (is_too_large library top) 29 _ (other 29 (λ k. omega (arith, k, high))) f.1 in
-    let h = no_code (Some code) (has_many_inputs library top) 30 _ (other 30 (λ k. omega (arith, k, high))) g.1 in
+    let h = no_code (Some code) (has_many_inputs library top limit) 30 _ (other 30 (λ k. omega (arith, k, high))) g.1 in
     record { not_recursive = b.0; formals_known = c.0; small = g.0; few = few h.0; left = h.1 }
   where
     other : (n : ℕ) → (n ≡ code → ⊥) → Some n ≡ Some code → ⊥
     other n = apart n code
 
-    few : nat_lt 2048 (length (model library top).inputs) ≡ false → length (model library top).inputs ≤ 2048
-    few e = elim (cases_lt 2048 (length (model library top).inputs)) [
-      | inl many ↦ absurd (true≢false (sym (lt-ltb 2048 (length (model library top).inputs) many) ∙ e))
-      | inr most ↦ most
+    few : nat_lt limit (length (model library top).inputs) ≡ false → length (model library top).inputs ≤ 65535
+    few e = elim (cases_lt limit (length (model library top).inputs)) [
+      | inl many ↦ absurd (true≢false (sym (lt-ltb limit (length (model library top).inputs) many) ∙ e))
+      | inr least ↦ omega (arith, least, most)
     ]
 
 -- which condition it is
@@ -276,7 +277,7 @@ empty_undriven library top columns slots twice s h filled e =
         omega (arith, long)
 
 -- what holds of a hierarchy that is refused for a signal that is driven so
-pub driven_numbered : (driven : Driven) (library : List ModelOf) (top : ℕ) → flat_code library top ≡ Some (driven_code driven) → IsNumbered library top (driven_code driven)
+pub driven_numbered : (driven : Driven) (library : List ModelOf) (top : ℕ) → IsRefusedWith library top (driven_code driven) → IsNumbered library top (driven_code driven)
 driven_numbered Twice library top e = numbered library top 26 (omega arith) (omega arith) e
 driven_numbered Never library top e = numbered library top 27 (omega arith) (omega arith) e
 
@@ -296,8 +297,8 @@ driven_is Twice library top slots twice s h table e = table.again s e
 driven_is Never library top slots twice s h table e = empty_undriven library top (all_columns library) slots twice s h table e
 
 -- a code that is told is that of a rule
-pub code_rule : (library : List ModelOf) (top code : ℕ) → flat_code library top ≡ Some code → (rule : Rule) × (rule_code rule ≡ code)
-code_rule library top code e = by (conditions library top) (sym (code_first library top) ∙ e)
+pub code_rule : (library : List ModelOf) (top limit code : ℕ) → flat_code library top limit ≡ Some code → (rule : Rule) × (rule_code rule ≡ code)
+code_rule library top limit code e = by (conditions library top limit) (sym (code_first library top limit) ∙ e)
   where
     by : (cs : List (Bool × Rule)) → first_code cs ≡ Some code → (rule : Rule) × (rule_code rule ≡ code)
     by [] k = absurd (none_some code k)
@@ -307,17 +308,17 @@ code_rule library top code e = by (conditions library top) (sym (code_first libr
         inside e = cc
     by ((false, rule) ∷ cs) k = by cs k
 
-pub inputs_many : (library : List ModelOf) (top : ℕ) → flat_code library top ≡ Some 30 → 2048 < length (model library top).inputs
+pub inputs_many : (library : List ModelOf) (top limit : ℕ) → flat_code library top limit ≡ Some 30 → limit < length (model library top).inputs
 unfolding has_many_inputs
-inputs_many library top e = ltb-true 2048 (length (model library top).inputs) (alone (has_many_inputs library top) (told_code library top 30 e))
+inputs_many library top limit e = ltb-true limit (length (model library top).inputs) (alone (has_many_inputs library top limit) (told_code library top limit 30 e))
 
-pub size_large : (library : List ModelOf) (top : ℕ) → flat_code library top ≡ Some 29 → 1048576 < length (signals library top) + (length (paths library top) - 1)
+pub size_large : (library : List ModelOf) (top limit : ℕ) → flat_code library top limit ≡ Some 29 → 1048576 < length (signals library top) + (length (paths library top) - 1)
 unfolding is_too_large
-size_large library top e = ltb-true 1048576 (length (signals library top) + (length (paths library top) - 1)) (alone (is_too_large library top) (told_code library top 29 e))
+size_large library top limit e = ltb-true 1048576 (length (signals library top) + (length (paths library top) - 1)) (alone (is_too_large library top) (told_code library top limit 29 e))
 
-pub size_ends : (library : List ModelOf) (top : ℕ) → flat_code library top ≡ Some 29 → is_recursive library top ≡ false
+pub size_ends : (library : List ModelOf) (top limit : ℕ) → flat_code library top limit ≡ Some 29 → is_recursive library top ≡ false
 unfolding flat_code
-size_ends library top e =
+size_ends library top limit e =
     let a = no_code (Some 29) (has_no_such_model library top) 21 _ (apart 21 29 (λ k. absurd (omega (arith, k)))) e in
     (no_code (Some 29) (is_recursive library top) 22 _ (apart 22 29 (λ k. absurd (omega (arith, k)))) a.1).0
 

@@ -30,7 +30,7 @@ use Rattle.eqc_flat.proofs.HierarchyValues.{IsSourced, not_cyclic, cyclic, outpu
 
 -- what the parts of a flat netlist keep
 pub record IsParts (library : List ModelOf) (top : ℕ) (output_signals : List ℕ) (named : List (ℕ × List ℕ)) (places : List (ℕ × ℕ)) (drivers : List DriverOf) (steps : List ℕ) : Type 0 where
-  pub few_inputs : length (model library top).inputs ≤ 2048
+  pub few_inputs : length (model library top).inputs ≤ 65535
   pub few_signals : length (signals library top) ≤ 1048576
   pub inputs_once : has_twice (model library top).inputs ≡ false
   pub outputs_once : has_twice (model library top).outputs ≡ false

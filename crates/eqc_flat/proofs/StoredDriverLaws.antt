@@ -37,7 +37,7 @@ within_more a b c d e f (tie other) ab cd ef h = omega (arith, h, cd)
 within_more a b c d e f (cover columns r) ab cd ef h = (λ k inside. let less = h.0 k inside in omega (arith, less, cd), let less = h.1 in omega (arith, less, ef))
 
 -- the drivers of a hierarchy are in range
-pub in_range : (library : List ModelOf) (top : ℕ) (drivers : List DriverOf) → length (model library top).inputs ≤ 2048
+pub in_range : (library : List ModelOf) (top : ℕ) (drivers : List DriverOf) → length (model library top).inputs ≤ 65535
     → length (signals library top) ≤ 1048576 → IsDriven library top drivers → AreInRange (length (all_columns library)) drivers
 in_range library top drivers inputs few driven = λ s inside.
     within_more (length (model library top).inputs) 4294967296 (length (signals library top)) 4294967296 (length (all_rows library))

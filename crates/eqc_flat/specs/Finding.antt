@@ -55,24 +55,24 @@ IsCircle library top circle =
     × StandOnce members
     × IsWalk (needed library top) (map (signal_at library top) (members ++ slice_index_or members 0 0 ∷ []))
 
--- what is named holds of the hierarchy, which is refused for it
-abbrev pub IsAtFault : List ModelOf → ℕ → Finding → Type 0
-IsAtFault library top (NoSuchModel found) = (flat_code library top ≡ Some 21) × IsMissingModel library top found
-IsAtFault library top (Recursion models) = (flat_code library top ≡ Some 22) × WalksBack (callees library) top models.items
-IsAtFault library top (UnknownFormal found) = (flat_code library top ≡ Some 23) × IsUnknownFormal library top found
-IsAtFault library top (FormalTwice found) = (flat_code library top ≡ Some 24) × IsRepeatedFormal library top found
-IsAtFault library top (MissingInput found) = (flat_code library top ≡ Some 25) × IsMissingInput library top found
-IsAtFault library top (DrivenTwice name) = (flat_code library top ≡ Some 26) × NamesDrivenTwice library top name
-IsAtFault library top (Undriven name) = (flat_code library top ≡ Some 27) × NamesUndriven library top name
-IsAtFault library top (Circular circle) = (flat_code library top ≡ Some 28) × IsCircle library top circle
-IsAtFault library top (TooLarge size limit) =
-    (flat_code library top ≡ Some 29)
-    × (limit ≡ 1048576)
-    × (limit < length (signals library top) + (length (paths library top) - 1))
+-- what is named holds of the hierarchy, which is refused for it where the main model may have as many inputs as the limit
+abbrev pub IsAtFault : List ModelOf → ℕ → ℕ → Finding → Type 0
+IsAtFault library top limit (NoSuchModel found) = (flat_code library top limit ≡ Some 21) × IsMissingModel library top found
+IsAtFault library top limit (Recursion models) = (flat_code library top limit ≡ Some 22) × WalksBack (callees library) top models.items
+IsAtFault library top limit (UnknownFormal found) = (flat_code library top limit ≡ Some 23) × IsUnknownFormal library top found
+IsAtFault library top limit (FormalTwice found) = (flat_code library top limit ≡ Some 24) × IsRepeatedFormal library top found
+IsAtFault library top limit (MissingInput found) = (flat_code library top limit ≡ Some 25) × IsMissingInput library top found
+IsAtFault library top limit (DrivenTwice name) = (flat_code library top limit ≡ Some 26) × NamesDrivenTwice library top name
+IsAtFault library top limit (Undriven name) = (flat_code library top limit ≡ Some 27) × NamesUndriven library top name
+IsAtFault library top limit (Circular circle) = (flat_code library top limit ≡ Some 28) × IsCircle library top circle
+IsAtFault library top limit (TooLarge size most) =
+    (flat_code library top limit ≡ Some 29)
+    × (most ≡ 1048576)
+    × (most < length (signals library top) + (length (paths library top) - 1))
     × IsTold size (length (signals library top) + (length (paths library top) - 1))
-IsAtFault library top (ManyInputs inputs limit) = (flat_code library top ≡ Some 30) × (inputs ≡ length (model library top).inputs) × (limit ≡ 2048) × (limit < inputs)
+IsAtFault library top limit (ManyInputs inputs most) = (flat_code library top limit ≡ Some 30) × (inputs ≡ length (model library top).inputs) × (most ≡ limit) × (limit < inputs)
 
 -- what is at fault, or none where nothing is refused
-abbrev pub IsExplained : List ModelOf → ℕ → Option Finding → Type 0
-IsExplained library top None = flat_code library top ≡ None
-IsExplained library top (Some finding) = IsAtFault library top finding
+abbrev pub IsExplained : List ModelOf → ℕ → ℕ → Option Finding → Type 0
+IsExplained library top limit None = flat_code library top limit ≡ None
+IsExplained library top limit (Some finding) = IsAtFault library top limit finding

@@ -65,7 +65,7 @@ pub record IsFlatOf (library : List ModelOf) (top : ℕ) (f : FlatOf) : Type 0 w
   pub values : (a : ℕ → Bool) (o : ℕ) → o < length f.outputs → value_of f a (slice_index_or f.output_signals o 0) ≡ output_value library top a (slice_index_or f.outputs o [])
 
 -- why one of two models of a library has no flat netlist, want of memory or the code of its hierarchy's fault: the first where it
--- has none, whatever the second
-abbrev pub IsFaultOfTwo : List ModelOf → ℕ → ℕ → FaultOfTwo → Type 0
-IsFaultOfTwo library m n (First fault) = (fault.code ≡ 72) ⊎ (flat_code library m ≡ Some fault.code)
-IsFaultOfTwo library m n (Second fault) = (flat_code library m ≡ None) × ((fault.code ≡ 72) ⊎ (flat_code library n ≡ Some fault.code))
+-- has none, whatever the second. Each may have as many inputs as the limit
+abbrev pub IsFaultOfTwo : List ModelOf → ℕ → ℕ → ℕ → FaultOfTwo → Type 0
+IsFaultOfTwo library m n limit (First fault) = (fault.code ≡ 72) ⊎ (flat_code library m limit ≡ Some fault.code)
+IsFaultOfTwo library m n limit (Second fault) = (flat_code library m limit ≡ None) × ((fault.code ≡ 72) ⊎ (flat_code library n limit ≡ Some fault.code))

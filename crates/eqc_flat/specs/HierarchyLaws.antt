@@ -46,8 +46,8 @@ RecursiveWhereReached =
 -- a netlist that no other code refuses has code 28 exactly when some flat signal depends on itself
 abbrev pub CyclicWhereReached : Type 0
 CyclicWhereReached =
-    (library : List ModelOf) (top : ℕ) → (flat_code library top ≡ None) ⊎ (flat_code library top ≡ Some 28)
-    → (flat_code library top ≡ Some 28)
+    (library : List ModelOf) (top limit : ℕ) → (flat_code library top limit ≡ None) ⊎ (flat_code library top limit ≡ Some 28)
+    → (flat_code library top limit ≡ Some 28)
     ↔ ((k : ℕ)
     × (k < length (signals library top))
     × Reaches (needed library top) (signal_at library top k) (signal_at library top k))

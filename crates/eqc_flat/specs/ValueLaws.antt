@@ -17,7 +17,7 @@ ValuesAreThereForAll = (library : List ModelOf) (top : ℕ) (a b : ℕ → Bool)
 -- each signal of an accepted netlist has a value under every assignment
 abbrev pub AcceptedHaveValues : Type 0
 AcceptedHaveValues =
-    (library : List ModelOf) (top : ℕ) → flat_code library top ≡ None → (a : ℕ → Bool) (s : ℕ) → s < length (signals library top)
+    (library : List ModelOf) (top limit : ℕ) → flat_code library top limit ≡ None → (a : ℕ → Bool) (s : ℕ) → s < length (signals library top)
     → is_some (value_at library top a (length (signals library top)) (signal_at library top s)) ≡ true
 
 -- the value of a signal at a depth depends on the values of the main model's inputs alone

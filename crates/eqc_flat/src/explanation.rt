@@ -9,7 +9,7 @@ use crate::drivers::driver_table::Driven;
 use crate::finding::Finding;
 use crate::finding::circle_finding::circle_below;
 use crate::finding::driver_findings::driven_below;
-use crate::flattening::{MAX_INPUTS, flatten};
+use crate::flattening::flatten_within;
 use crate::hierarchy::instances::LIMIT;
 use eqc_blif::Library;
 use eqc_hierarchy::{
@@ -18,13 +18,18 @@ use eqc_hierarchy::{
 };
 use std::alloc::{AllocError, Global};
 
-/// The rule by which the hierarchy below model `top` is refused, or none where it is accepted. Fails where memory is
-/// refused.
-fn refusal(alloc: Global, library: &Library, top: usize) -> Result<Option<Rule>, AllocError>
+/// The rule by which the hierarchy below model `top` is refused, with this limit of inputs, or none where it is accepted.
+/// Fails where memory is refused.
+fn refusal(
+    alloc: Global,
+    library: &Library,
+    top: usize,
+    limit: u16,
+) -> Result<Option<Rule>, AllocError>
     requires { top < length library.now }
-    ensures { IfOk result (λ rule. option_map rule_code rule ≡ flat_code library.now top) }
+    ensures { IfOk result (λ rule. option_map rule_code rule ≡ flat_code library.now top limit) }
 {
-    let Err(fault) = flatten(alloc, library, top) else {
+    let Err(fault) = flatten_within(alloc, library, top, limit) else {
         return Ok(None);
     };
     if fault.is_memory() {
@@ -33,16 +38,17 @@ fn refusal(alloc: Global, library: &Library, top: usize) -> Result<Option<Rule>,
     Ok(Some(fault.rule()))
 }
 
-/// What is at fault in a hierarchy that is refused by a rule. Fails where memory is refused.
+/// What is at fault in a hierarchy that is refused by a rule, with this limit of inputs. Fails where memory is refused.
 fn finding(
     alloc: Global,
     library: &Library,
     top: usize,
+    limit: u16,
     rule: Rule,
 ) -> Result<Finding<'_>, AllocError>
     requires there { top < length library.now }
-    requires refused { flat_code library.now top ≡ Some (rule_code rule) }
-    ensures { IfOk result (λ found. IsAtFault library.now top found) }
+    requires refused { flat_code library.now top limit ≡ Some (rule_code rule) }
+    ensures { IfOk result (λ found. IsAtFault library.now top limit found) }
 {
     match rule {
         Rule::NoSuchModel => Ok(Finding::NoSuchModel(missing_model(alloc, library, top)?)),
@@ -66,7 +72,7 @@ fn finding(
         }
         Rule::ManyInputs => {
             let inputs = library.inputs(top).len();
-            let limit = MAX_INPUTS;
+            let limit = limit as usize;
             Ok(Finding::ManyInputs { inputs, limit })
         }
         Rule::Memory => Err(AllocError),
@@ -74,18 +80,19 @@ fn finding(
 }
 
 /// What is at fault in the hierarchy below model `top` of a library, which is below the number of models, for a reader of
-/// a refusal: it flattens once more, and then goes through the hierarchy for what the code is about. None where
-/// flattening accepts the hierarchy. Fails where memory is refused.
+/// a refusal: it flattens once more, with this limit of inputs, and then goes through the hierarchy for what the code is
+/// about. None where flattening accepts the hierarchy. Fails where memory is refused.
 pub fn explain(
     alloc: Global,
     library: &Library,
     top: usize,
+    limit: u16,
 ) -> Result<Option<Finding<'_>>, AllocError>
     requires { top < length library.now }
-    ensures { IfOk result (λ found. IsExplained library.now top found) }
+    ensures { IfOk result (λ found. IsExplained library.now top limit found) }
 {
-    match refusal(alloc, library, top)? {
-        Some(rule) => Ok(Some(finding(alloc, library, top, rule)?)),
+    match refusal(alloc, library, top, limit)? {
+        Some(rule) => Ok(Some(finding(alloc, library, top, limit, rule)?)),
         None => Ok(None),
     }
 }

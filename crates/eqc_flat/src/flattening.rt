@@ -3,14 +3,14 @@ ghost use Rattle.std.specs.Prelude.{◌≡◌, ◌⊎◌, ℕ, ◌<◌, ◌≤�
 ghost use Rattle.eqc_netlist.specs.Names.{has_twice};
 ghost use Rattle.eqc_hierarchy.specs.Hierarchy.{model};
 ghost use Rattle.eqc_hierarchy.specs.Signals.{signals};
-ghost use Rattle.eqc_hierarchy.specs.Codes.{flat_code};
+ghost use Rattle.eqc_hierarchy.specs.Codes.{code_of_drivers, flat_code};
 ghost use Rattle.eqc_flat.specs.DriverTable.{IsDriven};
 ghost use Rattle.eqc_flat.specs.Ordering.{IsOrder};
 ghost use Rattle.eqc_flat.specs.Flattened.{signals_here, signal_at, all_named, IsFlatOf, IsFaultOfTwo};
 ghost use Rattle.eqc_flat.specs.Instances.{IsExpansion};
 ghost use Rattle.eqc_hierarchy.specs.Columns.{all_columns};
 ghost use Rattle.eqc_hierarchy.specs.ModelFaults.{HasNoModelFault};
-ghost use Rattle.eqc_flat.specs.Flattening.{IsNumberable, IsFlatFault};
+ghost use Rattle.eqc_flat.specs.Flattening.{IsNumberable, IsFlatFault, IsFaultAnyway, IsDriversFault};
 
 use crate::drivers::driver_table::{drivers_of, signals_of};
 use crate::drivers::row_table::RowTable;
@@ -22,8 +22,8 @@ use eqc_netlist::{Drivers, Fault, FaultOfTwo, Flat};
 use smallvec::SmallVec;
 use std::alloc::{AllocError, Global};
 
-/// How many inputs a main model may have.
-pub(crate) const MAX_INPUTS: usize = 2_048;
+/// How many inputs a main model may have where nothing else is asked for.
+pub const DEFAULT_INPUTS: u16 = 2_048;
 
 /// The main model's outputs as flat signals, and each signal with its instance and name. Fails where memory is refused.
 fn listed<'a>(
@@ -61,7 +61,7 @@ fn put_together<'a>(
     steps: Vec<u32>,
 ) -> Result<Flat<'a>, AllocError>
     requires same { rows ≡ hierarchy.0 }
-    requires few { length (model hierarchy.0 hierarchy.1).inputs ≤ 2048 }
+    requires few { length (model hierarchy.0 hierarchy.1).inputs ≤ 65535 }
     requires driven { IsDriven hierarchy.0 hierarchy.1 drivers }
     requires ordered { IsOrder drivers steps.items }
     ensures { IfOk result (λ flat. IsFlatOf hierarchy.entry.0 hierarchy.entry.1 flat) }
@@ -96,7 +96,7 @@ fn ordered_drivers(
     requires numbered { IsNumberable hierarchy.now.0 hierarchy.now.1 }
     requires columns { map (λ c. c.items) columns.items ≡ all_columns hierarchy.now.0 }
     ensures ordered { IfOk result (λ found. IsDriven hierarchy.now.0 hierarchy.now.1 found.0 × IsOrder found.0 found.1.items) }
-    ensures refused { IfErr result (λ fault. IsFlatFault hierarchy.now.0 hierarchy.now.1 fault.code) }
+    ensures refused { IfErr result (λ fault. IsDriversFault hierarchy.now.0 hierarchy.now.1 fault.code) }
 {
     let drivers = match drivers_of(alloc, hierarchy, rows, columns) {
         Ok(drivers) => drivers,
@@ -121,7 +121,7 @@ fn driven_in_order<'a>(
     requires columns { map (λ c. c.items) columns.items ≡ all_columns hierarchy.now.0 }
     ensures rows { IfOk result (λ found. found.0 ≡ hierarchy.now.0) }
     ensures ordered { IfOk result (λ found. IsDriven hierarchy.now.0 hierarchy.now.1 found.1.0 × IsOrder found.1.0 found.1.1.items) }
-    ensures refused { IfErr result (λ fault. IsFlatFault hierarchy.now.0 hierarchy.now.1 fault.code) }
+    ensures refused { IfErr result (λ fault. IsDriversFault hierarchy.now.0 hierarchy.now.1 fault.code) }
 {
     let rows = RowTable::of(alloc, library)?;
     match ordered_drivers(alloc, hierarchy, &rows, columns) {
@@ -140,9 +140,9 @@ fn netlist<'a>(
     requires same { library.now ≡ hierarchy.0 }
     requires numbered { IsNumberable hierarchy.0 hierarchy.1 }
     requires columns { map (λ c. c.items) columns.items ≡ all_columns hierarchy.0 }
-    ensures accepted { IfOk result (λ flat. flat_code hierarchy.entry.0 hierarchy.entry.1 ≡ None) }
+    ensures accepted { IfOk result (λ flat. code_of_drivers hierarchy.entry.0 hierarchy.entry.1 ≡ None) }
     ensures flat { IfOk result (λ flat. IsFlatOf hierarchy.entry.0 hierarchy.entry.1 flat) }
-    ensures refused { IfErr result (λ fault. IsFlatFault hierarchy.entry.0 hierarchy.entry.1 fault.code) }
+    ensures refused { IfErr result (λ fault. IsDriversFault hierarchy.entry.0 hierarchy.entry.1 fault.code) }
 {
     let (rows, (drivers, steps)) = match driven_in_order(alloc, library, &hierarchy, columns) {
         Ok(found) => found,
@@ -158,7 +158,7 @@ fn calls_below(alloc: Global, library: &Library, top: usize) -> Result<Calls<'_>
     requires { top < length library.now }
     ensures calls { IfOk result (λ calls. calls ≡ library.now) }
     ensures models { IfOk result (λ calls. HasNoModelFault library.now top) }
-    ensures refused { IfErr result (λ fault. IsFlatFault library.now top fault.code) }
+    ensures refused { IfErr result (λ fault. IsFaultAnyway library.now top fault.code) }
 {
     let calls = Calls::of(alloc, library)?;
     match first_model_fault(alloc, &calls, top)? {
@@ -179,7 +179,7 @@ fn expanded<'n, 'a>(
     requires named { naming.now ≡ library.now }
     ensures models { IfOk result (λ made. HasNoModelFault library.now top) }
     ensures made { IfOk result (λ made. IsExpansion library.now top made) }
-    ensures refused { IfErr result (λ fault. IsFlatFault library.now top fault.code) }
+    ensures refused { IfErr result (λ fault. IsFaultAnyway library.now top fault.code) }
 {
     let calls = match calls_below(alloc, library, top) {
         Ok(calls) => calls,
@@ -192,48 +192,67 @@ fn expanded<'n, 'a>(
 }
 
 /// The flat netlist of the hierarchy below model `top` of a library, over the names of its models and with these places of the
-/// columns of each cover, or a code from 21 to 30. 72 where memory is refused.
+/// columns of each cover, or a code from 21 to 30, the last for more inputs than the limit. 72 where memory is refused.
 fn flat_below<'a>(
     alloc: Global,
     library: &'a Library,
     naming: &Naming<'a>,
     columns: Vec<SmallVec<u32, 4>>,
     top: usize,
+    limit: u16,
 ) -> Result<Flat<'a>, Fault>
     requires there { top < length library.now }
     requires named { naming.now ≡ library.now }
     requires columns { map (λ c. c.items) columns.items ≡ all_columns library.now }
-    ensures accepted { IfOk result (λ flat. flat_code library.now top ≡ None) }
+    ensures accepted { IfOk result (λ flat. flat_code library.now top limit ≡ None) }
     ensures flat { IfOk result (λ flat. IsFlatOf library.now top flat) }
-    ensures refused { IfErr result (λ fault. IsFlatFault library.now top fault.code) }
+    ensures refused { IfErr result (λ fault. IsFlatFault library.now top limit fault.code) }
 {
     let hierarchy = match expanded(alloc, library, naming, top) {
         Ok(made) => made,
         Err(fault) => return Err(fault),
     };
-    if library.inputs(top).len() > MAX_INPUTS {
+    let most = limit as usize;
+    if library.inputs(top).len() > most {
         return Err(Fault::of(Rule::ManyInputs));
     }
     netlist(alloc, library, hierarchy, columns)
 }
 
 /// The flat netlist of the hierarchy below model `top` of a library, which is below the number of models: one list of
-/// signals, each with what drives it, in an order in which each stands after those that it depends on.
+/// signals, each with what drives it, in an order in which each stands after those that it depends on. The main model may
+/// have as many inputs as `limit`.
 ///
 /// Refused by the first of these numbers that applies to all models and instances that the main model reaches: 21 for
 /// an instance of a model that isn't in the text, 22 for a model that reaches itself, 23 for a formal that is neither
 /// input nor output of its model, 24 for a formal twice in an instance, 25 for an input of an instance without a pair,
-/// 29 for more than 1,048,576 flat signals and instances together, 30 for more than 2,048 inputs of the main model, 26
+/// 29 for more than 1,048,576 flat signals and instances together, 30 for more than `limit` inputs of the main model, 26
 /// for a signal that is driven twice, 27 for one that nothing drives, 28 for one that depends on itself. 72 where memory
 /// is refused.
-pub fn flatten(alloc: Global, library: &Library, top: usize) -> Result<Flat<'_>, Fault>
+pub fn flatten_within(
+    alloc: Global,
+    library: &Library,
+    top: usize,
+    limit: u16,
+) -> Result<Flat<'_>, Fault>
     requires { top < length library.now }
-    ensures accepted { IfOk result (λ flat. flat_code library.now top ≡ None) }
+    ensures accepted { IfOk result (λ flat. flat_code library.now top limit ≡ None) }
     ensures flat { IfOk result (λ flat. IsFlatOf library.now top flat) }
-    ensures refused { IfErr result (λ fault. (fault.code ≡ 72) ⊎ (flat_code library.now top ≡ Some fault.code)) }
+    ensures refused { IfErr result (λ fault. (fault.code ≡ 72) ⊎ (flat_code library.now top limit ≡ Some fault.code)) }
 {
     let (naming, columns) = Naming::of(alloc, library)?;
-    flat_below(alloc, library, &naming, columns, top)
+    flat_below(alloc, library, &naming, columns, top, limit)
+}
+
+/// The flat netlist of the hierarchy below model `top` of a library, which is below the number of models, as
+/// `flatten_within` makes it where the main model may have at most 2,048 inputs: 30 for more of them.
+pub fn flatten(alloc: Global, library: &Library, top: usize) -> Result<Flat<'_>, Fault>
+    requires { top < length library.now }
+    ensures accepted { IfOk result (λ flat. flat_code library.now top 2048 ≡ None) }
+    ensures flat { IfOk result (λ flat. IsFlatOf library.now top flat) }
+    ensures refused { IfErr result (λ fault. (fault.code ≡ 72) ⊎ (flat_code library.now top 2048 ≡ Some fault.code)) }
+{
+    flatten_within(alloc, library, top, DEFAULT_INPUTS)
 }
 
 /// Copies of the places of the columns of each cover. Fails where memory is refused.
@@ -247,22 +266,23 @@ fn copied(alloc: Global, columns: &[SmallVec<u32, 4>]) -> Result<Vec<SmallVec<u3
     Ok(copies)
 }
 
-/// The flat netlists below two models of a library, each as `flatten` makes it. It takes less time than two calls of it, since the
-/// names of the library's models are put in order once.
+/// The flat netlists below two models of a library, each as `flatten_within` makes it with this limit of inputs. It takes less time
+/// than two calls of it, since the names of the library's models are put in order once.
 ///
 /// `first` and `second` are below the number of models, and may be one. The error tells which of the two is refused, the first one where
-/// both are, with the number that `flatten` has for it, 21 to 30; 72 where memory is refused.
+/// both are, with the number that `flatten_within` has for it, 21 to 30; 72 where memory is refused.
 pub fn flatten_two(
     alloc: Global,
     library: &Library,
     first: usize,
     second: usize,
+    limit: u16,
 ) -> Result<(Flat<'_>, Flat<'_>), FaultOfTwo>
     requires first { first < length library.now }
     requires second { second < length library.now }
-    ensures first { IfOk result (λ flats. (flat_code library.now first ≡ None) × IsFlatOf library.now first flats.0) }
-    ensures second { IfOk result (λ flats. (flat_code library.now second ≡ None) × IsFlatOf library.now second flats.1) }
-    ensures refused { IfErr result (IsFaultOfTwo library.now first second) }
+    ensures first { IfOk result (λ flats. (flat_code library.now first limit ≡ None) × IsFlatOf library.now first flats.0) }
+    ensures second { IfOk result (λ flats. (flat_code library.now second limit ≡ None) × IsFlatOf library.now second flats.1) }
+    ensures refused { IfErr result (IsFaultOfTwo library.now first second limit) }
 {
     let Ok((naming, columns)) = Naming::of(alloc, library) else {
         return Err(FaultOfTwo::First(Fault::of(Rule::Memory)));
@@ -270,8 +290,8 @@ pub fn flatten_two(
     let Ok(copies) = copied(alloc, &columns) else {
         return Err(FaultOfTwo::First(Fault::of(Rule::Memory)));
     };
-    match flat_below(alloc, library, &naming, copies, first) {
-        Ok(f) => match flat_below(alloc, library, &naming, columns, second) {
+    match flat_below(alloc, library, &naming, copies, first, limit) {
+        Ok(f) => match flat_below(alloc, library, &naming, columns, second, limit) {
             Ok(g) => Ok((f, g)),
             Err(fault) => Err(FaultOfTwo::Second(fault)),
         },

@@ -28,7 +28,7 @@ pub use explanation::explain;
 pub use finding::Finding;
 pub use finding::circle::Circle;
 pub use finding::hierarchical_name::{HierarchicalName, Step};
-pub use flattening::{flatten, flatten_two};
+pub use flattening::{DEFAULT_INPUTS, flatten, flatten_two, flatten_within};
 pub use laws::{
     accepted_have_values, covers_depend_on_columns_alone, cyclic_where_reached,
     recursive_where_reached, signals_are_names_of_instances, signals_stand_once,

@@ -23,6 +23,7 @@ use Rattle.eqc_hierarchy.specs.Codes.{
   is_cyclic,
   code_if,
   flat_code,
+  IsRefusedWith,
 }
 use Rattle.eqc_hierarchy.specs.InstanceFinding.{callee}
 use Rattle.eqc_netlist.specs.NameSets.{with_name}
@@ -57,15 +58,15 @@ there None e = absurd (true≢false (sym e))
 there (Some s) e = refl
 
 -- the conditions of the codes, each with its rule, in their order
-abbrev pub conditions : List ModelOf → ℕ → List (Bool × Rule)
-conditions library top =
+abbrev pub conditions : List ModelOf → ℕ → ℕ → List (Bool × Rule)
+conditions library top limit =
     (has_no_such_model library top, NoSuchModel)
     ∷ (is_recursive library top, Recursion)
     ∷ (has_unknown_formal library top, UnknownFormal)
     ∷ (has_formal_twice library top, FormalTwice)
     ∷ (has_missing_formal library top, MissingInput)
     ∷ (is_too_large library top, TooLarge)
-    ∷ (has_many_inputs library top, ManyInputs)
+    ∷ (has_many_inputs library top limit, ManyInputs)
     ∷ (is_driven_twice library top, DrivenTwice)
     ∷ (is_undriven library top, Undriven)
     ∷ (is_cyclic library top, Circle)
@@ -76,9 +77,9 @@ abbrev pub first_code : List (Bool × Rule) → Option ℕ
 first_code [] = None
 first_code (c ∷ cs) = code_if c.0 (rule_code c.1) (first_code cs)
 
-pub code_first : (library : List ModelOf) (top : ℕ) → flat_code library top ≡ first_code (conditions library top)
+pub code_first : (library : List ModelOf) (top limit : ℕ) → flat_code library top limit ≡ first_code (conditions library top limit)
 unfolding flat_code
-code_first library top = refl
+code_first library top limit = refl
 
 -- where a code is told, a condition with it holds
 told_by : (cs : List (Bool × Rule)) (code : ℕ) → first_code cs ≡ Some code → list_any (λ c. (rule_code c.1 == code) && c.0) cs ≡ true
@@ -89,28 +90,28 @@ told_by ((true, rule) ∷ cs) code e = rw (eq-eqb (rule_code rule) code (inside 
     inside e = cc
 told_by ((false, rule) ∷ cs) code e = or_right ((rule_code rule == code) && false) (list_any (λ c. (rule_code c.1 == code) && c.0) cs) (told_by cs code e)
 
-pub told_code : (library : List ModelOf) (top code : ℕ) → flat_code library top ≡ Some code → list_any (λ c. (rule_code c.1 == code) && c.0) (conditions library top) ≡ true
-told_code library top code e = told_by (conditions library top) code (sym (code_first library top) ∙ e)
+pub told_code : (library : List ModelOf) (top limit code : ℕ) → flat_code library top limit ≡ Some code → list_any (λ c. (rule_code c.1 == code) && c.0) (conditions library top limit) ≡ true
+told_code library top limit code e = told_by (conditions library top limit) code (sym (code_first library top limit) ∙ e)
 
 -- the conditions of the codes of models, over the models that are reached
-pub model_missing : (library : List ModelOf) (top : ℕ) → flat_code library top ≡ Some 21 → some_instance_in library (reached library top) (names_no_model library) ≡ true
+pub model_missing : (library : List ModelOf) (top : ℕ) → IsRefusedWith library top 21 → some_instance_in library (reached library top) (names_no_model library) ≡ true
 unfolding has_no_such_model
-model_missing library top e = alone (has_no_such_model library top) (told_code library top 21 e)
+model_missing library top (limit, most, e) = alone (has_no_such_model library top) (told_code library top limit 21 e)
 
-pub recursive : (library : List ModelOf) (top : ℕ) → flat_code library top ≡ Some 22 → is_recursive library top ≡ true
-recursive library top e = alone (is_recursive library top) (told_code library top 22 e)
+pub recursive : (library : List ModelOf) (top : ℕ) → IsRefusedWith library top 22 → is_recursive library top ≡ true
+recursive library top (limit, most, e) = alone (is_recursive library top) (told_code library top limit 22 e)
 
-pub formal_unknown : (library : List ModelOf) (top : ℕ) → flat_code library top ≡ Some 23 → some_instance_in library (reached library top) (names_no_formal library) ≡ true
+pub formal_unknown : (library : List ModelOf) (top : ℕ) → IsRefusedWith library top 23 → some_instance_in library (reached library top) (names_no_formal library) ≡ true
 unfolding has_unknown_formal
-formal_unknown library top e = alone (has_unknown_formal library top) (told_code library top 23 e)
+formal_unknown library top (limit, most, e) = alone (has_unknown_formal library top) (told_code library top limit 23 e)
 
-pub formal_repeated : (library : List ModelOf) (top : ℕ) → flat_code library top ≡ Some 24 → some_instance_in library (reached library top) names_formal_twice ≡ true
+pub formal_repeated : (library : List ModelOf) (top : ℕ) → IsRefusedWith library top 24 → some_instance_in library (reached library top) names_formal_twice ≡ true
 unfolding has_formal_twice
-formal_repeated library top e = alone (has_formal_twice library top) (told_code library top 24 e)
+formal_repeated library top (limit, most, e) = alone (has_formal_twice library top) (told_code library top limit 24 e)
 
-pub input_missing : (library : List ModelOf) (top : ℕ) → flat_code library top ≡ Some 25 → some_instance_in library (reached library top) (leaves_input_out library) ≡ true
+pub input_missing : (library : List ModelOf) (top : ℕ) → IsRefusedWith library top 25 → some_instance_in library (reached library top) (leaves_input_out library) ≡ true
 unfolding has_missing_formal
-input_missing library top e = alone (has_missing_formal library top) (told_code library top 25 e)
+input_missing library top (limit, most, e) = alone (has_missing_formal library top) (told_code library top limit 25 e)
 
 -- what stands somewhere has a first place
 pub place_known : {X : Type 0} (p : X → Bool) (xs : List X) → list_any p xs ≡ true → is_some (position p xs) ≡ true

@@ -117,38 +117,40 @@ input_unpaired library i =
 
 -- ---- the first code
 
-pub code_21 : (library : List ModelOf) (top : ℕ) → has_no_such_model library top ≡ true → flat_code library top ≡ Some 21
+pub code_21 : (library : List ModelOf) (top : ℕ) → has_no_such_model library top ≡ true → (limit : ℕ) → flat_code library top limit ≡ Some 21
 unfolding flat_code
-code_21 library top a = rw a refl
+code_21 library top a limit = rw a refl
 
-pub code_22 : (library : List ModelOf) (top : ℕ) → has_no_such_model library top ≡ false → is_recursive library top ≡ true → flat_code library top ≡ Some 22
+pub code_22 : (library : List ModelOf) (top : ℕ) → has_no_such_model library top ≡ false → is_recursive library top ≡ true → (limit : ℕ) → flat_code library top limit ≡ Some 22
 unfolding flat_code
-code_22 library top a b = rw (a, b) refl
+code_22 library top a b limit = rw (a, b) refl
 
-pub code_23 : (library : List ModelOf) (top : ℕ) → has_no_such_model library top ≡ false → is_recursive library top ≡ false → has_unknown_formal library top ≡ true → flat_code library top ≡ Some 23
+pub code_23 : (library : List ModelOf) (top : ℕ) → has_no_such_model library top ≡ false → is_recursive library top ≡ false → has_unknown_formal library top ≡ true
+    → (limit : ℕ) → flat_code library top limit ≡ Some 23
 unfolding flat_code
-code_23 library top a b c = rw (a, b, c) refl
+code_23 library top a b c limit = rw (a, b, c) refl
 
 pub code_24 : (library : List ModelOf) (top : ℕ) → has_no_such_model library top ≡ false → is_recursive library top ≡ false
-    → has_unknown_formal library top ≡ false → has_formal_twice library top ≡ true → flat_code library top ≡ Some 24
+    → has_unknown_formal library top ≡ false → has_formal_twice library top ≡ true → (limit : ℕ)
+    → flat_code library top limit ≡ Some 24
 unfolding flat_code
-code_24 library top a b c d = rw (a, b, c, d) refl
+code_24 library top a b c d limit = rw (a, b, c, d) refl
 
 pub code_25 : (library : List ModelOf) (top : ℕ) → has_no_such_model library top ≡ false → is_recursive library top ≡ false
     → has_unknown_formal library top ≡ false → has_formal_twice library top ≡ false → has_missing_formal library top ≡ true
-    → flat_code library top ≡ Some 25
+    → (limit : ℕ) → flat_code library top limit ≡ Some 25
 unfolding flat_code
-code_25 library top a b c d e = rw (a, b, c, d, e) refl
+code_25 library top a b c d e limit = rw (a, b, c, d, e) refl
 
 -- without a fault of the models the first code is one of signals and instances
-pub later_code : (library : List ModelOf) (top : ℕ) → HasNoModelFault library top
-    → flat_code library top
+pub later_code : (library : List ModelOf) (top limit : ℕ) → HasNoModelFault library top
+    → flat_code library top limit
     ≡ code_if (is_too_large library top) 29
-    (code_if (has_many_inputs library top) 30
+    (code_if (has_many_inputs library top limit) 30
     (code_if (is_driven_twice library top) 26
     (code_if (is_undriven library top) 27 (code_if (is_cyclic library top) 28 None))))
 unfolding flat_code
-later_code library top h = rw (h.models_there, h.not_recursive, h.formals_known, h.formals_once, h.inputs_given) refl
+later_code library top limit h = rw (h.models_there, h.not_recursive, h.formals_known, h.formals_once, h.inputs_given) refl
 
 -- what a condition over some models says of the models that are reached
 pub told : (condition : List ModelOf → ℕ → Bool) (given library : List ModelOf) (models items : List ℕ) (top : ℕ) (some is : Bool) → given ≡ library → models ≡ items

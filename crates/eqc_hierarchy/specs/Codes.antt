@@ -1,5 +1,5 @@
 -- The codes of flattening, each a condition over all models and instances that the main model reaches.
-use Rattle.std.specs.Prelude.{ℕ, suc, ◌+◌, ◌-◌, Bool, false, not, ◌==◌, List, ◌++◌, length, map, Option, Some, None, is_none, nat_lt, if◌then◌else◌}
+use Rattle.std.specs.Prelude.{◌≡◌, ℕ, suc, ◌+◌, ◌-◌, ◌≤◌, Bool, false, not, ◌==◌, List, ◌++◌, length, map, Option, Some, None, is_none, nat_lt, if◌then◌else◌}
 use Rattle.std.specs.List.{list_any}
 use Rattle.eqc_blif.specs.Netlist.{ModelOf, InstanceOf}
 use Rattle.eqc_netlist.specs.Names.{is_named, has_twice}
@@ -40,9 +40,9 @@ has_missing_formal library top = some_instance library top (λ callee i. list_an
 unfoldable pub is_too_large : List ModelOf → ℕ → Bool
 is_too_large library top = nat_lt 1048576 (length (signals library top) + (length (paths library top) - 1))
 
--- 30: more than 2,048 inputs of the main model
-unfoldable pub has_many_inputs : List ModelOf → ℕ → Bool
-has_many_inputs library top = nat_lt 2048 (length (model library top).inputs)
+-- 30: more inputs of the main model than the limit
+unfoldable pub has_many_inputs : List ModelOf → ℕ → ℕ → Bool
+has_many_inputs library top limit = nat_lt limit (length (model library top).inputs)
 
 -- 26: a flat signal that is driven twice
 unfoldable pub is_driven_twice : List ModelOf → ℕ → Bool
@@ -61,10 +61,18 @@ is_cyclic library top = list_any (λ s. is_none (value_at library top (λ _. fal
 abbrev pub code_if : Bool → ℕ → Option ℕ → Option ℕ
 code_if condition code later = if condition then Some code else later
 
--- the first code that applies to a library and its main model; none is an accepted netlist
-unfoldable pub flat_code : List ModelOf → ℕ → Option ℕ
-flat_code library top =
+-- the first code that applies to what drives the signals, where each other one does not
+abbrev pub code_of_drivers : List ModelOf → ℕ → Option ℕ
+code_of_drivers library top = code_if (is_driven_twice library top) 26 (code_if (is_undriven library top) 27 (code_if (is_cyclic library top) 28 None))
+
+-- the first code that applies to a library and its main model, which may have as many inputs as the limit; none is an
+-- accepted netlist
+unfoldable pub flat_code : List ModelOf → ℕ → ℕ → Option ℕ
+flat_code library top limit =
     code_if (has_no_such_model library top) 21 (code_if (is_recursive library top) 22
     (code_if (has_unknown_formal library top) 23 (code_if (has_formal_twice library top) 24 (code_if (has_missing_formal library top) 25
-    (code_if (is_too_large library top) 29 (code_if (has_many_inputs library top) 30
-    (code_if (is_driven_twice library top) 26 (code_if (is_undriven library top) 27 (code_if (is_cyclic library top) 28 None)))))))))
+    (code_if (is_too_large library top) 29 (code_if (has_many_inputs library top limit) 30 (code_of_drivers library top)))))))
+
+-- whether a code is the first that applies under some limit of inputs, which is at most 65,535
+abbrev pub IsRefusedWith : List ModelOf → ℕ → ℕ → Type 0
+IsRefusedWith library top code = (limit : ℕ) × (limit ≤ 65535) × (flat_code library top limit ≡ Some code)

@@ -1,7 +1,7 @@
 //! What is at fault in a hierarchy that is refused for an instance: the first that meets the condition, and its formal.
-ghost use Rattle.std.specs.Prelude.{◌≡◌, ◌<◌, [], length, map, take, true, not, position, Some, is_some, slice_index_or, IfOk, IfSome};
+ghost use Rattle.std.specs.Prelude.{◌≡◌, ◌<◌, [], length, map, take, true, not, position, is_some, slice_index_or, IfOk, IfSome};
 ghost use Rattle.eqc_netlist.specs.Names.{is_named, has_twice};
-ghost use Rattle.eqc_hierarchy.specs.Codes.{flat_code};
+ghost use Rattle.eqc_hierarchy.specs.Codes.{IsRefusedWith};
 ghost use Rattle.eqc_hierarchy.specs.Hierarchy.{reached};
 ghost use Rattle.eqc_hierarchy.specs.Reaching.{some_instance_in};
 ghost use Rattle.eqc_hierarchy.specs.InstanceFinding.{StandsAt, IsMissingModel, IsUnknownFormal, IsRepeatedFormal, IsMissingInput};
@@ -48,7 +48,7 @@ pub fn missing_model(
     top: usize,
 ) -> Result<FoundInstance<'_>, AllocError>
     requires there { top < length library.now }
-    requires refused { flat_code library.now top ≡ Some 21 }
+    requires refused { IsRefusedWith library.now top 21 }
     ensures { IfOk result (λ found. IsMissingModel library.now top found) }
 {
     let condition = NamesNoModel::new(library);
@@ -63,7 +63,7 @@ pub fn unknown_formal(
     top: usize,
 ) -> Result<FoundFormal<'_>, AllocError>
     requires there { top < length library.now }
-    requires refused { flat_code library.now top ≡ Some 23 }
+    requires refused { IsRefusedWith library.now top 23 }
     ensures { IfOk result (λ found. IsUnknownFormal library.now top found) }
 {
     let condition = NamesNoFormal::of(alloc, library)?;
@@ -81,7 +81,7 @@ pub fn formal_twice(
     top: usize,
 ) -> Result<FoundFormal<'_>, AllocError>
     requires there { top < length library.now }
-    requires refused { flat_code library.now top ≡ Some 24 }
+    requires refused { IsRefusedWith library.now top 24 }
     ensures { IfOk result (λ found. IsRepeatedFormal library.now top found) }
 {
     let found = first_at_fault(
@@ -111,7 +111,7 @@ pub fn missing_input(
     top: usize,
 ) -> Result<FoundFormal<'_>, AllocError>
     requires there { top < length library.now }
-    requires refused { flat_code library.now top ≡ Some 25 }
+    requires refused { IsRefusedWith library.now top 25 }
     ensures { IfOk result (λ found. IsMissingInput library.now top found) }
 {
     let condition = LeavesInputOut::new(library);

@@ -80,7 +80,7 @@ fn fault_of(
 ) -> Result<Option<u8>, AllocError>
     requires there { top < length calls.now }
     requires each { (m : ℕ) → among models.now m ≡ among (reached calls.now top) m }
-    ensures { IfOk result (λ found. MatchOption found (HasNoModelFault calls.now top) (λ code. flat_code calls.now top ≡ Some code)) }
+    ensures { IfOk result (λ found. MatchOption found (HasNoModelFault calls.now top) (λ code. (limit : ℕ) → flat_code calls.now top limit ≡ Some code)) }
 {
     let library = calls.library();
     if has_no_such_model(alloc, library, models)? {
@@ -111,7 +111,7 @@ pub fn first_model_fault(
     top: usize,
 ) -> Result<Option<u8>, AllocError>
     requires { top < length calls.now }
-    ensures { IfOk result (λ found. MatchOption found (HasNoModelFault calls.now top) (λ code. flat_code calls.now top ≡ Some code)) }
+    ensures { IfOk result (λ found. MatchOption found (HasNoModelFault calls.now top) (λ code. (limit : ℕ) → flat_code calls.now top limit ≡ Some code)) }
 {
     let models = reached_models(alloc, calls, top)?;
     fault_of(alloc, calls, top, &models)

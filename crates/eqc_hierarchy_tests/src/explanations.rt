@@ -7,7 +7,9 @@
 
 use crate::ends::{check_rows, holds};
 use eqc_blif::{Library, read};
-use eqc_flat::{Circle, Finding, FoundFormal, FoundInstance, HierarchicalName, explain};
+use eqc_flat::{
+    Circle, DEFAULT_INPUTS, Finding, FoundFormal, FoundInstance, HierarchicalName, explain,
+};
 use eqc_testing::{Line, Row, input_names};
 use std::alloc::{AllocError, Global};
 
@@ -75,23 +77,28 @@ fn shown(alloc: Global, finding: &Finding<'_>) -> Result<Line, AllocError> {
     }
 }
 
-/// What is at fault below the main model of a library, or `-` where nothing is.
-fn library_finding(alloc: Global, library: &Library) -> Result<Line, AllocError> {
+/// What is at fault below the main model of a library, which may have so many inputs, or `-` where nothing is.
+fn library_finding(alloc: Global, library: &Library, limit: u16) -> Result<Line, AllocError> {
     if library.models() == 0 {
         return Line::new(alloc, "no model");
     }
-    match explain(alloc, library, 0)? {
+    match explain(alloc, library, 0, limit)? {
         Some(finding) => shown(alloc, &finding),
         None => Line::new(alloc, "-"),
     }
 }
 
-/// Whether this is at fault below the main model of a text.
-fn has(alloc: Global, text: &[u8], wanted: &str) -> Result<bool, AllocError> {
+/// Whether this is at fault below the main model of a text, which may have so many inputs.
+fn has_within(alloc: Global, text: &[u8], limit: u16, wanted: &str) -> Result<bool, AllocError> {
     match read(alloc, text) {
-        Ok(library) => Ok(library_finding(alloc, &library)?.is(wanted)),
+        Ok(library) => Ok(library_finding(alloc, &library, limit)?.is(wanted)),
         Err(_) => Ok(false),
     }
+}
+
+/// Whether this is at fault below the main model of a text.
+fn has(alloc: Global, text: &[u8], wanted: &str) -> Result<bool, AllocError> {
+    has_within(alloc, text, DEFAULT_INPUTS, wanted)
 }
 
 /// Texts with an undriven signal.
@@ -182,17 +189,30 @@ fn names_the_chain_of_a_recursion(rt: HostRuntime) {
     );
 }
 
-/// Whether a main model with so many inputs is refused for them.
-fn has_many_inputs(alloc: Global, count: u32, wanted: &str) -> Result<bool, AllocError> {
+/// Numbers of inputs, how many are allowed, and what is at fault.
+#[rattlefmt::skip]
+static WIDTHS: &[(u32, u16, &str)] = &[
+    (2_049, 2_048, "30 2049 2048"),
+    (2_049, 2_049, "-"),
+    (3, 2, "30 3 2"),
+    (2, 2, "-"),
+    (1, 0, "30 1 0"),
+    (0, 0, "-"),
+];
+
+/// Whether this is at fault in a main model with so many inputs, of which so many are allowed.
+fn has_width(alloc: Global, count: u32, limit: u16, wanted: &str) -> Result<bool, AllocError> {
     let names = input_names(alloc, count)?;
     let text = format!(in alloc; ".model m\n.inputs{names}\n.end\n")?;
-    has(alloc, text.as_bytes(), wanted)
+    has_within(alloc, text.as_bytes(), limit, wanted)
 }
 
 #[test]
 fn names_the_number_of_inputs(rt: HostRuntime) {
-    let found = has_many_inputs(rt.alloc(), 2_049, "30 2049 2048");
-    holds(&rt, found, "inputs");
+    for (count, limit, wanted) in WIDTHS {
+        let found = has_width(rt.alloc(), *count, *limit, wanted);
+        holds(&rt, found, wanted);
+    }
 }
 
 /// Texts with a circle.

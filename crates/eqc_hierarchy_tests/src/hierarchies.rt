@@ -3,11 +3,14 @@
 
 ghost use Rattle.std.specs.Prelude.{◌<◌, length};
 
-use crate::ends::check_rows;
+use crate::ends::{check_rows, holds};
 use eqc_blif::{Library, read};
-use eqc_flat::{Driver, Fault, FaultOfTwo, Flat, Signals, eval, flatten, flatten_two};
+use eqc_flat::{
+    DEFAULT_INPUTS, Driver, Fault, FaultOfTwo, Flat, Signals, eval, flatten, flatten_two,
+    flatten_within,
+};
 use eqc_netlist_testing::flat_of;
-use eqc_testing::Row;
+use eqc_testing::{Row, input_names};
 use std::alloc::{AllocError, Global};
 
 /// Whether this is the code of the first fault below the main model of a library.
@@ -51,12 +54,53 @@ fn tells_the_first_code_of_the_models(rt: HostRuntime) {
     );
 }
 
+/// Numbers of inputs, how many are allowed, and the code.
+#[rattlefmt::skip]
+static WIDTHS: &[(u32, u16, Option<u8>)] = &[
+    (0, 0, None),
+    (1, 0, Some(30)),
+    (2, 2, None),
+    (3, 2, Some(30)),
+    (2_049, 2_049, None),
+    (2_049, 2_048, Some(30)),
+    (65_535, 65_535, None),
+];
+
+/// Whether this is the code of a library's main model where so many inputs are allowed.
+fn library_has_width(alloc: Global, library: &Library, limit: u16, code: Option<u8>) -> bool {
+    if library.models() == 0 {
+        return false;
+    }
+    match flatten_within(alloc, library, 0, limit) {
+        Ok(_) => code.is_none(),
+        Err(fault) => code == Some(fault.code),
+    }
+}
+
+/// Whether this is the code of a main model with so many inputs where so many are allowed.
+fn has_width(alloc: Global, count: u32, limit: u16, code: Option<u8>) -> Result<bool, AllocError> {
+    let names = input_names(alloc, count)?;
+    let text = format!(in alloc; ".model m\n.inputs{names}\n.end\n")?;
+    match read(alloc, text.as_bytes()) {
+        Ok(library) => Ok(library_has_width(alloc, &library, limit, code)),
+        Err(_) => Ok(false),
+    }
+}
+
+#[test]
+fn as_many_inputs_are_taken_as_are_allowed(rt: HostRuntime) {
+    for (count, limit, code) in WIDTHS {
+        let found = has_width(rt.alloc(), *count, *limit, *code);
+        holds(&rt, found, "a number of inputs");
+    }
+}
+
 /// Which of the first two models of a library is refused: none where both are accepted, or aren't there.
 fn fault_of_two(alloc: Global, library: &Library) -> Option<FaultOfTwo> {
     if library.models() < 2 {
         return None;
     }
-    flatten_two(alloc, library, 0, 1).err()
+    flatten_two(alloc, library, 0, 1, DEFAULT_INPUTS).err()
 }
 
 /// Whether that is so of a text.

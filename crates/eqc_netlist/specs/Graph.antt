@@ -62,7 +62,7 @@ IsWithin f driver = IsWithinSizes (length f.inputs) (length f.drivers) (length f
 -- what holds of every flat netlist
 pub record IsFlat (f : FlatOf) : Type 0 where
   -- its sizes
-  pub few_inputs : length f.inputs ≤ 2048
+  pub few_inputs : length f.inputs ≤ 65535
   pub few_signals : length f.drivers ≤ 1048576
   pub few_outputs : length f.outputs ≤ length f.drivers
   pub each_named : length f.signals ≡ length f.drivers

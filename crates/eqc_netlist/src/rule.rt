@@ -25,7 +25,7 @@ pub enum Rule {
     Circle,
     #[error("over 1048576 signals and instances")]
     TooLarge,
-    #[error("over 2048 inputs")]
+    #[error("more inputs than are allowed")]
     ManyInputs,
     #[error("memory was refused")]
     Memory,

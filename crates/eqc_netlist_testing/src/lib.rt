@@ -2,7 +2,7 @@
 #![tactic(auto)]
 
 use eqc_blif::Library;
-use eqc_flat::{Flat, flatten, flatten_two};
+use eqc_flat::{DEFAULT_INPUTS, Flat, flatten, flatten_two};
 use std::alloc::Global;
 
 /// Model `m` of a library, flat, or none where it isn't there or is refused.
@@ -19,5 +19,5 @@ pub fn two_flats(alloc: Global, library: &Library) -> Option<(Flat<'_>, Flat<'_>
     if library.models() < 2 {
         return None;
     }
-    flatten_two(alloc, library, 0, 1).ok()
+    flatten_two(alloc, library, 0, 1, DEFAULT_INPUTS).ok()
 }

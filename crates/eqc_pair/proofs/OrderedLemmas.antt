@@ -49,7 +49,7 @@ range_push a (suc n) = ap (λ l. a ∷ l) (range_push (a + 1) n ∙ ap (λ k. ra
 pub range_more : (n : ℕ) (numbers more : List ℕ) → numbers ≡ range_with_len 0 n → more ≡ numbers ++ n ∷ [] → more ≡ range_with_len 0 (n + 1)
 range_more n numbers more is grown = grown ∙ (ap (λ l. l ++ n ∷ []) is ∙ (ap (λ k. range_with_len 0 n ++ k ∷ []) (sym (zero-add n)) ∙ (sym (range_push 0 n) ∙ ap (range_with_len 0) (sym (add-one n)))))
 
-pub range_small : (n : ℕ) (numbers slice : List ℕ) → n ≤ 2048 → numbers ≡ range_with_len 0 n → slice ≡ numbers → (i : ℕ) → i < length slice → get_or slice i 0 < 65536
+pub range_small : (n : ℕ) (numbers slice : List ℕ) → n ≤ 65535 → numbers ≡ range_with_len 0 n → slice ≡ numbers → (i : ℕ) → i < length slice → get_or slice i 0 < 65536
 range_small n numbers slice few is same i inside =
     let e = same ∙ is in
     omega (arith, ap (λ l. get_or l i 0) e, ap length e, get_or-range_with_len 0 n i 0 (omega (arith, ap length e, length-range_with_len 0 n)), length-range_with_len 0 n)
@@ -64,7 +64,7 @@ pub range_order : (n k : ℕ) (numbers slice order : List ℕ) → k ≡ n → n
 range_order n k numbers slice order whole is s o = subst (IsOrder n) (sym (o ∙ (s ∙ (is ∙ ap (range_with_len 0) whole)))) (declared_order n)
 
 module _ (inputs words : List (List ℕ)) (once : has_twice inputs ≡ false) (words_once : has_twice words ≡ false)
-    (all : has_all inputs words ≡ true) (back : has_all words inputs ≡ true) (few : length inputs ≤ 2048) where
+    (all : has_all inputs words ≡ true) (back : has_all words inputs ≡ true) (few : length inputs ≤ 65535) where
   words_small : (k : ℕ) → k < length (map (position_of inputs) words) → get_or (map (position_of inputs) words) k 0 < 65536
   words_small k inside = omega (arith, place_within inputs words all k (omega (arith, length-map words (position_of inputs))))
 
@@ -88,7 +88,7 @@ taken_words inputs text taken = by (nat_lt 16777216 (length text)) (has_all inpu
     by false true false true e = (refl, refl, refl)
 
 -- an order text that is taken: its words' places among the inputs, and the inputs' among the words
-module _ (inputs : List (List ℕ)) (text : List ℕ) (once : has_twice inputs ≡ false) (few : length inputs ≤ 2048) (taken : order_code inputs text ≡ None) where
+module _ (inputs : List (List ℕ)) (text : List ℕ) (once : has_twice inputs ≡ false) (few : length inputs ≤ 65535) (taken : order_code inputs text ≡ None) where
   taken_positions_small : (k : ℕ) → k < length (map (position_of inputs) (order_words text)) → get_or (map (position_of inputs) (order_words text)) k 0 < 65536
   taken_positions_small = let t = taken_words inputs text taken in words_small inputs (order_words text) once t.1 t.0 t.2 few
 

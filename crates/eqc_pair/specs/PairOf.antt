@@ -79,7 +79,7 @@ second_signals p = map (output_signal p.second) p.first.outputs
 pub record IsPair (p : PairOf) : Type 0 where
   pub first_flat : IsFlat p.first
   pub second_flat : IsFlat p.second
-  pub few_inputs : length p.first.inputs ≤ 2048
+  pub few_inputs : length p.first.inputs ≤ 65535
   pub same_inputs : same_names p.first.inputs p.second.inputs ≡ true
   pub same_outputs : same_names p.first.outputs p.second.outputs ≡ true
   pub ordered : IsOrder (length p.first.inputs) p.order

@@ -121,7 +121,7 @@ fn narrow(alloc: Global, numbers: &[usize]) -> Result<Vec<u16>, AllocError>
 
 /// The order in which a netlist declares its inputs. Fails where memory is refused.
 fn declared_order(alloc: Global, inputs: usize) -> Result<Order, AllocError>
-    requires { inputs ≤ 2048 }
+    requires { inputs ≤ 65535 }
     ensures positions { IfOk result (λ order. order.positions.items ≡ range_with_len 0 inputs) }
     ensures variables { IfOk result (λ order. order.variables.items ≡ variables_in inputs order.positions.items) }
     ensures lawful { IfOk result (λ order. IsOrder inputs order.positions.items) }
@@ -179,7 +179,7 @@ fn read_places(
 
 /// The order that a text gives to these inputs, or the text's refusal, or no memory.
 fn read_order(alloc: Global, inputs: &[Name], text: &[u8]) -> Result<Order, Refused>
-    requires few { length inputs.now ≤ 2048 }
+    requires few { length inputs.now ≤ 65535 }
     requires once { has_twice inputs.now ≡ false }
     ensures taken { IfOk result (λ order. order_code inputs.now text.now ≡ None) }
     ensures positions { IfOk result (λ order. order.positions.items ≡ map (position_of inputs.now) (order_words text.now)) }
@@ -202,7 +202,7 @@ pub(crate) fn order_of(
     inputs: &[Name],
     text: Option<&[u8]>,
 ) -> Result<Order, Refused>
-    requires few { length inputs.now ≤ 2048 }
+    requires few { length inputs.now ≤ 65535 }
     requires once { has_twice inputs.now ≡ false }
     ensures taken { IfOk result (λ order. order_refusal inputs.now (option_copied text.entry) ≡ None) }
     ensures positions { IfOk result (λ order. order.positions.items ≡ order_for inputs.now (option_copied text.entry)) }

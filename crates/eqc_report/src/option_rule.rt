@@ -15,18 +15,21 @@ pub enum OptionRule {
     Cells,
     #[error("forks are from 0 to 16")]
     Forks,
+    #[error("inputs are from 0 to 65535")]
+    Inputs,
 }
 
 /// The rules of options, in the order of their codes.
-pub const OPTION_RULES: [OptionRule; 4] = [
+pub const OPTION_RULES: [OptionRule; 5] = [
     OptionRule::Workers,
     OptionRule::Nodes,
     OptionRule::Cells,
     OptionRule::Forks,
+    OptionRule::Inputs,
 ];
 
 impl OptionRule {
-    /// The number that a report shows: 81 to 84, in the order of the variants.
+    /// The number that a report shows: 81 to 85, in the order of the variants.
     pub fn code(self) -> u8
         ensures { result ≡ option_rule_code self }
     {
@@ -35,6 +38,7 @@ impl OptionRule {
             OptionRule::Nodes => 82,
             OptionRule::Cells => 83,
             OptionRule::Forks => 84,
+            OptionRule::Inputs => 85,
         }
     }
 }

@@ -1,4 +1,5 @@
-//! What a comparison may use: workers, nodes, cells and levels that are shared, each within its range, and conflicts.
+//! What a run may use, workers, nodes, cells and levels that are shared, and the inputs that a netlist may have, each within its
+//! range, and conflicts.
 ghost use Rattle.std.specs.Prelude.{◌≡◌};
 ghost use Rattle.eqc_report.specs.Options.{options_code, is_cell_count};
 
@@ -12,7 +13,9 @@ const MAX_CELLS: u32 = 1_048_576;
 
 const MAX_FORKS: u32 = 16;
 
-/// What a comparison may use, none of which changes the answer, and what it is to tell.
+const MAX_INPUTS: u32 = 65_535;
+
+/// What a comparison may use, none of which changes the answer, how wide what is compared may be, and what is to be told.
 #[derive(Clone, Copy, Debug, PartialEq, Eq)]
 pub struct Options {
     /// Workers, each with a thread of its own, 1 to 64.
@@ -25,11 +28,25 @@ pub struct Options {
     pub forks: u32,
     /// Conflicts of a search for each output that diagrams leave, 0 for diagrams alone.
     pub conflicts: u32,
+    /// Inputs that the main model of a netlist may have, 0 to 65,535.
+    pub inputs: u32,
     /// Whether each output that differs is told, and not the first alone.
     pub every: bool,
 }
 
-/// The code of the first option that is out of its range: 81 workers, 82 nodes, 83 cells, 84 forks.
+impl Options {
+    ghost use Rattle.std.specs.Prelude.{◌≡◌, ◌≤◌};
+
+    /// How many inputs the main model of a netlist may have, where that is in its range, and else as many as the range allows.
+    pub fn input_limit(&self) -> u16
+        ensures { self.now.inputs ≤ 65535 → result ≡ self.now.inputs }
+    {
+        self.inputs.min(MAX_INPUTS) as u16
+    }
+}
+
+/// The code of the first option that is out of its range: 81 workers, 82 nodes, 83 cells, 84 forks,
+/// 85 inputs.
 pub fn options_fault(options: &Options) -> Option<u8>
     ensures { result ≡ options_code options.now }
 {
@@ -38,6 +55,7 @@ pub fn options_fault(options: &Options) -> Option<u8>
         nodes,
         cells,
         forks,
+        inputs,
         ..
     } = *options;
     if !(1..=MAX_WORKERS).contains(&workers) {
@@ -51,6 +69,9 @@ pub fn options_fault(options: &Options) -> Option<u8>
     }
     if forks > MAX_FORKS {
         return Some(OptionRule::Forks.code());
+    }
+    if inputs > MAX_INPUTS {
+        return Some(OptionRule::Inputs.code());
     }
     None
 }

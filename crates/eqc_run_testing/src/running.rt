@@ -9,6 +9,9 @@ use std::thread::Threads;
 /// As many conflicts as the program has where nothing is said.
 pub const CONFLICTS: u32 = 100_000;
 
+/// As many inputs as a main model may have where nothing is said.
+pub const INPUTS: u32 = 2_048;
+
 /// Numbers of workers, nodes, cells and forks.
 pub type Numbers = (u32, u32, u32, u32);
 
@@ -33,6 +36,7 @@ pub fn options(numbers: Numbers) -> Options {
         cells,
         forks,
         conflicts: CONFLICTS,
+        inputs: INPUTS,
         every: false,
     }
 }

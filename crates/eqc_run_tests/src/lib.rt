@@ -1,6 +1,6 @@
 //! The tests of runs: from texts to the bytes of a report.
 //!
-//! - `runs`, options, order texts, one text and two
+//! - `runs`, options, order texts, one text and two; `inputs`, how many inputs are allowed
 //! - `assumptions`, runs in which not every assignment counts, each difference is wanted or outputs are chosen
 //! - `compared_hierarchies`, `structures` and `inside`, what is reported of netlists; `costs`, of texts that would like to be dear;
 //!   `rows`, what compares rows of these
@@ -16,6 +16,8 @@ mod compared_hierarchies;
 mod costs;
 #[cfg(test)]
 mod ends;
+#[cfg(test)]
+mod inputs;
 #[cfg(test)]
 mod inside;
 #[cfg(test)]

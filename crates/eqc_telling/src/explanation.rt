@@ -412,7 +412,8 @@ fn option_said(alloc: Global, options: Options, code: u8) -> Result<String, Allo
             "--cells {}: a power of two up to 1048576 is wanted (83)",
             options.cells
         ),
-        _ => format!(in alloc; "--forks {}: 0 to 16 are allowed (84)", options.forks),
+        84 => format!(in alloc; "--forks {}: 0 to 16 are allowed (84)", options.forks),
+        _ => format!(in alloc; "--inputs {}: 0 to 65535 are allowed (85)", options.inputs),
     }
 }
 

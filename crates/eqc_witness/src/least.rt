@@ -1,7 +1,8 @@
 //! The least assignment under which a literal is true, position by position.
-ghost use Rattle.std.specs.Prelude.{◌≡◌, ◌∷◌, ◌++◌, [], ◌<◌, true, false, length, take, IfOk};
+ghost use Rattle.std.specs.Prelude.{◌≡◌, ◌∷◌, ◌++◌, [], ◌<◌, ◌≤◌, true, false, length, take, IfOk};
 ghost use Rattle.eqc_graph.specs.Graph.{IsWithin};
 ghost use Rattle.eqc_clause.specs.Clauses.{IsSound};
+ghost use Rattle.eqc_witness.specs.Completing.{IsCompletion};
 ghost use Rattle.eqc_witness.specs.Cones.{holds_under};
 ghost use Rattle.eqc_witness.specs.Witnesses.{IsFoundOf, IsWitness};
 
@@ -153,8 +154,28 @@ fn lesser_near(
     lesser(alloc, cone, values, &others)
 }
 
+/// Finds values of the positions that begin with the first ones and make the root true, or that there are none, as `complete` does. The
+/// guess is like other values, but for a run of false ones that begins with the last of the first ones. Fails where memory is refused.
+fn complete_lower(
+    alloc: Global,
+    cone: &Cone,
+    first: &[bool],
+    others: &[bool],
+    means: &mut Means,
+) -> Result<Completion, AllocError>
+    requires first { length first.now ≤ cone.now.positions }
+    requires others { length others.now ≡ cone.now.positions }
+    requires sound { IsSound cone.now.graph means.old.search }
+    ensures sound { IsSound cone.now.graph means.new.search }
+    ensures found { IfOk result (IsCompletion cone.now.positions (holds_under cone.now.graph cone.now.root) first.now) }
+{
+    let last = first.len().saturating_sub(1);
+    let guess = means.trials.lowered(alloc, cone, others, last)?;
+    complete(alloc, cone, first, &guess, means)
+}
+
 /// The least values under which a cone's root is true, from some under which it is: each that is true is tried at false, with
-/// those before it as they are. Fails where memory is refused.
+/// those before it as they are, and first of all together with those behind it. Fails where memory is refused.
 fn least_from(
     alloc: Global,
     cone: &Cone,
@@ -172,7 +193,7 @@ fn least_from(
             continue;
         }
         let first = lowered(alloc, &values, position)?;
-        match complete(alloc, cone, &first, &values, means)? {
+        match complete_lower(alloc, cone, &first, &values, means)? {
             Completion::Found(lower) => values = lower,
             Completion::Nothing => {}
             Completion::Unknown => return Ok(Witness::Unknown(Some(values))),

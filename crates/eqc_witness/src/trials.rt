@@ -214,6 +214,39 @@ impl Trials {
         Ok(best)
     }
 
+    /// Lets the assignments be like one, but for runs that begin at a position and are false: of one position, two, four and so on.
+    fn lower_each(&mut self, values: &[bool], from: usize) {
+        self.begin(values);
+        for position in from..values.len() {
+            if values[position] {
+                let bits = usize::BITS - (position - from).leading_zeros();
+                // Those assignments leave it true whose runs end before it.
+                let word = (1u64 << (bits % LANES)).wrapping_sub(1);
+                self.simulation.set(position.wrapping_add(1), word);
+            }
+        }
+    }
+
+    /// The least of the assignments in which one position, two, four and so on from a position on are false, and which are like these
+    /// values otherwise, under which the root is true; these values, where there is none. So what may be false is found for
+    /// many positions at once.
+    pub(crate) fn lowered(
+        &mut self,
+        alloc: Global,
+        cone: &Cone,
+        values: &[bool],
+        from: usize,
+    ) -> Result<Vec<bool>, AllocError>
+        requires { length values.now ≡ cone.now.positions }
+        ensures { IfOk result (λ values. length values.items ≡ cone.now.positions) }
+    {
+        self.lower_each(values, from);
+        match self.least(alloc, cone)? {
+            Some(found) => Ok(found),
+            None => values.to_vec(alloc),
+        }
+    }
+
     /// Lets each assignment have values by chance from a position on.
     fn by_chance(&mut self, from: usize, positions: usize) {
         for position in from..positions {

@@ -8,7 +8,7 @@ pub const ABOUT: &str =
     "Decides whether two combinational netlists in BLIF compute the same outputs.";
 
 pub const USAGE: &str = "\
-eqc [--workers N] [--nodes N] [--cells N] [--forks N] [--conflicts N]
+eqc [--workers N] [--nodes N] [--cells N] [--forks N] [--conflicts N] [--inputs N]
            [--order FILE] [--assume FILE] [--all] [--output NAME]..
            [--first-model NAME] [--second-model NAME] [--explain] [--progress]
            [FILE [FILE]]";
@@ -26,6 +26,9 @@ pub const FORKS: &str =
 
 pub const CONFLICTS: &str =
     "Gives up a search for outputs that diagrams leave after this many conflicts; 0 for diagrams alone";
+
+pub const INPUTS: &str =
+    "Refuses a netlist whose compared model has more inputs than this, which is 65535 at most";
 
 pub const ORDER: &str =
     "Takes the variables in this file's order, a word for each input of the first netlist";

@@ -117,7 +117,7 @@ impl DriverTable {
     /// Lets each input of the main model drive the signal of its name.
     fn fill_inputs(&mut self, hierarchy: &Hierarchy<'_, '_>)
         requires size { length self.old.0 ≡ length (signals hierarchy.now.0 hierarchy.now.1) }
-        requires few { length (model hierarchy.now.0 hierarchy.now.1).inputs ≤ 2048 }
+        requires few { length (model hierarchy.now.0 hierarchy.now.1).inputs ≤ 65535 }
         ensures size { length self.new.0 ≡ length self.old.0 }
         ensures step { (done : List Driving) → IsTable hierarchy.now.0 hierarchy.now.1 self.old.0 self.old.1 done →
             IsTable hierarchy.now.0 hierarchy.now.1 self.new.0 self.new.1 (done ++ input_drivings (enumerate_from 0 (model hierarchy.now.0 hierarchy.now.1).inputs)) }
@@ -205,7 +205,7 @@ impl DriverTable {
     fn fill(&mut self, hierarchy: &Hierarchy<'_, '_>, rows: &RowTable<'_>)
         requires size { length self.old.0 ≡ length (signals hierarchy.now.0 hierarchy.now.1) }
         requires same { rows.now ≡ hierarchy.now.0 }
-        requires few { length (model hierarchy.now.0 hierarchy.now.1).inputs ≤ 2048 }
+        requires few { length (model hierarchy.now.0 hierarchy.now.1).inputs ≤ 65535 }
         requires known { has_unknown_formal hierarchy.now.0 hierarchy.now.1 ≡ false }
         ensures { IsTable hierarchy.now.0 hierarchy.now.1 self.old.0 self.old.1 [] → IsTable hierarchy.now.0 hierarchy.now.1 self.new.0 self.new.1 (drivings hierarchy.now.0 hierarchy.now.1) }
     {
@@ -230,7 +230,7 @@ impl DriverTable {
         rows: &RowTable<'_>,
     ) -> Result<DriverTable, AllocError>
         requires same { rows.now ≡ hierarchy.now.0 }
-        requires few { length (model hierarchy.now.0 hierarchy.now.1).inputs ≤ 2048 }
+        requires few { length (model hierarchy.now.0 hierarchy.now.1).inputs ≤ 65535 }
         requires known { has_unknown_formal hierarchy.now.0 hierarchy.now.1 ≡ false }
         ensures few { length (signals hierarchy.now.0 hierarchy.now.1) ≤ 1048576 }
         ensures filled { IfOk result (λ table. IsTable hierarchy.now.0 hierarchy.now.1 table.0 table.1 (drivings hierarchy.now.0 hierarchy.now.1)) }
@@ -286,7 +286,7 @@ pub(crate) fn drivers_of(
     columns: Vec<SmallVec<u32, 4>>,
 ) -> Result<Drivers, Fault>
     requires same { rows.now ≡ hierarchy.now.0 }
-    requires few { length (model hierarchy.now.0 hierarchy.now.1).inputs ≤ 2048 }
+    requires few { length (model hierarchy.now.0 hierarchy.now.1).inputs ≤ 65535 }
     requires known { has_unknown_formal hierarchy.now.0 hierarchy.now.1 ≡ false }
     requires columns { map (λ c. c.items) columns.items ≡ all_columns hierarchy.now.0 }
     ensures driven { IfOk result (λ drivers. IsDriven hierarchy.now.0 hierarchy.now.1 drivers) }

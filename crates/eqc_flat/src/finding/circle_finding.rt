@@ -1,6 +1,6 @@
 //! The circle of signals that a hierarchy is refused for, and the names of the first of its signals.
 ghost use Rattle.std.specs.Prelude.{◌≡◌, ℕ, ◌+◌, ◌-◌, ◌<◌, length, map, take, Some, slice_index_or, IfOk};
-ghost use Rattle.eqc_hierarchy.specs.Codes.{flat_code};
+ghost use Rattle.eqc_hierarchy.specs.Codes.{IsRefusedWith};
 ghost use Rattle.eqc_flat.specs.Flattened.{signal_at};
 ghost use Rattle.eqc_hierarchy.specs.Signals.{signals};
 ghost use Rattle.eqc_hierarchy.specs.Walks.{from_on};
@@ -78,7 +78,7 @@ fn trail_in(
     columns: Vec<SmallVec<u32, 4>>,
 ) -> Result<Vec<usize>, AllocError>
     requires same { library.now ≡ hierarchy.now.0 }
-    requires refused { flat_code hierarchy.now.0 hierarchy.now.1 ≡ Some 28 }
+    requires refused { IsRefusedWith hierarchy.now.0 hierarchy.now.1 28 }
     requires columns { map (λ c. c.items) columns.items ≡ all_columns hierarchy.now.0 }
     ensures { IfOk result (λ trail. IsTrailBelow hierarchy.now.0 hierarchy.now.1 trail.items) }
 {
@@ -98,7 +98,7 @@ fn circle_in<'a>(
     columns: Vec<SmallVec<u32, 4>>,
 ) -> Result<Circle<'a>, AllocError>
     requires same { library.now ≡ hierarchy.now.0 }
-    requires refused { flat_code hierarchy.now.0 hierarchy.now.1 ≡ Some 28 }
+    requires refused { IsRefusedWith hierarchy.now.0 hierarchy.now.1 28 }
     requires columns { map (λ c. c.items) columns.items ≡ all_columns hierarchy.now.0 }
     ensures { IfOk result (λ circle. IsCircle hierarchy.now.0 hierarchy.now.1 circle) }
 {
@@ -114,7 +114,7 @@ pub(crate) fn circle_below(
     top: usize,
 ) -> Result<Circle<'_>, AllocError>
     requires there { top < length library.now }
-    requires refused { flat_code library.now top ≡ Some 28 }
+    requires refused { IsRefusedWith library.now top 28 }
     ensures { IfOk result (λ circle. IsCircle library.now top circle) }
 {
     let (naming, columns) = Naming::of(alloc, library)?;

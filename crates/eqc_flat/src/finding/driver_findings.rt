@@ -2,7 +2,7 @@
 ghost use Rattle.std.specs.Prelude.{◌≡◌, ◌<◌, ◌≤◌, length, false, Some, IfOk};
 ghost use Rattle.eqc_hierarchy.specs.Hierarchy.{model};
 ghost use Rattle.eqc_hierarchy.specs.Signals.{signals, sources, drivings};
-ghost use Rattle.eqc_hierarchy.specs.Codes.{flat_code, has_unknown_formal, is_recursive, is_too_large};
+ghost use Rattle.eqc_hierarchy.specs.Codes.{IsRefusedWith, has_unknown_formal, is_recursive, is_too_large};
 ghost use Rattle.eqc_flat.specs.Flattened.{signal_at};
 ghost use Rattle.eqc_flat.specs.DriverTable.{IsTable, driven_code, IsDrivenSo, NamesDriven};
 ghost use Rattle.eqc_flat.specs.Instances.{IsExpansion};
@@ -41,7 +41,7 @@ fn table_in(
     hierarchy: &Hierarchy<'_, '_>,
 ) -> Result<DriverTable, AllocError>
     requires same { library.now ≡ hierarchy.now.0 }
-    requires few { length (model hierarchy.now.0 hierarchy.now.1).inputs ≤ 2048 }
+    requires few { length (model hierarchy.now.0 hierarchy.now.1).inputs ≤ 65535 }
     requires known { has_unknown_formal hierarchy.now.0 hierarchy.now.1 ≡ false }
     ensures { IfOk result (λ table. IsTable hierarchy.now.0 hierarchy.now.1 table.0 table.1 (drivings hierarchy.now.0 hierarchy.now.1)) }
 {
@@ -57,7 +57,7 @@ fn driven_in(
     driven: Driven,
 ) -> Result<usize, AllocError>
     requires same { library.now ≡ hierarchy.now.0 }
-    requires refused { flat_code hierarchy.now.0 hierarchy.now.1 ≡ Some (driven_code driven) }
+    requires refused { IsRefusedWith hierarchy.now.0 hierarchy.now.1 (driven_code driven) }
     ensures within { IfOk result (λ s. s < length (signals hierarchy.now.0 hierarchy.now.1)) }
     ensures driven { IfOk result (λ s. IsDrivenSo driven hierarchy.now.0 hierarchy.now.1 s) }
 {
@@ -73,7 +73,7 @@ fn driven_named<'a>(
     driven: Driven,
 ) -> Result<HierarchicalName<'a>, AllocError>
     requires same { library.now ≡ hierarchy.now.0 }
-    requires refused { flat_code hierarchy.now.0 hierarchy.now.1 ≡ Some (driven_code driven) }
+    requires refused { IsRefusedWith hierarchy.now.0 hierarchy.now.1 (driven_code driven) }
     ensures { IfOk result (λ name. NamesDriven driven hierarchy.now.0 hierarchy.now.1 name) }
 {
     let signal = driven_in(alloc, library, hierarchy, driven)?;
@@ -88,7 +88,7 @@ pub(crate) fn driven_below(
     driven: Driven,
 ) -> Result<HierarchicalName<'_>, AllocError>
     requires there { top < length library.now }
-    requires refused { flat_code library.now top ≡ Some (driven_code driven) }
+    requires refused { IsRefusedWith library.now top (driven_code driven) }
     ensures { IfOk result (λ name. NamesDriven driven library.now top name) }
 {
     let (naming, _) = Naming::of(alloc, library)?;

@@ -1,6 +1,6 @@
 //! The chain of models that a recursive hierarchy is refused for: it comes back to one that stands in it before.
-ghost use Rattle.std.specs.Prelude.{◌≡◌, ◌<◌, length, Some, IfOk};
-ghost use Rattle.eqc_hierarchy.specs.Codes.{flat_code};
+ghost use Rattle.std.specs.Prelude.{◌<◌, length, IfOk};
+ghost use Rattle.eqc_hierarchy.specs.Codes.{IsRefusedWith};
 ghost use Rattle.eqc_hierarchy.specs.Hierarchy.{callees};
 ghost use Rattle.eqc_hierarchy.specs.Walks.{WalksBack};
 
@@ -17,7 +17,7 @@ pub fn recursive_chain(
     top: usize,
 ) -> Result<Vec<usize>, AllocError>
     requires there { top < length library.now }
-    requires refused { flat_code library.now top ≡ Some 22 }
+    requires refused { IsRefusedWith library.now top 22 }
     ensures { IfOk result (λ models. WalksBack (callees library.now) top models.items) }
 {
     let calls = Calls::of(alloc, library)?;

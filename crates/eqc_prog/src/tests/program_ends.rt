@@ -103,6 +103,7 @@ static OPTIONS: &[&str] = &[
     "--cells <N>",
     "--forks <N>",
     "--conflicts <N>",
+    "--inputs <N>",
     "--order <FILE>",
     "--assume <FILE>",
     "--all",

@@ -33,7 +33,7 @@ returns g c =
       left =
           left_at_end w c.alone-alone.new.self c.empty_boxes.new.worker c.collect.new.worker p
           c.empty_boxes.ensures.changes c.collect.ensures.changes c.in-Ok.tally.counted c.in-Ok.ensures.closed.2;
-      none = λ none few.
+      none = λ none.
           none_told w c.alone-alone.new.self c.requires.alone c.requires.rest c.requires.cells c.requires.room p c.empty_boxes.new.worker c.empty_boxes.ensures.changes c.empty_boxes.ensures.empty
-          c.collect.new.worker c.collect.ensures.changes c.collect.ensures.empty c.in-Ok.tally.counted c.in-Ok.ensures.closed.2 none few;
+          c.collect.new.worker c.collect.ensures.changes c.collect.ensures.empty c.in-Ok.tally.counted c.in-Ok.ensures.closed.2 none;
     }

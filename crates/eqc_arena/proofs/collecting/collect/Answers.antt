@@ -1,5 +1,4 @@
-use Rattle.std.proofs.Common.{◌≡◌, arith, ap}
-use Rattle.eqc_core.specs.View.{View}
+use Rattle.std.proofs.Common.{arith}
 use Rattle.eqc_arena.proofs.Changing.{begins, still, here, lengths_now}
 use Rattle.eqc_arena.proofs.Emptying.{first_turn, all_turns}
 use Rattle.eqc_arena.proofs.Taking.{may_clear, quiet_cleared, cleared}
@@ -34,8 +33,6 @@ returns-after-loop-turn-clause-changes g c = c.loop-turn.invariant.changes
 
 pub returns-after-loop-turn-clause-empty : goal.returns-after-loop-turn-clause-empty
 returns-after-loop-turn-clause-empty g c may =
-    let few = may.few in
-    let sizes : c.loop-turn.worker.known.core.sizes.variables ≡ c.args.worker.now.known.core.sizes.variables = ap (λ (v : View). v.sizes.variables) c.loop-turn.invariant.changes.core in
     all_turns c.loop-turn._turn 0 0 c.loop-turn.worker.known (c.loop-turn.invariant.tries may) (let over = c.loop-turn-test.false in omega arith)
 
 pub returns-then-taken-eq0-clause-changes : goal.returns-then-taken-eq0-clause-changes

@@ -1,13 +1,12 @@
 use Rattle.std.proofs.Common.{refl, length, inr}
-use Rattle.eqc_flat.proofs.CodeLaws.{driver_code, few_inputs, circular, driven_closed, few_drivers}
+use Rattle.eqc_flat.proofs.CodeLaws.{driver_code, circular, driven_closed, few_drivers}
 use Rattle.eqc_flat.proofs.flattening.ordered_drivers.Goals as goal
 
 pub returns-in-Err-clause-refused : goal.returns-in-Err-clause-refused
 returns-in-Err-clause-refused c =
     let library = c.args.hierarchy.now.0 in
     let top = c.args.hierarchy.now.1 in
-    let it = c.requires.numbered in
-    driver_code library top c.in-Err.fault.code it.models it.small (few_inputs library top it.few) (rw c.in-Err.is at c.drivers_of.ensures.refused)
+    driver_code library top c.in-Err.fault.code (rw c.in-Err.is at c.drivers_of.ensures.refused)
 
 pub order_of-requires-clause-few : goal.order_of-requires-clause-few
 order_of-requires-clause-few c = few_drivers c.args.hierarchy.now.0 c.args.hierarchy.now.1 c.in-Ok.drivers c.requires.numbered.small (rw c.in-Ok.is at c.drivers_of.ensures.driven)
@@ -19,9 +18,8 @@ pub returns-in_default-clause-refused : goal.returns-in_default-clause-refused
 returns-in_default-clause-refused c =
     let library = c.args.hierarchy.now.0 in
     let top = c.args.hierarchy.now.1 in
-    let it = c.requires.numbered in
     rw c.of.ensures
-    (inr (circular library top c.in-Ok.drivers it.models it.small (few_inputs library top it.few)
+    (inr (circular library top c.in-Ok.drivers
     (rw c.in-Ok.is at c.drivers_of.ensures.driven) (rw c.in_default.is at c.in_ok-steps.ensures)))
 
 pub returns-clause-ordered : goal.returns-clause-ordered

@@ -9,4 +9,5 @@ returns c =
     let nodes = arg_added _ _ _ _ _ c.in_ok-arg-2.ensures c.number-2.ensures.own workers c.number-2.ensures.rule in
     let cells = arg_added _ _ _ _ _ c.in_ok-arg-3.ensures c.number-3.ensures.own nodes c.number-3.ensures.rule in
     let forks = arg_added _ _ _ _ _ c.in_ok-arg-4.ensures c.number-4.ensures.own cells c.number-4.ensures.rule in
-    IfOk-weaker c.arg-5.result _ _ (λ r adds. arg_added _ _ _ _ _ adds c.number-5.ensures.own forks c.number-5.ensures.rule) c.arg-5.ensures
+    let conflicts = arg_added _ _ _ _ _ c.in_ok-arg-5.ensures c.number-5.ensures.own forks c.number-5.ensures.rule in
+    IfOk-weaker c.arg-6.result _ _ (λ r adds. arg_added _ _ _ _ _ adds c.number-6.ensures.own conflicts c.number-6.ensures.rule) c.arg-6.ensures

@@ -18,7 +18,5 @@ returns g c =
     record {
       told = told;
       some = λ zero. none_held c.args.self (subst (λ (m : ℕ). IsTold m c.args.self) zero told);
-      none = λ none few.
-          c.finish.ensures.none (left_nothing c.args.self c.give_up.new.self c.give_up.ensures.stays c.recall_laws.ensures c.give_up.ensures.none none)
-          (let s = c.give_up.ensures.stays.variables in let r = c.give_up.new.self.once.range in omega arith);
+      none = λ none. c.finish.ensures.none (left_nothing c.args.self c.give_up.new.self c.give_up.ensures.stays c.recall_laws.ensures c.give_up.ensures.none none);
     }

@@ -10,7 +10,7 @@ returns-in-Ok-clause-report g c =
     let n : MainOf = (c.args.library.now, c.args.n) in
     reported c.on_flats.result _ _ c.on_flats.ensures.report
     (flat_models c.in-Ok.f c.in-Ok.g m n (given_of c.args.self.now.case.now)
-    c.recall_laws.ensures.lawful c.recall_laws-in-Ok.ensures.lawful c.in-Ok.ensures.first.0 c.in-Ok.ensures.second.0 c.in-Ok.ensures.first.1 c.in-Ok.ensures.second.1)
+    c.recall_laws.ensures.lawful c.recall_laws-in-Ok.ensures.lawful (rw c.limit.ensures at c.in-Ok.ensures.first.0) (rw c.limit.ensures at c.in-Ok.ensures.second.0) c.in-Ok.ensures.first.1 c.in-Ok.ensures.second.1)
 
 pub returns-in-Ok-clause-stop : goal.returns-in-Ok-clause-stop
 returns-in-Ok-clause-stop g c =
@@ -18,19 +18,19 @@ returns-in-Ok-clause-stop g c =
     let n : MainOf = (c.args.library.now, c.args.n) in
     stop_alike c.on_flats.result _ _ c.on_flats.ensures.stop
     (flat_models c.in-Ok.f c.in-Ok.g m n (given_of c.args.self.now.case.now)
-    c.recall_laws.ensures.lawful c.recall_laws-in-Ok.ensures.lawful c.in-Ok.ensures.first.0 c.in-Ok.ensures.second.0 c.in-Ok.ensures.first.1 c.in-Ok.ensures.second.1)
+    c.recall_laws.ensures.lawful c.recall_laws-in-Ok.ensures.lawful (rw c.limit.ensures at c.in-Ok.ensures.first.0) (rw c.limit.ensures at c.in-Ok.ensures.second.0) c.in-Ok.ensures.first.1 c.in-Ok.ensures.second.1)
 
 pub returns-in-Err-First-clause-report : goal.returns-in-Err-First-clause-report
 returns-in-Err-First-clause-report g c =
     first_fault (c.args.library.now, c.args.m) (c.args.library.now, c.args.n) (given_of c.args.self.now.case.now)
-    c.in-Err-First.field-0-0.code c.refused.result c.refused.ensures (rw c.in-Err-First.field-0-is at c.in-Err-First.ensures.refused)
+    c.in-Err-First.field-0-0.code c.refused.result c.refused.ensures (rw (c.in-Err-First.field-0-is, c.limit.ensures) at c.in-Err-First.ensures.refused)
 
 pub returns-in-Err-First-clause-stop : goal.returns-in-Err-First-clause-stop
 returns-in-Err-First-clause-stop g c = refused_stop side.First (record { line = 0; code = c.in-Err-First.field-0-0.code }) c.refused.result _ c.refused.ensures
 
 pub returns-in-Err-Second-clause-report : goal.returns-in-Err-Second-clause-report
 returns-in-Err-Second-clause-report g c =
-    let fault = rw c.in-Err-Second.field-0-is at c.in-Err-Second.ensures.refused in
+    let fault = rw (c.in-Err-Second.field-0-is, c.limit.ensures) at c.in-Err-Second.ensures.refused in
     second_fault (c.args.library.now, c.args.m) (c.args.library.now, c.args.n) (given_of c.args.self.now.case.now)
     c.in-Err-Second.field-0-0.code c.refused-in-Err-Second.result fault.0 c.refused-in-Err-Second.ensures fault.1
 

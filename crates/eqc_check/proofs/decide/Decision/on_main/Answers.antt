@@ -10,19 +10,19 @@ pub returns-in-Ok-clause-report : goal.returns-in-Ok-clause-report
 returns-in-Ok-clause-report g c =
     let k : MainOf = (c.args.assumption.now.library, c.args.assumption.now.model) in
     reported c.on_assumed.result _ _ c.on_assumed.ensures.report
-    (flat_assumption (given_of c.args.self.now.case.now) c.args.pair.first c.args.pair.second c.in-Ok.assumed k (Ok k) refl c.in-Ok.ensures.accepted c.recall_laws.ensures.lawful c.in-Ok.ensures.flat)
+    (flat_assumption (given_of c.args.self.now.case.now) c.args.pair.first c.args.pair.second c.in-Ok.assumed k (Ok k) refl (rw c.limit.ensures at c.in-Ok.ensures.accepted) c.recall_laws.ensures.lawful c.in-Ok.ensures.flat)
 
 pub returns-in-Ok-clause-stop : goal.returns-in-Ok-clause-stop
 returns-in-Ok-clause-stop g c =
     let k : MainOf = (c.args.assumption.now.library, c.args.assumption.now.model) in
     stop_alike c.on_assumed.result _ _ c.on_assumed.ensures.stop
-    (flat_assumption (given_of c.args.self.now.case.now) c.args.pair.first c.args.pair.second c.in-Ok.assumed k (Ok k) refl c.in-Ok.ensures.accepted c.recall_laws.ensures.lawful c.in-Ok.ensures.flat)
+    (flat_assumption (given_of c.args.self.now.case.now) c.args.pair.first c.args.pair.second c.in-Ok.assumed k (Ok k) refl (rw c.limit.ensures at c.in-Ok.ensures.accepted) c.recall_laws.ensures.lawful c.in-Ok.ensures.flat)
 
 pub returns-in-Err-clause-report : goal.returns-in-Err-clause-report
 returns-in-Err-clause-report g c =
     let k : MainOf = (c.args.assumption.now.library, c.args.assumption.now.model) in
     assumption_hierarchy (given_of c.args.self.now.case.now) (netlist_of c.args.pair.first) (netlist_of c.args.pair.second) (Ok k) k
-    c.in-Err.field-0.code c.refused.result refl c.refused.ensures c.in-Err.ensures.refused
+    c.in-Err.field-0.code c.refused.result refl c.refused.ensures (rw c.limit.ensures at c.in-Err.ensures.refused)
 
 pub returns-in-Err-clause-stop : goal.returns-in-Err-clause-stop
 returns-in-Err-clause-stop g c = refused_stop side.Assume (record { line = 0; code = c.in-Err.field-0.code }) c.refused.result _ c.refused.ensures

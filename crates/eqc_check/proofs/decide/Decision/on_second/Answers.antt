@@ -5,7 +5,7 @@ use Rattle.eqc_check.proofs.decide.Decision.on_second.Goals as goal
 
 pub returns-in-Err-clause-report : goal.returns-in-Err-clause-report
 returns-in-Err-clause-report g c m accepted flat =
-    second_fault m (c.args.second.0.now, c.args.second.1) (given_of c.args.self.now.case.now) c.in-Err.field-0.code c.refused.result accepted c.refused.ensures c.in-Err.ensures.refused
+    second_fault m (c.args.second.0.now, c.args.second.1) (given_of c.args.self.now.case.now) c.in-Err.field-0.code c.refused.result accepted c.refused.ensures (rw c.limit.ensures at c.in-Err.ensures.refused)
 
 pub returns-in-Err-clause-stop : goal.returns-in-Err-clause-stop
 returns-in-Err-clause-stop g c m accepted flat = refused_stop side.Second (record { line = 0; code = c.in-Err.field-0.code }) c.refused.result _ c.refused.ensures
@@ -14,10 +14,10 @@ pub returns-in-Ok-clause-report : goal.returns-in-Ok-clause-report
 returns-in-Ok-clause-report g c m accepted flat =
     reported c.on_flats.result _ _ c.on_flats.ensures.report
     (flat_models c.args.first.now c.in-Ok.g m (c.args.second.0.now, c.args.second.1) (given_of c.args.self.now.case.now)
-    c.recall_laws.ensures.lawful c.recall_laws-in-Ok.ensures.lawful accepted c.in-Ok.ensures.accepted flat c.in-Ok.ensures.flat)
+    c.recall_laws.ensures.lawful c.recall_laws-in-Ok.ensures.lawful accepted (rw c.limit.ensures at c.in-Ok.ensures.accepted) flat c.in-Ok.ensures.flat)
 
 pub returns-in-Ok-clause-stop : goal.returns-in-Ok-clause-stop
 returns-in-Ok-clause-stop g c m accepted flat =
     stop_alike c.on_flats.result _ _ c.on_flats.ensures.stop
     (flat_models c.args.first.now c.in-Ok.g m (c.args.second.0.now, c.args.second.1) (given_of c.args.self.now.case.now)
-    c.recall_laws.ensures.lawful c.recall_laws-in-Ok.ensures.lawful accepted c.in-Ok.ensures.accepted flat c.in-Ok.ensures.flat)
+    c.recall_laws.ensures.lawful c.recall_laws-in-Ok.ensures.lawful accepted (rw c.limit.ensures at c.in-Ok.ensures.accepted) flat c.in-Ok.ensures.flat)

@@ -1,6 +1,6 @@
 use Rattle.std.proofs.Common.{◌≡◌, sym, subst, arith, ℕ, List, Some, IfOk}
 use Rattle.eqc_blif.specs.Netlist.{ModelOf}
-use Rattle.eqc_hierarchy.specs.Codes.{flat_code}
+use Rattle.eqc_hierarchy.specs.Codes.{IsRefusedWith}
 use Rattle.eqc_flat.specs.Finding.{IsCircle}
 use Rattle.eqc_flat.proofs.FindingLaws.{numbered}
 use Rattle.eqc_flat.proofs.finding.circle_finding.circle_below.Goals as goal
@@ -13,7 +13,7 @@ expanded_below-requires-clause-small c = (numbered c.args.library.now c.args.top
 
 pub circle_in-requires-clause-refused : goal.circle_in-requires-clause-refused
 circle_in-requires-clause-refused c =
-    let P : List ModelOf × ℕ → Type 0 = λ v. flat_code v.0 v.1 ≡ Some 28 in
+    let P : List ModelOf × ℕ → Type 0 = λ v. IsRefusedWith v.0 v.1 28 in
     subst P (sym c.in_ok-hierarchy.ensures.same) c.requires.refused
 
 pub returns : goal.returns

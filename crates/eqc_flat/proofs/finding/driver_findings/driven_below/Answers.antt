@@ -1,6 +1,6 @@
 use Rattle.std.proofs.Common.{◌≡◌, sym, subst, ℕ, List, Some, IfOk}
 use Rattle.eqc_blif.specs.Netlist.{ModelOf}
-use Rattle.eqc_hierarchy.specs.Codes.{flat_code}
+use Rattle.eqc_hierarchy.specs.Codes.{IsRefusedWith}
 use Rattle.eqc_flat.specs.DriverTable.{driven_code, NamesDriven}
 use Rattle.eqc_flat.proofs.FindingLaws.{driven_numbered}
 use Rattle.eqc_flat.proofs.finding.driver_findings.driven_below.Goals as goal
@@ -13,7 +13,7 @@ expanded_below-requires-clause-small c = (driven_numbered c.args.driven c.args.l
 
 pub driven_named-requires-clause-refused : goal.driven_named-requires-clause-refused
 driven_named-requires-clause-refused c =
-    let P : List ModelOf × ℕ → Type 0 = λ v. flat_code v.0 v.1 ≡ Some (driven_code c.args.driven) in
+    let P : List ModelOf × ℕ → Type 0 = λ v. IsRefusedWith v.0 v.1 (driven_code c.args.driven) in
     subst P (sym c.in_ok-hierarchy.ensures.same) c.requires.refused
 
 pub returns : goal.returns
