@@ -200,7 +200,10 @@ fn sweep_more<R: Threads + Wait + Sync, P: Progress<R> + Sync>(
             return;
         }
         watch.stage(rt, Stage::Sweeping);
-        if inside.sweep_again(rt, alloc, alike, rounds.effort(), watch).is_err() {
+        if inside
+            .sweep_again(rt, alloc, alike, rounds.effort(), watch)
+            .is_err()
+        {
             return;
         }
         rounds.count(inside.tally());

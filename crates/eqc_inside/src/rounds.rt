@@ -8,7 +8,7 @@ ghost use Rattle.eqc_build.specs.Building.{reference_of};
 ghost use Rattle.eqc_build.specs.Steps.{value_at};
 ghost use Rattle.eqc_gates.specs.Entering.{AreLiterals};
 
-use crate::inside::{Inside, literal_of, NONE};
+use crate::inside::{Inside, NONE, literal_of};
 use eqc_build::Steps;
 use eqc_compare::{Alike, Progress, is_settled};
 use eqc_pair::Pair;
@@ -60,7 +60,11 @@ const USUAL: u64 = 100_000;
 impl Rounds {
     /// Before the first round over two netlists, with what so many conflicts are worth for all of them.
     pub fn of(pair: &Pair<'_>, conflicts: u64) -> Rounds {
-        let steps = pair.first().steps().len().saturating_add(pair.second().steps().len());
+        let steps = pair
+            .first()
+            .steps()
+            .len()
+            .saturating_add(pair.second().steps().len());
         Rounds {
             conflicts,
             level: usize::from(steps < MANY_STEPS),

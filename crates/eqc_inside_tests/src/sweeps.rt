@@ -63,7 +63,7 @@ const WITHOUT_ONE: &[u32] = &[6, 5, 4, 2, 1, 0];
 /// How much is done to find nodes equal.
 fn effort(asks: bool) -> Effort {
     if asks {
-        Effort::usual()
+        Effort::of(3_000, 100_000_000)
     } else {
         Effort::none()
     }
@@ -111,7 +111,7 @@ fn parities_are_told_apart_or_equal(rt: HostRuntime) -> Result<(), AllocError> {
 
 #[test]
 fn nothing_is_asked_any_more(rt: HostRuntime) -> Result<(), AllocError> {
-    let mut sweep = Sweep::new(rt.alloc(), Effort::usual())?;
+    let mut sweep = Sweep::new(rt.alloc(), Effort::of(3_000, 100_000_000))?;
     sweep.ask_no_more();
     let tried = parities(&mut sweep, FORTH, BACK, 10_000);
     same(&rt, tried, Ok((false, Found::Equal)), "another order");

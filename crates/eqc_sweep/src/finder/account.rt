@@ -167,13 +167,7 @@ impl Account {
     }
 
     /// Counts what a question spent, by which a node was found equal or not.
-    pub(crate) fn close(
-        &mut self,
-        given: Budget,
-        left: Budget,
-        doubt: u8,
-        answer: Option<Answer>,
-    ) {
+    pub(crate) fn close(&mut self, given: Budget, left: Budget, doubt: u8, answer: Option<Answer>) {
         let is_equal = matches!(answer, Some(Answer::Refuted));
         let gave_up = matches!(answer, Some(Answer::GaveUp));
         if doubt > 0 {
