@@ -105,6 +105,11 @@ pub struct Comparison<'x, R, P> {
 /// Diagrams over so few inputs mostly fit into the larger room, which is then the first one.
 const FEW_INPUTS: usize = 20;
 
+/// Over so few, operations in the larger room may take so many turns.
+const SOME_INPUTS: usize = 40;
+
+const LARGE_TURNS: u64 = 8_388_608;
+
 /// The nodes of the first room: as many as the options allow, but for a pair of few inputs those of the larger one.
 pub(crate) fn first_nodes(pair: &Pair<'_>, options: &Options) -> u32 {
     if options.nodes >= USUAL_NODES && pair.first().inputs().len() <= FEW_INPUTS {
@@ -113,13 +118,22 @@ pub(crate) fn first_nodes(pair: &Pair<'_>, options: &Options) -> u32 {
     options.nodes
 }
 
+/// How many turns operations may take in the larger room: where there are few inputs, diagrams that are looked for long are mostly found.
+fn large_turns(pair: &Pair<'_>) -> u64 {
+    if pair.first().inputs().len() <= SOME_INPUTS {
+        LARGE_TURNS
+    } else {
+        FIRST_TURNS
+    }
+}
+
 /// Whether there is a larger room on one thread than the first one was.
 pub(crate) fn has_large_room(pair: &Pair<'_>, options: &Options) -> bool {
     options.nodes >= USUAL_NODES && first_nodes(pair, options) < FIRST_NODES
 }
 
 /// The store of a room on one thread, with a variable for each input of a pair. It has no more nodes than this.
-fn first_store(alloc: Global, pair: &Pair<'_>, nodes: u32) -> Result<Plain, Stop>
+fn first_store(alloc: Global, pair: &Pair<'_>, nodes: u32, turns: u64) -> Result<Plain, Stop>
     ensures nodes { IfOk result (λ p. p.store.limit ≤ nodes) }
     ensures variables { IfOk result (λ p. length pair.now.first.inputs ≤ (⟦<Plain as References>⟧.holding p).variables) }
     ensures only { IfErr result (λ s. s ≡ Stop.Memory) }
@@ -127,7 +141,7 @@ fn first_store(alloc: Global, pair: &Pair<'_>, nodes: u32) -> Result<Plain, Stop
     pair.recall_laws();
     let inputs = pair.first().inputs().len() as u16;
     let nodes = nodes.min(FIRST_NODES);
-    Plain::with_turns(alloc, inputs, nodes, Some(FIRST_TURNS))
+    Plain::with_turns(alloc, inputs, nodes, Some(turns))
 }
 
 /// How many of so many workers are needed where they share no operations: as many as there are outputs to compare. Who draws none
@@ -209,8 +223,13 @@ pub(crate) fn check_first<R, P: Progress<R>>(
         watch,
     } = *comparison;
     let every = options.every;
+    let turns = if nodes == FIRST_NODES {
+        large_turns(pair)
+    } else {
+        FIRST_TURNS
+    };
     let mut store = Watched {
-        diagrams: first_store(alloc, pair, nodes)?,
+        diagrams: first_store(alloc, pair, nodes, turns)?,
         watch,
     };
     let outcome = compare_known(alloc, rt, &mut store, pair, every, alike, false, watch)?;
