@@ -50,10 +50,11 @@ class Register:
 
 @dataclass(slots=True)
 class Design(Model):
-    """A model with registers; an instance may have a name, by its place."""
+    """A model with registers; an instance may have a name, by its place. Comments are lines that are written with it."""
 
     registers: list = field(default_factory=list)
     cnames: dict = field(default_factory=dict)
+    comments: list = field(default_factory=list)
     black_box: int = 0
 
 

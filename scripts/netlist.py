@@ -23,6 +23,8 @@ SKIPPED = frozenset(
     b" .default_output_required .input_drive .default_input_drive .max_input_load .default_max_input_load"
     b" .output_load .default_output_load .attr .cname".split()
 )
+# `prepare --cut` writes a comment for each register that it cut, by which `replay` knows it.
+REGISTER_LINE = b"#register"
 CONTROLS = bytes(it for it in range(32) if it not in (9, 10)) + b"\x7f"
 INPUT = object()
 
@@ -175,9 +177,11 @@ class Reader:
             raise Fault("a row that doesn't follow .names", 6, number)
         row = b"".join(words)
         if len(row) != len(self.cover.columns) + 1 or row.strip(b"01-") or row[-1:] == b"-":
-            raise Fault(f"the row {shown(row)} doesn't fit {len(self.cover.columns)} columns", 7, number)
+            told = f"the row '{shown(b' '.join(words))}' doesn't fit {len(self.cover.columns)} columns"
+            raise Fault(told, 7, number)
         if self.cover.rows and self.cover.rows[0][-1] != row[-1]:
-            raise Fault("a row whose output differs from that of the cover's first row", 8, number)
+            told = f"the row '{shown(b' '.join(words))}', whose output differs from that of the cover's first row"
+            raise Fault(told, 8, number)
         self.cover.rows.append(row)
 
     def add_instance(self, number, words):
