@@ -16,6 +16,7 @@ from dataclasses import dataclass, field
 LONGEST_TEXT = 16_777_216
 MOST_SIGNALS = 1_048_576
 MOST_INPUTS = 2_048
+SHOWN_NAMES = 10
 # So many steps are shown at each end of a long way to an instance.
 SHOWN_STEPS = 10
 SKIPPED = frozenset(
@@ -45,6 +46,17 @@ class Fault(Exception):
 def shown(name):
     """A name for a message."""
     return name.decode("utf-8", "backslashreplace")
+
+
+def listed(names):
+    """Some names for a message, with how many more there are."""
+    names = list(names)
+    more = f" and {len(names) - SHOWN_NAMES} more" if len(names) > SHOWN_NAMES else ""
+    return " ".join(shown(it) for it in names[:SHOWN_NAMES]) + more
+
+
+def counted(count, what):
+    return f"{count} {what}" if count == 1 else f"{count} {what}s"
 
 
 @dataclass(slots=True)
