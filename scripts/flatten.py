@@ -1,8 +1,8 @@
 """Hierarchies and what hangs on nothing, for `prepare`: flattening, and signals that nothing drives or nobody needs."""
 from collections import deque
 
-from flows import BUFFER, Design
-from netlist import MOST_SIGNALS, Cover, Fault, counted, listed, shown
+from flows import Design
+from netlist import BUFFER, MOST_SIGNALS, Cover, Fault, counted, listed, names_in, shown
 
 
 def path_part(design, place):
@@ -65,18 +65,6 @@ def undriven(design, reached):
         driven.update(actual for formal, actual in it.pairs if formal not in inputs)
         used.append([actual for formal, actual in it.pairs if formal in inputs])
     return list(dict.fromkeys(name for names in used for name in names if name not in driven))
-
-
-def names_in(design):
-    """All names of a model's signals, its ports first."""
-    names = dict.fromkeys((*design.inputs, *design.outputs))
-    for it in design.covers:
-        names.update(dict.fromkeys((*it.columns, it.output)))
-    for it in design.instances:
-        names.update(dict.fromkeys(actual for _, actual in it.pairs))
-    for it in design.registers:
-        names.update(dict.fromkeys([it.held, *it.needs()]))
-    return names
 
 
 def signals_below(reached, main):

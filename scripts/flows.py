@@ -3,9 +3,8 @@ from collections import Counter
 from dataclasses import dataclass, field
 
 from cells import RegisterCell
-from netlist import SKIPPED, Cover, Fault, Instance, Model, Reader, shown
+from netlist import BUFFER, SKIPPED, Cover, Fault, Instance, Model, Reader, shown
 
-BUFFER = [b"11"]
 # Commands beside SKIPPED that say nothing on functions.
 TOLD_NOTHING = SKIPPED | frozenset(b".param .clock .clock_event .latch_order".split())
 KINDS = {b"re": "rising edge", b"fe": "falling edge", b"ah": "1", b"al": "0", b"as": "no edge"}
@@ -39,8 +38,12 @@ class Register:
 
     def renamed(self, names):
         """The same register with other names of its signals."""
-        data, held, clock = (names[it] if it else it for it in (self.data, self.held, self.clock))
-        resets = [names[it] for it in self.resets]
+        return self.renamed_by(names.__getitem__)
+
+    def renamed_by(self, of):
+        """The same register, where a function tells the names of its signals."""
+        data, held, clock = (of(it) if it else it for it in (self.data, self.held, self.clock))
+        resets = [of(it) for it in self.resets]
         return Register(data, held, self.kind, clock, self.initial, self.line, resets, self.reset_rows)
 
     def clock_told(self):

@@ -2,8 +2,9 @@
 import itertools
 import re
 
-from flows import BUFFER, OPEN
-from netlist import REGISTER_LINE, SHOWN_NAMES, Cover, Fault, complain, counted, listed, shown
+from flows import OPEN
+from netlist import BUFFER, REGISTER_LINE, SHOWN_NAMES, Cover, Fault, complain, counted, listed, shown
+from spelling import met
 
 # The kinds of clocks, each with that of the inverse.
 OTHER_EDGES = {b"re": b"fe", b"fe": b"re", b"ah": b"al", b"al": b"ah"}
@@ -48,8 +49,21 @@ def name_registers(design):
         it.name = next((name for name in it.names if b"$" not in name), it.held)
 
 
-def match_registers(first, second):
-    """The pairs of registers that have a name in common, which get that name; the registers of each side without partner."""
+def match_by_spelling(first, second, partner):
+    """Adds partners whose names differ in spelling alone; no register gets two."""
+    owners = [{name: it for it in side for name in it.names if b"$" not in name} for side in (first, second)]
+    taken = set()
+    for other, name in met(*owners).items():
+        one, two = owners[0][name], owners[1][other]
+        if one.held not in taken and two.held not in partner:
+            taken.add(one.held)
+            partner[two.held] = one
+            one.name = two.name = name
+
+
+def match_registers(first, second, by_spelling=False):
+    """The pairs of registers that have a name in common, which get that name; the registers of each side without partner.
+    By spelling also those whose names differ in spelling alone, which get that of the first."""
     by_name = {name: it for it in first for name in it.names}
     by_held = {it.held: it for it in first}
     partner, taken = {}, set()
@@ -71,6 +85,9 @@ def match_registers(first, second):
             both = set(found.names) & set(register.names)
             names = sorted(both, key=lambda it: (b"$" in it, it != found.held, it != register.held, it))
             found.name = register.name = names[0]
+    if by_spelling:
+        match_by_spelling([it for it in first if it.held not in taken], [it for it in second if it.held not in partner], partner)
+        taken.update(it.held for it in partner.values())
     pairs = [(partner[it.held], it) for it in second if it.held in partner]
     return pairs, [it for it in first if it.held not in taken], [it for it in second if it.held not in partner]
 
@@ -351,7 +368,7 @@ class Alone:
 def compare_registers(first, second, given):
     """Names the registers of both sides alike, and tells what has no partner, or takes others; whether all agree."""
     sides = first, second
-    pairs, *lost = match_registers(first.main.registers, second.main.registers)
+    pairs, *lost = match_registers(first.main.registers, second.main.registers, given.names)
     for one, two in pairs:
         is_inner = one.has_clock_output or two.has_clock_output
         one.has_clock_output = two.has_clock_output = is_inner and bool(one.clock and two.clock)
