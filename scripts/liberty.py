@@ -231,6 +231,10 @@ class Placed:
         if text:
             formula = Formula(text)
             register.resets, register.reset_rows = [signals[it] for it in formula.pins if it != b"H"], formula.rows
+            # After an edge too it holds what an active reset says, as yosys's cells do.
+            going_in, register.data = register.data, self.fresh(b"after%d" % number)
+            columns = [*register.resets, going_in]
+            self.design.covers.append(Cover(columns, register.data, self.cell.line, formula.rows))
 
     def add_output(self, name, pin):
         function = self.function(pin)
