@@ -21,7 +21,7 @@ import time
 from pathlib import Path
 from statistics import median
 
-TOP = Path(__file__).resolve().parent.parent
+TOP = Path(__file__).resolve().parent.parent.parent
 PROGRAM = TOP / "crates" / "eqc_prog" / "out" / "eqc_prog"
 CHOICES = ["1:16", "4:0", "4:2", "4:4", "4:8", "4:16"]
 XOR = ("10 1", "01 1")

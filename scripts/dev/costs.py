@@ -19,7 +19,7 @@ import sys
 import tempfile
 from pathlib import Path
 
-BUILT = Path(__file__).resolve().parent.parent / "crates" / "eqc_prog" / "out" / "eqc_prog"
+BUILT = Path(__file__).resolve().parent.parent.parent / "crates" / "eqc_prog" / "out" / "eqc_prog"
 MOST = 1_048_574
 
 
