@@ -1,8 +1,8 @@
 #!/bin/bash
 # Takes larger designs through the flows of yosys, abc and a library, and compares each netlist with the design as it is written.
 # usage: designs.sh [-f FLOW] DESIGN ..; here are DESIGN.v and cells.lib. Prints a line for each design and flow; FLOW is one of
-# gates, tables, ice40, ecp5, xilinx, gowin, liberty, abc, and all of them without it.
-flows="gates tables ice40 ecp5 xilinx gowin liberty abc"
+# gates, tables, ice40, ecp5, xilinx, gowin, gowin-noalu, liberty, abc, and all of them without it.
+flows="gates tables ice40 ecp5 xilinx gowin gowin-noalu liberty abc"
 [ "$1" != -f ] || { flows=$2; shift 2; }
 verdict() { # the files
   eqc --nodes 1048574 "$1" "$2" | head -1
@@ -31,7 +31,9 @@ for design; do
     xilinx)
       script="$fpga; synth_xilinx -top $design -flatten -nobram -nolutram -nosrl -nodsp; opt_clean; write_blif -param $new"
       options=(--fpga xilinx) ;;
-    gowin) script="$fpga; synth_gowin -top $design -nobram -nolutram; opt_clean; write_blif -param $new" options=(--fpga gowin) ;;
+    gowin*)
+      script="$fpga; synth_gowin -top $design -nobram -nolutram ${flow#gowin}; opt_clean; write_blif -param $new"
+      options=(--fpga gowin) ;;
     liberty)
       script="$synth; dfflibmap -liberty cells.lib; abc -liberty cells.lib; opt_clean; write_blif -gates $new"
       options=(--liberty cells.lib) ;;
