@@ -92,8 +92,11 @@ class Fpga:
         """Has yosys make a model of each kind of these cells that is no table."""
         wanted = {self.kind(it): it for it in cells if it.model not in self.tables}
         for number, kind in enumerate(wanted):
-            if re.search(r'[^\w"\'\\. -]', " ".join(map(shown, kind))):
-                raise Fault(f"a parameter of {shown(kind[0])} has a sign that yosys wouldn't take", 3, wanted[kind].line)
+            # What yosys is told has to be one word.
+            for name, value in zip(kind[1::2], kind[2::2]):
+                if not re.fullmatch(rb"\w+", name) or not re.fullmatch(rb'"[^"]*"|[01xz]+', value):
+                    told = f"the parameter {shown(name)} of {shown(kind[0])} is neither bits nor a text: {shown(value)}"
+                    raise Fault(told, 3, wanted[kind].line)
             self.kinds[kind] = b"%s$%d" % (kind[0], number)
         return self.made(wanted) if wanted else []
 
@@ -130,6 +133,9 @@ class Fpga:
         except Fault as fault:
             raise Fault(f"the model of {shown(kind[0])}: {fault.said}", fault.code) from None
         model.name = self.kinds[kind]
+        # Their lines are those of another text.
+        for it in model.registers:
+            it.line = 0
         used = {*model.outputs, *(name for it in model.covers for name in it.columns)}
         used |= {name for it in model.registers for name in it.needs()}
         model.inputs = [it for it in model.inputs if it in used]
