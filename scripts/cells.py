@@ -21,6 +21,17 @@ def rows_between(lower, upper, n):
     return rows, table0 | table | (table1 | table) << half
 
 
+def rows_of(table, n):
+    """Rows of a truth table of `n` columns, those of the value that wants fewer."""
+    on, _ = rows_between(table, table, n)
+    turned = ((1 << (1 << n)) - 1) & ~table
+    off, _ = rows_between(turned, turned, n)
+    # Without a row a cover is 0.
+    if len(off) < len(on) and off:
+        return [it + b"0" for it in off]
+    return [it + b"1" for it in on]
+
+
 class Formula:
     """A function of a genlib: `!` or `'` not, `*`, `&` or nothing and, `^` exclusive or, `+` or `|` or."""
 
@@ -40,7 +51,7 @@ class Formula:
         table = self.alternatives()
         if self.left:
             raise ValueError(f"{shown(self.left[0])} is out of place")
-        self.rows = self.shorter_rows(table)
+        self.rows = rows_of(table, len(self.pins))
 
     @staticmethod
     def is_sign(token):
@@ -49,15 +60,6 @@ class Formula:
     def table_of_pin(self, k):
         block, period = ((1 << (1 << k)) - 1) << (1 << k), 1 << (k + 1)
         return sum(block << at for at in range(0, self.size, period))
-
-    def shorter_rows(self, table):
-        n = len(self.pins)
-        on, _ = rows_between(table, table, n)
-        off, _ = rows_between(self.full & ~table, self.full & ~table, n)
-        # Without a row a cover is 0.
-        if len(off) < len(on) and off:
-            return [it + b"0" for it in off]
-        return [it + b"1" for it in on]
 
     def accept(self, signs):
         return self.left.popleft() if self.left and self.left[0] in signs else None
@@ -119,6 +121,16 @@ class Genlib:
             self.cells.setdefault(name.strip(b'"'), {})[output.strip(b'"')] = formula
         if not self.cells:
             raise Fault(f"{path}: the file has no GATE")
+
+    def has(self, name):
+        return name in self.cells
+
+    def make_ready(self, _cells):
+        return []
+
+    def put(self, design, cell, _models):
+        """Puts the covers of a cell into a design."""
+        design.covers += (cover for _, cover in self.covers(cell.model, dict(cell.pairs), cell.line))
 
     def covers(self, name, actuals, line):
         """The covers of a cell whose formals have these actuals, one for each output."""

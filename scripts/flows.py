@@ -3,9 +3,8 @@ from collections import Counter
 from dataclasses import dataclass, field
 
 from cells import RegisterCell
-from netlist import SKIPPED, Cover, Fault, Model, Reader, shown
+from netlist import BUFFER, SKIPPED, Cover, Fault, Instance, Model, Reader, shown
 
-BUFFER = [b"11"]
 # Commands beside SKIPPED that say nothing on functions.
 TOLD_NOTHING = SKIPPED | frozenset(b".param .clock .clock_event .latch_order".split())
 KINDS = {b"re": "rising edge", b"fe": "falling edge", b"ah": "1", b"al": "0", b"as": "no edge"}
@@ -15,9 +14,9 @@ VALUES = {b"0": "0", b"1": "1", b"2": OPEN, b"3": OPEN}
 
 @dataclass(slots=True)
 class Register:
-    """`.latch`: what goes in, what it holds, the kind and name of its clock, its initial value; where it has an
-    asynchronous reset, that and the rows of its output over the reset and what is held; later all of its names, the one
-    that its cut has, whether its clock is compared too, and the constant or the other register that takes its place."""
+    """`.latch`: what goes in, what it holds, the kind and name of its clock, its initial value; where it has asynchronous
+    resets, these and the rows of its output over them and what is held; later all of its names, the one that its cut has,
+    whether its clock is compared too, and the constant or the other register that takes its place."""
 
     data: bytes
     held: bytes
@@ -25,7 +24,7 @@ class Register:
     clock: bytes
     initial: str
     line: int
-    reset: bytes = b""
+    resets: list = field(default_factory=list)
     reset_rows: list = field(default_factory=list)
     names: list = field(default_factory=list)
     name: bytes = b""
@@ -35,12 +34,17 @@ class Register:
 
     def needs(self):
         """The signals that a register needs."""
-        return [it for it in (self.data, self.clock, self.reset) if it]
+        return [it for it in (self.data, self.clock, *self.resets) if it]
 
     def renamed(self, names):
         """The same register with other names of its signals."""
-        data, held, clock, reset = (names[it] if it else it for it in (self.data, self.held, self.clock, self.reset))
-        return Register(data, held, self.kind, clock, self.initial, self.line, reset, self.reset_rows)
+        return self.renamed_by(names.__getitem__)
+
+    def renamed_by(self, of):
+        """The same register, where a function tells the names of its signals."""
+        data, held, clock = (of(it) if it else it for it in (self.data, self.held, self.clock))
+        resets = [of(it) for it in self.resets]
+        return Register(data, held, self.kind, clock, self.initial, self.line, resets, self.reset_rows)
 
     def clock_told(self):
         if not self.clock:
@@ -49,11 +53,20 @@ class Register:
 
 
 @dataclass(slots=True)
+class Cell(Instance):
+    """An instance that may be a library's cell: with parameters, and told by `.gate`."""
+
+    params: dict = field(default_factory=dict)
+    is_gate: bool = False
+
+
+@dataclass(slots=True)
 class Design(Model):
-    """A model with registers; an instance may have a name, by its place."""
+    """A model with registers; an instance may have a name, by its place. Comments are lines that are written with it."""
 
     registers: list = field(default_factory=list)
     cnames: dict = field(default_factory=dict)
+    comments: list = field(default_factory=list)
     black_box: int = 0
 
 
@@ -62,9 +75,10 @@ class FlowReader(Reader):
 
     model_type = Design
 
-    def __init__(self, genlib, cuts):
+    def __init__(self, genlib, cuts, has_libraries=False):
         super().__init__()
         self.genlib, self.cuts, self.changed = genlib, cuts, Counter()
+        self.has_libraries = has_libraries or genlib is not None
         self.behind_instance, self.cells = False, {}
         self.commands |= {
             b".latch": self.add_latch,
@@ -78,13 +92,15 @@ class FlowReader(Reader):
 
     def take(self, number, line):
         word = line.split(None, 1)[0]
+        if word == b".param" and self.behind_instance and self.has_libraries:
+            return self.add_parameter(line)
         if word in TOLD_NOTHING:
             self.changed[word] += 1
             # yosys writes `.cname` behind covers and latches too.
             if word == b".cname" and self.behind_instance:
                 self.model.cnames[len(self.model.instances) - 1] = line.split()[-1]
             return None
-        self.behind_instance = word == b".subckt"
+        self.behind_instance = word in (b".subckt", b".gate")
         if word == b".exdc":
             raise Fault(".exdc: a part with don't-cares, which eqc doesn't compare", 3, number)
         if word == b".search":
@@ -93,8 +109,16 @@ class FlowReader(Reader):
 
     def add_instance(self, number, words):
         if len(words) < 2 or not RegisterCell.ANY.fullmatch(words[1]):
-            return super().add_instance(number, words)
+            super().add_instance(number, words)
+            it = self.model.instances[-1]
+            self.model.instances[-1] = Cell(it.model, it.pairs, it.line)
+            return None
         return self.add_register_cell(number, words)
+
+    def add_parameter(self, line):
+        words = line.split(None, 2)
+        if len(words) == 3:
+            self.model.instances[-1].params[words[1]] = words[2].strip()
 
     def add_register_cell(self, number, words):
         """A cell of yosys, as `$_DFFE_PP_`, becomes a register and the cover of what goes in."""
@@ -112,7 +136,7 @@ class FlowReader(Reader):
         data = b"%s$next$%d" % (held, number)
         register = Register(data, held, cell.kind, actuals[b"C"], OPEN, number)
         if cell.has_reset:
-            register.reset, register.reset_rows = actuals[b"R"], cell.now.rows
+            register.resets, register.reset_rows = [actuals[b"R"]], cell.now.rows
         self.model.covers.append(Cover([actuals[it] for it in cell.next.pins], data, number, cell.next.rows))
         self.model.registers.append(register)
         self.changed[name] += 1
@@ -152,9 +176,10 @@ class FlowReader(Reader):
         actuals, rest = self.pairs(number, words)
         if rest:
             raise Fault(f"the pair {shown(rest[0])} has no name on one side", 9, number)
-        self.want_genlib(number, words)
+        if not self.has_libraries:
+            raise Fault(f".gate {shown(words[1])}: --genlib FILE or --liberty FILE tells what the cell is", 3, number)
         self.changed[b".gate"] += 1
-        self.model.covers += (cover for _, cover in self.genlib.covers(words[1], actuals, number))
+        self.model.instances.append(Cell(words[1], list(actuals.items()), number, is_gate=True))
 
     def add_latch(self, number, words):
         if not self.cuts:
@@ -184,3 +209,32 @@ class FlowReader(Reader):
             clock, initial = initial, b"3"
         clock = b"" if clock == b"NIL" else clock
         self.model.registers.append(Register(data, held, kind, clock, VALUES[initial], number))
+
+
+def put_cells(models, libraries):
+    """Puts cells of libraries into models, where their text has no model of the name; how many of each name."""
+    names = {it.name for it in models if not it.black_box}
+    found, put = {it: [] for it in libraries}, Counter()
+    for design in models:
+        for cell in design.instances:
+            library = next((it for it in libraries if it.has(cell.model)), None)
+            if library and cell.model not in names:
+                found[library].append(cell)
+            elif cell.is_gate:
+                paths = " and ".join(str(it.path) for it in libraries)
+                raise Fault(f"{paths} has no cell {shown(cell.model)}", 3, cell.line)
+    library_of = {id(cell): library for library, cells in found.items() for cell in cells}
+    made = {it.name: it for library, cells in found.items() for it in library.make_ready(cells)}
+    for design in models:
+        before, cnames = design.instances, design.cnames
+        design.instances, design.cnames = [], {}
+        for place, cell in enumerate(before):
+            if id(cell) not in library_of:
+                design.instances.append(cell)
+            else:
+                library_of[id(cell)].put(design, cell, made)
+                put[cell.model] += 0 if cell.is_gate else 1
+            if place in cnames and design.instances:
+                design.cnames[len(design.instances) - 1] = cnames[place]
+    models += made.values()
+    return +put

@@ -7,6 +7,7 @@ and hierarchies may be as deep as eqc allows.
 """
 import errno
 import gc
+import hashlib
 import os
 import signal
 import sys
@@ -18,6 +19,7 @@ MOST_SIGNALS = 1_048_576
 # As many as `eqc --inputs` may allow, and as many as are allowed without it.
 MOST_INPUTS = 65_535
 DEFAULT_INPUTS = 2_048
+SHOWN_NAMES = 10
 # So many steps are shown at each end of a long way to an instance.
 SHOWN_STEPS = 10
 SKIPPED = frozenset(
@@ -25,6 +27,12 @@ SKIPPED = frozenset(
     b" .default_output_required .input_drive .default_input_drive .max_input_load .default_max_input_load"
     b" .output_load .default_output_load .attr .cname".split()
 )
+# A table of short names begins so.
+TABLE_HEAD = b"#names "
+# The rows of a cover that is its column.
+BUFFER = [b"11"]
+# `prepare --cut` writes a comment for each register that it cut, by which `replay` knows it.
+REGISTER_LINE = b"#register"
 CONTROLS = bytes(it for it in range(32) if it not in (9, 10)) + b"\x7f"
 INPUT = object()
 
@@ -45,6 +53,17 @@ class Fault(Exception):
 def shown(name):
     """A name for a message."""
     return name.decode("utf-8", "backslashreplace")
+
+
+def listed(names):
+    """Some names for a message, with how many more there are."""
+    names = list(names)
+    more = f" and {len(names) - SHOWN_NAMES} more" if len(names) > SHOWN_NAMES else ""
+    return " ".join(shown(it) for it in names[:SHOWN_NAMES]) + more
+
+
+def counted(count, what):
+    return f"{count} {what}" if count == 1 else f"{count} {what}s"
 
 
 @dataclass(slots=True)
@@ -80,6 +99,18 @@ class Model:
     outputs: list = field(default_factory=list)
     covers: list = field(default_factory=list)
     instances: list = field(default_factory=list)
+
+
+def names_in(design):
+    """All names of a model's signals, its ports first; of one with registers those of them, too."""
+    names = dict.fromkeys((*design.inputs, *design.outputs))
+    for it in design.covers:
+        names.update(dict.fromkeys((*it.columns, it.output)))
+    for it in design.instances:
+        names.update(dict.fromkeys(actual for _, actual in it.pairs))
+    for it in getattr(design, "registers", ()):
+        names.update(dict.fromkeys([it.held, *it.needs()]))
+    return names
 
 
 def logical_lines(text):
@@ -177,9 +208,11 @@ class Reader:
             raise Fault("a row that doesn't follow .names", 6, number)
         row = b"".join(words)
         if len(row) != len(self.cover.columns) + 1 or row.strip(b"01-") or row[-1:] == b"-":
-            raise Fault(f"the row {shown(row)} doesn't fit {len(self.cover.columns)} columns", 7, number)
+            told = f"the row '{shown(b' '.join(words))}' doesn't fit {len(self.cover.columns)} columns"
+            raise Fault(told, 7, number)
         if self.cover.rows and self.cover.rows[0][-1] != row[-1]:
-            raise Fault("a row whose output differs from that of the cover's first row", 8, number)
+            told = f"the row '{shown(b' '.join(words))}', whose output differs from that of the cover's first row"
+            raise Fault(told, 8, number)
         self.cover.rows.append(row)
 
     def add_instance(self, number, words):
@@ -400,13 +433,46 @@ class Flat:
         return b"/".join([*steps, name])
 
 
+def table_path(path):
+    """Where `prepare --short` writes the table of a file's short names."""
+    return f"{path}.names"
+
+
+def table_of(path, text=None):
+    """The names that short ones stand for in a file, by the table beside it; none where there is no table of this file."""
+    if not os.path.isfile(table_path(path)):
+        return {}
+    lines = text_of(table_path(path)).split(b"\n")
+    text = text_of(path) if text is None else text
+    if lines[0] != TABLE_HEAD + hashlib.sha256(text).hexdigest().encode():
+        return {}
+    pairs = (line.partition(b" ") for line in lines[1:] if line)
+    return {short: name for short, _, name in pairs}
+
+
+def with_long_names(path, text, models):
+    """Gives the signals of models the names that short ones stand for."""
+    table = table_of(path, text)
+    if table:
+        for it in models:
+            known = [name for name in (*it.inputs, *it.outputs) if name in table]
+            if known:
+                raise Fault(f"{table_path(path)} tells of the port {shown(known[0])}")
+            for cover in it.covers:
+                cover.columns = [table.get(name, name) for name in cover.columns]
+                cover.output = table.get(cover.output, cover.output)
+            for instance in it.instances:
+                instance.pairs = [(formal, table.get(actual, actual)) for formal, actual in instance.pairs]
+
+
 class Source:
-    """A file with its text and its models."""
+    """A file with its text and its models, whose signals have the names of the source where a table tells these."""
 
     def __init__(self, path):
         self.path, self.text = path, text_of(path)
         with self.named():
             self.models = models_of(self.text)
+            with_long_names(path, self.text, self.models)
 
     @contextmanager
     def named(self):

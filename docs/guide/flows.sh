@@ -23,7 +23,7 @@ for design; do
   compare cells --genlib cells.genlib
   yosys -q -p "$synth; write_blif -top $design -cname $new" > log 2>&1
   compare modules
-  if ! grep -q '^.subckt' $gold; then
+  if ! grep -q '^.subckt' "$gold"; then
     berkeley-abc -q "read_blif $gold; strash; dc2; if -K 6; write_blif $new" > log 2>&1
     compare abc
   fi

@@ -21,7 +21,7 @@ import time
 from pathlib import Path
 from statistics import median
 
-TOP = Path(__file__).resolve().parent.parent
+TOP = Path(__file__).resolve().parent.parent.parent
 PROGRAM = TOP / "crates" / "eqc_prog" / "out" / "eqc_prog"
 CHOICES = ["1:16", "4:0", "4:2", "4:4", "4:8", "4:16"]
 XOR = ("10 1", "01 1")
@@ -87,7 +87,7 @@ def by_columns(netlist, bits):
 
 
 def by_rows(netlist, bits):
-    total = [netlist.cover([f"a0", f"b{j}"], AND) for j in range(bits)]
+    total = [netlist.cover(["a0", f"b{j}"], AND) for j in range(bits)]
     for i in range(1, bits):
         carry = None
         for k in range(i, bits):
@@ -150,7 +150,9 @@ def hidden_weighted_bit(count):
 def queens(size):
     """Whether a board has a queen in each row, and no two that threaten each other."""
     squares = [(row, column) for row in range(size) for column in range(size)]
-    name = lambda square: f"q{square[0]}_{square[1]}"
+
+    def name(square):
+        return f"q{square[0]}_{square[1]}"
 
     def threatened(square):
         return [
@@ -163,11 +165,16 @@ def queens(size):
         return netlist.cover([name(square), *map(name, others)], ["0" + "-" * len(others) + " 1", "1" + "0" * len(others) + " 1"])
 
     def board(netlist, order):
-        rows = [netlist.cover([name((row, k)) for k in range(size)], ["-" * k + "1" + "-" * (size - k - 1) + " 1" for k in range(size)]) for row in range(size)]
+        one_each = ["-" * k + "1" + "-" * (size - k - 1) + " 1" for k in range(size)]
+        rows = [netlist.cover([name((row, k)) for k in range(size)], one_each) for row in range(size)]
         return netlist.conjunction(rows + [lone(netlist, square) for square in order])
 
-    forward = lambda it: board(it, squares)
-    backward = lambda it: board(it, [(row, column) for column in range(size) for row in range(size)])
+    def forward(netlist):
+        return board(netlist, squares)
+
+    def backward(netlist):
+        return board(netlist, [(row, column) for column in range(size) for row in range(size)])
+
     return [name(it) for it in squares], forward, backward
 
 

@@ -19,7 +19,7 @@ import sys
 import tempfile
 from pathlib import Path
 
-BUILT = Path(__file__).resolve().parent.parent / "crates" / "eqc_prog" / "out" / "eqc_prog"
+BUILT = Path(__file__).resolve().parent.parent.parent / "crates" / "eqc_prog" / "out" / "eqc_prog"
 MOST = 1_048_574
 
 
@@ -36,7 +36,10 @@ def run(program, text, nodes, *options):
 
 def dashed(columns, rows, share, seed=1):
     chance = random.Random(seed)
-    place = lambda: "-" if chance.random() < share else chance.choice("01")
+
+    def place():
+        return "-" if chance.random() < share else chance.choice("01")
+
     return ["".join(place() for _ in range(columns)) for _ in range(rows)]
 
 
@@ -64,7 +67,10 @@ def minterms(columns, odd=False):
 def prefixed(columns, rows):
     """One literal in each column of the first half, all values of the second half."""
     half = columns // 2
-    first = lambda k: "".join("1" if place == k else "-" for place in range(half))
+
+    def first(k):
+        return "".join("1" if place == k else "-" for place in range(half))
+
     return [first(k) + format(k % 2 ** (columns - half), f"0{columns - half}b") for k in range(rows)]
 
 

@@ -13,7 +13,7 @@ import sys
 import tempfile
 from pathlib import Path
 
-EQC = Path(__file__).resolve().parent.parent / "eqc"
+EQC = Path(__file__).resolve().parent.parent.parent / "eqc"
 PROGRAM = EQC.parent / "crates" / "eqc_prog" / "out" / "eqc_prog"
 BYTES = 16_777_216
 

@@ -17,7 +17,7 @@ import sys
 import tempfile
 from pathlib import Path
 
-BUILT = Path(__file__).resolve().parent.parent / "crates" / "eqc_prog" / "out" / "eqc_prog"
+BUILT = Path(__file__).resolve().parent.parent.parent / "crates" / "eqc_prog" / "out" / "eqc_prog"
 MOST_INPUTS = 65_535
 BITS = 8
 GROUP = 5
