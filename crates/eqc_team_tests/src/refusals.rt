@@ -63,7 +63,7 @@ fn two_build_one<R: Threads + Sync + Abort + Wait + AllocGlobal>(rt: &R, members
     same(rt, lead.close(rt), 0, "close");
 }
 
-/// Run with each request for memory refused in turn, by `rt try --test --fail-alloc N`, or by `scripts/refuse_memory majorities`.
+/// Run with each request for memory refused in turn, by `rt try --test --fail-alloc N`, or by `scripts/dev/refuse_memory majorities`.
 #[test]
 fn two_members_build_one_majority_at_last(rt: HostRuntime) {
     match team(rt.alloc(), 3, 100, 64, 2, 0) {

@@ -1,6 +1,6 @@
 //! What `--version` shows: the program, the toolchain that proves and builds it, and what is proved.
 
-/// The program's number; the toolchain's line, as `rt version` prints it (`scripts/toolchain` compares the two); and
+/// The program's number; the toolchain's line, as `rt version` prints it (`scripts/dev/toolchain` compares the two); and
 /// the headline of what is proved.
 pub const VERSION: &str = "\
 0.1
