@@ -1,1 +1,4 @@
 pub mod FormLemmas
+pub mod GateLemmas
+pub mod StepLemmas
+pub mod WordLemmas
