@@ -2,3 +2,4 @@ pub mod FormLemmas
 pub mod GateLemmas
 pub mod StepLemmas
 pub mod WordLemmas
+pub mod KeepLemmas

@@ -1,6 +1,7 @@
 -- What zero steps come to.
 use Rattle.std.proofs.Common.{◌≡◌, ℕ, zero, suc, ◌+◌, ◌-◌, ◌*◌, ◌/◌, ◌%◌, ◌^◌, ◌<◌, ◌≤◌, Bool, true, false, not, ◌&&◌, ◌||◌, List, [], ◌∷◌, ◌++◌, length, get_or, take, refl, sym, ◌∙◌, ap, subst, arith}
 use Rattle.std.specs.List.{All}
+use Rattle.std.proofs.lemmas.List.{take_all}
 use Rattle.std.proofs.lemmas.List.Elements.{All-nil, All-push}
 use Rattle.std.proofs.lemmas.List.Sums.{sum_by_more, sum_by_push, sum_by-cons}
 use Rattle.eqc_graph.specs.declared.node.Node.{Node}
@@ -203,3 +204,56 @@ sum_before old new ts f e has = record {
   within = λ k d inside. omega (arith, has.within k d inside, e.longer);
   sum = λ a. ap (λ (n : ℕ). n % 2 ^ 128) (sum_same old new ts a e has.within) ∙ has.sum a;
 }
+
+less_mod : (S T p : ℕ) → S % 2 ^ 128 ≡ T % 2 ^ 128 → (S + p) % 2 ^ 128 ≡ (T + p) % 2 ^ 128
+less_mod S T p h = omega (arith, h)
+
+-- one more term behind others
+pub has_push : (nodes : List Node) (ts us : List Term) (l w : ℕ) (f : Value) (h : Number) → us ≡ ts ++ record { literal = l; factor = w } ∷ []
+    → HasSum nodes ts h → HasValue nodes l f → HasSum nodes us (λ a. h a + w * bit (f a))
+has_push nodes ts us l w f h pushed has one =
+    let t : Term = record { literal = l; factor = w } in
+    let P : Term → Type 0 = λ u. IsWithin nodes u.literal in
+    subst (λ (all : List Term). HasSum nodes all (λ a. h a + w * bit (f a))) (sym pushed) (record {
+      within = All-push P ts t has.within one.within;
+      sum = λ a.
+          ap (λ (n : ℕ). n % 2 ^ 128) (sum_by_push (λ (u : Term). u.factor * bit (literal_value nodes a u.literal)) ts t)
+          ∙ (ap (λ (b : Bool). (terms_sum (literal_value nodes a) ts + w * bit b) % 2 ^ 128) (one.value a)
+          ∙ less_mod (terms_sum (literal_value nodes a) ts) (h a) (w * bit (f a)) (has.sum a));
+    })
+
+times_at : (H w f S T : ℕ) (x y : Bool) → T ≡ S + f * bit y
+    → ((H + (w * bit x) * S) + ((w * f) % 2 ^ 128) * bit (x && y)) % 2 ^ 128 ≡ (H + (w * bit x) * T) % 2 ^ 128
+times_at H w f S T true true more = omega (arith, ap (λ (n : ℕ). w * n) more)
+times_at H w f S T true false more = omega (arith, ap (λ (n : ℕ). w * n) more)
+times_at H w f S T false true more = omega arith
+times_at H w f S T false false more = omega arith
+
+pub times_more : (old between new : List Node) (x w i l : ℕ) (ts out outs : List Term) (t : Term) (h : Number) → Extends old between → Extends between new
+    → All (λ u. IsWithin old u.literal) ts → IsWithin old x → i < length ts → t ≡ get_or ts i t
+    → HasSum between out (λ a. h a + (w * bit (literal_value old a x)) * terms_sum (literal_value old a) (take i ts))
+    → HasValue new l (λ a. literal_value between a x && literal_value between a t.literal)
+    → outs ≡ out ++ record { literal = l; factor = (w * t.factor) % 2 ^ 128 } ∷ []
+    → HasSum new outs (λ a. h a + (w * bit (literal_value old a x)) * terms_sum (literal_value old a) (take (i + 1) ts))
+times_more old between new x w i l ts out outs t h e e2 within in_x inside read has made pushed =
+    let in_t : IsWithin old t.literal = subst (λ (u : Term). IsWithin old u.literal) (sym read) (within i t inside) in
+    let f : Value = λ a. literal_value old a x && literal_value old a t.literal in
+    let before : Number = λ a. h a + (w * bit (literal_value old a x)) * terms_sum (literal_value old a) (take i ts) in
+    let l_is = said new l (λ a. literal_value between a x && literal_value between a t.literal) f made
+        (λ a. ap (λ (b : Bool). b && literal_value between a t.literal) (e.same x a in_x) ∙ ap (λ (b : Bool). literal_value old a x && b) (e.same t.literal a in_t)) in
+    has_same new outs (λ a. before a + ((w * t.factor) % 2 ^ 128) * bit (f a)) (λ a. h a + (w * bit (literal_value old a x)) * terms_sum (literal_value old a) (take (i + 1) ts))
+    (has_push new out outs l ((w * t.factor) % 2 ^ 128) f before pushed (sum_before between new out before e2 has) l_is)
+    (λ a.
+        let one : Term → ℕ = λ u. u.factor * bit (literal_value old a u.literal) in
+        times_at (h a) w t.factor (terms_sum (literal_value old a) (take i ts)) (terms_sum (literal_value old a) (take (i + 1) ts)) (literal_value old a x) (literal_value old a t.literal)
+        (sum_by_more one ts i t inside ∙ ap (λ (u : Term). terms_sum (literal_value old a) (take i ts) + u.factor * bit (literal_value old a u.literal)) (sym read)))
+
+pub times_all : (old new : List Node) (x w i : ℕ) (ts out : List Term) (h : Number) → length ts ≤ i
+    → HasSum new out (λ a. h a + (w * bit (literal_value old a x)) * terms_sum (literal_value old a) (take i ts))
+    → HasSum new out (λ a. h a + (w * bit (literal_value old a x)) * terms_sum (literal_value old a) ts)
+times_all old new x w i ts out h whole has =
+    subst (λ (us : List Term). HasSum new out (λ a. h a + (w * bit (literal_value old a x)) * terms_sum (literal_value old a) us)) (take_all i ts whole) has
+
+pub times_none : (nodes : List Node) (x w : ℕ) (ts out : List Term) (h : Number) → HasSum nodes out h
+    → HasSum nodes out (λ a. h a + (w * bit (literal_value nodes a x)) * terms_sum (literal_value nodes a) (take 0 ts))
+times_none nodes x w ts out h has = has_same nodes out h (λ a. h a + (w * bit (literal_value nodes a x)) * terms_sum (literal_value nodes a) (take 0 ts)) has (λ a. omega arith)

@@ -103,18 +103,18 @@ pub(crate) fn alias(sweep: &Sweep, x: u32, y: u32, factor: u128) -> [Term; 2]
     ]
 }
 
-/// Puts terms times one term behind others.
-pub(crate) fn times(sweep: &mut Sweep, by: Term, terms: &[Term], out: &mut Vec<Term>) -> Result<(), AllocError>
+/// Puts terms times a literal, so many times, behind others.
+pub(crate) fn times(sweep: &mut Sweep, by: u32, factor: u128, terms: &[Term], out: &mut Vec<Term>) -> Result<(), AllocError>
     requires within { All (λ t. IsWithin sweep.old t.literal) terms.now }
-    requires by { IsWithin sweep.old by.literal }
+    requires by { IsWithin sweep.old by }
     ensures extends { Extends sweep.old sweep.new }
-    ensures sum { (h : (ℕ → Bool) → ℕ) → HasSum sweep.old out.old.items h → IfOk result (λ _. HasSum sweep.new out.new.items (λ a. h a + (by.factor * bit (literal_value sweep.old a by.literal)) * terms_sum (literal_value sweep.old a) terms.now)) }
+    ensures sum { (h : (ℕ → Bool) → ℕ) → HasSum sweep.old out.old.items h → IfOk result (λ _. HasSum sweep.new out.new.items (λ a. h a + (factor * bit (literal_value sweep.old a by)) * terms_sum (literal_value sweep.old a) terms.now)) }
 {
     for term in terms {
-        let literal = sweep.and(by.literal, term.literal)?;
+        let literal = sweep.and(by, term.literal)?;
         out.push(Term {
             literal,
-            factor: by.factor.wrapping_mul(term.factor),
+            factor: factor.wrapping_mul(term.factor),
         })?;
     }
     Ok(())
