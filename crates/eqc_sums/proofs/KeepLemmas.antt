@@ -28,6 +28,10 @@ keeps_along old between new f g h first second = record {
   value = λ o a. second.value (first.over o) a ∙ first.value o a;
 }
 
+-- a graph that grew, and a step then
+pub keeps_grown : (old between new : List Node) (f g : Form) → Extends old between → Keeps between new f g → Keeps old new f g
+keeps_grown old between new f g e second = keeps_along old between new f f g (keeps_extended old between f e) second
+
 -- a form with more coefficients
 pub keeps_reached : (nodes : List Node) (n : ℕ) (f g : Form) → n ≡ length nodes
     → ((k : ℕ) → length f.coefficients.items ≤ k → n ≤ k → length g.coefficients.items ≤ k)

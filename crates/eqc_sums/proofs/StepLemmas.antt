@@ -257,3 +257,15 @@ times_all old new x w i ts out h whole has =
 pub times_none : (nodes : List Node) (x w : ℕ) (ts out : List Term) (h : Number) → HasSum nodes out h
     → HasSum nodes out (λ a. h a + (w * bit (literal_value nodes a x)) * terms_sum (literal_value nodes a) (take 0 ts))
 times_none nodes x w ts out h has = has_same nodes out h (λ a. h a + (w * bit (literal_value nodes a x)) * terms_sum (literal_value nodes a) (take 0 ts)) has (λ a. omega arith)
+
+-- a zero step times a literal
+none_at : (T : ℕ) (b : Bool) → T % 2 ^ 128 ≡ 0 % 2 ^ 128 → (0 + (1 * bit b) * T) % 2 ^ 128 ≡ 0 % 2 ^ 128
+none_at T true h = omega (arith, h)
+none_at T false h = omega (arith, h)
+
+pub product_is_zero : (nodes new : List Node) (by' : ℕ) (ts empty outs : List Term) → IsZeroStep nodes ts → empty ≡ []
+    → ((h : Number) → HasSum nodes empty h → HasSum new outs (λ a. h a + (1 * bit (literal_value nodes a by')) * terms_sum (literal_value nodes a) ts)) → IsZeroStep new outs
+product_is_zero nodes new by' ts empty outs zero_step none makes =
+    let begun = subst (λ (us : List Term). HasSum nodes us (λ a. 0)) (sym none) (has_none nodes) in
+    has_same new outs (λ a. 0 + (1 * bit (literal_value nodes a by')) * terms_sum (literal_value nodes a) ts) (λ a. 0) (makes (λ a. 0) begun)
+    (λ a. none_at (terms_sum (literal_value nodes a) ts) (literal_value nodes a by') (zero_step.sum a))

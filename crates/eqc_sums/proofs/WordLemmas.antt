@@ -113,3 +113,14 @@ word_more v ps qs ts us vs F w n k inside same low is less first second before =
 
 pub next_factor : (F w u k : ℕ) → w ≡ (F * 2 ^ k) % 2 ^ 128 → u ≡ (w + w) % 2 ^ 128 → u ≡ (F * 2 ^ (k + 1)) % 2 ^ 128
 next_factor F w u k is twice = rw add-one (omega (arith, is, twice, ap (λ (p : ℕ). F * p) (pow-suc 2 k)))
+
+pub within_more : (nodes : List Node) (ps qs : List ℕ) (ts us vs : List Term) (w n k : ℕ) → k < length ps → length qs ≡ length ps
+    → All (IsWithin nodes) ps → All (IsWithin nodes) qs
+    → us ≡ ts ++ record { literal = get_or ps k 0; factor = w } ∷ [] → vs ≡ us ++ record { literal = get_or qs k 0; factor = n } ∷ []
+    → All (λ t. IsWithin nodes t.literal) ts → All (λ t. IsWithin nodes t.literal) vs
+within_more nodes ps qs ts us vs w n k inside same in_p in_q first second before =
+    let P : Term → Type 0 = λ t. IsWithin nodes t.literal in
+    let p : Term = record { literal = get_or ps k 0; factor = w } in
+    let q : Term = record { literal = get_or qs k 0; factor = n } in
+    let one = subst (λ (all : List Term). All P all) (sym first) (All-push P ts p before (in_p k 0 inside)) in
+    subst (λ (all : List Term). All P all) (sym second) (All-push P us q one (in_q k 0 (omega (arith, inside, same))))

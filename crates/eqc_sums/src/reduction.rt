@@ -6,7 +6,7 @@ ghost use Rattle.eqc_sums.specs.Forms.{form_value, IsZeroStep, Keeps};
 ghost use Rattle.eqc_sums.specs.Adding.{IsFormOf};
 
 use crate::form::Form;
-use crate::steps::{adder, alias, parity, polarity, split, times};
+use crate::steps::{adder, alias, parity, polarity, product, split};
 use crate::term::Term;
 use crate::words::{MOST, are_within, difference};
 use eqc_graph::node_of;
@@ -83,6 +83,82 @@ impl Reduction {
         note(&mut self.touched, terms)?;
         self.form.add_all(terms);
         Ok(())
+    }
+
+    #[tactic(auto, using(crate::proofs::KeepLemmas::keeps_extended, crate::proofs::KeepLemmas::keeps_itself, crate::proofs::KeepLemmas::keeps_grown))]
+    /// Adds an adder so many times: x + y + z - s - 2 c, where s is the sum of three literals and c the carry.
+    pub fn adder(&mut self, x: u32, y: u32, z: u32, factor: u128) -> Result<(), AllocError>
+        ensures { Keeps self.old.sweep self.new.sweep self.old.form self.new.form }
+    {
+        if !self.has(x) || !self.has(y) || !self.has(z) {
+            return Ok(());
+        }
+        let terms = adder(&mut self.sweep, x, y, z, factor)?;
+        self.add_step(&terms)
+    }
+
+    #[tactic(auto, using(crate::proofs::KeepLemmas::keeps_extended, crate::proofs::KeepLemmas::keeps_itself, crate::proofs::KeepLemmas::keeps_grown))]
+    /// Adds a parity 2^127 times: x + y - (x xor y).
+    pub fn parity(&mut self, x: u32, y: u32) -> Result<(), AllocError>
+        ensures { Keeps self.old.sweep self.new.sweep self.old.form self.new.form }
+    {
+        if !self.has(x) || !self.has(y) {
+            return Ok(());
+        }
+        let terms = parity(&mut self.sweep, x, y)?;
+        self.add_step(&terms)
+    }
+
+    #[tactic(auto, using(crate::proofs::KeepLemmas::keeps_extended, crate::proofs::KeepLemmas::keeps_itself, crate::proofs::KeepLemmas::keeps_grown))]
+    /// Adds a literal that is split by another one, so many times: x y + (not x) y - y.
+    pub fn split(&mut self, x: u32, y: u32, factor: u128) -> Result<(), AllocError>
+        ensures { Keeps self.old.sweep self.new.sweep self.old.form self.new.form }
+    {
+        if !self.has(x) || !self.has(y) {
+            return Ok(());
+        }
+        let terms = split(&mut self.sweep, x, y, factor)?;
+        self.add_step(&terms)
+    }
+
+    #[tactic(auto, using(crate::proofs::KeepLemmas::keeps_extended, crate::proofs::KeepLemmas::keeps_itself, crate::proofs::KeepLemmas::keeps_grown))]
+    /// Adds the carry of a complement, so many times: y + z - carry(x, y, z) - carry(not x, y, z).
+    pub fn polarity(&mut self, x: u32, y: u32, z: u32, factor: u128) -> Result<(), AllocError>
+        ensures { Keeps self.old.sweep self.new.sweep self.old.form self.new.form }
+    {
+        if !self.has(x) || !self.has(y) || !self.has(z) {
+            return Ok(());
+        }
+        let terms = polarity(&mut self.sweep, x, y, z, factor)?;
+        self.add_step(&terms)
+    }
+
+    #[tactic(auto, using(crate::proofs::KeepLemmas::keeps_extended, crate::proofs::KeepLemmas::keeps_itself, crate::proofs::KeepLemmas::keeps_grown))]
+    /// Adds an adder times a literal, so many times.
+    pub fn product(&mut self, by: u32, x: u32, y: u32, z: u32, factor: u128) -> Result<(), AllocError>
+        ensures { Keeps self.old.sweep self.new.sweep self.old.form self.new.form }
+    {
+        if !self.has(by) || !self.has(x) || !self.has(y) || !self.has(z) {
+            return Ok(());
+        }
+        let terms = product(self.alloc, &mut self.sweep, by, (x, y, z), factor)?;
+        self.add_step(terms.as_slice())
+    }
+
+    /// Puts y in place of x, so many times, where they are found equal with so many conflicts, of which those are taken away that
+    /// there were. Answers what was found.
+    pub fn unify(&mut self, x: u32, y: u32, factor: u128, conflicts: &mut u64) -> Result<Comparison, AllocError>
+        ensures { Keeps self.old.sweep self.new.sweep self.old.form self.new.form }
+    {
+        if !self.has(x) || !self.has(y) {
+            return Ok(Comparison::Unknown);
+        }
+        let found = self.sweep.equal(x, y, conflicts)?;
+        if let Comparison::Equal = found {
+            let terms = alias(&self.sweep, x, y, factor);
+            self.add_step(&terms)?;
+        }
+        Ok(found)
     }
 
     /// Begins anew with the form that is zero where two words are equal. Answers whether they are words of the graph, of as many

@@ -9,7 +9,7 @@ use crate::gates::{carry_of, sum_of};
 use crate::term::Term;
 use eqc_graph::negated;
 use eqc_sweep::Sweep;
-use std::alloc::AllocError;
+use std::alloc::{AllocError, Global};
 
 /// Half of 2^128.
 const HALF: u128 = 1 << 127;
@@ -118,4 +118,26 @@ pub(crate) fn times(sweep: &mut Sweep, by: u32, factor: u128, terms: &[Term], ou
         })?;
     }
     Ok(())
+}
+
+#[tactic(auto, using(crate::proofs::GateLemmas::extends_both))]
+/// An adder of three literals, times another one.
+pub(crate) fn product(
+    alloc: Global,
+    sweep: &mut Sweep,
+    by: u32,
+    three: (u32, u32, u32),
+    factor: u128,
+) -> Result<Vec<Term>, AllocError>
+    requires by { IsWithin sweep.old by }
+    requires x { IsWithin sweep.old three.0 }
+    requires y { IsWithin sweep.old three.1 }
+    requires z { IsWithin sweep.old three.2 }
+    ensures extends { Extends sweep.old sweep.new }
+    ensures zero { IfOk result (λ ts. IsZeroStep sweep.new ts.items) }
+{
+    let terms = adder(sweep, three.0, three.1, three.2, factor)?;
+    let mut out = Vec::new(alloc);
+    times(sweep, by, 1, &terms, &mut out)?;
+    Ok(out)
 }
