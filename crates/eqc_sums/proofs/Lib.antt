@@ -3,3 +3,4 @@ pub mod GateLemmas
 pub mod StepLemmas
 pub mod WordLemmas
 pub mod KeepLemmas
+pub mod PolynomialLemmas

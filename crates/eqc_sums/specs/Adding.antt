@@ -12,6 +12,17 @@ abbrev pub majority : Bool → Bool → Bool → Bool
 majority true y z = y || z
 majority false y z = y && z
 
+-- the number that a gate makes of two that are 0 or 1, modulo 2^128: their product, or x + y - 2 x y
+abbrev pub gate_number : Bool → ℕ → ℕ → ℕ
+gate_number true x y = x * y
+gate_number false x y = x + (y + (2 ^ 128 - 2) * (x * y))
+
+-- node k is the conjunction of x and y, or else whether just one of them is true
+pub record IsGateOf (nodes : List Node) (k : ℕ) (is_and : Bool) (x y : ℕ) : Type 0 where
+  pub first : IsWithin nodes x
+  pub second : IsWithin nodes y
+  pub value : (a : ℕ → Bool) → bit (literal_value nodes a (2 * k)) % 2 ^ 128 ≡ gate_number is_and (bit (literal_value nodes a x)) (bit (literal_value nodes a y)) % 2 ^ 128
+
 -- the number of which these literals are the binary digits, the lowest first, where these are the values of literals
 unfoldable pub number : (ℕ → Bool) → List ℕ → ℕ
 number value [] = 0

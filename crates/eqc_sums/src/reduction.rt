@@ -2,10 +2,12 @@
 ghost use Rattle.std.specs.Prelude.{◌≡◌, ℕ, ◌/◌, ◌<◌, true, Bool, List, IfOk, IsTrue};
 ghost use Rattle.eqc_graph.specs.declared.node.Node.{Node};
 ghost use Rattle.eqc_graph.specs.Graph.{IsWithin, IsGraph};
+ghost use Rattle.eqc_sums.specs.declared.form.Form.{Form};
 ghost use Rattle.eqc_sums.specs.Forms.{form_value, IsZeroStep, Keeps};
-ghost use Rattle.eqc_sums.specs.Adding.{IsFormOf};
+ghost use Rattle.eqc_sums.specs.Adding.{IsFormOf, AreEqualWords};
 
 use crate::form::Form;
+use crate::polynomial::expansion;
 use crate::steps::{adder, alias, parity, polarity, product, split};
 use crate::term::Term;
 use crate::words::{MOST, are_within, difference};
@@ -145,6 +147,18 @@ impl Reduction {
         self.add_step(terms.as_slice())
     }
 
+    #[tactic(auto, using(crate::proofs::KeepLemmas::keeps_extended, crate::proofs::KeepLemmas::keeps_itself, crate::proofs::KeepLemmas::keeps_grown))]
+    /// Puts the polynomial of a literal, of literals that are at most so many gates below it, in place of it, so many times.
+    pub fn expand(&mut self, literal: u32, depth: u32, factor: u128) -> Result<(), AllocError>
+        ensures { Keeps self.old.sweep self.new.sweep self.old.form self.new.form }
+    {
+        if !self.has(literal) {
+            return Ok(());
+        }
+        let terms = expansion(self.alloc, &mut self.sweep, literal, depth, factor)?;
+        self.add_step(terms.as_slice())
+    }
+
     /// Puts y in place of x, so many times, where they are found equal with so many conflicts, of which those are taken away that
     /// there were. Answers what was found.
     pub fn unify(&mut self, x: u32, y: u32, factor: u128, conflicts: &mut u64) -> Result<Comparison, AllocError>
@@ -181,4 +195,15 @@ impl Reduction {
         self.form.add_all(terms.as_slice());
         Ok(true)
     }
+}
+
+/// Whether a form that compared two words, and to which steps were added since, came to zero: then the words are equal.
+pub fn is_concluded(reduction: &Reduction, ps: &[u32], qs: &[u32]) -> bool
+    ghost begun: { List Node × Form }
+    requires form { IsFormOf begun.0 begun.1 ps.now qs.now }
+    requires keeps { Keeps begun.0 reduction.now.sweep begun.1 reduction.now.form }
+    ensures { IsTrue result → AreEqualWords reduction.now.sweep ps.now qs.now }
+{
+    let _ = reduction.sweep.graph().len();
+    reduction.form.is_zero()
 }
