@@ -13,6 +13,11 @@ use Rattle.eqc_sums.proofs.FormLemmas.{extended_value, value_below}
 pub keeps_itself : (nodes : List Node) (f : Form) → Keeps nodes nodes f f
 keeps_itself nodes f = record { extends = extends_itself nodes; over = λ o. o; value = λ o a. refl }
 
+-- a graph and a form that stay as they are
+pub keeps_same : (old new : List Node) (f g : Form) → new ≡ old → g ≡ f → Keeps old new f g
+keeps_same old new f g same other =
+    subst (λ (nodes : List Node). Keeps old nodes f g) (sym same) (subst (λ (h : Form). Keeps old old f h) (sym other) (keeps_itself old f))
+
 -- a graph that grew
 pub keeps_extended : (old new : List Node) (f : Form) → Extends old new → Keeps old new f f
 keeps_extended old new f e = record {

@@ -245,3 +245,15 @@ expansion_is_zero old new l w n ts us empty one outs in_l low less e has read no
     let within = subst (λ (vs : List Term). All (λ t. IsWithin new t.literal) vs) (sym read) has.within in
     has_same new outs (λ a. (0 + n * bit (f a)) + w * terms_sum (literal_value new a) us) (λ a. 0) (adds (λ a. 0 + n * bit (f a)) first within)
     (λ a. expanded_at w n (terms_sum (literal_value new a) us) (f a) low less (ap (λ (vs : List Term). terms_sum (literal_value new a) vs % 2 ^ 128) read ∙ has.sum a))
+
+-- one term for each literal
+one_at : (S F : ℕ) → S % 2 ^ 128 ≡ F % 2 ^ 128 → (0 + 1 * S) % 2 ^ 128 ≡ F % 2 ^ 128
+one_at S F h = omega (arith, h)
+
+pub merged_sum : (nodes : List Node) (ts us empty outs : List Term) (f : Number) → us ≡ ts → empty ≡ [] → HasSum nodes ts f
+    → ((g : Number) → HasSum nodes empty g → All (λ t. IsWithin nodes t.literal) us → HasSum nodes outs (λ a. g a + 1 * terms_sum (literal_value nodes a) us))
+    → HasSum nodes outs f
+merged_sum nodes ts us empty outs f read none has adds =
+    let begun = subst (λ (vs : List Term). HasSum nodes vs (λ a. 0)) (sym none) (has_none nodes) in
+    let there_is = subst (λ (vs : List Term). HasSum nodes vs f) (sym read) has in
+    has_same nodes outs (λ a. 0 + 1 * terms_sum (literal_value nodes a) us) f (adds (λ a. 0) begun there_is.within) (λ a. one_at (terms_sum (literal_value nodes a) us) (f a) (there_is.sum a))

@@ -8,16 +8,24 @@
 //! - `gates`, the sum and the carry of three literals; `steps`, terms that come to 0; `polynomial`, literals as polynomials
 //! - `words`, the terms that compare two words (`specs/Adding.antt`)
 //! - `reduction`, a form over a graph that grows: what it comes to stays
+//! - `moves`, steps as values; `sums`, the public type and its calls
+//! - `support` and `adders`, what is found in the graph; `choice`, which step comes next: of these nothing is believed
 #![tactic(auto)]
 
+mod adders;
+mod choice;
 mod form;
 mod gates;
+mod moves;
 mod polynomial;
 mod reduction;
 mod steps;
+mod sums;
+mod support;
 mod term;
 mod words;
 
 pub use form::Form;
 pub use reduction::Reduction;
+pub use sums::{Limits, Sums};
 pub use term::Term;

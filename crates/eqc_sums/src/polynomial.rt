@@ -13,7 +13,7 @@ use eqc_sweep::Sweep;
 use std::alloc::{AllocError, Global};
 
 /// How many conjunctions may be made of the terms of two polynomials.
-const MOST: usize = 1024;
+const MOST: usize = 4096;
 
 /// Minus two and minus one, modulo 2^128.
 const MINUS_TWO: u128 = u128::MAX - 1;
@@ -99,6 +99,15 @@ fn negated_terms(alloc: Global, terms: Vec<Term>, is_negated: bool) -> Result<Ve
     Ok(out)
 }
 
+/// The same polynomial with one term for each literal.
+fn merged(alloc: Global, terms: Vec<Term>) -> Result<Vec<Term>, AllocError>
+    ensures { (nodes : List Node) (f : (ℕ → Bool) → ℕ) → HasSum nodes terms.items f → IfOk result (λ ts. HasSum nodes ts.items f) }
+{
+    let mut out = Vec::new(alloc);
+    put_all(1, terms.as_slice(), &mut out)?;
+    Ok(out)
+}
+
 /// The literal alone.
 fn alone(alloc: Global, literal: u32) -> Result<Vec<Term>, AllocError>
     ensures { IfOk result (λ ts. (nodes : List Node) → IsWithin nodes literal → HasSum nodes ts.items (λ a. bit (literal_value nodes a literal))) }
@@ -139,6 +148,7 @@ pub(crate) fn polynomial(alloc: Global, sweep: &mut Sweep, literal: u32, depth: 
         return alone(alloc, literal);
     }
     let terms = combine(alloc, sweep, is_and, first.as_slice(), second.as_slice())?;
+    let terms = merged(alloc, terms)?;
     let _ = sweep.graph().len();
     let out = negated_terms(alloc, terms, is_negated(literal))?;
     Ok(out)
@@ -163,5 +173,25 @@ pub(crate) fn expansion(
         factor: 0u128.wrapping_sub(factor),
     })?;
     put_all(factor, terms.as_slice(), &mut out)?;
+    Ok(out)
+}
+
+/// A literal times another one's polynomial less the literal, so many times.
+pub(crate) fn product_expansion(
+    alloc: Global,
+    sweep: &mut Sweep,
+    by: u32,
+    literal: u32,
+    depth: u32,
+    factor: u128,
+) -> Result<Vec<Term>, AllocError>
+    requires by { IsWithin sweep.old by }
+    requires literal { IsWithin sweep.old literal }
+    ensures extends { Extends sweep.old sweep.new }
+    ensures zero { IfOk result (λ ts. IsZeroStep sweep.new ts.items) }
+{
+    let terms = expansion(alloc, sweep, literal, depth, factor)?;
+    let mut out = Vec::new(alloc);
+    times(sweep, by, 1, terms.as_slice(), &mut out)?;
     Ok(out)
 }

@@ -2,12 +2,11 @@
 ghost use Rattle.std.specs.Prelude.{◌≡◌, ℕ, ◌/◌, ◌<◌, true, Bool, List, IfOk, IsTrue};
 ghost use Rattle.eqc_graph.specs.declared.node.Node.{Node};
 ghost use Rattle.eqc_graph.specs.Graph.{IsWithin, IsGraph};
-ghost use Rattle.eqc_sums.specs.declared.form.Form.{Form};
 ghost use Rattle.eqc_sums.specs.Forms.{form_value, IsZeroStep, Keeps};
-ghost use Rattle.eqc_sums.specs.Adding.{IsFormOf, AreEqualWords};
+ghost use Rattle.eqc_sums.specs.Adding.{IsFormOf};
 
 use crate::form::Form;
-use crate::polynomial::expansion;
+use crate::polynomial::{expansion, product_expansion};
 use crate::steps::{adder, alias, parity, polarity, product, split};
 use crate::term::Term;
 use crate::words::{MOST, are_within, difference};
@@ -159,6 +158,37 @@ impl Reduction {
         self.add_step(terms.as_slice())
     }
 
+    #[tactic(auto, using(crate::proofs::KeepLemmas::keeps_extended, crate::proofs::KeepLemmas::keeps_itself, crate::proofs::KeepLemmas::keeps_grown))]
+    /// Puts a literal times the polynomial of another one in place of their conjunction, so many times.
+    pub fn expand_product(&mut self, by: u32, literal: u32, depth: u32, factor: u128) -> Result<(), AllocError>
+        ensures { Keeps self.old.sweep self.new.sweep self.old.form self.new.form }
+    {
+        if !self.has(by) || !self.has(literal) {
+            return Ok(());
+        }
+        let terms = product_expansion(self.alloc, &mut self.sweep, by, literal, depth, factor)?;
+        self.add_step(terms.as_slice())
+    }
+
+    #[tactic(auto, using(crate::proofs::KeepLemmas::keeps_extended, crate::proofs::KeepLemmas::keeps_itself))]
+    /// The sum and the carry of three literals, which are made in the graph if they aren't there. The form stays as it is.
+    pub fn sum_and_carry(&mut self, x: u32, y: u32, z: u32) -> Result<Option<(u32, u32)>, AllocError>
+        ensures { Keeps self.old.sweep self.new.sweep self.old.form self.new.form }
+    {
+        if !self.has(x) || !self.has(y) || !self.has(z) {
+            return Ok(None);
+        }
+        let terms = adder(&mut self.sweep, x, y, z, 0)?;
+        Ok(Some((terms[3].literal, terms[4].literal)))
+    }
+
+    /// The graph and what is known of it.
+    pub fn sweep(&self) -> &Sweep
+        ensures { result.now ≡ self.now.sweep }
+    {
+        &self.sweep
+    }
+
     /// Puts y in place of x, so many times, where they are found equal with so many conflicts, of which those are taken away that
     /// there were. Answers what was found.
     pub fn unify(&mut self, x: u32, y: u32, factor: u128, conflicts: &mut u64) -> Result<Comparison, AllocError>
@@ -195,15 +225,4 @@ impl Reduction {
         self.form.add_all(terms.as_slice());
         Ok(true)
     }
-}
-
-/// Whether a form that compared two words, and to which steps were added since, came to zero: then the words are equal.
-pub fn is_concluded(reduction: &Reduction, ps: &[u32], qs: &[u32]) -> bool
-    ghost begun: { List Node × Form }
-    requires form { IsFormOf begun.0 begun.1 ps.now qs.now }
-    requires keeps { Keeps begun.0 reduction.now.sweep begun.1 reduction.now.form }
-    ensures { IsTrue result → AreEqualWords reduction.now.sweep ps.now qs.now }
-{
-    let _ = reduction.sweep.graph().len();
-    reduction.form.is_zero()
 }
