@@ -64,9 +64,9 @@ put_more nodes w i ts outs t h inside read has =
     has_same nodes outs (λ a. (h a + w * terms_sum (literal_value nodes a) (take i ts)) + ((w * t.factor) % 2 ^ 128) * bit (literal_value nodes a t.literal))
     (λ a. h a + w * terms_sum (literal_value nodes a) (take (i + 1) ts)) has
     (λ a.
-        let one : Term → ℕ = λ u. u.factor * bit (literal_value nodes a u.literal) in
-        scaled_at (h a) w t.factor (terms_sum (literal_value nodes a) (take i ts)) (terms_sum (literal_value nodes a) (take (i + 1) ts)) (literal_value nodes a t.literal)
-        (sum_by_more one ts i t inside ∙ ap (λ (u : Term). terms_sum (literal_value nodes a) (take i ts) + u.factor * bit (literal_value nodes a u.literal)) (sym read)))
+    let one : Term → ℕ = λ u. u.factor * bit (literal_value nodes a u.literal) in
+    scaled_at (h a) w t.factor (terms_sum (literal_value nodes a) (take i ts)) (terms_sum (literal_value nodes a) (take (i + 1) ts)) (literal_value nodes a t.literal)
+    (sum_by_more one ts i t inside ∙ ap (λ (u : Term). terms_sum (literal_value nodes a) (take i ts) + u.factor * bit (literal_value nodes a u.literal)) (sym read)))
 
 pub put_none : (nodes : List Node) (w : ℕ) (ts out : List Term) (h : Number) → HasSum nodes out h → HasSum nodes out (λ a. h a + w * terms_sum (literal_value nodes a) (take 0 ts))
 put_none nodes w ts out h has = has_same nodes out h (λ a. h a + w * terms_sum (literal_value nodes a) (take 0 ts)) has (λ a. omega arith)
@@ -80,20 +80,20 @@ product_at H w f S T U false more = omega (arith, ap (λ (n : ℕ). w * (n * U))
 pub multiply_more : (old between new : List Node) (w i : ℕ) (ts us outs : List Term) (t : Term) (h : Number) → Extends old between
     → All (λ u. IsWithin old u.literal) ts → All (λ u. IsWithin old u.literal) us → i < length ts → t ≡ get_or ts i t
     → HasSum new outs (λ a. (h a + w * (terms_sum (literal_value old a) (take i ts) * terms_sum (literal_value old a) us))
-        + (((w * t.factor) % 2 ^ 128) * bit (literal_value between a t.literal)) * terms_sum (literal_value between a) us)
+    + (((w * t.factor) % 2 ^ 128) * bit (literal_value between a t.literal)) * terms_sum (literal_value between a) us)
     → HasSum new outs (λ a. h a + w * (terms_sum (literal_value old a) (take (i + 1) ts) * terms_sum (literal_value old a) us))
 multiply_more old between new w i ts us outs t h e first second inside read has =
     let in_t : IsWithin old t.literal = subst (λ (u : Term). IsWithin old u.literal) (sym read) (first i t inside) in
     has_same new outs (λ a. (h a + w * (terms_sum (literal_value old a) (take i ts) * terms_sum (literal_value old a) us))
-        + (((w * t.factor) % 2 ^ 128) * bit (literal_value between a t.literal)) * terms_sum (literal_value between a) us)
+    + (((w * t.factor) % 2 ^ 128) * bit (literal_value between a t.literal)) * terms_sum (literal_value between a) us)
     (λ a. h a + w * (terms_sum (literal_value old a) (take (i + 1) ts) * terms_sum (literal_value old a) us)) has
     (λ a.
-        let one : Term → ℕ = λ u. u.factor * bit (literal_value old a u.literal) in
-        let base = h a + w * (terms_sum (literal_value old a) (take i ts) * terms_sum (literal_value old a) us) in
-        ap (λ (b : Bool). (base + (((w * t.factor) % 2 ^ 128) * bit b) * terms_sum (literal_value between a) us) % 2 ^ 128) (e.same t.literal a in_t)
-        ∙ (ap (λ (n : ℕ). (base + (((w * t.factor) % 2 ^ 128) * bit (literal_value old a t.literal)) * n) % 2 ^ 128) (sum_same old between us a e second)
-        ∙ product_at (h a) w t.factor (terms_sum (literal_value old a) (take i ts)) (terms_sum (literal_value old a) (take (i + 1) ts)) (terms_sum (literal_value old a) us) (literal_value old a t.literal)
-            (sum_by_more one ts i t inside ∙ ap (λ (u : Term). terms_sum (literal_value old a) (take i ts) + u.factor * bit (literal_value old a u.literal)) (sym read))))
+    let one : Term → ℕ = λ u. u.factor * bit (literal_value old a u.literal) in
+    let base = h a + w * (terms_sum (literal_value old a) (take i ts) * terms_sum (literal_value old a) us) in
+    ap (λ (b : Bool). (base + (((w * t.factor) % 2 ^ 128) * bit b) * terms_sum (literal_value between a) us) % 2 ^ 128) (e.same t.literal a in_t)
+    ∙ (ap (λ (n : ℕ). (base + (((w * t.factor) % 2 ^ 128) * bit (literal_value old a t.literal)) * n) % 2 ^ 128) (sum_same old between us a e second)
+    ∙ product_at (h a) w t.factor (terms_sum (literal_value old a) (take i ts)) (terms_sum (literal_value old a) (take (i + 1) ts)) (terms_sum (literal_value old a) us) (literal_value old a t.literal)
+    (sum_by_more one ts i t inside ∙ ap (λ (u : Term). terms_sum (literal_value old a) (take i ts) + u.factor * bit (literal_value old a u.literal)) (sym read))))
 
 pub multiply_none : (nodes : List Node) (w : ℕ) (ts us out : List Term) (h : Number) → HasSum nodes out h
     → HasSum nodes out (λ a. h a + w * (terms_sum (literal_value nodes a) (take 0 ts) * terms_sum (literal_value nodes a) us))
@@ -153,8 +153,8 @@ negated_sum nodes sign ts empty one outs h graph e none pushed has us read adds 
     let within = subst (λ (vs : List Term). All (λ t. IsWithin nodes t.literal) vs) (sym read) has.within in
     has_same nodes outs (λ a. (0 + 1 * 1) + (2 ^ 128 - 1) * terms_sum (literal_value nodes a) us) (λ a. bit (differ sign (h a))) (adds (λ a. 0 + 1 * 1) first within)
     (λ a.
-        opposite_at (terms_sum (literal_value nodes a) us) sign (h a) e
-        (ap (λ (vs : List Term). terms_sum (literal_value nodes a) vs % 2 ^ 128) read ∙ has.sum a))
+    opposite_at (terms_sum (literal_value nodes a) us) sign (h a) e
+    (ap (λ (vs : List Term). terms_sum (literal_value nodes a) vs % 2 ^ 128) read ∙ has.sum a))
 
 -- gates of a graph
 and_number : (x y : Bool) → bit (x && y) % 2 ^ 128 ≡ gate_number true (bit x) (bit y) % 2 ^ 128
@@ -217,11 +217,11 @@ module _ (g0 g1 g2 g3 : List Node) (l k x y : ℕ) (is sign : Bool) (P Q R U : L
       → HasSum g3 U (λ a. bit (literal_value g0 a l))
   polynomial_sum node signed gate e1 first e2 second made negates =
       let whole = has_same g3 R (λ a. gate_number is (terms_sum (literal_value g2 a) P) (terms_sum (literal_value g2 a) Q)) (λ a. bit (literal_value g0 a (2 * k))) made
-          (λ a.
-              gate_mod is (terms_sum (literal_value g2 a) P) (terms_sum (literal_value g2 a) Q) (bit (literal_value g0 a x)) (bit (literal_value g0 a y))
-              (ap (λ (n : ℕ). n % 2 ^ 128) (sum_same g1 g2 P a e2 first.within) ∙ first.sum a)
-              (second.sum a ∙ ap (λ (b : Bool). bit b % 2 ^ 128) (e1.same y a gate.second))
-              ∙ sym (gate.value a)) in
+      (λ a.
+      gate_mod is (terms_sum (literal_value g2 a) P) (terms_sum (literal_value g2 a) Q) (bit (literal_value g0 a x)) (bit (literal_value g0 a y))
+      (ap (λ (n : ℕ). n % 2 ^ 128) (sum_same g1 g2 P a e2 first.within) ∙ first.sum a)
+      (second.sum a ∙ ap (λ (b : Bool). bit b % 2 ^ 128) (e1.same y a gate.second))
+      ∙ sym (gate.value a)) in
       has_same g3 U (λ a. bit (differ sign (literal_value g0 a (2 * k)))) (λ a. bit (literal_value g0 a l)) (negates (λ a. literal_value g0 a (2 * k)) whole)
       (λ a. ap (λ (b : Bool). bit b % 2 ^ 128) (literal_of g0 a l k sign node signed))
 

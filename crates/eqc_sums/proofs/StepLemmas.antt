@@ -131,7 +131,7 @@ split_is_zero old between new x nx y l m w n in_x in_y low less node value e fir
     let fm : Value = λ a. not (literal_value old a x) && literal_value old a y in
     let all = extends_along old between new e e2 in
     let m_is = said new m (λ a. literal_value between a nx && literal_value between a y) fm second
-        (λ a. ap (λ (b : Bool). b && literal_value between a y) (value between a ∙ ap not (e.same x a in_x)) ∙ ap (λ (b : Bool). not (literal_value old a x) && b) (e.same y a in_y)) in
+    (λ a. ap (λ (b : Bool). b && literal_value between a y) (value between a ∙ ap not (e.same x a in_x)) ∙ ap (λ (b : Bool). not (literal_value old a x) && b) (e.same y a in_y)) in
     let y_has = has_cons new y n [] fy (λ a. 0) (moved old new y fy all (there old y in_y)) (has_none new) in
     let m_has = has_cons new m w _ fm (λ a. n * bit (fy a) + 0) m_is y_has in
     let l_has = has_cons new l w _ fl (λ a. w * bit (fm a) + (n * bit (fy a) + 0)) (moved between new l fl e2 first) m_has in
@@ -162,7 +162,7 @@ polarity_is_zero old between new x nx y z c d w n in_x in_y in_z low less node v
     let fd : Value = λ a. majority (not (literal_value old a x)) (literal_value old a y) (literal_value old a z) in
     let all = extends_along old between new e e2 in
     let d_is = said new d (λ a. majority (literal_value between a nx) (literal_value between a y) (literal_value between a z)) fd second
-        (λ a. three majority _ _ _ _ _ _ (value between a ∙ ap not (e.same x a in_x)) (e.same y a in_y) (e.same z a in_z)) in
+    (λ a. three majority _ _ _ _ _ _ (value between a ∙ ap not (e.same x a in_x)) (e.same y a in_y) (e.same z a in_z)) in
     let d_has = has_cons new d n [] fd (λ a. 0) d_is (has_none new) in
     let c_has = has_cons new c n _ fc (λ a. n * bit (fd a) + 0) (moved between new c fc e2 first) d_has in
     let z_has = has_cons new z w _ fz (λ a. n * bit (fc a) + (n * bit (fd a) + 0)) (moved old new z fz all (there old z in_z)) c_has in
@@ -240,13 +240,13 @@ times_more old between new x w i l ts out outs t h e e2 within in_x inside read 
     let f : Value = λ a. literal_value old a x && literal_value old a t.literal in
     let before : Number = λ a. h a + (w * bit (literal_value old a x)) * terms_sum (literal_value old a) (take i ts) in
     let l_is = said new l (λ a. literal_value between a x && literal_value between a t.literal) f made
-        (λ a. ap (λ (b : Bool). b && literal_value between a t.literal) (e.same x a in_x) ∙ ap (λ (b : Bool). literal_value old a x && b) (e.same t.literal a in_t)) in
+    (λ a. ap (λ (b : Bool). b && literal_value between a t.literal) (e.same x a in_x) ∙ ap (λ (b : Bool). literal_value old a x && b) (e.same t.literal a in_t)) in
     has_same new outs (λ a. before a + ((w * t.factor) % 2 ^ 128) * bit (f a)) (λ a. h a + (w * bit (literal_value old a x)) * terms_sum (literal_value old a) (take (i + 1) ts))
     (has_push new out outs l ((w * t.factor) % 2 ^ 128) f before pushed (sum_before between new out before e2 has) l_is)
     (λ a.
-        let one : Term → ℕ = λ u. u.factor * bit (literal_value old a u.literal) in
-        times_at (h a) w t.factor (terms_sum (literal_value old a) (take i ts)) (terms_sum (literal_value old a) (take (i + 1) ts)) (literal_value old a x) (literal_value old a t.literal)
-        (sum_by_more one ts i t inside ∙ ap (λ (u : Term). terms_sum (literal_value old a) (take i ts) + u.factor * bit (literal_value old a u.literal)) (sym read)))
+    let one : Term → ℕ = λ u. u.factor * bit (literal_value old a u.literal) in
+    times_at (h a) w t.factor (terms_sum (literal_value old a) (take i ts)) (terms_sum (literal_value old a) (take (i + 1) ts)) (literal_value old a x) (literal_value old a t.literal)
+    (sum_by_more one ts i t inside ∙ ap (λ (u : Term). terms_sum (literal_value old a) (take i ts) + u.factor * bit (literal_value old a u.literal)) (sym read)))
 
 pub times_all : (old new : List Node) (x w i : ℕ) (ts out : List Term) (h : Number) → length ts ≤ i
     → HasSum new out (λ a. h a + (w * bit (literal_value old a x)) * terms_sum (literal_value old a) (take i ts))

@@ -148,11 +148,19 @@ impl Adders {
             Node::And(x, y) => {
                 let plain = x % 2 == 0 && y % 2 == 0;
                 let both = self.is_plain(node_of(x)) && self.is_plain(node_of(y));
-                (self.above(x, y), joined(self.support(x), self.support(y)), plain && both)
+                (
+                    self.above(x, y),
+                    joined(self.support(x), self.support(y)),
+                    plain && both,
+                )
             }
             Node::Xor(x, y) => {
                 pairs.push((x, y))?;
-                (self.above(x, y), joined(self.support(x), self.support(y)), false)
+                (
+                    self.above(x, y),
+                    joined(self.support(x), self.support(y)),
+                    false,
+                )
             }
         };
         Ok(Known {
@@ -221,7 +229,14 @@ impl Adders {
     }
 
     /// Puts three literals of which a node is the sum into a list, where a carry looks like an older node.
-    fn propose(&self, sweep: &Sweep, x: u32, y: u32, z: u32, out: &mut Vec<(u32, u32, u32)>) -> Result<(), AllocError> {
+    fn propose(
+        &self,
+        sweep: &Sweep,
+        x: u32,
+        y: u32,
+        z: u32,
+        out: &mut Vec<(u32, u32, u32)>,
+    ) -> Result<(), AllocError> {
         let plain = (x - x % 2, y - y % 2, z - z % 2);
         for polarity in 0..4 {
             let (p, q, r) = polarized(plain.0, plain.1, plain.2, polarity);
@@ -236,7 +251,12 @@ impl Adders {
     }
 
     /// The literals that a node may be the sum of.
-    fn candidates_of(&self, sweep: &Sweep, node: u32, out: &mut Vec<(u32, u32, u32)>) -> Result<(), AllocError> {
+    fn candidates_of(
+        &self,
+        sweep: &Sweep,
+        node: u32,
+        out: &mut Vec<(u32, u32, u32)>,
+    ) -> Result<(), AllocError> {
         for at in 0..self.pairs(node) {
             if let Some((x, y)) = self.pair(node, at) {
                 self.propose(sweep, x, y, 0, out)?;
@@ -304,7 +324,11 @@ impl Adders {
         for one in found {
             best = match best {
                 None => Some(*one),
-                Some(other) => Some(if one.1.carry / 2 < other.1.carry / 2 { *one } else { other }),
+                Some(other) => Some(if one.1.carry / 2 < other.1.carry / 2 {
+                    *one
+                } else {
+                    other
+                }),
             };
         }
         let Some((polarity, block)) = best else {
@@ -324,7 +348,13 @@ impl Adders {
 
     #[tactic(auto, using(crate::proofs::KeepLemmas::keeps_itself, crate::proofs::KeepLemmas::keeps_along))]
     /// Tries the carries of three literals in four polarities.
-    fn try_block(&mut self, reduction: &mut Reduction, x: u32, y: u32, z: u32) -> Result<(), AllocError>
+    fn try_block(
+        &mut self,
+        reduction: &mut Reduction,
+        x: u32,
+        y: u32,
+        z: u32,
+    ) -> Result<(), AllocError>
         ensures { Keeps reduction.old.sweep reduction.new.sweep reduction.old.form reduction.new.form }
     {
         let mut found = Vec::new(self.alloc);
@@ -334,7 +364,16 @@ impl Adders {
             if seen.is_some() {
                 if let Some((sum, carry)) = reduction.sum_and_carry(p, q, r)? {
                     if node_of(carry) < self.first {
-                        found.push((polarity, Block { x: p, y: q, z: r, sum, carry }))?;
+                        found.push((
+                            polarity,
+                            Block {
+                                x: p,
+                                y: q,
+                                z: r,
+                                sum,
+                                carry,
+                            },
+                        ))?;
                     }
                 }
             }
@@ -344,7 +383,11 @@ impl Adders {
 
     #[tactic(auto, using(crate::proofs::KeepLemmas::keeps_itself, crate::proofs::KeepLemmas::keeps_along))]
     /// Tries the carries of all these literals.
-    fn try_all(&mut self, reduction: &mut Reduction, candidates: &[(u32, u32, u32)]) -> Result<(), AllocError>
+    fn try_all(
+        &mut self,
+        reduction: &mut Reduction,
+        candidates: &[(u32, u32, u32)],
+    ) -> Result<(), AllocError>
         ensures { Keeps reduction.old.sweep reduction.new.sweep reduction.old.form reduction.new.form }
     {
         'candidates: for (x, y, z) in candidates {
@@ -383,8 +426,20 @@ fn turned(block: Block, polarity: u32, other: u32) -> Block {
         polarity
     };
     match flipped {
-        2 => Block { x: block.y, y: block.x, z: block.z, sum: block.sum, carry: block.carry },
-        3 => Block { x: block.z, y: block.y, z: block.x, sum: block.sum, carry: block.carry },
+        2 => Block {
+            x: block.y,
+            y: block.x,
+            z: block.z,
+            sum: block.sum,
+            carry: block.carry,
+        },
+        3 => Block {
+            x: block.z,
+            y: block.y,
+            z: block.x,
+            sum: block.sum,
+            carry: block.carry,
+        },
         _ => block,
     }
 }

@@ -63,7 +63,11 @@ fn half(factor: u128) -> u128 {
 
 /// The factor of a step that takes a literal away, where its node has this coefficient.
 fn towards(literal: u32, factor: u128) -> u128 {
-    if literal % 2 == 1 { minus(factor) } else { factor }
+    if literal % 2 == 1 {
+        minus(factor)
+    } else {
+        factor
+    }
 }
 
 impl Choice {
@@ -92,7 +96,12 @@ impl Choice {
     }
 
     /// Takes in which coefficients have changed. What comes of a polynomial is plain.
-    pub(crate) fn sync(&mut self, reduction: &mut Reduction, adders: &mut Adders, are_plain: bool) -> Result<(), AllocError>
+    pub(crate) fn sync(
+        &mut self,
+        reduction: &mut Reduction,
+        adders: &mut Adders,
+        are_plain: bool,
+    ) -> Result<(), AllocError>
         ensures sweep { reduction.new.sweep ≡ reduction.old.sweep }
         ensures form { reduction.new.form ≡ reduction.old.form }
     {
@@ -107,7 +116,13 @@ impl Choice {
         self.take_in(reduction, adders, touched.as_slice(), are_plain)
     }
 
-    fn take_in(&mut self, reduction: &Reduction, adders: &mut Adders, touched: &[u32], are_plain: bool) -> Result<(), AllocError> {
+    fn take_in(
+        &mut self,
+        reduction: &Reduction,
+        adders: &mut Adders,
+        touched: &[u32],
+        are_plain: bool,
+    ) -> Result<(), AllocError> {
         for node in touched {
             let key = (adders.level(*node), *node);
             let is_there = *node != 0 && reduction.form().coefficient(*node) != 0;
@@ -143,7 +158,12 @@ impl Choice {
     }
 
     /// The next step, where coefficients are multiples of 2^lowest.
-    pub(crate) fn next(&mut self, reduction: &Reduction, adders: &Adders, lowest: u32) -> Option<Move> {
+    pub(crate) fn next(
+        &mut self,
+        reduction: &Reduction,
+        adders: &Adders,
+        lowest: u32,
+    ) -> Option<Move> {
         for rule in 0..=LAST {
             if let Some(step) = self.by_rule(reduction, adders, rule, lowest) {
                 return Some(step);
@@ -163,7 +183,13 @@ impl Choice {
     }
 
     /// The step that a rule has for the highest node.
-    fn by_rule(&mut self, reduction: &Reduction, adders: &Adders, rule: u32, lowest: u32) -> Option<Move> {
+    fn by_rule(
+        &mut self,
+        reduction: &Reduction,
+        adders: &Adders,
+        rule: u32,
+        lowest: u32,
+    ) -> Option<Move> {
         for back in 0..self.terms.len() {
             if let Some(node) = self.node(back) {
                 let factor = reduction.form().coefficient(node);
@@ -264,7 +290,13 @@ impl Choice {
     }
 
     /// A sum whose adder is known.
-    fn sum(&mut self, reduction: &Reduction, adders: &Adders, node: u32, factor: u128) -> Option<Move> {
+    fn sum(
+        &mut self,
+        reduction: &Reduction,
+        adders: &Adders,
+        node: u32,
+        factor: u128,
+    ) -> Option<Move> {
         if adders.is_small(node) || !adders.is_sum(node) || self.has(node, NO_SUM) {
             return None;
         }
@@ -316,7 +348,13 @@ impl Choice {
     }
 
     /// A conjunction of a complement.
-    fn complement(&self, reduction: &Reduction, adders: &Adders, node: u32, factor: u128) -> Option<Move> {
+    fn complement(
+        &self,
+        reduction: &Reduction,
+        adders: &Adders,
+        node: u32,
+        factor: u128,
+    ) -> Option<Move> {
         let (x, y) = self.conjunction(reduction, adders, node)?;
         if x % 2 == 1 {
             return Some(Move::Split(x ^ 1, y, minus(factor)));
@@ -328,7 +366,13 @@ impl Choice {
     }
 
     /// A product of a sum whose adder is known.
-    fn product(&self, reduction: &Reduction, adders: &Adders, node: u32, factor: u128) -> Option<Move> {
+    fn product(
+        &self,
+        reduction: &Reduction,
+        adders: &Adders,
+        node: u32,
+        factor: u128,
+    ) -> Option<Move> {
         let (x, y) = self.conjunction(reduction, adders, node)?;
         for (by, sum) in [(x, y), (y, x)] {
             if by % 2 == 1 || self.has(node_of(sum), NO_SUM) {
@@ -357,13 +401,22 @@ impl Choice {
     /// How well an adder fits the form by its carry.
     fn carried(&self, reduction: &Reduction, block: &Block, step: u128) -> u32 {
         let mut score: u32 = if block.z != 0 { 1 } else { 0 };
-        for (literal, change) in [(block.x, step), (block.y, step), (block.z, step), (block.sum, minus(step))] {
+        for (literal, change) in [
+            (block.x, step),
+            (block.y, step),
+            (block.z, step),
+            (block.sum, minus(step)),
+        ] {
             if literal == 0 {
                 continue;
             }
             let there = reduction.form().coefficient(node_of(literal));
             if there != 0 {
-                let more = if there.wrapping_add(towards(literal, change)) == 0 { 4 } else { 1 };
+                let more = if there.wrapping_add(towards(literal, change)) == 0 {
+                    4
+                } else {
+                    1
+                };
                 score = score.saturating_add(more);
             }
         }
@@ -371,7 +424,14 @@ impl Choice {
     }
 
     /// A carry whose coefficient is a multiple of a column's.
-    fn carry(&mut self, reduction: &Reduction, adders: &Adders, node: u32, factor: u128, lowest: u32) -> Option<Move> {
+    fn carry(
+        &mut self,
+        reduction: &Reduction,
+        adders: &Adders,
+        node: u32,
+        factor: u128,
+        lowest: u32,
+    ) -> Option<Move> {
         if adders.is_small(node) || self.has(node, NO_CARRY) || factor.trailing_zeros() <= lowest {
             return None;
         }
@@ -388,11 +448,22 @@ impl Choice {
         }
         let (_, block) = best?;
         self.mark(node_of(block.sum), NO_SUM);
-        Some(Move::Adder(block.x, block.y, block.z, towards(block.carry, half(factor))))
+        Some(Move::Adder(
+            block.x,
+            block.y,
+            block.z,
+            towards(block.carry, half(factor)),
+        ))
     }
 
     /// A node of few inputs.
-    fn small(&self, reduction: &Reduction, adders: &Adders, node: u32, factor: u128) -> Option<Move> {
+    fn small(
+        &self,
+        reduction: &Reduction,
+        adders: &Adders,
+        node: u32,
+        factor: u128,
+    ) -> Option<Move> {
         if !adders.is_small(node) || adders.is_plain(node) || !is_gate(reduction, node) {
             return None;
         }
@@ -400,10 +471,20 @@ impl Choice {
     }
 
     /// A product of a node of few inputs.
-    fn small_product(&self, reduction: &Reduction, adders: &Adders, node: u32, factor: u128) -> Option<Move> {
+    fn small_product(
+        &self,
+        reduction: &Reduction,
+        adders: &Adders,
+        node: u32,
+        factor: u128,
+    ) -> Option<Move> {
         let (x, y) = self.conjunction(reduction, adders, node)?;
         for (by, other) in [(x, y), (y, x)] {
-            if by % 2 == 1 || other % 2 == 1 || !adders.is_small(node_of(other)) || adders.is_plain(node_of(other)) {
+            if by % 2 == 1
+                || other % 2 == 1
+                || !adders.is_small(node_of(other))
+                || adders.is_plain(node_of(other))
+            {
                 continue;
             }
             if is_gate(reduction, node_of(other)) {
@@ -414,7 +495,13 @@ impl Choice {
     }
 
     /// A node that looks like an older one.
-    fn alike(&mut self, reduction: &Reduction, adders: &Adders, node: u32, factor: u128) -> Option<Move> {
+    fn alike(
+        &mut self,
+        reduction: &Reduction,
+        adders: &Adders,
+        node: u32,
+        factor: u128,
+    ) -> Option<Move> {
         if adders.is_small(node) || self.has(node, ASKED) || !is_gate(reduction, node) {
             return None;
         }
@@ -424,7 +511,14 @@ impl Choice {
     }
 
     /// A product of a carry.
-    fn carry_product(&mut self, reduction: &Reduction, adders: &Adders, node: u32, factor: u128, lowest: u32) -> Option<Move> {
+    fn carry_product(
+        &mut self,
+        reduction: &Reduction,
+        adders: &Adders,
+        node: u32,
+        factor: u128,
+        lowest: u32,
+    ) -> Option<Move> {
         let (x, y) = self.conjunction(reduction, adders, node)?;
         if factor.trailing_zeros() <= lowest {
             return None;
@@ -437,7 +531,13 @@ impl Choice {
                 if let Some(block) = known.carries.get(0) {
                     let block = *block;
                     self.mark(node_of(block.sum), NO_SUM);
-                    return Some(Move::Product(by, block.x, block.y, block.z, towards(block.carry, half(factor))));
+                    return Some(Move::Product(
+                        by,
+                        block.x,
+                        block.y,
+                        block.z,
+                        towards(block.carry, half(factor)),
+                    ));
                 }
             }
         }
@@ -455,7 +555,13 @@ impl Choice {
     }
 
     /// A product of a sum without an adder.
-    fn plain_product(&self, reduction: &Reduction, adders: &Adders, node: u32, factor: u128) -> Option<Move> {
+    fn plain_product(
+        &self,
+        reduction: &Reduction,
+        adders: &Adders,
+        node: u32,
+        factor: u128,
+    ) -> Option<Move> {
         let (x, y) = self.conjunction(reduction, adders, node)?;
         for (by, sum) in [(x, y), (y, x)] {
             if sum % 2 == 1 || by % 2 == 1 {

@@ -28,7 +28,11 @@ pub(crate) enum Move {
 
 #[tactic(auto, using(crate::proofs::KeepLemmas::keeps_itself))]
 /// Does a step. Answers whether something came of it. For a question there are so many conflicts.
-pub(crate) fn apply(reduction: &mut Reduction, step: Move, conflicts: &mut u64) -> Result<bool, AllocError>
+pub(crate) fn apply(
+    reduction: &mut Reduction,
+    step: Move,
+    conflicts: &mut u64,
+) -> Result<bool, AllocError>
     ensures { Keeps reduction.old.sweep reduction.new.sweep reduction.old.form reduction.new.form }
 {
     match step {
@@ -38,7 +42,9 @@ pub(crate) fn apply(reduction: &mut Reduction, step: Move, conflicts: &mut u64) 
         Move::Polarity(x, y, z, factor) => reduction.polarity(x, y, z, factor)?,
         Move::Product(by, x, y, z, factor) => reduction.product(by, x, y, z, factor)?,
         Move::Expand(literal, depth, factor) => reduction.expand(literal, depth, factor)?,
-        Move::ExpandProduct(by, literal, depth, factor) => reduction.expand_product(by, literal, depth, factor)?,
+        Move::ExpandProduct(by, literal, depth, factor) => reduction.expand_product(
+            by, literal, depth, factor,
+        )?,
         Move::Unify(x, y, factor) => {
             let found = reduction.unify(x, y, factor, conflicts)?;
             if let Comparison::Equal = found {

@@ -28,7 +28,10 @@ fn put(out: &mut Vec<Term>, term: Term) -> Result<(), AllocError>
         let old = out[k];
         if old.literal == term.literal {
             let factor = old.factor.wrapping_add(term.factor);
-            out[k] = Term { literal: old.literal, factor };
+            out[k] = Term {
+                literal: old.literal,
+                factor,
+            };
             return Ok(());
         }
     }
@@ -56,20 +59,38 @@ fn put_all(factor: u128, terms: &[Term], out: &mut Vec<Term>) -> Result<(), Allo
 }
 
 /// Puts the product of two polynomials, so many times, behind others.
-fn multiply(sweep: &mut Sweep, factor: u128, first: &[Term], second: &[Term], out: &mut Vec<Term>) -> Result<(), AllocError>
+fn multiply(
+    sweep: &mut Sweep,
+    factor: u128,
+    first: &[Term],
+    second: &[Term],
+    out: &mut Vec<Term>,
+) -> Result<(), AllocError>
     requires first { All (λ t. IsWithin sweep.old t.literal) first.now }
     requires second { All (λ t. IsWithin sweep.old t.literal) second.now }
     ensures extends { Extends sweep.old sweep.new }
     ensures sum { (h : (ℕ → Bool) → ℕ) → HasSum sweep.old out.old.items h → IfOk result (λ _. HasSum sweep.new out.new.items (λ a. h a + factor * (terms_sum (literal_value sweep.old a) first.now * terms_sum (literal_value sweep.old a) second.now))) }
 {
     for term in first {
-        times(sweep, term.literal, factor.wrapping_mul(term.factor), second, out)?;
+        times(
+            sweep,
+            term.literal,
+            factor.wrapping_mul(term.factor),
+            second,
+            out,
+        )?;
     }
     Ok(())
 }
 
 /// The polynomial of a gate of two polynomials.
-fn combine(alloc: Global, sweep: &mut Sweep, is_and: bool, first: &[Term], second: &[Term]) -> Result<Vec<Term>, AllocError>
+fn combine(
+    alloc: Global,
+    sweep: &mut Sweep,
+    is_and: bool,
+    first: &[Term],
+    second: &[Term],
+) -> Result<Vec<Term>, AllocError>
     requires first { All (λ t. IsWithin sweep.old t.literal) first.now }
     requires second { All (λ t. IsWithin sweep.old t.literal) second.now }
     ensures extends { Extends sweep.old sweep.new }
@@ -94,7 +115,10 @@ fn negated_terms(alloc: Global, terms: Vec<Term>, is_negated: bool) -> Result<Ve
         return Ok(terms);
     }
     let mut out = Vec::new(alloc);
-    out.push(Term { literal: 1, factor: 1 })?;
+    out.push(Term {
+        literal: 1,
+        factor: 1,
+    })?;
     put_all(MINUS_ONE, terms.as_slice(), &mut out)?;
     Ok(out)
 }
@@ -131,7 +155,12 @@ fn gate_of(graph: &Graph, node: u32) -> Option<(bool, u32, u32)>
 }
 
 /// A literal as a polynomial of literals that are at most so many gates below it.
-pub(crate) fn polynomial(alloc: Global, sweep: &mut Sweep, literal: u32, depth: u32) -> Result<Vec<Term>, AllocError>
+pub(crate) fn polynomial(
+    alloc: Global,
+    sweep: &mut Sweep,
+    literal: u32,
+    depth: u32,
+) -> Result<Vec<Term>, AllocError>
     requires { IsWithin sweep.old literal }
     ensures extends { Extends sweep.old sweep.new }
     ensures sum { IfOk result (λ ts. HasSum sweep.new ts.items (λ a. bit (literal_value sweep.old a literal))) }

@@ -136,7 +136,14 @@ impl Reduction {
 
     #[tactic(auto, using(crate::proofs::KeepLemmas::keeps_extended, crate::proofs::KeepLemmas::keeps_itself, crate::proofs::KeepLemmas::keeps_grown))]
     /// Adds an adder times a literal, so many times.
-    pub fn product(&mut self, by: u32, x: u32, y: u32, z: u32, factor: u128) -> Result<(), AllocError>
+    pub fn product(
+        &mut self,
+        by: u32,
+        x: u32,
+        y: u32,
+        z: u32,
+        factor: u128,
+    ) -> Result<(), AllocError>
         ensures { Keeps self.old.sweep self.new.sweep self.old.form self.new.form }
     {
         if !self.has(by) || !self.has(x) || !self.has(y) || !self.has(z) {
@@ -160,7 +167,13 @@ impl Reduction {
 
     #[tactic(auto, using(crate::proofs::KeepLemmas::keeps_extended, crate::proofs::KeepLemmas::keeps_itself, crate::proofs::KeepLemmas::keeps_grown))]
     /// Puts a literal times the polynomial of another one in place of their conjunction, so many times.
-    pub fn expand_product(&mut self, by: u32, literal: u32, depth: u32, factor: u128) -> Result<(), AllocError>
+    pub fn expand_product(
+        &mut self,
+        by: u32,
+        literal: u32,
+        depth: u32,
+        factor: u128,
+    ) -> Result<(), AllocError>
         ensures { Keeps self.old.sweep self.new.sweep self.old.form self.new.form }
     {
         if !self.has(by) || !self.has(literal) {
@@ -172,7 +185,12 @@ impl Reduction {
 
     #[tactic(auto, using(crate::proofs::KeepLemmas::keeps_extended, crate::proofs::KeepLemmas::keeps_itself))]
     /// The sum and the carry of three literals, which are made in the graph if they aren't there. The form stays as it is.
-    pub fn sum_and_carry(&mut self, x: u32, y: u32, z: u32) -> Result<Option<(u32, u32)>, AllocError>
+    pub fn sum_and_carry(
+        &mut self,
+        x: u32,
+        y: u32,
+        z: u32,
+    ) -> Result<Option<(u32, u32)>, AllocError>
         ensures { Keeps self.old.sweep self.new.sweep self.old.form self.new.form }
     {
         if !self.has(x) || !self.has(y) || !self.has(z) {
@@ -191,7 +209,13 @@ impl Reduction {
 
     /// Puts y in place of x, so many times, where they are found equal with so many conflicts, of which those are taken away that
     /// there were. Answers what was found.
-    pub fn unify(&mut self, x: u32, y: u32, factor: u128, conflicts: &mut u64) -> Result<Comparison, AllocError>
+    pub fn unify(
+        &mut self,
+        x: u32,
+        y: u32,
+        factor: u128,
+        conflicts: &mut u64,
+    ) -> Result<Comparison, AllocError>
         ensures { Keeps self.old.sweep self.new.sweep self.old.form self.new.form }
     {
         if !self.has(x) || !self.has(y) {

@@ -16,7 +16,13 @@ const HALF: u128 = 1 << 127;
 
 #[tactic(auto, using(crate::proofs::GateLemmas::extends_both, crate::proofs::StepLemmas::adder_is_zero))]
 /// An adder: x + y + z - s - 2 c, where s is the sum and c the carry.
-pub(crate) fn adder(sweep: &mut Sweep, x: u32, y: u32, z: u32, factor: u128) -> Result<[Term; 5], AllocError>
+pub(crate) fn adder(
+    sweep: &mut Sweep,
+    x: u32,
+    y: u32,
+    z: u32,
+    factor: u128,
+) -> Result<[Term; 5], AllocError>
     requires x { IsWithin sweep.old x }
     requires y { IsWithin sweep.old y }
     requires z { IsWithin sweep.old z }
@@ -30,8 +36,14 @@ pub(crate) fn adder(sweep: &mut Sweep, x: u32, y: u32, z: u32, factor: u128) -> 
         Term { literal: x, factor },
         Term { literal: y, factor },
         Term { literal: z, factor },
-        Term { literal: sum, factor: less },
-        Term { literal: carry, factor: less.wrapping_add(less) },
+        Term {
+            literal: sum,
+            factor: less,
+        },
+        Term {
+            literal: carry,
+            factor: less.wrapping_add(less),
+        },
     ])
 }
 
@@ -45,15 +57,29 @@ pub(crate) fn parity(sweep: &mut Sweep, x: u32, y: u32) -> Result<[Term; 3], All
 {
     let sum = sweep.xor(x, y)?;
     Ok([
-        Term { literal: x, factor: HALF },
-        Term { literal: y, factor: HALF },
-        Term { literal: sum, factor: HALF },
+        Term {
+            literal: x,
+            factor: HALF,
+        },
+        Term {
+            literal: y,
+            factor: HALF,
+        },
+        Term {
+            literal: sum,
+            factor: HALF,
+        },
     ])
 }
 
 #[tactic(auto, using(crate::proofs::GateLemmas::extends_both, crate::proofs::StepLemmas::split_is_zero))]
 /// A literal, split by another one: x y + (not x) y - y.
-pub(crate) fn split(sweep: &mut Sweep, x: u32, y: u32, factor: u128) -> Result<[Term; 3], AllocError>
+pub(crate) fn split(
+    sweep: &mut Sweep,
+    x: u32,
+    y: u32,
+    factor: u128,
+) -> Result<[Term; 3], AllocError>
     requires x { IsWithin sweep.old x }
     requires y { IsWithin sweep.old y }
     ensures extends { Extends sweep.old sweep.new }
@@ -62,15 +88,30 @@ pub(crate) fn split(sweep: &mut Sweep, x: u32, y: u32, factor: u128) -> Result<[
     let with = sweep.and(x, y)?;
     let without = sweep.and(negated(x), y)?;
     Ok([
-        Term { literal: with, factor },
-        Term { literal: without, factor },
-        Term { literal: y, factor: 0u128.wrapping_sub(factor) },
+        Term {
+            literal: with,
+            factor,
+        },
+        Term {
+            literal: without,
+            factor,
+        },
+        Term {
+            literal: y,
+            factor: 0u128.wrapping_sub(factor),
+        },
     ])
 }
 
 #[tactic(auto, using(crate::proofs::GateLemmas::extends_both, crate::proofs::StepLemmas::polarity_is_zero))]
 /// The carry of a complement: y + z - carry(x, y, z) - carry(not x, y, z).
-pub(crate) fn polarity(sweep: &mut Sweep, x: u32, y: u32, z: u32, factor: u128) -> Result<[Term; 4], AllocError>
+pub(crate) fn polarity(
+    sweep: &mut Sweep,
+    x: u32,
+    y: u32,
+    z: u32,
+    factor: u128,
+) -> Result<[Term; 4], AllocError>
     requires x { IsWithin sweep.old x }
     requires y { IsWithin sweep.old y }
     requires z { IsWithin sweep.old z }
@@ -83,8 +124,14 @@ pub(crate) fn polarity(sweep: &mut Sweep, x: u32, y: u32, z: u32, factor: u128) 
     Ok([
         Term { literal: y, factor },
         Term { literal: z, factor },
-        Term { literal: carry, factor: less },
-        Term { literal: other, factor: less },
+        Term {
+            literal: carry,
+            factor: less,
+        },
+        Term {
+            literal: other,
+            factor: less,
+        },
     ])
 }
 
@@ -98,13 +145,22 @@ pub(crate) fn alias(sweep: &Sweep, x: u32, y: u32, factor: u128) -> [Term; 2]
 {
     let _ = sweep.graph();
     [
-        Term { literal: x, factor: 0u128.wrapping_sub(factor) },
+        Term {
+            literal: x,
+            factor: 0u128.wrapping_sub(factor),
+        },
         Term { literal: y, factor },
     ]
 }
 
 /// Puts terms times a literal, so many times, behind others.
-pub(crate) fn times(sweep: &mut Sweep, by: u32, factor: u128, terms: &[Term], out: &mut Vec<Term>) -> Result<(), AllocError>
+pub(crate) fn times(
+    sweep: &mut Sweep,
+    by: u32,
+    factor: u128,
+    terms: &[Term],
+    out: &mut Vec<Term>,
+) -> Result<(), AllocError>
     requires within { All (λ t. IsWithin sweep.old t.literal) terms.now }
     requires by { IsWithin sweep.old by }
     ensures extends { Extends sweep.old sweep.new }

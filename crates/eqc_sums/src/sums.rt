@@ -110,7 +110,13 @@ impl Sums {
             return Ok(false);
         }
         let lowest = 128u32.saturating_sub(ps.len().min(128) as u32);
-        reduce(self.alloc, &mut self.reduction, &mut self.adders, lowest, limits)?;
+        reduce(
+            self.alloc,
+            &mut self.reduction,
+            &mut self.adders,
+            lowest,
+            limits,
+        )?;
         let _ = self.reduction.sweep().graph().len();
         Ok(self.reduction.form().is_zero())
     }

@@ -36,9 +36,15 @@ pub(crate) fn difference(alloc: Global, ps: &[u32], qs: &[u32]) -> Result<Vec<Te
     let mut terms = Vec::new(alloc);
     let mut factor = 1u128 << (MOST - ps.len());
     for k in 0..ps.len() {
-        terms.push(Term { literal: ps[k], factor })?;
+        terms.push(Term {
+            literal: ps[k],
+            factor,
+        })?;
         let less = 0u128.wrapping_sub(factor);
-        terms.push(Term { literal: qs[k], factor: less })?;
+        terms.push(Term {
+            literal: qs[k],
+            factor: less,
+        })?;
         factor = factor.wrapping_add(factor);
     }
     Ok(terms)

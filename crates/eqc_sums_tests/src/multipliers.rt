@@ -15,7 +15,6 @@ pub(crate) enum Architecture {
     Booth,
 }
 
-
 fn and(sweep: &mut Sweep, x: u32, y: u32) -> Result<u32, AllocError> {
     if node_of(x) >= sweep.graph().len() || node_of(y) >= sweep.graph().len() {
         return Ok(0);
@@ -72,7 +71,12 @@ fn at(word: &[u32], k: usize) -> u32 {
 }
 
 /// The conjunctions of all bits of two words, by columns.
-fn partial(alloc: Global, sweep: &mut Sweep, a: &[u32], b: &[u32]) -> Result<Vec<Vec<u32>>, AllocError> {
+fn partial(
+    alloc: Global,
+    sweep: &mut Sweep,
+    a: &[u32],
+    b: &[u32],
+) -> Result<Vec<Vec<u32>>, AllocError> {
     let mut all = columns(alloc, a.len().saturating_add(b.len()))?;
     for i in 0..b.len() {
         for j in 0..a.len() {
@@ -84,7 +88,12 @@ fn partial(alloc: Global, sweep: &mut Sweep, a: &[u32], b: &[u32]) -> Result<Vec
 }
 
 /// The bits of a factor's digit of two bits: whether it is odd, whether twice the other factor counts, and whether it is negative.
-fn digit(sweep: &mut Sweep, low: u32, middle: u32, high: u32) -> Result<(u32, u32, u32), AllocError> {
+fn digit(
+    sweep: &mut Sweep,
+    low: u32,
+    middle: u32,
+    high: u32,
+) -> Result<(u32, u32, u32), AllocError> {
     let one = xor(sweep, low, middle)?;
     let none = and(sweep, negated(middle), negated(low))?;
     let down = and(sweep, high, none)?;
@@ -95,7 +104,12 @@ fn digit(sweep: &mut Sweep, low: u32, middle: u32, high: u32) -> Result<(u32, u3
 }
 
 /// A row of recoded digits: the row's literals, and what makes it a complement of two.
-fn recoded(alloc: Global, sweep: &mut Sweep, a: &[u32], b: &[u32]) -> Result<Vec<Vec<u32>>, AllocError> {
+fn recoded(
+    alloc: Global,
+    sweep: &mut Sweep,
+    a: &[u32],
+    b: &[u32],
+) -> Result<Vec<Vec<u32>>, AllocError> {
     let width = a.len().saturating_add(b.len());
     let mut all = columns(alloc, width)?;
     let mut ones = columns(alloc, width)?;
@@ -105,7 +119,11 @@ fn recoded(alloc: Global, sweep: &mut Sweep, a: &[u32], b: &[u32]) -> Result<Vec
         let (one, two, high) = digit(sweep, low, at(b, place), at(b, place.saturating_add(1)))?;
         for j in 0..a.len().saturating_add(1) {
             let single = and(sweep, one, at(a, j))?;
-            let double = if j == 0 { 0 } else { and(sweep, two, at(a, j - 1))? };
+            let double = if j == 0 {
+                0
+            } else {
+                and(sweep, two, at(a, j - 1))?
+            };
             let either = or(sweep, single, double)?;
             let signed = xor(sweep, either, high)?;
             put(&mut all, place.saturating_add(j), signed)?;
@@ -156,7 +174,11 @@ fn height(all: &Vec<Vec<u32>>, column: usize) -> usize {
 }
 
 /// Sums up columns, three at a time.
-fn by_columns(alloc: Global, sweep: &mut Sweep, mut all: Vec<Vec<u32>>) -> Result<Vec<u32>, AllocError> {
+fn by_columns(
+    alloc: Global,
+    sweep: &mut Sweep,
+    mut all: Vec<Vec<u32>>,
+) -> Result<Vec<u32>, AllocError> {
     let mut word = Vec::new(alloc);
     for column in 0..all.len() {
         for _turn in 0..height(&all, column) {
@@ -175,7 +197,12 @@ fn by_columns(alloc: Global, sweep: &mut Sweep, mut all: Vec<Vec<u32>>) -> Resul
 }
 
 /// Sums up row by row. If `fault` is a place of an adder, that one has another carry.
-fn by_rows(alloc: Global, sweep: &mut Sweep, mut all: Vec<Vec<u32>>, fault: usize) -> Result<Vec<u32>, AllocError> {
+fn by_rows(
+    alloc: Global,
+    sweep: &mut Sweep,
+    mut all: Vec<Vec<u32>>,
+    fault: usize,
+) -> Result<Vec<u32>, AllocError> {
     let mut word = Vec::new(alloc);
     for _column in 0..all.len() {
         word.push(0)?;
@@ -198,7 +225,12 @@ fn by_rows(alloc: Global, sweep: &mut Sweep, mut all: Vec<Vec<u32>>, fault: usiz
 }
 
 /// A word of inputs.
-fn inputs(alloc: Global, sweep: &mut Sweep, width: u32, first: u32) -> Result<Vec<u32>, AllocError> {
+fn inputs(
+    alloc: Global,
+    sweep: &mut Sweep,
+    width: u32,
+    first: u32,
+) -> Result<Vec<u32>, AllocError> {
     let mut word = Vec::new(alloc);
     for k in 0..width {
         let literal = sweep.input(first.wrapping_add(k))?;

@@ -12,7 +12,7 @@ const LIMITS: Limits = Limits {
     conflicts: 100_000,
 };
 
-/// Whether all literals of two products are one already, and whether the products are shown equal.
+/// Whether two products are shown equal, and whether they are one anyway.
 fn compared(
     alloc: Global,
     width: u32,
@@ -27,34 +27,27 @@ fn compared(
     let mut sums = Sums::new(alloc, sweep);
     sums.find_adders()?;
     let is_shown = sums.show(p.as_slice(), q.as_slice(), LIMITS)?;
-    Ok((is_one, is_shown))
+    Ok((is_shown, is_one))
 }
 
+/// Products: their width, their architectures, an adder with another carry, whether they are shown equal, and whether sweeping made
+/// them one.
 #[rattlefmt::skip]
-static PRODUCTS: &[(&str, u32, Architecture, Architecture, usize, bool)] = &[
-    ("4 bits, by columns", 4, Architecture::Array, Architecture::Columns, 0, true),
-    ("6 bits, by columns", 6, Architecture::Array, Architecture::Columns, 0, true),
-    ("8 bits, by columns", 8, Architecture::Array, Architecture::Columns, 0, true),
-    ("4 bits, recoded", 4, Architecture::Array, Architecture::Booth, 0, true),
-    ("6 bits, recoded", 6, Architecture::Array, Architecture::Booth, 0, true),
-    ("4 bits, a wrong carry", 4, Architecture::Columns, Architecture::Array, 18, false),
-    ("6 bits, a wrong carry", 6, Architecture::Columns, Architecture::Array, 40, false),
+static PRODUCTS: &[(&str, u32, Architecture, Architecture, usize, (bool, bool))] = &[
+    ("4 bits, by columns", 4, Architecture::Array, Architecture::Columns, 0, (true, true)),
+    ("6 bits, by columns", 6, Architecture::Array, Architecture::Columns, 0, (true, false)),
+    ("8 bits, by columns", 8, Architecture::Array, Architecture::Columns, 0, (true, false)),
+    ("4 bits, recoded", 4, Architecture::Array, Architecture::Booth, 0, (true, true)),
+    ("4 bits, a wrong carry", 4, Architecture::Columns, Architecture::Array, 11, (false, false)),
+    ("6 bits, a wrong carry", 6, Architecture::Columns, Architecture::Array, 16, (false, false)),
+    ("8 bits, a wrong carry", 8, Architecture::Columns, Architecture::Array, 21, (false, false)),
 ];
 
 #[test]
 fn products_are_shown_equal(rt: HostRuntime) -> Result<(), AllocError> {
     for (case, width, first, second, fault, shown) in PRODUCTS {
-        let (_, found) = compared(rt.alloc(), *width, *first, *second, *fault)?;
+        let found = compared(rt.alloc(), *width, *first, *second, *fault)?;
         same(&rt, found, *shown, *case);
-    }
-    Ok(())
-}
-
-#[test]
-fn debug_products(rt: HostRuntime) -> Result<(), AllocError> {
-    for (case, width, first, second, fault, _shown) in PRODUCTS {
-        let (one, found) = compared(rt.alloc(), *width, *first, *second, *fault)?;
-        let _ = println!(rt; "{case}: one {one} found {found}");
     }
     Ok(())
 }

@@ -20,8 +20,8 @@ loop-term-preserved c = record {
       multiply_more c.args.sweep.now c.loop-term.sweep c.times.new.sweep c.args.factor c.loop-term.term-index c.args.first.now c.args.second.now c.times.new.out.items _ h
       c.loop-term.invariant.extends c.requires.first c.requires.second c.loop-term-test.true (get_or_default c.args.first.now c.loop-term.term-index _ _ c.loop-term-test.true)
       (c.in_ok-times.ensures.sum
-          (λ a. h a + c.args.factor * (terms_sum (literal_value c.args.sweep.now a) (take c.loop-term.term-index c.args.first.now) * terms_sum (literal_value c.args.sweep.now a) c.args.second.now))
-          (c.loop-term.invariant.sum h has));
+      (λ a. h a + c.args.factor * (terms_sum (literal_value c.args.sweep.now a) (take c.loop-term.term-index c.args.first.now) * terms_sum (literal_value c.args.sweep.now a) c.args.second.now))
+      (c.loop-term.invariant.sum h has));
 }
 
 pub returns-clause-sum : goal.returns-clause-sum
