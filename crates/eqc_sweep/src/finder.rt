@@ -4,6 +4,7 @@ ghost use Rattle.eqc_graph.specs.Graph.{IsWithin};
 ghost use Rattle.eqc_sweep.specs.Finding.{AreEqual, IsOlder, AreNever, IsRight};
 
 pub(crate) mod account;
+pub(crate) mod carries;
 pub(crate) mod classes;
 pub(crate) mod comparison;
 pub(crate) mod counterexamples;

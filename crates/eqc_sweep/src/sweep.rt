@@ -4,6 +4,8 @@ ghost use Rattle.eqc_graph.specs.Graph.{differ, literal_value, node_value, IsWit
 ghost use Rattle.eqc_sweep.specs.Sweeping.{HasValue, HasValueOf};
 ghost use Rattle.eqc_sweep.specs.Finding.{IsRight};
 
+pub(crate) mod views;
+
 use crate::effort::{Effort, Tally};
 use crate::finder::Finder;
 use crate::finder::comparison::Comparison;

@@ -1,5 +1,7 @@
 //! Simulation: words of random patterns and of counterexamples, and each node's signature. Nothing is believed of it.
 
+pub(crate) mod carry;
+
 use crate::finder::random::Random;
 use crate::finder::words::{share_of, word_at, word_by, word_of};
 use eqc_graph::{Graph, Node};

@@ -1,0 +1,12 @@
+//! The tests of words that are shown equal by sums: multipliers of several architectures.
+//!
+//! - `multipliers`, how they are built; `words`, which of them are shown equal
+//! - `ends`, what ends a test
+#![tactic(auto)]
+
+#[cfg(test)]
+mod ends;
+#[cfg(test)]
+mod multipliers;
+#[cfg(test)]
+mod words;

@@ -1,0 +1,266 @@
+//! Multipliers in a graph. Literals that are not the graph's are taken for false.
+
+use eqc_graph::{negated, node_of};
+use eqc_sweep::Sweep;
+use std::alloc::{AllocError, Global};
+
+/// How a product is summed up, and with which partial products.
+#[derive(Clone, Copy, PartialEq, Eq, Debug)]
+pub(crate) enum Architecture {
+    /// Row by row, each by a chain of adders.
+    Array,
+    /// Column by column, three at a time, and a chain of adders at last.
+    Columns,
+    /// The same with the digits of one factor recoded, two bits at a time.
+    Booth,
+}
+
+fn and(sweep: &mut Sweep, x: u32, y: u32) -> Result<u32, AllocError> {
+    if node_of(x) >= sweep.graph().len() || node_of(y) >= sweep.graph().len() {
+        return Ok(0);
+    }
+    sweep.and(x, y)
+}
+
+fn xor(sweep: &mut Sweep, x: u32, y: u32) -> Result<u32, AllocError> {
+    if node_of(x) >= sweep.graph().len() || node_of(y) >= sweep.graph().len() {
+        return Ok(0);
+    }
+    sweep.xor(x, y)
+}
+
+fn or(sweep: &mut Sweep, x: u32, y: u32) -> Result<u32, AllocError> {
+    let neither = and(sweep, negated(x), negated(y))?;
+    Ok(negated(neither))
+}
+
+/// A sum and a carry.
+fn full(sweep: &mut Sweep, x: u32, y: u32, z: u32) -> Result<(u32, u32), AllocError> {
+    let one = xor(sweep, x, y)?;
+    let sum = xor(sweep, one, z)?;
+    let both = and(sweep, x, y)?;
+    let carried = and(sweep, one, z)?;
+    let carry = or(sweep, both, carried)?;
+    Ok((sum, carry))
+}
+
+/// Empty columns.
+fn columns(alloc: Global, count: usize) -> Result<Vec<Vec<u32>>, AllocError> {
+    let mut all = Vec::new(alloc);
+    for _k in 0..count {
+        all.push(Vec::new(alloc))?;
+    }
+    Ok(all)
+}
+
+fn put(all: &mut Vec<Vec<u32>>, at: usize, literal: u32) -> Result<(), AllocError> {
+    if literal == 0 {
+        return Ok(());
+    }
+    if let Some(column) = all.get_mut(at) {
+        column.push(literal)?;
+    }
+    Ok(())
+}
+
+fn at(word: &[u32], k: usize) -> u32 {
+    match word.get(k) {
+        None => 0,
+        Some(literal) => *literal,
+    }
+}
+
+/// The conjunctions of all bits of two words, by columns.
+fn partial(
+    alloc: Global,
+    sweep: &mut Sweep,
+    a: &[u32],
+    b: &[u32],
+) -> Result<Vec<Vec<u32>>, AllocError> {
+    let mut all = columns(alloc, a.len().saturating_add(b.len()))?;
+    for i in 0..b.len() {
+        for j in 0..a.len() {
+            let both = and(sweep, at(a, j), at(b, i))?;
+            put(&mut all, i.saturating_add(j), both)?;
+        }
+    }
+    Ok(all)
+}
+
+/// The bits of a factor's digit of two bits: whether it is odd, whether twice the other factor counts, and whether it is negative.
+fn digit(
+    sweep: &mut Sweep,
+    low: u32,
+    middle: u32,
+    high: u32,
+) -> Result<(u32, u32, u32), AllocError> {
+    let one = xor(sweep, low, middle)?;
+    let none = and(sweep, negated(middle), negated(low))?;
+    let down = and(sweep, high, none)?;
+    let all = and(sweep, middle, low)?;
+    let up = and(sweep, negated(high), all)?;
+    let two = or(sweep, down, up)?;
+    Ok((one, two, high))
+}
+
+/// A row of recoded digits: the row's literals, and what makes it a complement of two.
+fn recoded(
+    alloc: Global,
+    sweep: &mut Sweep,
+    a: &[u32],
+    b: &[u32],
+) -> Result<Vec<Vec<u32>>, AllocError> {
+    let width = a.len().saturating_add(b.len());
+    let mut all = columns(alloc, width)?;
+    let mut ones = columns(alloc, width)?;
+    for row in 0..b.len() / 2 + 1 {
+        let place = row.saturating_mul(2);
+        let low = if place == 0 { 0 } else { at(b, place - 1) };
+        let (one, two, high) = digit(sweep, low, at(b, place), at(b, place.saturating_add(1)))?;
+        for j in 0..a.len().saturating_add(1) {
+            let single = and(sweep, one, at(a, j))?;
+            let double = if j == 0 {
+                0
+            } else {
+                and(sweep, two, at(a, j - 1))?
+            };
+            let either = or(sweep, single, double)?;
+            let signed = xor(sweep, either, high)?;
+            put(&mut all, place.saturating_add(j), signed)?;
+        }
+        if high != 0 {
+            // The row goes on with its sign: less 2^k, and the sign's complement there.
+            let end = place.saturating_add(a.len()).saturating_add(1);
+            put(&mut all, end, negated(high))?;
+            for column in end..width {
+                put(&mut ones, column, 1)?;
+            }
+            put(&mut all, place, high)?;
+        }
+    }
+    let mut carry: usize = 0;
+    for column in 0..width {
+        let here = match ones.get(column) {
+            None => 0,
+            Some(some) => some.len(),
+        };
+        let sum = here.saturating_add(carry);
+        if sum % 2 == 1 {
+            put(&mut all, column, 1)?;
+        }
+        carry = sum / 2;
+    }
+    Ok(all)
+}
+
+/// The next literals of a column.
+fn taken(all: &mut Vec<Vec<u32>>, column: usize) -> u32 {
+    match all.get_mut(column) {
+        None => 0,
+        Some(some) => {
+            if some.len() == 0 {
+                return 0;
+            }
+            some.remove(0)
+        }
+    }
+}
+
+fn height(all: &Vec<Vec<u32>>, column: usize) -> usize {
+    match all.get(column) {
+        None => 0,
+        Some(some) => some.len(),
+    }
+}
+
+/// Sums up columns, three at a time.
+fn by_columns(
+    alloc: Global,
+    sweep: &mut Sweep,
+    mut all: Vec<Vec<u32>>,
+) -> Result<Vec<u32>, AllocError> {
+    let mut word = Vec::new(alloc);
+    for column in 0..all.len() {
+        for _turn in 0..height(&all, column) {
+            if height(&all, column) > 1 {
+                let x = taken(&mut all, column);
+                let y = taken(&mut all, column);
+                let z = taken(&mut all, column);
+                let (sum, carry) = full(sweep, x, y, z)?;
+                put(&mut all, column, sum)?;
+                put(&mut all, column.saturating_add(1), carry)?;
+            }
+        }
+        word.push(taken(&mut all, column))?;
+    }
+    Ok(word)
+}
+
+/// Sums up row by row. If `fault` is a place of an adder, that one has another carry.
+fn by_rows(
+    alloc: Global,
+    sweep: &mut Sweep,
+    mut all: Vec<Vec<u32>>,
+    fault: usize,
+) -> Result<Vec<u32>, AllocError> {
+    let mut word = Vec::new(alloc);
+    for _column in 0..all.len() {
+        word.push(0)?;
+    }
+    let mut place: usize = 0;
+    for _row in 0..all.len() {
+        let mut carry = 0;
+        for column in 0..all.len() {
+            let next = taken(&mut all, column);
+            let old = at(word.as_slice(), column);
+            let (sum, more) = full(sweep, old, next, carry)?;
+            place = place.wrapping_add(1);
+            carry = if place == fault { sum } else { more };
+            if column < word.len() {
+                word[column] = sum;
+            }
+        }
+    }
+    Ok(word)
+}
+
+/// A word of inputs.
+fn inputs(
+    alloc: Global,
+    sweep: &mut Sweep,
+    width: u32,
+    first: u32,
+) -> Result<Vec<u32>, AllocError> {
+    let mut word = Vec::new(alloc);
+    for k in 0..width {
+        let literal = sweep.input(first.wrapping_add(k))?;
+        word.push(literal)?;
+    }
+    Ok(word)
+}
+
+/// The product of two words of inputs.
+pub(crate) fn product(
+    alloc: Global,
+    sweep: &mut Sweep,
+    width: u32,
+    architecture: Architecture,
+    fault: usize,
+) -> Result<Vec<u32>, AllocError> {
+    let a = inputs(alloc, sweep, width, 0)?;
+    let b = inputs(alloc, sweep, width, width)?;
+    match architecture {
+        Architecture::Array => {
+            let all = partial(alloc, sweep, a.as_slice(), b.as_slice())?;
+            by_rows(alloc, sweep, all, fault)
+        }
+        Architecture::Columns => {
+            let all = partial(alloc, sweep, a.as_slice(), b.as_slice())?;
+            by_columns(alloc, sweep, all)
+        }
+        Architecture::Booth => {
+            let all = recoded(alloc, sweep, a.as_slice(), b.as_slice())?;
+            by_columns(alloc, sweep, all)
+        }
+    }
+}
