@@ -111,7 +111,10 @@ const SOME_INPUTS: usize = 40;
 const LARGE_TURNS: u64 = 8_388_608;
 
 /// The nodes of the first room: as many as the options allow, but for a pair of few inputs those of the larger one.
-pub(crate) fn first_nodes(pair: &Pair<'_>, options: &Options) -> u32 {
+pub(crate) fn first_nodes(pair: &Pair<'_>, options: &Options) -> u32
+    requires { options_code options.now ≡ None }
+    ensures { 1 ≤ result }
+{
     if options.nodes >= USUAL_NODES && pair.first().inputs().len() <= FEW_INPUTS {
         return FIRST_NODES;
     }
@@ -128,12 +131,15 @@ fn large_turns(pair: &Pair<'_>) -> u64 {
 }
 
 /// Whether there is a larger room on one thread than the first one was.
-pub(crate) fn has_large_room(pair: &Pair<'_>, options: &Options) -> bool {
+pub(crate) fn has_large_room(pair: &Pair<'_>, options: &Options) -> bool
+    requires { options_code options.now ≡ None }
+{
     options.nodes >= USUAL_NODES && first_nodes(pair, options) < FIRST_NODES
 }
 
 /// The store of a room on one thread, with a variable for each input of a pair. It has no more nodes than this.
 fn first_store(alloc: Global, pair: &Pair<'_>, nodes: u32, turns: u64) -> Result<Plain, Stop>
+    requires { 1 ≤ nodes }
     ensures nodes { IfOk result (λ p. p.store.limit ≤ nodes) }
     ensures variables { IfOk result (λ p. length pair.now.first.inputs ≤ (⟦<Plain as References>⟧.holding p).variables) }
     ensures only { IfErr result (λ s. s ≡ Stop.Memory) }
@@ -203,7 +209,7 @@ fn team_for(
     team_with(alloc, inputs, nodes, cells, workers, forks, allowance)
 }
 
-/// The report by diagrams on this thread, where this is known of the pair, or why it stopped. A store that is full is left at
+/// The report by diagrams on this thread, in a store of so many nodes at most, where this is known of the pair, or why it stopped. A store that is full is left at
 /// once: what was given back there makes no room. The watch is told of each comparison, and of the nodes in use behind each
 /// operation.
 pub(crate) fn check_first<R, P: Progress<R>>(
@@ -211,7 +217,7 @@ pub(crate) fn check_first<R, P: Progress<R>>(
     alike: Alike,
     nodes: u32,
 ) -> Result<Report, Stop>
-    requires options { options_code comparison.now.options.now ≡ None }
+    requires nodes { 1 ≤ nodes }
     requires known { IsKnown comparison.now.pair.now alike }
     ensures report { IfOk result (λ report. report_of report ≡ pair_report comparison.now.options.now.every comparison.now.pair.now) }
 {

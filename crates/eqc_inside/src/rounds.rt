@@ -1,5 +1,5 @@
 //! Rounds of sweeping: each asks more of the nodes that are left than the one before.
-ghost use Rattle.std.specs.Prelude.{◌≡◌, List, IfOk, IfSome};
+ghost use Rattle.std.specs.Prelude.{◌≡◌, ◌<◌, List, length, IfOk, IfSome};
 ghost use Rattle.eqc_graph.specs.declared.node.Node.{Node};
 ghost use Rattle.eqc_sweep.specs.Copying.{AreCopies};
 ghost use Rattle.eqc_sweep.specs.Sweeping.{HasValue};
@@ -10,7 +10,7 @@ ghost use Rattle.eqc_gates.specs.Entering.{AreLiterals};
 
 use crate::inside::{Inside, NONE, literal_of};
 use eqc_build::Steps;
-use eqc_compare::{Alike, Progress, is_settled};
+use eqc_compare::{Alike, Progress, is_marked};
 use eqc_pair::Pair;
 use eqc_sweep::{Comparison, Effort, Sweep, Tally, below, copied, copy};
 use std::alloc::{AllocError, Global};
@@ -114,18 +114,28 @@ impl Rounds {
         self.left = self.left.saturating_sub(round.work);
         self.is_open = round.open > 0 || round.is_cut;
         if self.is_short {
-            self.is_over = !self.is_open || round.is_cut || self.level + 1 >= SHORT_LEVELS;
-            self.level += usize::from(!round.is_cut);
+            self.is_over = !self.is_open
+                || round.is_cut
+                || self.level.saturating_add(1) >= SHORT_LEVELS;
+            self.level = self.level.saturating_add(usize::from(!round.is_cut));
             return;
         }
         let is_worthwhile = round.found.saturating_mul(WORTHWHILE) > round.open;
-        if !is_worthwhile && self.level + 1 < LEVELS.len() {
-            self.level += 1;
+        let next = self.level.saturating_add(1);
+        if !is_worthwhile && next < LEVELS.len() {
+            self.level = next;
         } else if round.found == 0 {
             self.is_over = true;
         }
         self.is_over |= !self.is_open;
     }
+}
+
+/// Whether an output is chosen and not known to be equal.
+fn is_open(pair: &Pair<'_>, marks: &[bool], output: usize) -> bool
+    requires { output < length pair.now.first.outputs }
+{
+    pair.is_chosen(output) && !is_marked(marks, output)
 }
 
 /// The literals of the steps that outputs which aren't known yet are made of, and that of the assumption. Fails where memory is
@@ -138,7 +148,7 @@ fn open_literals(
 ) -> Result<Vec<u32>, AllocError> {
     let mut open = Vec::new(alloc);
     for output in 0..steps.pair().first().outputs().len() {
-        if !is_settled(steps.pair(), marks, output) {
+        if is_open(steps.pair(), marks, output) {
             for step in steps.roots(output) {
                 let literal = literal_of(literals, step);
                 if literal != NONE {
@@ -163,7 +173,6 @@ fn entry(literals: &[Option<u32>], step: usize) -> Option<u32>
     literals.get(step).copied().flatten()
 }
 
-#[tactic(auto, using(crate::proofs::RoundLaws::moved_value))]
 /// The literal of a step in another graph, where it has one there.
 fn moved_one(literals: &[Option<u32>], table: &[Option<u32>], step: usize) -> Option<u32>
     ensures { (p : PairOf) (old new : List Node) → AreLiterals p old literals.now → AreCopies old new table.now → IfSome result (λ l. HasValue new l (λ a. value_at p a step)) }
@@ -188,23 +197,36 @@ fn moved(
     Ok(all)
 }
 
+/// Puts a graph in the place of another one. It stands apart for its proof's sake: the other one is let go here.
+fn put(place: &mut Sweep, sweep: Sweep)
+    ensures { place.new ≡ sweep }
+{
+    *place = sweep;
+}
+
 impl<'a> Inside<'a> {
+    /// Whether an output is seen to differ by simulation. Nothing is promised of it.
+    fn is_seen_to_differ(&mut self, output: usize) -> bool
+        requires { output < length self.old.first.outputs }
+        ensures { self.new ≡ self.old }
+    {
+        let roots = self.steps.roots(output);
+        let x = literal_of(&self.literals, roots[0]);
+        let y = literal_of(&self.literals, roots[1]);
+        if x == NONE || y == NONE {
+            return false;
+        }
+        matches!(self.sweep.equal(x, y, &mut 0), Ok(Comparison::Differs(_)))
+    }
+
     /// Whether an output that isn't known to be equal is seen to differ by simulation. Nothing is promised of it.
     pub fn sees_difference(&mut self, alike: &Alike) -> bool
         ensures { self.new ≡ self.old }
     {
-        for output in 0..self.steps.pair().first().outputs().len() {
-            if is_settled(self.steps.pair(), &alike.equal, output) {
-                continue;
-            }
-            let roots = self.steps.roots(output);
-            let x = literal_of(&self.literals, roots[0]);
-            let y = literal_of(&self.literals, roots[1]);
-            if x != NONE && y != NONE {
-                let found = self.sweep.equal(x, y, &mut 0);
-                if matches!(found, Ok(Comparison::Differs(_))) {
-                    return true;
-                }
+        let outputs = self.steps.pair().first().outputs().len();
+        for output in 0..outputs {
+            if is_open(self.steps.pair(), &alike.equal, output) && self.is_seen_to_differ(output) {
+                return true;
             }
         }
         false
@@ -213,6 +235,27 @@ impl<'a> Inside<'a> {
     /// What came of the questions of the last round. Nothing is promised of it.
     pub fn tally(&self) -> Tally {
         self.sweep.tally()
+    }
+
+    /// The literals of steps in another graph, into which what open outputs depend on is copied. The watch is told of each node. Fails
+    /// where memory is refused.
+    fn literals_in<R, P: Progress<R>>(
+        &self,
+        rt: &R,
+        alloc: Global,
+        alike: &Alike,
+        sweep: &mut Sweep,
+        watch: &P,
+    ) -> Result<Vec<Option<u32>>, AllocError>
+        ensures { IfOk result (λ all. AreLiterals self.now sweep.new all.items) }
+    {
+        let open = open_literals(alloc, &self.steps, &self.literals, &alike.equal)?;
+        let graph = self.sweep.graph();
+        let marks = below(alloc, graph, &open)?;
+        let count = graph.len() as usize;
+        let told = |k: u32| watch.step(rt, k as usize, count);
+        let table = copy(alloc, graph, &marks, sweep, &told)?;
+        moved(alloc, &self.literals, &table)
     }
 
     /// Sweeps what the outputs depend on which aren't known to be equal, once more with this effort. The watch is told of each node.
@@ -227,16 +270,10 @@ impl<'a> Inside<'a> {
     ) -> Result<(), AllocError>
         ensures pair { self.new ≡ self.old }
     {
-        let open = open_literals(alloc, &self.steps, &self.literals, &alike.equal)?;
-        let graph = self.sweep.graph();
-        let marks = below(alloc, graph, &open)?;
         let mut sweep = self.sweep.again(alloc, effort)?;
-        let count = graph.len() as usize;
-        let told = |k: u32| watch.step(rt, k as usize, count);
-        let table = copy(alloc, graph, &marks, &mut sweep, &told)?;
+        let literals = self.literals_in(rt, alloc, alike, &mut sweep, watch)?;
         sweep.ask_no_more();
-        let literals = moved(alloc, &self.literals, &table)?;
-        self.sweep = sweep;
+        put(&mut self.sweep, sweep);
         self.literals = literals;
         Ok(())
     }
