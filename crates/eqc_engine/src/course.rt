@@ -28,8 +28,9 @@ ghost use Rattle.eqc_report.specs.Left.{AddsLeft, AddsNone};
 use crate::workers::{
     Comparison, FIRST_NODES, check_by_team, check_first, first_nodes, has_large_room,
 };
-use eqc_compare::{Alike, Progress, Stage, alike_or_nothing, known_outcome};
+use eqc_compare::{Alike, Progress, Stage, alike_or_nothing, is_marked, known_outcome};
 use eqc_inside::{Conflicts, Inside, Rounds, Searched};
+use eqc_pair::Pair;
 use eqc_report::{Options, Report, Undecided, found_report, note_seen};
 use eqc_tree::Stop;
 use std::sync::Wait;
@@ -177,6 +178,16 @@ fn ask_outputs<R, P: Progress<R>>(
     inside.ask_outputs(rt, alike, conflicts, watch)
 }
 
+/// Whether an output is chosen and not known to be equal.
+fn has_open(pair: &Pair<'_>, equal: &[bool]) -> bool {
+    for output in 0..pair.first().outputs().len() {
+        if pair.is_chosen(output) && !is_marked(equal, output) {
+            return true;
+        }
+    }
+    false
+}
+
 /// Sweeps what is left in further rounds, as long as these find something and outputs are left.
 fn sweep_more<R: Threads + Wait + Sync, P: Progress<R> + Sync>(
     comparison: &Comparison<'_, R, P>,
@@ -196,7 +207,7 @@ fn sweep_more<R: Threads + Wait + Sync, P: Progress<R> + Sync>(
         ..
     } = *comparison;
     for _ in 0..MOST_ROUNDS {
-        if !rounds.has_next() || known_outcome(alloc, pair, &alike.equal).is_some() {
+        if !rounds.has_next() || !has_open(pair, &alike.equal) {
             return;
         }
         watch.stage(rt, Stage::Sweeping);
