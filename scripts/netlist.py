@@ -14,7 +14,9 @@ import sys
 from contextlib import contextmanager
 from dataclasses import dataclass, field
 
-LONGEST_TEXT = 16_777_216
+# As many bytes as `eqc --bytes` may allow, and as many as are allowed without it.
+LONGEST_TEXT = 2_147_483_647
+DEFAULT_BYTES = 16_777_216
 MOST_SIGNALS = 1_048_576
 # As many as `eqc --inputs` may allow, and as many as are allowed without it.
 MOST_INPUTS = 65_535

@@ -7,9 +7,9 @@ Each pair is a design made in two ways: `fifo` a FIFO of 512 words of 8 bits tha
 or by a decoder and disjunctions; `equality` of two words, as a chain or as a tree; `decoder` of groups of five bits, by one cover
 or two for each output. NAME is one of these with a number of inputs, as `equality_20000`; without a name the FIFO, and the two
 others with 20,000 and 65,535 inputs. Each is compared as it is, and with a difference that only the last input shows or the last
-word holds; with an order in reverse, under an assumption on the first input and the last, and with `--all`. A line tells the first word of
-the report, the seconds and processor seconds of the run, and its peak memory. With --folder the pairs are kept there. Without
---eqc the program is that which `./eqc` has built.
+word holds; with an order in reverse, under an assumption on the first input and the last, and with `--all`. A line tells the
+first word of the report, the seconds and processor seconds of the run, and its peak memory. With --folder the pairs are kept
+there. Without --eqc the program is that which `./eqc` has built.
 """
 import argparse
 import subprocess
@@ -174,7 +174,8 @@ def compare(given, folder, name):
     order, assumed = folder / f"{name}.order", folder / f"{name}.assume.blif"
     order.write_text(" ".join(reversed(inputs)) + "\n")
     ends = [inputs[0], inputs[-1]]
-    assumed.write_text("\n".join([".model some", ".inputs " + " ".join(ends), ".outputs any", cover(ends, "any", "00 0"), ".end", ""]))
+    lines = [".model some", ".inputs " + " ".join(ends), ".outputs any", cover(ends, "any", "00 0"), ".end", ""]
+    assumed.write_text("\n".join(lines))
     print(f"{name}, {len(inputs)} inputs", flush=True)
     ways = (("as it is", []), ("--order", ["--order", order]), ("--assume", ["--assume", assumed]), ("--all", ["--all"]))
     for other in paths[1:]:

@@ -31,7 +31,7 @@ fault_append st (x ∷ xs) ys =
 
 pub first_fault_stays : FirstFaultStays
 unfolding or_else
-first_fault_stays text more fault whole short found =
+first_fault_stays limit text more fault whole short found =
     let behind = logical (numbered (1 + length (physical text)) more) in
     let still : first_fault start (logical_lines (text ++ 10 ∷ more)) ≡ Some fault =
     ap (first_fault start) (texts_follow text more whole) ∙ (fault_append start (logical_lines text) behind ∙ ap (λ f. or_else f (first_fault (after start (logical_lines text)) behind)) found) in
@@ -120,7 +120,7 @@ outcome_alike (Some f) None ms same = cc
 outcome_alike (Some f) (Some g) ms same = let codes : f.1 ≡ g.1 = cc in ap Err codes
 
 pub numbers_play_no_part : NumbersPlayNoPart
-numbers_play_no_part text other short other_short same =
+numbers_play_no_part limit text other short other_short same =
     let alike = code_alike start (logical_lines text) (logical_lines other) same in
     rw (short, other_short)
     (outcome_alike (first_fault start (logical_lines text)) (first_fault start (logical_lines other))

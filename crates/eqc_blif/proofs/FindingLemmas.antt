@@ -61,14 +61,14 @@ has_code least n code st now line (x ∷ xs) up is there = elim (at_line x.0 n c
 ]
 
 -- why a text is refused: its length, a line, or that it has no statement
-pub record IsRefused (text : List ℕ) (n code : ℕ) : Type 0 where
-  pub short : is_too_long text ≡ false
+pub record IsRefused (limit : ℕ) (text : List ℕ) (n code : ℕ) : Type 0 where
+  pub short : is_too_long limit text ≡ false
   pub fault : first_fault start (logical_lines text) ≡ Some (n, code)
 
-pub why : (text : List ℕ) (n code : ℕ) → refused text ≡ Some (n, code)
-    → ((n ≡ 0) × (code ≡ 2) × (is_too_long text ≡ true))
-    ⊎ (IsRefused text n code ⊎ ((n ≡ 0) × (code ≡ 13) × (models (after start (logical_lines text)) ≡ [])))
-why text n code is = elim (cases_Bool (is_too_long text)) [
+pub why : (limit : ℕ) (text : List ℕ) (n code : ℕ) → refused limit text ≡ Some (n, code)
+    → ((n ≡ 0) × (code ≡ 2) × (is_too_long limit text ≡ true))
+    ⊎ (IsRefused limit text n code ⊎ ((n ≡ 0) × (code ≡ 13) × (models (after start (logical_lines text)) ≡ [])))
+why limit text n code is = elim (cases_Bool (is_too_long limit text)) [
   | inl long ↦
       let given : Some (0, 2) ≡ Some (n, code) = rw long at is in
       let pair = of_some (0, 2) (n, code) given in
@@ -78,9 +78,9 @@ why text n code is = elim (cases_Bool (is_too_long text)) [
       inr (by_lines short (first_fault start (logical_lines text)) refl (models (after start (logical_lines text))) refl given)
 ]
   where
-    by_lines : is_too_long text ≡ false → (fault : Option (ℕ × ℕ)) → first_fault start (logical_lines text) ≡ fault
+    by_lines : is_too_long limit text ≡ false → (fault : Option (ℕ × ℕ)) → first_fault start (logical_lines text) ≡ fault
         → (ms : List ModelOf) → models (after start (logical_lines text)) ≡ ms → result_err (outcome_by fault ms) ≡ Some (n, code)
-        → IsRefused text n code ⊎ ((n ≡ 0) × (code ≡ 13) × (models (after start (logical_lines text)) ≡ []))
+        → IsRefused limit text n code ⊎ ((n ≡ 0) × (code ≡ 13) × (models (after start (logical_lines text)) ≡ []))
     by_lines short (Some fault) first ms all given = inl (record { short = short; fault = first ∙ given })
     by_lines short None first [] all given =
         let pair = of_some (0, 13) (n, code) given in
@@ -101,64 +101,64 @@ no_line n code other none st (x ∷ xs) is = elim (at_line x.0 n code (line_code
     by true given = other (sym (of_some 1 code given))
     by false given = none (opened (kind_of_line x.1) st) (kind_of_line x.1) (arguments x.1) (without_blanks x.1) given
 
-same_refusal : (text : List ℕ) (n code m k : ℕ) → refused text ≡ Some (n, code) → n ≡ m → code ≡ k → refused text ≡ Some (m, k)
-same_refusal text n code m k is line by = is ∙ (ap (λ (a : ℕ). Some (a, code)) line ∙ ap (λ (b : ℕ). Some (m, b)) by)
+same_refusal : (limit : ℕ) (text : List ℕ) (n code m k : ℕ) → refused limit text ≡ Some (n, code) → n ≡ m → code ≡ k → refused limit text ≡ Some (m, k)
+same_refusal limit text n code m k is line by = is ∙ (ap (λ (a : ℕ). Some (a, code)) line ∙ ap (λ (b : ℕ). Some (m, b)) by)
 
 -- a text that is refused by 2 is too long
-pub told_long : (text : List ℕ) (n code : ℕ) → refused text ≡ Some (n, code) → code ≡ 2 → (refused text ≡ Some (0, 2)) × (16777216 < length text)
-told_long text n code is two = elim (why text n code is) [
-  | inl long ↦ (same_refusal text n code 0 2 is long.0 long.1, ltb-true 16777216 (length text) long.2)
+pub told_long : (limit : ℕ) (text : List ℕ) (n code : ℕ) → refused limit text ≡ Some (n, code) → code ≡ 2 → (refused limit text ≡ Some (0, 2)) × (limit < length text)
+told_long limit text n code is two = elim (why limit text n code is) [
+  | inl long ↦ (same_refusal limit text n code 0 2 is long.0 long.1, ltb-true limit (length text) long.2)
   | inr (inl line) ↦ absurd (no_line n 2 (λ e. omega (arith, e)) not_two start (logical_lines text) (line.fault ∙ ap (λ (k : ℕ). Some (n, k)) two))
   | inr (inr empty) ↦ absurd (omega (arith, empty.1, two))
 ]
 
 -- a text that is refused by 13 has no statement
-pub told_empty : (text : List ℕ) (n code : ℕ) → refused text ≡ Some (n, code) → code ≡ 13 → (refused text ≡ Some (0, 13)) × (models (after start (logical_lines text)) ≡ [])
-told_empty text n code is thirteen = elim (why text n code is) [
+pub told_empty : (limit : ℕ) (text : List ℕ) (n code : ℕ) → refused limit text ≡ Some (n, code) → code ≡ 13 → (refused limit text ≡ Some (0, 13)) × (models (after start (logical_lines text)) ≡ [])
+told_empty limit text n code is thirteen = elim (why limit text n code is) [
   | inl long ↦ absurd (omega (arith, long.1, thirteen))
   | inr (inl line) ↦ absurd (no_line n 13 (λ e. omega (arith, e)) not_thirteen start (logical_lines text) (line.fault ∙ ap (λ (k : ℕ). Some (n, k)) thirteen))
-  | inr (inr empty) ↦ (same_refusal text n code 0 13 is empty.0 empty.1, empty.2)
+  | inr (inr empty) ↦ (same_refusal limit text n code 0 13 is empty.0 empty.1, empty.2)
 ]
 
 -- a text that is refused by another code is refused for a line
-pub told_line : (text : List ℕ) (n code : ℕ) → refused text ≡ Some (n, code) → (code ≡ 2 → ⊥) → (code ≡ 13 → ⊥) → IsRefused text n code
-told_line text n code is long empty = elim (why text n code is) [
+pub told_line : (limit : ℕ) (text : List ℕ) (n code : ℕ) → refused limit text ≡ Some (n, code) → (code ≡ 2 → ⊥) → (code ≡ 13 → ⊥) → IsRefused limit text n code
+told_line limit text n code is long empty = elim (why limit text n code is) [
   | inl two ↦ absurd (long two.1)
   | inr (inl line) ↦ line
   | inr (inr thirteen) ↦ absurd (empty thirteen.1)
 ]
 
 -- a finding that holds of the line of a refusal
-on_line : (text : List ℕ) (n code : ℕ) (st : After) (line : List ℕ) (finding : Finding) → refused text ≡ Some (n, code)
+on_line : (limit : ℕ) (text : List ℕ) (n code : ℕ) (st : After) (line : List ℕ) (finding : Finding) → refused limit text ≡ Some (n, code)
     → line_at n start (logical_lines text) ≡ Some (st, line) → finding_code finding ≡ code
-    → HoldsOfLine (opened (kind_of_line line) st) line finding → HoldsOfRefusedLine text finding
-on_line text n code st line finding is there same holds = (n, st, line, is ∙ ap (λ (k : ℕ). Some (n, k)) (sym same), there, holds)
+    → HoldsOfLine (opened (kind_of_line line) st) line finding → HoldsOfRefusedLine limit text finding
+on_line limit text n code st line finding is there same holds = (n, st, line, is ∙ ap (λ (k : ℕ). Some (n, k)) (sym same), there, holds)
 
 -- what is named of the line of a refusal is at fault
-at_fault : (text : List ℕ) (n code : ℕ) (st : After) (line : List ℕ) (found : Option Finding) → refused text ≡ Some (n, code)
+at_fault : (limit : ℕ) (text : List ℕ) (n code : ℕ) (st : After) (line : List ℕ) (found : Option Finding) → refused limit text ≡ Some (n, code)
     → line_at n start (logical_lines text) ≡ Some (st, line) → IsLineExplained (opened (kind_of_line line) st) line code found
-    → IsExplained text found
-at_fault text n code st line None is there four = rw (is, four) refl
-at_fault text n code st line (Some (ControlByte b l k)) is there holds = absurd holds.1
-at_fault text n code st line (Some (TextTooLong b l)) is there holds = absurd holds.1
-at_fault text n code st line (Some (UnknownCommand w)) is there holds = on_line text n code st line (UnknownCommand w) is there holds.0 holds.1
-at_fault text n code st line (Some (BehindEnd w)) is there holds = on_line text n code st line (BehindEnd w) is there holds.0 holds.1
-at_fault text n code st line (Some (RowOutsideCover r)) is there holds = on_line text n code st line (RowOutsideCover r) is there holds.0 holds.1
-at_fault text n code st line (Some (RowShape r k)) is there holds = on_line text n code st line (RowShape r k) is there holds.0 holds.1
-at_fault text n code st line (Some (RowOutput o f)) is there holds = on_line text n code st line (RowOutput o f) is there holds.0 holds.1
-at_fault text n code st line (Some (NoPair w)) is there holds = on_line text n code st line (NoPair w) is there holds.0 holds.1
-at_fault text n code st line (Some (NoWord w)) is there holds = on_line text n code st line (NoWord w) is there holds.0 holds.1
-at_fault text n code st line (Some (ModelTwice w)) is there holds = on_line text n code st line (ModelTwice w) is there holds.0 holds.1
-at_fault text n code st line (Some (InputTwice w)) is there holds = on_line text n code st line (InputTwice w) is there holds.0 holds.1
-at_fault text n code st line (Some (OutputTwice w)) is there holds = on_line text n code st line (OutputTwice w) is there holds.0 holds.1
-at_fault text n code st line (Some NoStatement) is there holds = absurd holds.1
+    → IsExplained limit text found
+at_fault limit text n code st line None is there four = rw (is, four) refl
+at_fault limit text n code st line (Some (ControlByte b l k)) is there holds = absurd holds.1
+at_fault limit text n code st line (Some (TextTooLong b l)) is there holds = absurd holds.1
+at_fault limit text n code st line (Some (UnknownCommand w)) is there holds = on_line limit text n code st line (UnknownCommand w) is there holds.0 holds.1
+at_fault limit text n code st line (Some (BehindEnd w)) is there holds = on_line limit text n code st line (BehindEnd w) is there holds.0 holds.1
+at_fault limit text n code st line (Some (RowOutsideCover r)) is there holds = on_line limit text n code st line (RowOutsideCover r) is there holds.0 holds.1
+at_fault limit text n code st line (Some (RowShape r k)) is there holds = on_line limit text n code st line (RowShape r k) is there holds.0 holds.1
+at_fault limit text n code st line (Some (RowOutput o f)) is there holds = on_line limit text n code st line (RowOutput o f) is there holds.0 holds.1
+at_fault limit text n code st line (Some (NoPair w)) is there holds = on_line limit text n code st line (NoPair w) is there holds.0 holds.1
+at_fault limit text n code st line (Some (NoWord w)) is there holds = on_line limit text n code st line (NoWord w) is there holds.0 holds.1
+at_fault limit text n code st line (Some (ModelTwice w)) is there holds = on_line limit text n code st line (ModelTwice w) is there holds.0 holds.1
+at_fault limit text n code st line (Some (InputTwice w)) is there holds = on_line limit text n code st line (InputTwice w) is there holds.0 holds.1
+at_fault limit text n code st line (Some (OutputTwice w)) is there holds = on_line limit text n code st line (OutputTwice w) is there holds.0 holds.1
+at_fault limit text n code st line (Some NoStatement) is there holds = absurd holds.1
 
 -- the same, where the line and what stands before it were computed
-pub explained : (text : List ℕ) (n code : ℕ) (st now : After) (line bytes : List ℕ) (kind : Kind) (found : Option Finding)
-    → refused text ≡ Some (n, code) → line_at n start (logical_lines text) ≡ Some (st, line) → bytes ≡ line
-    → kind ≡ kind_of_line line → now ≡ opened kind st → IsLineExplained now bytes code found → IsExplained text found
-explained text n code st now line bytes kind found is there same of opens holds =
+pub explained : (limit : ℕ) (text : List ℕ) (n code : ℕ) (st now : After) (line bytes : List ℕ) (kind : Kind) (found : Option Finding)
+    → refused limit text ≡ Some (n, code) → line_at n start (logical_lines text) ≡ Some (st, line) → bytes ≡ line
+    → kind ≡ kind_of_line line → now ≡ opened kind st → IsLineExplained now bytes code found → IsExplained limit text found
+explained limit text n code st now line bytes kind found is there same of opens holds =
     let known : IsLineExplained (opened (kind_of_line line) st) line code found =
     subst (λ (b : List ℕ). IsLineExplained (opened (kind_of_line line) st) b code found) same
     (subst (λ (s : After). IsLineExplained s bytes code found) (opens ∙ ap (λ (k : Kind). opened k st) of) holds) in
-    at_fault text n code st line found is there known
+    at_fault limit text n code st line found is there known

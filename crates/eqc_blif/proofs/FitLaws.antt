@@ -132,4 +132,4 @@ rows_kept Skipped ws row closed o none fit = fit
 rows_kept Unknown ws row closed o none fit = fit
 
 pub rows_fit_their_covers : RowsFitTheirCovers
-rows_fit_their_covers text library is = library_has (λ ms. list_all rows_fit ms ≡ true) rows_kept refl refl text library is
+rows_fit_their_covers limit text library is = library_has (λ ms. list_all rows_fit ms ≡ true) rows_kept refl refl limit text library is

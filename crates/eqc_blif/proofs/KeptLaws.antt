@@ -76,8 +76,8 @@ short_enough true given library is = cc
 short_enough false given library is = is
 
 -- what holds of no models, and of one without a name and lines, and is kept, holds of each library
-pub library_has : (P : List ModelOf → Type 0) → IsKept P → P [] → P ((begun []).model ∷ []) → (text : List ℕ) (library : List ModelOf) → outcome text ≡ Ok library → P library
-library_has P kept none first text library is =
+pub library_has : (P : List ModelOf → Type 0) → IsKept P → P [] → P ((begun []).model ∷ []) → (limit : ℕ) (text : List ℕ) (library : List ModelOf) → outcome limit text ≡ Ok library → P library
+library_has P kept none first limit text library is =
     let lines = logical_lines text in
-    let parts = read_without_fault (first_fault start lines) (models (after start lines)) library (short_enough (is_too_long text) (outcome_of_lines lines) library is) in
+    let parts = read_without_fault (first_fault start lines) (models (after start lines)) library (short_enough (is_too_long limit text) (outcome_of_lines lines) library is) in
     subst P parts.1 (lines_keep P kept first lines start parts.0 none)

@@ -360,7 +360,7 @@ some_library [] some = absurd (true≢false (sym some))
 some_library (m ∷ ms) some = refl
 
 pub libraries_are_read_back : LibrariesAreReadBack
-libraries_are_read_back ms plain =
+libraries_are_read_back limit ms plain =
     let lines = library_lines ms in
     let reads = reads_all 1 start (between ms) lines (read_models ms [] plain.names plain.lists plain.models plain.lines) in
     rw plain.short (ap outcome_of_lines (logical_back 1 lines plain.lines)

@@ -72,6 +72,6 @@ nothing_twice : Sound ((begun []).model ∷ [])
 nothing_twice = record { names = refl; lists = refl }
 
 pub libraries_have_no_name_twice : LibrariesHaveNoNameTwice
-libraries_have_no_name_twice text library is =
-    let sound = library_has Sound sound_statement (record { names = refl; lists = refl }) nothing_twice text library is in
+libraries_have_no_name_twice limit text library is =
+    let sound = library_has Sound sound_statement (record { names = refl; lists = refl }) nothing_twice limit text library is in
     (sound.names, sound.lists)

@@ -42,9 +42,9 @@ use Rattle.eqc_blif.specs.declared.finding.Finding.TheVariants.{
   NoStatement,
 }
 
--- the line and the code by which a text is refused, where it is
-abbrev pub refused : List ℕ → Option (ℕ × ℕ)
-refused text = result_err (outcome text)
+-- the line and the code by which a text that may have so many bytes is refused, where it is
+abbrev pub refused : ℕ → List ℕ → Option (ℕ × ℕ)
+refused limit text = result_err (outcome limit text)
 
 -- the line of a number, with what stands before it
 abbrev pub line_at : ℕ → After → List (ℕ × List ℕ) → Option (After × List ℕ)
@@ -141,17 +141,17 @@ HoldsOfLine st line (OutputTwice name) = IsOutputTwice st line name
 HoldsOfLine st line finding = ⊥
 
 -- what is named holds of the line that a text is refused for
-abbrev pub HoldsOfRefusedLine : List ℕ → Finding → Type 0
-HoldsOfRefusedLine text finding =
-    (n : ℕ) × (st : After) × (line : List ℕ) × (refused text ≡ Some (n, finding_code finding))
+abbrev pub HoldsOfRefusedLine : ℕ → List ℕ → Finding → Type 0
+HoldsOfRefusedLine limit text finding =
+    (n : ℕ) × (st : After) × (line : List ℕ) × (refused limit text ≡ Some (n, finding_code finding))
     × (line_at n start (logical_lines text) ≡ Some (st, line)) × HoldsOfLine (opened (kind_of_line line) st) line finding
 
--- what is named holds of the text, which is refused for it
-abbrev pub IsAtFault : List ℕ → Finding → Type 0
-IsAtFault text (ControlByte byte line column) = ((n : ℕ) × (refused text ≡ Some (n, 1))) × IsBadByte text byte line column
-IsAtFault text (TextTooLong bytes limit) = (refused text ≡ Some (0, 2)) × (bytes ≡ length text) × (limit ≡ 16777216) × (limit < bytes)
-IsAtFault text NoStatement = (refused text ≡ Some (0, 13)) × (models (after start (logical_lines text)) ≡ [])
-IsAtFault text finding = HoldsOfRefusedLine text finding
+-- what is named holds of the text, which may have so many bytes and is refused for it
+abbrev pub IsAtFault : ℕ → List ℕ → Finding → Type 0
+IsAtFault limit text (ControlByte byte line column) = ((n : ℕ) × (refused limit text ≡ Some (n, 1))) × IsBadByte text byte line column
+IsAtFault limit text (TextTooLong bytes told) = (refused limit text ≡ Some (0, 2)) × (bytes ≡ length text) × (told ≡ limit) × (told < bytes)
+IsAtFault limit text NoStatement = (refused limit text ≡ Some (0, 13)) × (models (after start (logical_lines text)) ≡ [])
+IsAtFault limit text finding = HoldsOfRefusedLine limit text finding
 
 -- whether a refusal is one of those of which something is named: all but that of a latch
 abbrev pub has_finding : Option (ℕ × ℕ) → Bool
@@ -159,9 +159,9 @@ has_finding None = false
 has_finding (Some fault) = not (fault.1 == 4)
 
 -- what is at fault, or none where nothing is refused for what is named here
-abbrev pub IsExplained : List ℕ → Option Finding → Type 0
-IsExplained text None = has_finding (refused text) ≡ false
-IsExplained text (Some finding) = IsAtFault text finding
+abbrev pub IsExplained : ℕ → List ℕ → Option Finding → Type 0
+IsExplained limit text None = has_finding (refused limit text) ≡ false
+IsExplained limit text (Some finding) = IsAtFault limit text finding
 
 -- the code of the statement of a line
 abbrev pub code_of : After → List ℕ → Option ℕ

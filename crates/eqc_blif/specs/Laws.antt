@@ -26,8 +26,8 @@ TextsFollow = (text more : List ℕ) → is_continued text ≡ false → logical
 -- the first faulty line of a text stays the first, whatever text follows it
 abbrev pub FirstFaultStays : Type 0
 FirstFaultStays =
-    (text more : List ℕ) (fault : ℕ × ℕ) → is_continued text ≡ false → is_too_long (text ++ 10 ∷ more) ≡ false
-    → first_fault start (logical_lines text) ≡ Some fault → outcome (text ++ 10 ∷ more) ≡ Err fault
+    (limit : ℕ) (text more : List ℕ) (fault : ℕ × ℕ) → is_continued text ≡ false → is_too_long limit (text ++ 10 ∷ more) ≡ false
+    → first_fault start (logical_lines text) ≡ Some fault → outcome limit (text ++ 10 ∷ more) ≡ Err fault
 
 -- a line with a code, and no line with a code before it
 pub record IsFirstFault (lines : List (ℕ × List ℕ)) (fault : ℕ × ℕ) : Type 0 where
@@ -73,8 +73,8 @@ unnumbered (Err fault) = Err fault.1
 -- texts whose lines have the same bytes give the same library or code
 abbrev pub NumbersPlayNoPart : Type 0
 NumbersPlayNoPart =
-    (text other : List ℕ) → is_too_long text ≡ false → is_too_long other ≡ false
-    → contents (logical_lines text) ≡ contents (logical_lines other) → unnumbered (outcome text) ≡ unnumbered (outcome other)
+    (limit : ℕ) (text other : List ℕ) → is_too_long limit text ≡ false → is_too_long limit other ≡ false
+    → contents (logical_lines text) ≡ contents (logical_lines other) → unnumbered (outcome limit text) ≡ unnumbered (outcome limit other)
 
 -- a skipped line without a bad byte changes nothing
 abbrev pub SkippedLinesChangeNothing : Type 0
@@ -110,7 +110,9 @@ lists_are_distinct ms = list_all (λ m. not (has_twice m.inputs) && not (has_twi
 
 -- a library has distinct model names, and no name twice in a list of inputs or outputs
 abbrev pub LibrariesHaveNoNameTwice : Type 0
-LibrariesHaveNoNameTwice = (text : List ℕ) (library : List ModelOf) → outcome text ≡ Ok library → (has_twice (map (λ m. m.name) library) ≡ false) × (lists_are_distinct library ≡ true)
+LibrariesHaveNoNameTwice =
+    (limit : ℕ) (text : List ℕ) (library : List ModelOf) → outcome limit text ≡ Ok library
+    → (has_twice (map (λ m. m.name) library) ≡ false) × (lists_are_distinct library ≡ true)
 
 -- each row of a cover has a place for each column, and one for the output
 abbrev pub has_places : CoverOf → Bool
@@ -125,4 +127,4 @@ rows_fit m = list_all (λ cover. has_places cover && ends_alike cover) m.covers
 
 -- in a library the rows of each cover fit its columns, and end alike
 abbrev pub RowsFitTheirCovers : Type 0
-RowsFitTheirCovers = (text : List ℕ) (library : List ModelOf) → outcome text ≡ Ok library → list_all rows_fit library ≡ true
+RowsFitTheirCovers = (limit : ℕ) (text : List ℕ) (library : List ModelOf) → outcome limit text ≡ Ok library → list_all rows_fit library ≡ true

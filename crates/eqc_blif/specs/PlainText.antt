@@ -69,15 +69,15 @@ abbrev pub is_plain_model : ModelOf → Bool
 is_plain_model m = list_all is_plain_cover m.covers && list_all (λ instance. list_all is_plain_pair instance.pairs) m.instances
 
 -- a library that its plain text gives back: some models of distinct names, none of them with a name twice in a list, whose
--- rows and pairs are such and whose names are words, in a text that is short enough
-pub record IsPlain (ms : List ModelOf) : Type 0 where
+-- rows and pairs are such and whose names are words, in a text of no more bytes than the limit
+pub record IsPlain (limit : ℕ) (ms : List ModelOf) : Type 0 where
   pub some : nat_lt 0 (length ms) ≡ true
   pub names : has_twice (map (λ m. m.name) ms) ≡ false
   pub lists : lists_are_distinct ms ≡ true
   pub models : list_all is_plain_model ms ≡ true
   pub lines : list_all is_plain_line (library_lines ms) ≡ true
-  pub short : is_too_long (plain_text ms) ≡ false
+  pub short : is_too_long limit (plain_text ms) ≡ false
 
 -- a plain library is read back from its plain text
 abbrev pub LibrariesAreReadBack : Type 0
-LibrariesAreReadBack = (ms : List ModelOf) → IsPlain ms → outcome (plain_text ms) ≡ Ok ms
+LibrariesAreReadBack = (limit : ℕ) (ms : List ModelOf) → IsPlain limit ms → outcome limit (plain_text ms) ≡ Ok ms

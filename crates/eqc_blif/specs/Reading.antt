@@ -282,10 +282,10 @@ outcome_by None ms = library_or_none ms
 abbrev pub outcome_of_lines : List (ℕ × List ℕ) → Outcome
 outcome_of_lines lines = outcome_by (first_fault start lines) (models (after start lines))
 
--- whether a text has over 16,777,216 bytes
-abbrev pub is_too_long : List ℕ → Bool
-is_too_long text = nat_lt 16777216 (length text)
+-- whether a text has more bytes than this limit
+abbrev pub is_too_long : ℕ → List ℕ → Bool
+is_too_long limit text = nat_lt limit (length text)
 
--- the library of a text, or its first fault
-abbrev pub outcome : List ℕ → Outcome
-outcome text = if is_too_long text then Err (0, 2) else outcome_of_lines (logical_lines text)
+-- the library of a text that may have so many bytes, or its first fault
+abbrev pub outcome : ℕ → List ℕ → Outcome
+outcome limit text = if is_too_long limit text then Err (0, 2) else outcome_of_lines (logical_lines text)

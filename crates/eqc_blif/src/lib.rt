@@ -41,4 +41,4 @@ pub use laws::{
 pub use library::Library;
 pub use model::cover::Cover;
 pub use model::instance::Instance;
-pub use reading::read;
+pub use reading::{DEFAULT_BYTES, read, read_within};

@@ -10,8 +10,8 @@ use eqc_netlist::text_rule::Rule;
 use eqc_netlist::{Key, Refusal};
 use std::alloc::Global;
 
-/// How many bytes a text may have.
-pub(crate) const MAX_BYTES: usize = 16_777_216;
+/// How many bytes a text may have where no other number is given.
+pub const DEFAULT_BYTES: u32 = 16_777_216;
 
 /// Takes the lines of a text, up to the first with a fault. Else it fails where memory is refused.
 fn take_lines(alloc: Global, text: &[u8], reader: &mut Reader) -> Result<(), Refusal>
@@ -58,16 +58,17 @@ fn models_in(alloc: Global, text: &[u8]) -> Result<Library, Refusal>
     }
 }
 
-/// Reads a netlist (BLIF 1992, in the profile of `docs/blif.md`).
+/// Reads a netlist (BLIF 1992, in the profile of `docs/blif.md`) of at most `limit` bytes, which are fewer than 2^31.
 ///
 /// The library has the models of the text in their order. Else the refusal is the first fault: code 2 on line 0 for a
-/// text of over 16,777,216 bytes, before all else; codes 1 and 3 to 12 on the first line that has one, with the lowest
+/// text of more than `limit` bytes, before all else; codes 1 and 3 to 12 on the first line that has one, with the lowest
 /// of its codes; code 13 on line 0 for a text without a statement. Line 0 with code 72 says that memory was refused.
-pub fn read(alloc: Global, text: &[u8]) -> Result<Library, Refusal>
-    ensures library { IfOk result (λ library. outcome text.now ≡ Ok library) }
-    ensures fault { IfErr result (λ refusal. (refusal ≡ record { line = 0; code = 72 }) ⊎ (outcome text.now ≡ Err (refusal.line, refusal.code))) }
+pub fn read_within(alloc: Global, text: &[u8], limit: u32) -> Result<Library, Refusal>
+    requires { limit < 2 ^ 31 }
+    ensures library { IfOk result (λ library. outcome limit text.now ≡ Ok library) }
+    ensures fault { IfErr result (λ refusal. (refusal ≡ record { line = 0; code = 72 }) ⊎ (outcome limit text.now ≡ Err (refusal.line, refusal.code))) }
 {
-    if text.len() > MAX_BYTES {
+    if text.len() > limit as usize {
         return Err(Rule::TextTooLong.without_line());
     }
     let library = models_in(alloc, text)?;
@@ -75,4 +76,12 @@ pub fn read(alloc: Global, text: &[u8]) -> Result<Library, Refusal>
         return Err(Rule::NoModel.without_line());
     }
     Ok(library)
+}
+
+/// Reads a netlist as `read_within` does where a text may have at most 16,777,216 bytes: code 2 on line 0 for more of them.
+pub fn read(alloc: Global, text: &[u8]) -> Result<Library, Refusal>
+    ensures library { IfOk result (λ library. outcome 16777216 text.now ≡ Ok library) }
+    ensures fault { IfErr result (λ refusal. (refusal ≡ record { line = 0; code = 72 }) ⊎ (outcome 16777216 text.now ≡ Err (refusal.line, refusal.code))) }
+{
+    read_within(alloc, text, DEFAULT_BYTES)
 }

@@ -72,7 +72,8 @@ range_passes options r =
     let cells = if_passes _ side.Options 83 (not_from_true (is_cell_count options.cells) (power_counted options.cells r.power.0 r.power.1 r.power.2)) in
     let forks = if_passes _ side.Options 84 (between_from 0 16 options.forks (omega arith) r.few_forks) in
     let inputs = if_passes _ side.Options 85 (between_from 0 65535 options.inputs (omega arith) r.few_inputs) in
-    pass_each (option_checks options) (workers, (nodes, (cells, (forks, (inputs, tt)))))
+    let bytes = if_passes _ side.Options 86 (between_from 0 2147483647 options.bytes (omega arith) r.few_bytes) in
+    pass_each (option_checks options) (workers, (nodes, (cells, (forks, (inputs, (bytes, tt))))))
 
 passed_range : (options : Options) → PassAll (option_checks options) → AreInRange options
 passed_range options pass =
@@ -80,6 +81,7 @@ passed_range options pass =
     let nodes = between_parts 1 1048574 options.nodes (passed_if _ side.Options 82 (pass 1)) in
     let forks = between_parts 0 16 options.forks (passed_if _ side.Options 84 (pass 3)) in
     let inputs = between_parts 0 65535 options.inputs (passed_if _ side.Options 85 (pass 4)) in
+    let bytes = between_parts 0 2147483647 options.bytes (passed_if _ side.Options 86 (pass 5)) in
     record {
       some_workers = workers.0;
       few_workers = workers.1;
@@ -88,6 +90,7 @@ passed_range options pass =
       power = counted_power options.cells (not-false (is_cell_count options.cells) (passed_if _ side.Options 83 (pass 2)));
       few_forks = forks.1;
       few_inputs = inputs.1;
+      few_bytes = bytes.1;
     }
 
 -- ---- names
@@ -135,34 +138,35 @@ passed_order inputs (Some text) pass = record {
 
 -- ---- texts
 
-texts_pass : (given : GivenOf) → IsAccepted given → PassAll (text_checks given.texts given.outputs given.options.inputs)
+texts_pass : (given : GivenOf) → IsAccepted given → PassAll (text_checks given.texts given.outputs given.options.bytes given.options.inputs)
 texts_pass given is =
+    let limit = given.options.bytes in
     let texts = given.texts in
     let first = ap (refused_by_code side.First) is.first_hierarchy in
     let second = ap (refused_by_code side.Second) is.second_hierarchy in
     let inputs = if_passes _ side.Pair 41 (same_passes _ _ is.inputs) in
     let outputs = if_passes _ side.Pair 42 (same_passes _ _ is.outputs) in
-    let chosen = if_passes _ side.Pair 43 (not_from_true _ (list_all-from_AllPass (λ name. is_named (outputs_of (first_main texts)) name) given.outputs is.chosen)) in
-    pass_each (text_checks texts given.outputs given.options.inputs)
-    (fault_passes side.First (first_found texts) is.readable.0, (fault_passes side.Second (second_found texts) is.readable.1, (first, (second, (inputs, (outputs, (chosen, tt)))))))
+    let chosen = if_passes _ side.Pair 43 (not_from_true _ (list_all-from_AllPass (λ name. is_named (outputs_of (first_main limit texts)) name) given.outputs is.chosen)) in
+    pass_each (text_checks texts given.outputs limit given.options.inputs)
+    (fault_passes side.First (first_found limit texts) is.readable.0, (fault_passes side.Second (second_found limit texts) is.readable.1, (first, (second, (inputs, (outputs, (chosen, tt)))))))
 
 -- ---- assumptions
 
-pub assumption_passes : (inputs : List (List ℕ)) (limit : ℕ) (assume : Option (List ℕ)) → IfSome assume (IsAssumptionOver inputs limit) → PassAll (assumption_checks inputs limit assume)
-assumption_passes inputs limit None h = pass_none
-assumption_passes inputs limit (Some text) h =
-    let main = assumption_main text in
+pub assumption_passes : (inputs : List (List ℕ)) (options : Options) (assume : Option (List ℕ)) → IfSome assume (IsAssumptionOver inputs options) → PassAll (assumption_checks inputs options.bytes options.inputs assume)
+assumption_passes inputs options None h = pass_none
+assumption_passes inputs options (Some text) h =
+    let main = assumption_main options.bytes text in
     let hierarchy = ap (refused_by_code side.Assume) h.hierarchy in
     let known = if_passes _ side.Assume 61 (not_from_true _ (list_all-from_AllPass (λ name. is_named inputs name) (inputs_of main) h.known)) in
     let one = if_passes _ side.Assume 62 (not_from_true _ (eq-eqb (length (outputs_of main)) 1 h.one_output)) in
-    pass_each (assumption_checks inputs limit (Some text)) (fault_passes side.Assume (assumption_found text) h.readable, (hierarchy, (known, (one, tt))))
+    pass_each (assumption_checks inputs options.bytes options.inputs (Some text)) (fault_passes side.Assume (assumption_found options.bytes text) h.readable, (hierarchy, (known, (one, tt))))
 
-passed_assumption : (inputs : List (List ℕ)) (limit : ℕ) (assume : Option (List ℕ)) → PassAll (assumption_checks inputs limit assume) → IfSome assume (IsAssumptionOver inputs limit)
-passed_assumption inputs limit None pass = tt
-passed_assumption inputs limit (Some text) pass =
-    let main = assumption_main text in
+passed_assumption : (inputs : List (List ℕ)) (options : Options) (assume : Option (List ℕ)) → PassAll (assumption_checks inputs options.bytes options.inputs assume) → IfSome assume (IsAssumptionOver inputs options)
+passed_assumption inputs options None pass = tt
+passed_assumption inputs options (Some text) pass =
+    let main = assumption_main options.bytes text in
     record {
-      readable = fault_passed side.Assume (assumption_found text) (pass 0);
+      readable = fault_passed side.Assume (assumption_found options.bytes text) (pass 0);
       hierarchy = code_passed side.Assume _ (pass 1);
       known = all_in inputs (inputs_of main) (not-false _ (passed_if _ side.Assume 61 (pass 2)));
       one_output = eqb-true (length (outputs_of main)) 1 (not-false _ (passed_if _ side.Assume 62 (pass 3)));
@@ -172,14 +176,14 @@ passed_assumption inputs limit (Some text) pass =
 
 pub accepted_passes : (given : GivenOf) → IsAccepted given → PassAll (checks given)
 accepted_passes given is =
-    let inputs = inputs_of (first_main given.texts) in
+    let inputs = inputs_of (first_main given.options.bytes given.texts) in
     let options = option_checks given.options in
-    let texts = text_checks given.texts given.outputs given.options.inputs in
+    let texts = text_checks given.texts given.outputs given.options.bytes given.options.inputs in
     let orders = order_checks inputs given.order in
-    let assumptions = assumption_checks inputs given.options.inputs given.assume in
+    let assumptions = assumption_checks inputs given.options.bytes given.options.inputs given.assume in
     pass_both options (texts ++ orders ++ assumptions) (range_passes given.options is.range)
     (pass_both texts (orders ++ assumptions) (texts_pass given is)
-    (pass_both orders assumptions (order_passes inputs given.order is.ordered) (assumption_passes inputs given.options.inputs given.assume is.assumed)))
+    (pass_both orders assumptions (order_passes inputs given.order is.ordered) (assumption_passes inputs given.options given.assume is.assumed)))
 
 -- what passes behind some checks
 passed_from : (xs ys : List (Option Refused)) → PassAll (xs ++ ys) → PassAll ys
@@ -193,23 +197,23 @@ passed_to (x ∷ xs) ys pass = pass_more x xs (pass zero) (passed_to xs ys (λ k
 
 pub passed_accepted : (given : GivenOf) → PassAll (checks given) → IsAccepted given
 passed_accepted given pass =
-    let first = first_main given.texts in
+    let first = first_main given.options.bytes given.texts in
     let inputs = inputs_of first in
     let options = option_checks given.options in
-    let texts = text_checks given.texts given.outputs given.options.inputs in
+    let texts = text_checks given.texts given.outputs given.options.bytes given.options.inputs in
     let orders = order_checks inputs given.order in
-    let assumptions = assumption_checks inputs given.options.inputs given.assume in
+    let assumptions = assumption_checks inputs given.options.bytes given.options.inputs given.assume in
     let behind = passed_from options (texts ++ orders ++ assumptions) pass in
     let last = passed_from texts (orders ++ assumptions) behind in
     let read = passed_to texts (orders ++ assumptions) behind in
     record {
       range = passed_range given.options (passed_to options (texts ++ orders ++ assumptions) pass);
-      readable = (fault_passed side.First (first_found given.texts) (read 0), fault_passed side.Second (second_found given.texts) (read 1));
+      readable = (fault_passed side.First (first_found given.options.bytes given.texts) (read 0), fault_passed side.Second (second_found given.options.bytes given.texts) (read 1));
       first_hierarchy = code_passed side.First _ (read 2);
       second_hierarchy = code_passed side.Second _ (read 3);
       inputs = passed_same _ _ (passed_if _ side.Pair 41 (read 4));
       outputs = passed_same _ _ (passed_if _ side.Pair 42 (read 5));
       chosen = all_in (outputs_of first) given.outputs (not-false _ (passed_if _ side.Pair 43 (read 6)));
       ordered = passed_order inputs given.order (passed_to orders assumptions last);
-      assumed = passed_assumption inputs given.options.inputs given.assume (passed_from orders assumptions last);
+      assumed = passed_assumption inputs given.options given.assume (passed_from orders assumptions last);
     }

@@ -12,18 +12,19 @@ use Rattle.eqc_compare.specs.Verdict.{is_allowed, allows_none, with_difference, 
 use Rattle.eqc_compare.specs.Verdict as found
 use Rattle.eqc_compare.specs.VerdictLaws.{NeverDiffers}
 use Rattle.eqc_report.specs.Report.{DifferenceOf, ReportOf, equivalent, differs, vacuous, refused, stopped, shown, differences_report, verdict_report, comparison}
-use Rattle.eqc_case.specs.Answer.{TextsOf, GivenOf, inputs_of, options_answer, texts_answer, answer, IsAccepting, Answers, as_wanted}
+use Rattle.eqc_pair.specs.Matched.{chosen_outputs}
+use Rattle.eqc_case.specs.Answer.{TextsOf, GivenOf, inputs_of, outputs_of, netlist_of_model, options_answer, texts_answer, answer, IsAccepting, Answers, as_wanted}
 use Rattle.eqc_pair.specs.declared.refused.Refused.{Refused}
 use Rattle.eqc_report.specs.Options.{options_code}
 use Rattle.eqc_case.specs.Running.{known_texts, known_some, all_known, known_given, IsReport, IsReportBehind}
 use Rattle.eqc_case.specs.declared.given.Given.{Given}
 use Rattle.eqc_pair.specs.declared.refused.Side.TheVariants as side
-use Rattle.eqc_case.specs.AnswerLaws.{first_main, AreInRange, IsAssumptionOver, IsAccepted, alone, with_others, FitsInputs, AllowsNone, AllowsSome, IsAlwaysEqual, AreAlwaysEqual, compared_outputs, IsShown, AreShown, none_left, equal, differing, AreTold, option_checks, text_checks, order_checks, assumption_checks, checks, AnswerIsOne, AnswerIsVacuous, AnswerIsEquivalent, AnswerDiffers, AnswerIsFirstRefusal, AnswerCompares, ChecksAccept, AnswerIsNoStop, IsAnswerOfRuns}
+use Rattle.eqc_case.specs.AnswerLaws.{first_main, second_main, AreInRange, IsAssumptionOver, IsAccepted, alone, with_others, FitsInputs, AllowsNone, AllowsSome, IsAlwaysEqual, AreAlwaysEqual, compared_outputs, IsShown, AreShown, none_left, equal, differing, AreTold, option_checks, text_checks, order_checks, assumption_checks, checks, AnswerIsOne, AnswerIsVacuous, AnswerIsEquivalent, AnswerDiffers, AnswerIsFirstRefusal, AnswerCompares, ChecksAccept, AnswerIsNoStop, IsAnswerOfRuns}
 use Rattle.eqc_compare.proofs.LeastLemmas.{found_least}
 use Rattle.eqc_compare.proofs.VerdictLemmas.{never_found, found_is_first, first_is_found, none_ever_differs, none_allowed, each_forbidden, first_alone}
 use Rattle.eqc_case.proofs.CheckLemmas.{verdict, PassAll, pass_none, pass_both, pass_or_refuse, passed_before, all_passed, refused_first, first_refused, compared_passed, never_stopped, decided, is_accepting, answer_checked}
 use Rattle.eqc_case.proofs.AcceptedLemmas.{range_passes, order_passes, accepted_passes, passed_accepted}
-use Rattle.eqc_case.proofs.NamedValueLemmas.{inputs_once, by_position, positions_back, AreKnown, allowed_from, allowed_to}
+use Rattle.eqc_case.proofs.NamedValueLemmas.{inputs_once, by_position, positions_back, assumed, AreKnown, allowed_from, allowed_to}
 use Rattle.eqc_case.proofs.DifferingLemmas.{first_of, second_of, assumed_of, first_inputs, Fit, never_always, always_never, found_shown, shown_least, shown_is, all_of, all_shown, shown_all}
 
 accepts : (given : GivenOf) → IsAccepting (decided given)
@@ -60,11 +61,11 @@ answer_is_no_stop given code e = never_stopped (checks given) (decided given) co
 -- ---- one answer
 
 -- two netlists whose texts pass are accepted with neither order text nor assumption
-accepted_alone : (given : GivenOf) → AreInRange given.options → PassAll (text_checks given.texts given.outputs given.options.inputs) → IsAccepted (alone given)
+accepted_alone : (given : GivenOf) → AreInRange given.options → PassAll (text_checks given.texts given.outputs given.options.bytes given.options.inputs) → IsAccepted (alone given)
 accepted_alone given range pass =
-    let inputs = inputs_of (first_main given.texts) in
+    let inputs = inputs_of (first_main given.options.bytes given.texts) in
     let options = option_checks given.options in
-    let texts = text_checks given.texts given.outputs given.options.inputs in
+    let texts = text_checks given.texts given.outputs given.options.bytes given.options.inputs in
     let orders = order_checks inputs None in
     passed_accepted (alone given)
     (pass_both options (texts ++ orders ++ []) (range_passes given.options range)
@@ -72,13 +73,13 @@ accepted_alone given range pass =
 
 -- where the options are in range and the order fits, the texts and the assumption decide
 texts_decide : (given : GivenOf) → AreInRange given.options → FitsInputs given
-    → answer given ≡ verdict (text_checks given.texts given.outputs given.options.inputs ++ assumption_checks (inputs_of (first_main given.texts)) given.options.inputs given.assume)
+    → answer given ≡ verdict (text_checks given.texts given.outputs given.options.bytes given.options.inputs ++ assumption_checks (inputs_of (first_main given.options.bytes given.texts)) given.options.bytes given.options.inputs given.assume)
     (decided given)
 texts_decide given range fits =
-    let inputs = inputs_of (first_main given.texts) in
+    let inputs = inputs_of (first_main given.options.bytes given.texts) in
     let orders = order_checks inputs given.order in
-    let texts = text_checks given.texts given.outputs given.options.inputs in
-    let assumptions = assumption_checks inputs given.options.inputs given.assume in
+    let texts = text_checks given.texts given.outputs given.options.bytes given.options.inputs in
+    let assumptions = assumption_checks inputs given.options.bytes given.options.inputs given.assume in
     let rest = decided given in
     answer_checked given
     ∙ passed_before (option_checks given.options) (texts ++ orders ++ assumptions) rest (range_passes given.options range)
@@ -89,13 +90,20 @@ texts_decide given range fits =
       | inr refuse ↦ refuse (orders ++ assumptions) rest ∙ sym (refuse assumptions rest)
     ]
 
+-- the answer by how many bytes and inputs are allowed, and by whether each difference is wanted
+abbrev deciding : GivenOf → ℕ → ℕ → Bool → ReportOf
+deciding given bytes limit every =
+    let first = first_main bytes given.texts in
+    verdict (text_checks given.texts given.outputs bytes limit ++ assumption_checks (inputs_of first) bytes limit given.assume)
+    (comparison every (netlist_of_model first) (netlist_of_model (second_main bytes given.texts)) (assumed bytes given.assume)
+    (chosen_outputs given.outputs (outputs_of first)))
+
 pub answer_is_one : AnswerIsOne
-answer_is_one given order options range ranges inputs every fits fit =
-    let all : ℕ → List (Option Refused) = λ limit.
-    text_checks given.texts given.outputs limit ++ assumption_checks (inputs_of (first_main given.texts)) limit given.assume in
+answer_is_one given order options range ranges bytes inputs every fits fit =
     texts_decide given range fits
-    ∙ (ap₂ (λ limit e. verdict (all limit) (comparison e (first_of given) (second_of given) (assumed_of given) (compared_outputs given))) inputs every
-    ∙ sym (texts_decide (with_others given order options) ranges fit))
+    ∙ (ap (λ b. deciding given b given.options.inputs given.options.every) bytes
+    ∙ (ap₂ (λ i e. deciding given options.bytes i e) inputs every
+    ∙ sym (texts_decide (with_others given order options) ranges fit)))
 
 -- ---- what a comparison says
 
@@ -113,25 +121,25 @@ Says given report = SaysFor given.options.every given report
 fits : (given : GivenOf) → IsAccepted given → Fit given
 fits given accepted = record { same = accepted.inputs; known = by given.assume accepted.assumed }
   where
-    by : (assume : Option (List ℕ)) → IfSome assume (IsAssumptionOver (inputs_of (first_main given.texts)) given.options.inputs) → AreKnown (first_main given.texts) assume
+    by : (assume : Option (List ℕ)) → IfSome assume (IsAssumptionOver (inputs_of (first_main given.options.bytes given.texts)) given.options) → AreKnown given.options.bytes (first_main given.options.bytes given.texts) assume
     by None h = tt
     by (Some text) h = h.known
 
 -- no assignment is allowed, or one is
 none_allows : (given : GivenOf) → Fit given → allows_none (first_of given) (assumed_of given) ≡ true → AllowsNone given
 none_allows given fit none assigned allowed =
-    let m = first_main given.texts in
-    true≢false (sym (allowed_to m given.assume assigned fit.known allowed) ∙ each_forbidden (first_of given) (assumed_of given) none (map assigned (inputs_of m)) (length-map (inputs_of m) assigned))
+    let m = first_main given.options.bytes given.texts in
+    true≢false (sym (allowed_to given.options.bytes m given.assume assigned fit.known allowed) ∙ each_forbidden (first_of given) (assumed_of given) none (map assigned (inputs_of m)) (length-map (inputs_of m) assigned))
 
 allows_nothing : (given : GivenOf) → Fit given → AllowsNone given → allows_none (first_of given) (assumed_of given) ≡ true
 allows_nothing given fit none =
-    let m = first_main given.texts in
+    let m = first_main given.options.bytes given.texts in
     none_allowed (first_of given) (assumed_of given) (λ a long.
     elim (cases_Bool (is_allowed (first_of given) (assumed_of given) a)) [
       | inr forbidden ↦ forbidden
       | inl is ↦
-          let back = positions_back (inputs_of m) a (inputs_once given.texts) long in
-          absurd (none (by_position (inputs_of m) a) (allowed_from m given.assume (by_position (inputs_of m) a) fit.known (ap (is_allowed (first_of given) (assumed_of given)) back ∙ is)))
+          let back = positions_back (inputs_of m) a (inputs_once given.options.bytes given.texts) long in
+          absurd (none (by_position (inputs_of m) a) (allowed_from given.options.bytes m given.assume (by_position (inputs_of m) a) fit.known (ap (is_allowed (first_of given) (assumed_of given)) back ∙ is)))
     ])
 
 some_allows : (given : GivenOf) → Fit given → allows_none (first_of given) (assumed_of given) ≡ false → AllowsSome given
@@ -140,10 +148,10 @@ some_allows given fit some = by (find (is_allowed (first_of given) (assumed_of g
     by : (o : Option (List Bool)) → find (is_allowed (first_of given) (assumed_of given)) (assignments (length (first_inputs given))) ≡ o → is_none o ≡ false → AllowsSome given
     by None e none = absurd (true≢false none)
     by (Some a) e none =
-        let m = first_main given.texts in
+        let m = first_main given.options.bytes given.texts in
         let least = found_least (length (first_inputs given)) (is_allowed (first_of given) (assumed_of given)) a e in
-        let back = positions_back (inputs_of m) a (inputs_once given.texts) least.long in
-        (by_position (inputs_of m) a, allowed_from m given.assume (by_position (inputs_of m) a) fit.known (ap (is_allowed (first_of given) (assumed_of given)) back ∙ least.passes))
+        let back = positions_back (inputs_of m) a (inputs_once given.options.bytes given.texts) least.long in
+        (by_position (inputs_of m) a, allowed_from given.options.bytes m given.assume (by_position (inputs_of m) a) fit.known (ap (is_allowed (first_of given) (assumed_of given)) back ∙ least.passes))
 
 allows_something : (given : GivenOf) → Fit given → AllowsSome given → allows_none (first_of given) (assumed_of given) ≡ false
 allows_something given fit some = elim (cases_Bool (allows_none (first_of given) (assumed_of given))) [

@@ -114,7 +114,7 @@ never_stopped (Some r ∷ all) rest code c e = let clash : refused r.side r.line
 -- the report behind all checks
 abbrev pub decided : GivenOf → ReportOf
 decided given =
-    compared given (netlist_of_model (first_main given.texts)) (netlist_of_model (second_main given.texts)) (option_map (λ text. netlist_of_model (assumption_main text)) given.assume)
+    compared given (netlist_of_model (first_main given.options.bytes given.texts)) (netlist_of_model (second_main given.options.bytes given.texts)) (option_map (λ text. netlist_of_model (assumption_main given.options.bytes text)) given.assume)
 
 pub is_accepting : (f g : NetlistOf) (v : VerdictOf) → IsAccepting (verdict_report f g v)
 is_accepting f g vacuous = tt
@@ -124,23 +124,26 @@ is_accepting f g (found ds) = by (map (shown f g) ds)
     by [] = tt
     by (d ∷ ds) = tt
 
-options_checked : (a b c d e : Bool) (all : List (Option Refused)) (rest : ReportOf) →
-    options_answer (if not a then Some 81 else if not b then Some 82 else if not c then Some 83 else if not d then Some 84 else if not e then Some 85 else None)
+options_checked : (a b c d e f : Bool) (all : List (Option Refused)) (rest : ReportOf) →
+    options_answer
+    (if not a then Some 81 else if not b then Some 82 else if not c then Some 83 else if not d then Some 84 else if not e then Some 85 else if not f then Some 86 else None)
     (verdict all rest)
     ≡ verdict (refused_if (not a) side.Options 81 ∷ refused_if (not b) side.Options 82 ∷ refused_if (not c) side.Options 83 ∷ refused_if (not d) side.Options 84
-    ∷ refused_if (not e) side.Options 85 ∷ all) rest
-options_checked false b c d e all rest = refl
-options_checked true false c d e all rest = refl
-options_checked true true false d e all rest = refl
-options_checked true true true false e all rest = refl
-options_checked true true true true false all rest = refl
-options_checked true true true true true all rest = refl
+    ∷ refused_if (not e) side.Options 85 ∷ refused_if (not f) side.Options 86 ∷ all) rest
+options_checked false b c d e f all rest = refl
+options_checked true false c d e f all rest = refl
+options_checked true true false d e f all rest = refl
+options_checked true true true false e f all rest = refl
+options_checked true true true true false f all rest = refl
+options_checked true true true true true false all rest = refl
+options_checked true true true true true true all rest = refl
 
 -- of an assumption
 assumption_checked : (given : GivenOf) (f g : NetlistOf) (assume : Option (List ℕ)) →
-    assumed_answer given f g assume ≡ verdict (assumption_checks f.inputs given.options.inputs assume) (compared given f g (option_map (λ text. netlist_of_model (assumption_main text)) assume))
+    assumed_answer given f g assume ≡ verdict (assumption_checks f.inputs given.options.bytes given.options.inputs assume)
+    (compared given f g (option_map (λ text. netlist_of_model (assumption_main given.options.bytes text)) assume))
 assumption_checked given f g None = refl
-assumption_checked given f g (Some text) = by (assumption_found text)
+assumption_checked given f g (Some text) = by (assumption_found given.options.bytes text)
   where
     parts : (code : Option ℕ) (a b : Bool) (rest : ReportOf) →
         or_code side.Assume code (or_code side.Assume (if not a then Some 61 else if not b then Some 62 else None) rest)
@@ -175,11 +178,11 @@ order_checked inputs (Some text) all rest = by (nat_lt 16777216 (length text)) (
 
 -- of an order text and an assumption
 abbrev last_checks : MainOf → GivenOf → List (Option Refused)
-last_checks m given = order_checks (inputs_of m) given.order ++ assumption_checks (inputs_of m) given.options.inputs given.assume
+last_checks m given = order_checks (inputs_of m) given.order ++ assumption_checks (inputs_of m) given.options.bytes given.options.inputs given.assume
 
 -- the report on two main models behind them
 abbrev on_models : MainOf → MainOf → GivenOf → ReportOf
-on_models m n given = compared given (netlist_of_model m) (netlist_of_model n) (option_map (λ text. netlist_of_model (assumption_main text)) given.assume)
+on_models m n given = compared given (netlist_of_model m) (netlist_of_model n) (option_map (λ text. netlist_of_model (assumption_main given.options.bytes text)) given.assume)
 
 -- of two main models
 abbrev pair_checks : MainOf → MainOf → GivenOf → List (Option Refused)
@@ -192,7 +195,7 @@ pair_checked m n given =
     ap (λ (rest : ReportOf). if not (same_names (inputs_of m) (inputs_of n)) then refused side.Pair 0 41 else if not (same_names (outputs_of m) (outputs_of n)) then refused side.Pair 0 42
     else if not (has_all (outputs_of m) given.outputs) then refused side.Pair 0 43 else rest)
     (ap (or_code side.Order (code_of_order (inputs_of m) given.order)) (assumption_checked given (netlist_of_model m) (netlist_of_model n) given.assume)
-    ∙ order_checked (inputs_of m) given.order (assumption_checks (inputs_of m) given.options.inputs given.assume) (on_models m n given))
+    ∙ order_checked (inputs_of m) given.order (assumption_checks (inputs_of m) given.options.bytes given.options.inputs given.assume) (on_models m n given))
     ∙ by (same_names (inputs_of m) (inputs_of n)) (same_names (outputs_of m) (outputs_of n)) (has_all (outputs_of m) given.outputs) (last_checks m given) (on_models m n given)
   where
     by : (a b c : Bool) (all : List (Option Refused)) (rest : ReportOf) →
@@ -227,15 +230,16 @@ found_checked (Ok m) (Ok n) given = models_checked m n given
 -- the checks behind those of the options
 abbrev pub read_checks : GivenOf → List (Option Refused)
 read_checks given =
-    text_checks given.texts given.outputs given.options.inputs ++ order_checks (inputs_of (first_main given.texts)) given.order
-    ++ assumption_checks (inputs_of (first_main given.texts)) given.options.inputs given.assume
+    text_checks given.texts given.outputs given.options.bytes given.options.inputs ++ order_checks (inputs_of (first_main given.options.bytes given.texts)) given.order
+    ++ assumption_checks (inputs_of (first_main given.options.bytes given.texts)) given.options.bytes given.options.inputs given.assume
 
 texts_checked : (given : GivenOf) → texts_answer given ≡ verdict (read_checks given) (decided given)
-texts_checked given = found_checked (first_found given.texts) (second_found given.texts) given
+texts_checked given = found_checked (first_found given.options.bytes given.texts) (second_found given.options.bytes given.texts) given
 
 -- the answer is the first refusal of all checks, or the report behind them
 pub answer_checked : (given : GivenOf) → answer given ≡ verdict (checks given) (decided given)
 answer_checked given =
     let options = given.options in
     ap (options_answer (options_code options)) (texts_checked given)
-    ∙ options_checked (is_between 1 64 options.workers) (is_between 1 1048574 options.nodes) (is_cell_count options.cells) (is_between 0 16 options.forks) (is_between 0 65535 options.inputs) (read_checks given) (decided given)
+    ∙ options_checked (is_between 1 64 options.workers) (is_between 1 1048574 options.nodes) (is_cell_count options.cells) (is_between 0 16 options.forks) (is_between 0 65535 options.inputs)
+    (is_between 0 2147483647 options.bytes) (read_checks given) (decided given)

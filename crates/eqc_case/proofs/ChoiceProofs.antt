@@ -68,8 +68,8 @@ chosen_from models None place m once is = there_chosen models None place m is.0 
 chosen_from models (Some name) place m once is = there_chosen models (Some name) place m is.0 is.1 (named_number models name m.1 once is.1 is.2)
 
 pub model_is_chosen : ModelIsChosen
-model_is_chosen text models name place m e =
-    let at : main_of (outcome text) name place ≡ chosen models name place = ap (λ o. main_of o name place) e in (
+model_is_chosen limit text models name place m e =
+    let at : main_of (outcome limit text) name place ≡ chosen models name place = ap (λ o. main_of o name place) e in (
       λ is. choice models name place m (sym at ∙ is),
-      λ is. at ∙ chosen_from models name place m (libraries_have_no_name_twice text models e).0 is,
+      λ is. at ∙ chosen_from models name place m (libraries_have_no_name_twice limit text models e).0 is,
     )

@@ -33,21 +33,21 @@ cases_below (true ∷ a) (true ∷ b) long = elim (cases_below a b (omega arith)
 
 -- the two main models and the assumption as netlists
 abbrev pub first_of : GivenOf → NetlistOf
-first_of given = netlist_of_model (first_main given.texts)
+first_of given = netlist_of_model (first_main given.options.bytes given.texts)
 
 abbrev pub second_of : GivenOf → NetlistOf
-second_of given = netlist_of_model (second_main given.texts)
+second_of given = netlist_of_model (second_main given.options.bytes given.texts)
 
 abbrev pub assumed_of : GivenOf → Option NetlistOf
-assumed_of given = assumed given.assume
+assumed_of given = assumed given.options.bytes given.assume
 
 abbrev pub first_inputs : GivenOf → List (List ℕ)
-first_inputs given = inputs_of (first_main given.texts)
+first_inputs given = inputs_of (first_main given.options.bytes given.texts)
 
 -- their names fit
 pub record Fit (given : GivenOf) : Type 0 where
-  pub same : HaveSameNames (first_inputs given) (inputs_of (second_main given.texts))
-  pub known : AreKnown (first_main given.texts) given.assume
+  pub same : HaveSameNames (first_inputs given) (inputs_of (second_main given.options.bytes given.texts))
+  pub known : AreKnown given.options.bytes (first_main given.options.bytes given.texts) given.assume
 
 -- an output whose values differ differs where the assignment is allowed
 differs_parts : (given : GivenOf) (output : List ℕ) (a : List Bool) → differs_under (first_of given) (second_of given) (assumed_of given) output a ≡ true
@@ -57,22 +57,22 @@ differs_parts given output a e = and_parts _ _ e
 -- an output that never differs is equal under every allowed assignment
 pub never_always : (given : GivenOf) (output : List ℕ) → Fit given → NeverDiffers (first_of given) (second_of given) (assumed_of given) output → IsAlwaysEqual given output
 never_always given output fit never assigned allowed =
-    let m = first_main given.texts in
+    let m = first_main given.options.bytes given.texts in
     let a : List Bool = map assigned (inputs_of m) in
-    let is : is_allowed (first_of given) (assumed_of given) a ≡ true = allowed_to m given.assume assigned fit.known allowed in
+    let is : is_allowed (first_of given) (assumed_of given) a ≡ true = allowed_to given.options.bytes m given.assume assigned fit.known allowed in
     let same : has_two_values (first_of given) (second_of given) output a ≡ false = rw is at (never a (length-map (inputs_of m) assigned)) in
-    sym (first_under m assigned output) ∙ not_different _ _ same ∙ second_under m (second_main given.texts) assigned output fit.same
+    sym (first_under m assigned output) ∙ not_different _ _ same ∙ second_under m (second_main given.options.bytes given.texts) assigned output fit.same
 
 -- and the other way round
 pub always_never : (given : GivenOf) (output : List ℕ) → Fit given → IsAlwaysEqual given output → NeverDiffers (first_of given) (second_of given) (assumed_of given) output
 always_never given output fit always a long =
-    let m = first_main given.texts in
-    let back : map (by_position (inputs_of m) a) (inputs_of m) ≡ a = positions_back (inputs_of m) a (inputs_once given.texts) long in
+    let m = first_main given.options.bytes given.texts in
+    let back : map (by_position (inputs_of m) a) (inputs_of m) ≡ a = positions_back (inputs_of m) a (inputs_once given.options.bytes given.texts) long in
     elim (cases_Bool (is_allowed (first_of given) (assumed_of given) a)) [
       | inr forbidden ↦ rw forbidden refl
       | inl is ↦
           let allowed : IsAllowed given (by_position (inputs_of m) a) =
-          allowed_from m given.assume (by_position (inputs_of m) a) fit.known (ap (is_allowed (first_of given) (assumed_of given)) back ∙ is) in
+          allowed_from given.options.bytes m given.assume (by_position (inputs_of m) a) fit.known (ap (is_allowed (first_of given) (assumed_of given)) back ∙ is) in
           and_right_false (is_allowed (first_of given) (assumed_of given) a) _ (same_value _ _ (always (by_position (inputs_of m) a) allowed))
     ]
   where
@@ -82,13 +82,13 @@ always_never given output fit always a long =
 
 -- under an allowed assignment below the least the output has equal values
 equal_below : (given : GivenOf) (output : List ℕ) (a : List Bool) (assigned : List ℕ → Bool) → Fit given → IsLeastDifference (first_of given) (second_of given) (assumed_of given) output a
-    → IsBelow (map assigned (first_inputs given)) a → IsAllowed given assigned → value_under (first_main given.texts) assigned output ≡ value_under (second_main given.texts) assigned output
+    → IsBelow (map assigned (first_inputs given)) a → IsAllowed given assigned → value_under (first_main given.options.bytes given.texts) assigned output ≡ value_under (second_main given.options.bytes given.texts) assigned output
 equal_below given output a assigned fit least below allowed =
-    let m = first_main given.texts in
+    let m = first_main given.options.bytes given.texts in
     let b : List Bool = map assigned (inputs_of m) in
-    let is : is_allowed (first_of given) (assumed_of given) b ≡ true = allowed_to m given.assume assigned fit.known allowed in
+    let is : is_allowed (first_of given) (assumed_of given) b ≡ true = allowed_to given.options.bytes m given.assume assigned fit.known allowed in
     elim (cases_Bool (has_two_values (first_of given) (second_of given) output b)) [
-      | inr same ↦ sym (first_under m assigned output) ∙ not_different _ _ same ∙ second_under m (second_main given.texts) assigned output fit.same
+      | inr same ↦ sym (first_under m assigned output) ∙ not_different _ _ same ∙ second_under m (second_main given.options.bytes given.texts) assigned output fit.same
       | inl differs ↦ elim (least.below b (length-map (inputs_of m) assigned) (and_from _ _ is differs)) [
         | inl e ↦ (let itself : IsBelow a a = subst (λ (l : List Bool). IsBelow l a) e below in absurd (not_both_below a a itself itself))
         | inr above ↦ absurd (not_both_below a b above below)
@@ -100,13 +100,13 @@ pub found_shown : (given : GivenOf) (output : List ℕ) (a : List Bool) → Fit 
     IsLeastDifference (first_of given) (second_of given) (assumed_of given) output a →
     IsShown given output (shown (first_of given) (second_of given) (output, a))
 found_shown given output a fit least =
-    let m = first_main given.texts in
-    let back : map (by_position (inputs_of m) a) (inputs_of m) ≡ a = positions_back (inputs_of m) a (inputs_once given.texts) least.long in
+    let m = first_main given.options.bytes given.texts in
+    let back : map (by_position (inputs_of m) a) (inputs_of m) ≡ a = positions_back (inputs_of m) a (inputs_once given.options.bytes given.texts) least.long in
     let parts = differs_parts given output a least.passes in
     record {
       named = refl;
       assigned = by_position (inputs_of m) a;
-      allowed = allowed_from m given.assume (by_position (inputs_of m) a) fit.known (ap (is_allowed (first_of given) (assumed_of given)) back ∙ parts.0);
+      allowed = allowed_from given.options.bytes m given.assume (by_position (inputs_of m) a) fit.known (ap (is_allowed (first_of given) (assumed_of given)) back ∙ parts.0);
       inputs = zip_assigned (inputs_of m) (by_position (inputs_of m) a) ∙ ap (zip (inputs_of m)) back;
       first_value = refl;
       second_value = refl;
@@ -118,16 +118,16 @@ found_shown given output a fit least =
 differing_above : (given : GivenOf) (output : List ℕ) (d : DifferenceOf) → Fit given → (s : IsShown given output d) (b : List Bool) → length b ≡ length (first_inputs given)
     → differs_under (first_of given) (second_of given) (assumed_of given) output b ≡ true → (b ≡ map s.assigned (first_inputs given)) ⊎ IsBelow (map s.assigned (first_inputs given)) b
 differing_above given output d fit s b long e =
-    let m = first_main given.texts in
+    let m = first_main given.options.bytes given.texts in
     let a : List Bool = map s.assigned (inputs_of m) in
     let parts = differs_parts given output b e in
     elim (cases_below a b (long ∙ sym (length-map (inputs_of m) s.assigned))) [
       | inl same ↦ inl same
       | inr (inl above) ↦ inr above
       | inr (inr below) ↦
-          let back : map (by_position (inputs_of m) b) (inputs_of m) ≡ b = positions_back (inputs_of m) b (inputs_once given.texts) long in
+          let back : map (by_position (inputs_of m) b) (inputs_of m) ≡ b = positions_back (inputs_of m) b (inputs_once given.options.bytes given.texts) long in
           let allowed : IsAllowed given (by_position (inputs_of m) b) =
-          allowed_from m given.assume (by_position (inputs_of m) b) fit.known (ap (is_allowed (first_of given) (assumed_of given)) back ∙ parts.0) in
+          allowed_from given.options.bytes m given.assume (by_position (inputs_of m) b) fit.known (ap (is_allowed (first_of given) (assumed_of given)) back ∙ parts.0) in
           absurd (unequal _ _ parts.1 (s.least (by_position (inputs_of m) b) (subst (λ (l : List Bool). IsBelow l a) (sym back) below) allowed))
     ]
 
@@ -135,12 +135,12 @@ differing_above given output d fit s b long e =
 pub shown_least : (given : GivenOf) (output : List ℕ) (d : DifferenceOf) → Fit given → (s : IsShown given output d) →
     IsLeastDifference (first_of given) (second_of given) (assumed_of given) output (map s.assigned (first_inputs given))
 shown_least given output d fit s =
-    let m = first_main given.texts in
-    let n = second_main given.texts in
+    let m = first_main given.options.bytes given.texts in
+    let n = second_main given.options.bytes given.texts in
     let values : value_under m s.assigned output ≢ value_under n s.assigned output = λ e. s.different (sym s.first_value ∙ e ∙ s.second_value) in
     record {
       long = length-map (inputs_of m) s.assigned;
-      passes = and_from _ _ (allowed_to m given.assume s.assigned fit.known s.allowed)
+      passes = and_from _ _ (allowed_to given.options.bytes m given.assume s.assigned fit.known s.allowed)
           (different_from _ _ (λ e. values (sym (first_under m s.assigned output) ∙ e ∙ second_under m n s.assigned output fit.same)));
       below = differing_above given output d fit s;
     }
@@ -157,11 +157,11 @@ same_difference d e a b c f = by d.output d.inputs d.first d.second a b c f
 pub shown_is : (given : GivenOf) (output : List ℕ) (d : DifferenceOf) → Fit given → (s : IsShown given output d) →
     shown (first_of given) (second_of given) (output, map s.assigned (first_inputs given)) ≡ d
 shown_is given output d fit s =
-    let m = first_main given.texts in
+    let m = first_main given.options.bytes given.texts in
     same_difference (shown (first_of given) (second_of given) (output, map s.assigned (first_inputs given))) d (sym s.named)
     (sym (zip_assigned (inputs_of m) s.assigned) ∙ s.inputs)
     (first_under m s.assigned output ∙ s.first_value)
-    (second_under m (second_main given.texts) s.assigned output fit.same ∙ s.second_value)
+    (second_under m (second_main given.options.bytes given.texts) s.assigned output fit.same ∙ s.second_value)
 
 -- ---- all outputs that differ
 

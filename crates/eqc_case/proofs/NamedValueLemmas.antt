@@ -32,13 +32,13 @@ once_chosen models name place e = by (nat_lt (chosen_number models name place) (
     by true = once_at models (chosen_number models name place) e
     by false = refl
 
-once_read : (text : List ℕ) (o : Outcome) (name : Option (List ℕ)) (place : ℕ) → outcome text ≡ o → has_twice (inputs_of (main_or_none (main_of o name place))) ≡ false
-once_read text (Ok models) name place e = once_chosen models name place (libraries_have_no_name_twice text models e).1
-once_read text (Err fault) name place e = refl
+once_read : (limit : ℕ) (text : List ℕ) (o : Outcome) (name : Option (List ℕ)) (place : ℕ) → outcome limit text ≡ o → has_twice (inputs_of (main_or_none (main_of o name place))) ≡ false
+once_read limit text (Ok models) name place e = once_chosen models name place (libraries_have_no_name_twice limit text models e).1
+once_read limit text (Err fault) name place e = refl
 
-pub inputs_once : (texts : TextsOf) → has_twice (inputs_of (first_main texts)) ≡ false
-inputs_once (one_text names text) = once_read text (outcome text) names.first 0 refl
-inputs_once (two_texts names first second) = once_read first (outcome first) names.first 0 refl
+pub inputs_once : (limit : ℕ) (texts : TextsOf) → has_twice (inputs_of (first_main limit texts)) ≡ false
+inputs_once limit (one_text names text) = once_read limit text (outcome limit text) names.first 0 refl
+inputs_once limit (two_texts names first second) = once_read limit first (outcome limit first) names.first 0 refl
 
 -- the values that an assignment gives declared names, as those of inputs with names among them
 named_value : (declared names : List (List ℕ)) (assigned : List ℕ → Bool) (k : ℕ) → is_named declared (get_or names k []) ≡ true →
@@ -102,20 +102,24 @@ same_value false false e = refl
 
 -- ---- what is allowed
 
--- the assumption as a netlist
-abbrev pub assumed : Option (List ℕ) → Option NetlistOf
-assumed assume = option_map (λ text. netlist_of_model (assumption_main text)) assume
+-- the assumption as a netlist, whose text may have so many bytes
+abbrev pub assumed : ℕ → Option (List ℕ) → Option NetlistOf
+assumed limit assume = option_map (λ text. netlist_of_model (assumption_main limit text)) assume
 
 -- its inputs are among those of a model
-abbrev pub AreKnown : MainOf → Option (List ℕ) → Type 0
-AreKnown m assume = IfSome assume (λ text. All (λ name. is_named (inputs_of m) name ≡ true) (inputs_of (assumption_main text)))
+abbrev pub AreKnown : ℕ → MainOf → Option (List ℕ) → Type 0
+AreKnown limit m assume = IfSome assume (λ text. All (λ name. is_named (inputs_of m) name ≡ true) (inputs_of (assumption_main limit text)))
 
-pub allowed_from : (m : MainOf) (assume : Option (List ℕ)) (assigned : List ℕ → Bool) → AreKnown m assume
-    → is_allowed (netlist_of_model m) (assumed assume) (map assigned (inputs_of m)) ≡ true → IsAllowedBy assume assigned
-allowed_from m None assigned known e = tt
-allowed_from m (Some text) assigned known e = sym (named_under m (assumption_main text) assigned (get_or (outputs_of (assumption_main text)) 0 []) known) ∙ e
+pub allowed_from : (limit : ℕ) (m : MainOf) (assume : Option (List ℕ)) (assigned : List ℕ → Bool) → AreKnown limit m assume
+    → is_allowed (netlist_of_model m) (assumed limit assume) (map assigned (inputs_of m)) ≡ true → IsAllowedBy limit assume assigned
+allowed_from limit m None assigned known e = tt
+allowed_from limit m (Some text) assigned known e =
+    let h = assumption_main limit text in
+    sym (named_under m h assigned (get_or (outputs_of h) 0 []) known) ∙ e
 
-pub allowed_to : (m : MainOf) (assume : Option (List ℕ)) (assigned : List ℕ → Bool) → AreKnown m assume
-    → IsAllowedBy assume assigned → is_allowed (netlist_of_model m) (assumed assume) (map assigned (inputs_of m)) ≡ true
-allowed_to m None assigned known e = refl
-allowed_to m (Some text) assigned known e = named_under m (assumption_main text) assigned (get_or (outputs_of (assumption_main text)) 0 []) known ∙ e
+pub allowed_to : (limit : ℕ) (m : MainOf) (assume : Option (List ℕ)) (assigned : List ℕ → Bool) → AreKnown limit m assume
+    → IsAllowedBy limit assume assigned → is_allowed (netlist_of_model m) (assumed limit assume) (map assigned (inputs_of m)) ≡ true
+allowed_to limit m None assigned known e = refl
+allowed_to limit m (Some text) assigned known e =
+    let h = assumption_main limit text in
+    named_under m h assigned (get_or (outputs_of h) 0 []) known ∙ e

@@ -110,7 +110,7 @@ compared_alike given f g m n h hf hg mf ng same =
 assumed_alike : (given : GivenOf) (f g : FlatOf) (m n : MainOf) (assume : Option (List ℕ)) → IsFlat f → IsFlat g → IsFlatOf m.0 m.1 f → IsFlatOf n.0 n.1 g → same_names f.outputs g.outputs ≡ true
     → assumed_answer given (netlist_of f) (netlist_of g) assume ≡ assumed_answer given (netlist_of_model m) (netlist_of_model n) assume
 assumed_alike given f g m n None hf hg mf ng same = compared_alike given f g m n None hf hg mf ng same
-assumed_alike given f g m n (Some text) hf hg mf ng same = by (assumption_found text)
+assumed_alike given f g m n (Some text) hf hg mf ng same = by (assumption_found given.options.bytes text)
   where
     by : (found : Result MainOf (ℕ × ℕ)) → assumption_answer given (netlist_of f) (netlist_of g) found ≡ assumption_answer given (netlist_of_model m) (netlist_of_model n) found
     by (Err fault) = refl

@@ -1,5 +1,5 @@
 -- Runs over readers and a writer whose bytes are known.
-use Rattle.std.proofs.Common.{◌≡◌, ◌⊎◌, inl, inr, ℕ, true, not, if◌then◌else◌, ap₂, List, length, take, refl, ◌∙◌, sym, ap, arith, subst, Option, Some, None, Ok, Err, IfSome, Result}
+use Rattle.std.proofs.Common.{◌≡◌, ◌⊎◌, inl, inr, ℕ, suc, true, not, if◌then◌else◌, ap₂, List, length, take, refl, ◌∙◌, sym, ap, arith, subst, Option, Some, None, Ok, Err, IfSome, Result}
 use Rattle.std.proofs.lemmas.Bool.{cases_lt, lt-ltb}
 use Rattle.std.proofs.lemmas.List.{take_all, length-take-le}
 use Rattle.std.specs.Option.{option_map}
@@ -42,53 +42,58 @@ pub memory_reports : {R : Type 0} (remaining : R → Option (List ℕ)) (given :
 memory_reports remaining given = if_some_all (known_given remaining given) _ (λ known. was_stopped Memory tt)
 
 -- what is read of a text is the text, or both are too long
-whole_or_long : (bytes : List ℕ) → (bytes_read bytes ≡ bytes) ⊎ ((is_too_long (bytes_read bytes) ≡ true) × (is_too_long bytes ≡ true))
+whole_or_long : (limit : ℕ) (bytes : List ℕ) → (bytes_read limit bytes ≡ bytes) ⊎ ((is_too_long limit (bytes_read limit bytes) ≡ true) × (is_too_long limit bytes ≡ true))
 unfolding bytes_read
-whole_or_long bytes = elim (cases_lt 16777216 (length bytes)) [
-  | inl long ↦ inr (lt-ltb 16777216 (length (take 16777217 bytes)) (omega (arith, length-take-le 16777217 bytes)), lt-ltb 16777216 (length bytes) long)
-  | inr short ↦ inl (take_all 16777217 bytes (omega arith))
+whole_or_long limit bytes = elim (cases_lt limit (length bytes)) [
+  | inl long ↦ inr (lt-ltb limit (length (take (suc limit) bytes)) (omega (arith, length-take-le (suc limit) bytes)), lt-ltb limit (length bytes) long)
+  | inr short ↦ inl (take_all (suc limit) bytes (omega arith))
 ]
 
-outcome_read : (bytes : List ℕ) → outcome (bytes_read bytes) ≡ outcome bytes
-outcome_read bytes = elim (whole_or_long bytes) [ inl whole ↦ ap outcome whole | inr long ↦ rw (long.0, long.1) refl ]
+outcome_read : (limit : ℕ) (bytes : List ℕ) → outcome limit (bytes_read limit bytes) ≡ outcome limit bytes
+outcome_read limit bytes = elim (whole_or_long limit bytes) [ inl whole ↦ ap (outcome limit) whole | inr long ↦ rw (long.0, long.1) refl ]
 
-order_read : (inputs : List (List ℕ)) (text : List ℕ) → order_code inputs (bytes_read text) ≡ order_code inputs text
-order_read inputs text = elim (whole_or_long text) [ inl whole ↦ ap (order_code inputs) whole | inr long ↦ rw (long.0, long.1) refl ]
+order_read : (inputs : List (List ℕ)) (text : List ℕ) → order_code inputs (bytes_read 16777216 text) ≡ order_code inputs text
+order_read inputs text = elim (whole_or_long 16777216 text) [ inl whole ↦ ap (order_code inputs) whole | inr long ↦ rw (long.0, long.1) refl ]
 
 -- what is read of texts
-texts_read : TextsOf → TextsOf
-texts_read (one_text names text) = one_text names (bytes_read text)
-texts_read (two_texts names first second) = two_texts names (bytes_read first) (bytes_read second)
+texts_read : ℕ → TextsOf → TextsOf
+texts_read limit (one_text names text) = one_text names (bytes_read limit text)
+texts_read limit (two_texts names first second) = two_texts names (bytes_read limit first) (bytes_read limit second)
 
 -- it has the same models
-first_read : (texts : TextsOf) → first_found (texts_read texts) ≡ first_found texts
+first_read : (limit : ℕ) (texts : TextsOf) → first_found limit (texts_read limit texts) ≡ first_found limit texts
 unfolding texts_read
-first_read (one_text names text) = ap (λ o. main_of o names.first 0) (outcome_read text)
-first_read (two_texts names first second) = ap (λ o. main_of o names.first 0) (outcome_read first)
+first_read limit (one_text names text) = ap (λ o. main_of o names.first 0) (outcome_read limit text)
+first_read limit (two_texts names first second) = ap (λ o. main_of o names.first 0) (outcome_read limit first)
 
-second_read : (texts : TextsOf) → second_found (texts_read texts) ≡ second_found texts
+second_read : (limit : ℕ) (texts : TextsOf) → second_found limit (texts_read limit texts) ≡ second_found limit texts
 unfolding texts_read
-second_read (one_text names text) = ap (λ o. main_of o names.second 1) (outcome_read text)
-second_read (two_texts names first second) = ap (λ o. main_of o names.second 0) (outcome_read second)
+second_read limit (one_text names text) = ap (λ o. main_of o names.second 1) (outcome_read limit text)
+second_read limit (two_texts names first second) = ap (λ o. main_of o names.second 0) (outcome_read limit second)
 
-warnings_read : (texts : TextsOf) → warnings_on (texts_read texts) ≡ warnings_on texts
+warnings_read : (limit : ℕ) (texts : TextsOf) → warnings_on limit (texts_read limit texts) ≡ warnings_on limit texts
 unfolding texts_read
-warnings_read (one_text names text) = rw (outcome_read text) refl
-warnings_read (two_texts names first second) = rw (outcome_read first, outcome_read second) refl
+warnings_read limit (one_text names text) = rw (outcome_read limit text) refl
+warnings_read limit (two_texts names first second) = rw (outcome_read limit first, outcome_read limit second) refl
 
 -- an order text that was read has the same code
-code_read : (inputs : List (List ℕ)) (order : Option (List ℕ)) → code_of_order inputs (option_map bytes_read order) ≡ code_of_order inputs order
+code_read : (inputs : List (List ℕ)) (order : Option (List ℕ)) → code_of_order inputs (option_map (bytes_read 16777216) order) ≡ code_of_order inputs order
 code_read inputs None = refl
 code_read inputs (Some text) = order_read inputs text
 
 -- and an assumption that was read has the same model
-assumption_read : (given : GivenOf) (f g : NetlistOf) (assume : Option (List ℕ)) → assumed_answer given f g (option_map bytes_read assume) ≡ assumed_answer given f g assume
+assumption_read : (given : GivenOf) (f g : NetlistOf) (assume : Option (List ℕ)) →
+    assumed_answer given f g (option_map (bytes_read given.options.bytes) assume) ≡ assumed_answer given f g assume
 assumption_read given f g None = refl
-assumption_read given f g (Some text) = ap (λ o. assumption_answer given f g (main_of o None 0)) (outcome_read text)
+assumption_read given f g (Some text) = ap (λ o. assumption_answer given f g (main_of o None 0)) (outcome_read given.options.bytes text)
 
 -- what is read of all that a run is given
 given_read : GivenOf → GivenOf
-given_read given = record given { texts = texts_read given.texts; order = option_map bytes_read given.order; assume = option_map bytes_read given.assume }
+given_read given = record given {
+  texts = texts_read given.options.bytes given.texts;
+  order = option_map (bytes_read 16777216) given.order;
+  assume = option_map (bytes_read given.options.bytes) given.assume;
+}
 
 models_read : (m n : MainOf) (given : GivenOf) → models_answer m n (given_read given) ≡ models_answer m n given
 unfolding given_read
@@ -107,69 +112,72 @@ found_read (Ok m) (Ok n) given = models_read m n given
 answer_read : (given : GivenOf) → texts_answer (given_read given) ≡ texts_answer given
 unfolding given_read
 answer_read given =
-    ap₂ (λ x y. found_answer x y (given_read given)) (first_read given.texts) (second_read given.texts)
-    ∙ found_read (first_found given.texts) (second_found given.texts) given
+    let limit = given.options.bytes in
+    ap₂ (λ x y. found_answer x y (given_read given)) (first_read limit given.texts) (second_read limit given.texts)
+    ∙ found_read (first_found limit given.texts) (second_found limit given.texts) given
 
 -- texts whose bytes are known, and what was read of them
-one_known : (names : NamesOf) (known : Option (List ℕ)) (first : List ℕ) → IsRead known first → IfSome (option_map (one_text names) known) (λ texts. one_text names first ≡ texts_read texts)
+one_known : (limit : ℕ) (names : NamesOf) (known : Option (List ℕ)) (first : List ℕ) → IsRead limit known first →
+    IfSome (option_map (one_text names) known) (λ texts. one_text names first ≡ texts_read limit texts)
 unfolding texts_read
-one_known names None first h = tt
-one_known names (Some bytes) first h = ap (one_text names) h
+one_known limit names None first h = tt
+one_known limit names (Some bytes) first h = ap (one_text names) h
 
-both_known : (names : NamesOf) (x y : Option (List ℕ)) (first second : List ℕ) → IsRead x first → IsRead y second →
-    IfSome (two_known names x y) (λ texts. two_texts names first second ≡ texts_read texts)
+both_known : (limit : ℕ) (names : NamesOf) (x y : Option (List ℕ)) (first second : List ℕ) → IsRead limit x first → IsRead limit y second →
+    IfSome (two_known names x y) (λ texts. two_texts names first second ≡ texts_read limit texts)
 unfolding texts_read
-both_known names None y first second h k = tt
-both_known names (Some a) None first second h k = tt
-both_known names (Some a) (Some b) first second h k = rw (h, k) refl
+both_known limit names None y first second h k = tt
+both_known limit names (Some a) None first second h k = tt
+both_known limit names (Some a) (Some b) first second h k = rw (h, k) refl
 
-texts_known : {R : Type 0} (names : NamesOf) (remaining : R → Option (List ℕ)) (texts : Texts R) (first : List ℕ) (second : Option (List ℕ)) →
-    AreTextsRead remaining texts first second → IfSome (known_texts names remaining texts) (λ known. read_texts names first second ≡ texts_read known)
-texts_known names remaining (One reader) first None h = one_known names (remaining reader) first h.0
-texts_known names remaining (One reader) first (Some second) h = absurd (none-some second (sym h.1))
-texts_known names remaining (Two reader other) first None h = absurd h.1
-texts_known names remaining (Two reader other) first (Some second) h = both_known names (remaining reader) (remaining other) first second h.0 h.1
+texts_known : {R : Type 0} (limit : ℕ) (names : NamesOf) (remaining : R → Option (List ℕ)) (texts : Texts R) (first : List ℕ) (second : Option (List ℕ)) →
+    AreTextsRead limit remaining texts first second → IfSome (known_texts names remaining texts) (λ known. read_texts names first second ≡ texts_read limit known)
+texts_known limit names remaining (One reader) first None h = one_known limit names (remaining reader) first h.0
+texts_known limit names remaining (One reader) first (Some second) h = absurd (none-some second (sym h.1))
+texts_known limit names remaining (Two reader other) first None h = absurd h.1
+texts_known limit names remaining (Two reader other) first (Some second) h = both_known limit names (remaining reader) (remaining other) first second h.0 h.1
 
-some_known : {R : Type 0} (remaining : R → Option (List ℕ)) (order : Option R) (read : Option (List ℕ)) → MayBeRead remaining order read →
-    IfSome (known_some remaining order) (λ known. read ≡ option_map bytes_read known)
-some_known remaining None None h = refl
-some_known remaining None (Some text) h = absurd h
-some_known remaining (Some reader) None h = absurd h
-some_known remaining (Some reader) (Some text) h = by (remaining reader) h
+some_known : {R : Type 0} (limit : ℕ) (remaining : R → Option (List ℕ)) (order : Option R) (read : Option (List ℕ)) → MayBeRead limit remaining order read →
+    IfSome (known_some remaining order) (λ known. read ≡ option_map (bytes_read limit) known)
+some_known limit remaining None None h = refl
+some_known limit remaining None (Some text) h = absurd h
+some_known limit remaining (Some reader) None h = absurd h
+some_known limit remaining (Some reader) (Some text) h = by (remaining reader) h
   where
-    by : (known : Option (List ℕ)) → IsRead known text → IfSome (option_map Some known) (λ o. Some text ≡ option_map bytes_read o)
+    by : (known : Option (List ℕ)) → IsRead limit known text → IfSome (option_map Some known) (λ o. Some text ≡ option_map (bytes_read limit) o)
     by None h = tt
     by (Some bytes) h = ap Some h
 
 -- the texts of a case
-case_texts : {R : Type 0} (remaining : R → Option (List ℕ)) (given : Given R) (case : Case) → AreRead remaining given case →
-    IfSome (known_texts given.names remaining given.texts) (λ known. (given_of case).texts ≡ texts_read known)
+case_texts : {R : Type 0} (remaining : R → Option (List ℕ)) (given : Given R) (case : Case) → AreRead given.options.bytes remaining given case →
+    IfSome (known_texts given.names remaining given.texts) (λ known. (given_of case).texts ≡ texts_read given.options.bytes known)
 case_texts remaining given case h =
-    subst (λ names. IfSome (known_texts given.names remaining given.texts) (λ known. read_texts names case.first.items (items_of case.second) ≡ texts_read known)) (sym h.names)
-    (texts_known given.names remaining given.texts case.first.items (items_of case.second) h.texts)
+    subst (λ names. IfSome (known_texts given.names remaining given.texts) (λ known. read_texts names case.first.items (items_of case.second) ≡ texts_read given.options.bytes known)) (sym h.names)
+    (texts_known given.options.bytes given.names remaining given.texts case.first.items (items_of case.second) h.texts)
 
 -- a case is what is read of what was given
-is_read : (case : GivenOf) (given : GivenOf) → case.texts ≡ texts_read given.texts → case.order ≡ option_map bytes_read given.order →
-    case.assume ≡ option_map bytes_read given.assume → case.outputs ≡ given.outputs → case.options ≡ given.options
+is_read : (case : GivenOf) (given : GivenOf) → case.texts ≡ texts_read given.options.bytes given.texts → case.order ≡ option_map (bytes_read 16777216) given.order →
+    case.assume ≡ option_map (bytes_read given.options.bytes) given.assume → case.outputs ≡ given.outputs → case.options ≡ given.options
     → case ≡ given_read given
 unfolding given_read
 is_read case given t o a c p = by case.texts case.order case.assume case.outputs case.options t o a c p
   where
-    by : (texts : TextsOf) (order assume : Option (List ℕ)) (outputs : List (List ℕ)) (options : Options) → texts ≡ texts_read given.texts →
-        order ≡ option_map bytes_read given.order → assume ≡ option_map bytes_read given.assume
+    by : (texts : TextsOf) (order assume : Option (List ℕ)) (outputs : List (List ℕ)) (options : Options) → texts ≡ texts_read given.options.bytes given.texts →
+        order ≡ option_map (bytes_read 16777216) given.order → assume ≡ option_map (bytes_read given.options.bytes) given.assume
         → outputs ≡ given.outputs → options ≡ given.options → ◌≡◌ {A = GivenOf} (record { texts = texts; order = order; assume = assume; outputs = outputs; options = options }) (given_read given)
     by texts order assume outputs options t o a c p = rw (t, o, a, c, p) refl
 
 -- a report that answers what was read answers what is given
 pub read_reports : {R : Type 0} (remaining : R → Option (List ℕ)) (given : Given R) (case : Case) (report : ReportOf) →
-    AreRead remaining given case → Answers (texts_answer (given_of case)) report → IsReport remaining given report
+    AreRead given.options.bytes remaining given case → Answers (texts_answer (given_of case)) report → IsReport remaining given report
 read_reports remaining given case report h answers =
     by (known_texts given.names remaining given.texts) (known_some remaining given.order) (known_some remaining given.assume)
-    (case_texts remaining given case h) (some_known remaining given.order (items_of case.order) h.order) (some_known remaining given.assume (items_of case.assume) h.assume)
+    (case_texts remaining given case h) (some_known 16777216 remaining given.order (items_of case.order) h.order)
+    (some_known given.options.bytes remaining given.assume (items_of case.assume) h.assume)
   where
-    by : (texts : Option TextsOf) (order assume : Option (Option (List ℕ))) → IfSome texts (λ known. (given_of case).texts ≡ texts_read known) →
-        IfSome order (λ known. items_of case.order ≡ option_map bytes_read known)
-        → IfSome assume (λ known. items_of case.assume ≡ option_map bytes_read known)
+    by : (texts : Option TextsOf) (order assume : Option (Option (List ℕ))) → IfSome texts (λ known. (given_of case).texts ≡ texts_read given.options.bytes known) →
+        IfSome order (λ known. items_of case.order ≡ option_map (bytes_read 16777216) known)
+        → IfSome assume (λ known. items_of case.assume ≡ option_map (bytes_read given.options.bytes) known)
         → IfSome (all_known given.outputs given.options texts order assume) (λ known. Answers (texts_answer known) report)
     by None order assume t o a = tt
     by (Some texts) None assume t o a = tt
@@ -180,9 +188,15 @@ read_reports remaining given case report h answers =
 
 -- warnings on what was read are warnings on the texts
 pub read_warns : {R : Type 0} (remaining : R → Option (List ℕ)) (given : Given R) (case : Case) (report : ReportOf) (found : Warnings) →
-    AreRead remaining given case → WarnsOf (given_of case) report found → WarnsOfKnown remaining given report found
+    AreRead given.options.bytes remaining given case → WarnsOf (given_of case) report found → WarnsOfKnown remaining given report found
 read_warns remaining given case report found h w =
-    λ is. if_known (known_texts given.names remaining given.texts) _ _ (λ known t. w is ∙ (ap warnings_on t ∙ warnings_read known)) (case_texts remaining given case h)
+    λ is. if_known (known_texts given.names remaining given.texts) _ _ (λ known t. warned known (w is) t) (case_texts remaining given case h)
+  where
+    warned : (known : TextsOf) → found ≡ warnings_on case.options.bytes (given_of case).texts → (given_of case).texts ≡ texts_read given.options.bytes known
+        → found ≡ warnings_on given.options.bytes known
+    warned known is t =
+        is ∙ (ap (λ (o : Options). warnings_on o.bytes (given_of case).texts) h.options
+        ∙ (ap (warnings_on given.options.bytes) t ∙ warnings_read given.options.bytes known))
 
 -- ---- warnings at the end of a run
 
@@ -211,9 +225,9 @@ written_warned remaining given report old new status found at warns w e = record
   verdict = ap (warnings_at status) e ∙ (kept_once status found ∙ sym e);
   known = elim (verdict_of w.shown status w.kind) [
     | inl is ↦
-        if_known (known_texts given.names remaining given.texts) (λ known. found ≡ warnings_on known)
-        (λ known. at ≡ warnings_at status (warnings_on known)) (λ known same. e ∙ ap (warnings_at status) same)
+        if_known (known_texts given.names remaining given.texts) (λ known. found ≡ warnings_on given.options.bytes known)
+        (λ known. at ≡ warnings_at status (warnings_on given.options.bytes known)) (λ known same. e ∙ ap (warnings_at status) same)
         (warns (verdict_shown report old new status w is))
-    | inr none ↦ if_some_all (known_texts given.names remaining given.texts) _ (λ known. e ∙ (none found ∙ sym (none (warnings_on known))))
+    | inr none ↦ if_some_all (known_texts given.names remaining given.texts) _ (λ known. e ∙ (none found ∙ sym (none (warnings_on given.options.bytes known))))
   ];
 }

@@ -44,24 +44,24 @@ both_compared : (first second : Result MainOf (ℕ × ℕ)) (m n : MainOf) (give
 both_compared first second m n given e h = sym (ap (λ x. found_answer x second given) e ∙ ap (λ x. found_answer (Ok m) x given) h)
 
 pub first_tells : (refusal : Refusal) (result : Result Told Stop) (given : GivenOf) → IsToldRefusal side.First refusal result →
-    (refusal ≡ record { line = 0; code = 72 }) ⊎ (first_found given.texts ≡ Err (refusal.line, refusal.code)) → Tells given result
+    (refusal ≡ record { line = 0; code = 72 }) ⊎ (first_found given.options.bytes given.texts ≡ Err (refusal.line, refusal.code)) → Tells given result
 first_tells refusal result given h e = refusal_tells side.First refusal result given h (elim e [
   | inl none ↦ inl none
-  | inr is ↦ inr (first_refused (first_found given.texts) (second_found given.texts) refusal.line refusal.code given is)
+  | inr is ↦ inr (first_refused (first_found given.options.bytes given.texts) (second_found given.options.bytes given.texts) refusal.line refusal.code given is)
 ])
 
-pub second_tells : (refusal : Refusal) (result : Result Told Stop) (given : GivenOf) (m : MainOf) → first_found given.texts ≡ Ok m →
+pub second_tells : (refusal : Refusal) (result : Result Told Stop) (given : GivenOf) (m : MainOf) → first_found given.options.bytes given.texts ≡ Ok m →
     IsToldRefusal side.Second refusal result →
-    (refusal ≡ record { line = 0; code = 72 }) ⊎ (second_found given.texts ≡ Err (refusal.line, refusal.code)) → Tells given result
+    (refusal ≡ record { line = 0; code = 72 }) ⊎ (second_found given.options.bytes given.texts ≡ Err (refusal.line, refusal.code)) → Tells given result
 second_tells refusal result given m there h e = refusal_tells side.Second refusal result given h (elim e [
   | inl none ↦ inl none
-  | inr is ↦ inr (second_refused (first_found given.texts) (second_found given.texts) m refusal.line refusal.code given there is)
+  | inr is ↦ inr (second_refused (first_found given.options.bytes given.texts) (second_found given.options.bytes given.texts) m refusal.line refusal.code given there is)
 ])
 
 -- two models that are compared
 both_tell : (given : GivenOf) (wanted : ReportOf) (report : Result Report Stop) (warnings : Result Warnings AllocError) (result : Result Told Stop) →
     wanted ≡ texts_answer given → IfOk report (λ r. report_of r ≡ wanted) → IfErr report (MayStop wanted) →
-    IfOk warnings (λ w. w ≡ warnings_on given.texts) → IsToldWith report warnings result → Tells given result
+    IfOk warnings (λ w. w ≡ warnings_on given.options.bytes given.texts) → IsToldWith report warnings result → Tells given result
 both_tell given wanted (Ok report) (Ok warnings) result is r s w told = subst (Tells given) (sym told) (r ∙ is, λ compares. w)
 both_tell given wanted (Ok report) (Err error) result is r s w told = subst (Tells given) (sym told) tt
 both_tell given wanted (Err stop) warnings result is r s w told = subst (Tells given) (sym told) (subst (λ (a : ReportOf). MayStop a stop) is s)
@@ -72,22 +72,22 @@ if_alike (Err error) a b e h = tt
 
 -- the models are compared, and these are the warnings on them
 pub models_tell : (given : GivenOf) (m n : MainOf) (warned : Warnings) (report : Result Report Stop) (warnings : Result Warnings AllocError) (result : Result Told Stop) →
-    first_found given.texts ≡ Ok m → second_found given.texts ≡ Ok n
-    → warned ≡ warnings_on given.texts → IfOk report (λ r. report_of r ≡ models_answer m n given) →
+    first_found given.options.bytes given.texts ≡ Ok m → second_found given.options.bytes given.texts ≡ Ok n
+    → warned ≡ warnings_on given.options.bytes given.texts → IfOk report (λ r. report_of r ≡ models_answer m n given) →
     IfErr report (MayStop (models_answer m n given)) → IfOk warnings (λ w. w ≡ warned) → IsToldWith report warnings result → Tells given result
 models_tell given m n warned report warnings result e h same r s w told =
     both_tell given (models_answer m n given) report warnings result
-    (both_compared (first_found given.texts) (second_found given.texts) m n given e h) r s
-    (if_alike warnings warned (warnings_on given.texts) same w) told
+    (both_compared (first_found given.options.bytes given.texts) (second_found given.options.bytes given.texts) m n given e h) r s
+    (if_alike warnings warned (warnings_on given.options.bytes given.texts) same w) told
 
 -- the warnings on the models of one text, and of two
-pub one_warned : (names : NamesOf) (text : List ℕ) (m n : MainOf) → first_found (one_text names text) ≡ Ok m →
-    second_found (one_text names text) ≡ Ok n → warnings_in_one m n ≡ warnings_on (one_text names text)
-one_warned names text m n e h = sym (rw (e, h) refl)
+pub one_warned : (limit : ℕ) (names : NamesOf) (text : List ℕ) (m n : MainOf) → first_found limit (one_text names text) ≡ Ok m →
+    second_found limit (one_text names text) ≡ Ok n → warnings_in_one m n ≡ warnings_on limit (one_text names text)
+one_warned limit names text m n e h = sym (rw (e, h) refl)
 
-pub two_warned : (names : NamesOf) (first second : List ℕ) (m n : MainOf) → first_found (two_texts names first second) ≡ Ok m →
-    second_found (two_texts names first second) ≡ Ok n → warnings_in_two m n ≡ warnings_on (two_texts names first second)
-two_warned names first second m n e h = sym (rw (e, h) refl)
+pub two_warned : (limit : ℕ) (names : NamesOf) (first second : List ℕ) (m n : MainOf) → first_found limit (two_texts names first second) ≡ Ok m →
+    second_found limit (two_texts names first second) ≡ Ok n → warnings_in_two m n ≡ warnings_on limit (two_texts names first second)
+two_warned limit names first second m n e h = sym (rw (e, h) refl)
 
 -- what is told answers what is given, and warns of it
 told_answers : (given : GivenOf) (told : Told) → Tells given (Ok told) → Answers (texts_answer given) (report_of told.report)
@@ -132,13 +132,15 @@ contains_alone compared name m holds found e is named = ap not named ∙ sym (ap
 -- ---- what was read
 
 -- the first model is that of the first text, and so is the second where there is no second text
-pub first_of_read : (names : NamesOf) (first : List ℕ) (second : Option (List ℕ)) → first_found (read_texts names first second) ≡ main_of (outcome first) names.first 0
-first_of_read names first None = refl
-first_of_read names first (Some second) = refl
+pub first_of_read : (limit : ℕ) (names : NamesOf) (first : List ℕ) (second : Option (List ℕ)) →
+    first_found limit (read_texts names first second) ≡ main_of (outcome limit first) names.first 0
+first_of_read limit names first None = refl
+first_of_read limit names first (Some second) = refl
 
-pub second_of_one : (names : NamesOf) (first : List ℕ) (second : Option (List ℕ)) → second ≡ None → second_found (read_texts names first second) ≡ main_of (outcome first) names.second 1
-second_of_one names first second e = ap (λ (s : Option (List ℕ)). second_found (read_texts names first s)) e
+pub second_of_one : (limit : ℕ) (names : NamesOf) (first : List ℕ) (second : Option (List ℕ)) → second ≡ None →
+    second_found limit (read_texts names first second) ≡ main_of (outcome limit first) names.second 1
+second_of_one limit names first second e = ap (λ (s : Option (List ℕ)). second_found limit (read_texts names first s)) e
 
-pub second_of_two : (names : NamesOf) (first : List ℕ) (second : Option (List ℕ)) (text : List ℕ) → second ≡ Some text →
-    second_found (read_texts names first second) ≡ main_of (outcome text) names.second 0
-second_of_two names first second text e = ap (λ (s : Option (List ℕ)). second_found (read_texts names first s)) e
+pub second_of_two : (limit : ℕ) (names : NamesOf) (first : List ℕ) (second : Option (List ℕ)) (text : List ℕ) → second ≡ Some text →
+    second_found limit (read_texts names first second) ≡ main_of (outcome limit text) names.second 0
+second_of_two limit names first second text e = ap (λ (s : Option (List ℕ)). second_found limit (read_texts names first s)) e

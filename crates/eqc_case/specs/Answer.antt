@@ -1,7 +1,7 @@
 -- The answer of a run: the refusal of the first check that fails, else the report on the two netlists. The checks are, in this
 -- order: the options, the reading of the first text and the choice of its model, those of the second, the hierarchies, the pair
 -- with the names of chosen outputs, the order text, the reading of the assumption and its hierarchy, and what is asked of it. The
--- order of variables plays no part, and of the options only how many inputs are allowed and whether each difference is wanted.
+-- order of variables plays no part, and of the options only how many bytes and inputs are allowed and whether each difference is wanted.
 use Rattle.std.specs.Prelude.{ℕ, not, nat_lt, List, length, ◌==◌, Option, Some, None, Result, Ok, Err, if◌then◌else◌}
 use Rattle.eqc_blif.specs.Netlist.{ModelOf}
 use Rattle.eqc_blif.specs.Reading.{Outcome, outcome}
@@ -62,14 +62,14 @@ abbrev pub main_of : Outcome → Option (List ℕ) → ℕ → Result MainOf (�
 main_of (Err fault) name place = Err fault
 main_of (Ok models) name place = chosen models name place
 
--- the two models that are compared
-abbrev pub first_found : TextsOf → Result MainOf (ℕ × ℕ)
-first_found (one_text names text) = main_of (outcome text) names.first 0
-first_found (two_texts names first second) = main_of (outcome first) names.first 0
+-- the two models that are compared, of texts that may have so many bytes each
+abbrev pub first_found : ℕ → TextsOf → Result MainOf (ℕ × ℕ)
+first_found limit (one_text names text) = main_of (outcome limit text) names.first 0
+first_found limit (two_texts names first second) = main_of (outcome limit first) names.first 0
 
-abbrev pub second_found : TextsOf → Result MainOf (ℕ × ℕ)
-second_found (one_text names text) = main_of (outcome text) names.second 1
-second_found (two_texts names first second) = main_of (outcome second) names.second 0
+abbrev pub second_found : ℕ → TextsOf → Result MainOf (ℕ × ℕ)
+second_found limit (one_text names text) = main_of (outcome limit text) names.second 1
+second_found limit (two_texts names first second) = main_of (outcome limit second) names.second 0
 
 abbrev pub inputs_of : MainOf → List (List ℕ)
 inputs_of m = (model m.0 m.1).inputs
@@ -85,9 +85,9 @@ netlist_of_model m = record { inputs = inputs_of m; outputs = outputs_of m; valu
 abbrev pub compared : GivenOf → NetlistOf → NetlistOf → Option NetlistOf → ReportOf
 compared given f g h = comparison given.options.every f g h (chosen_outputs given.outputs f.outputs)
 
--- the assumption: the first model of its text
-abbrev pub assumption_found : List ℕ → Result MainOf (ℕ × ℕ)
-assumption_found text = main_of (outcome text) None 0
+-- the assumption: the first model of its text, which may have so many bytes
+abbrev pub assumption_found : ℕ → List ℕ → Result MainOf (ℕ × ℕ)
+assumption_found limit text = main_of (outcome limit text) None 0
 
 -- the refusal of a hierarchy by its code, where it has one, or of an assumption
 abbrev pub or_code : Side → Option ℕ → ReportOf → ReportOf
@@ -109,7 +109,7 @@ assumption_answer given f g (Ok h) = or_code side.Assume (flat_code h.0 h.1 give
 -- the refusal of an assumption, if there is one, else the report on two netlists
 abbrev pub assumed_answer : GivenOf → NetlistOf → NetlistOf → Option (List ℕ) → ReportOf
 assumed_answer given f g None = compared given f g None
-assumed_answer given f g (Some text) = assumption_answer given f g (assumption_found text)
+assumed_answer given f g (Some text) = assumption_answer given f g (assumption_found given.options.bytes text)
 
 abbrev pub code_of_order : List (List ℕ) → Option (List ℕ) → Option ℕ
 code_of_order inputs None = None
@@ -133,7 +133,7 @@ found_answer (Ok m) (Ok n) given = models_answer m n given
 
 -- the answer of a run whose options are in their ranges
 abbrev pub texts_answer : GivenOf → ReportOf
-texts_answer given = found_answer (first_found given.texts) (second_found given.texts) given
+texts_answer given = found_answer (first_found given.options.bytes given.texts) (second_found given.options.bytes given.texts) given
 
 abbrev pub options_answer : Option ℕ → ReportOf → ReportOf
 options_answer None rest = rest

@@ -22,21 +22,21 @@ use Rattle.eqc_case.specs.declared.given.Given.{Given}
 
 -- ---- the main models
 
--- the main models: those that are chosen. Where a text has a fault or no such model, this stands for a model without
--- inputs and outputs: a check that comes before all that look at it refuses
+-- the main models: those that are chosen, of texts that may have so many bytes each. Where a text has a fault or no such model, this
+-- stands for a model without inputs and outputs: a check that comes before all that look at it refuses
 abbrev pub main_or_none : Result MainOf (ℕ × ℕ) → MainOf
 main_or_none (Ok m) = m
 main_or_none (Err fault) = ([], 0)
 
-abbrev pub first_main : TextsOf → MainOf
-first_main texts = main_or_none (first_found texts)
+abbrev pub first_main : ℕ → TextsOf → MainOf
+first_main limit texts = main_or_none (first_found limit texts)
 
-abbrev pub second_main : TextsOf → MainOf
-second_main texts = main_or_none (second_found texts)
+abbrev pub second_main : ℕ → TextsOf → MainOf
+second_main limit texts = main_or_none (second_found limit texts)
 
 -- the assumption: the first model of its text
-abbrev pub assumption_main : List ℕ → MainOf
-assumption_main text = main_or_none (assumption_found text)
+abbrev pub assumption_main : ℕ → List ℕ → MainOf
+assumption_main limit text = main_or_none (assumption_found limit text)
 
 -- a model of a text is the one of a name or, without a name, the one at a place
 abbrev pub IsChoice : List ModelOf → Option (List ℕ) → ℕ → MainOf → Type 0
@@ -46,7 +46,7 @@ IsChoice models None place m = (m.0 ≡ models) × (m.1 < length models) × (m.1
 -- ---- what is accepted
 
 -- 1 to 64 workers, 1 to 1,048,574 nodes, a power of two from 1 to 1,048,576 as the number of cells, at most 16 forks, at most
--- 65,535 inputs
+-- 65,535 inputs, at most 2,147,483,647 bytes
 pub record AreInRange (options : Options) : Type 0 where
   pub some_workers : 1 ≤ options.workers
   pub few_workers : options.workers ≤ 64
@@ -55,14 +55,15 @@ pub record AreInRange (options : Options) : Type 0 where
   pub power : (k : ℕ) × (k ≤ 20) × (options.cells ≡ 2 ^ k)
   pub few_forks : options.forks ≤ 16
   pub few_inputs : options.inputs ≤ 65535
+  pub few_bytes : options.bytes ≤ 2147483647
 
--- a text has no fault, and the model that is chosen of it is there
+-- a text has no fault, which it has where it is longer than the limit, and the model that is chosen of it is there
 abbrev pub IsFound : Result MainOf (ℕ × ℕ) → Type 0
 IsFound found = (m : MainOf) × (found ≡ Ok m)
 
 -- so it is for both texts, or for both models of one
-abbrev pub AreReadable : TextsOf → Type 0
-AreReadable texts = IsFound (first_found texts) × IsFound (second_found texts)
+abbrev pub AreReadable : ℕ → TextsOf → Type 0
+AreReadable limit texts = IsFound (first_found limit texts) × IsFound (second_found limit texts)
 
 -- a name is in both lists or in neither
 abbrev pub HaveSameNames : List (List ℕ) → List (List ℕ) → Type 0
@@ -74,26 +75,26 @@ pub record IsOrderOf (inputs : List (List ℕ)) (text : List ℕ) : Type 0 where
   pub words : HaveSameNames (order_words text) inputs
   pub once : has_twice (order_words text) ≡ false
 
--- an assumption over these inputs: a netlist without a fault, with as many inputs as the limit at most, which are among them, and
--- with one output
-pub record IsAssumptionOver (inputs : List (List ℕ)) (limit : ℕ) (text : List ℕ) : Type 0 where
-  pub readable : IsFound (assumption_found text)
-  pub hierarchy : flat_code (assumption_main text).0 (assumption_main text).1 limit ≡ None
-  pub known : All (λ name. is_named inputs name ≡ true) (inputs_of (assumption_main text))
-  pub one_output : length (outputs_of (assumption_main text)) ≡ 1
+-- an assumption over these inputs: a netlist without a fault, with as many bytes and inputs as the options allow at most, whose
+-- inputs are among them, and with one output
+pub record IsAssumptionOver (inputs : List (List ℕ)) (options : Options) (text : List ℕ) : Type 0 where
+  pub readable : IsFound (assumption_found options.bytes text)
+  pub hierarchy : flat_code (assumption_main options.bytes text).0 (assumption_main options.bytes text).1 options.inputs ≡ None
+  pub known : All (λ name. is_named inputs name ≡ true) (inputs_of (assumption_main options.bytes text))
+  pub one_output : length (outputs_of (assumption_main options.bytes text)) ≡ 1
 
--- two netlists are accepted, and the assumption, if there is one: options, texts, hierarchies, which have as many inputs as the
--- options allow at most, names and the order text are as they have to be
+-- two netlists are accepted, and the assumption, if there is one: options, texts, which have as many bytes as the
+-- options allow at most, hierarchies, which have as many inputs, names and the order text are as they have to be
 pub record IsAccepted (given : GivenOf) : Type 0 where
   pub range : AreInRange given.options
-  pub readable : AreReadable given.texts
-  pub first_hierarchy : flat_code (first_main given.texts).0 (first_main given.texts).1 given.options.inputs ≡ None
-  pub second_hierarchy : flat_code (second_main given.texts).0 (second_main given.texts).1 given.options.inputs ≡ None
-  pub inputs : HaveSameNames (inputs_of (first_main given.texts)) (inputs_of (second_main given.texts))
-  pub outputs : HaveSameNames (outputs_of (first_main given.texts)) (outputs_of (second_main given.texts))
-  pub chosen : All (λ name. is_named (outputs_of (first_main given.texts)) name ≡ true) given.outputs
-  pub ordered : IfSome given.order (IsOrderOf (inputs_of (first_main given.texts)))
-  pub assumed : IfSome given.assume (IsAssumptionOver (inputs_of (first_main given.texts)) given.options.inputs)
+  pub readable : AreReadable given.options.bytes given.texts
+  pub first_hierarchy : flat_code (first_main given.options.bytes given.texts).0 (first_main given.options.bytes given.texts).1 given.options.inputs ≡ None
+  pub second_hierarchy : flat_code (second_main given.options.bytes given.texts).0 (second_main given.options.bytes given.texts).1 given.options.inputs ≡ None
+  pub inputs : HaveSameNames (inputs_of (first_main given.options.bytes given.texts)) (inputs_of (second_main given.options.bytes given.texts))
+  pub outputs : HaveSameNames (outputs_of (first_main given.options.bytes given.texts)) (outputs_of (second_main given.options.bytes given.texts))
+  pub chosen : All (λ name. is_named (outputs_of (first_main given.options.bytes given.texts)) name ≡ true) given.outputs
+  pub ordered : IfSome given.order (IsOrderOf (inputs_of (first_main given.options.bytes given.texts)))
+  pub assumed : IfSome given.assume (IsAssumptionOver (inputs_of (first_main given.options.bytes given.texts)) given.options)
 
 -- ---- values
 
@@ -102,16 +103,17 @@ abbrev pub value_under : MainOf → (List ℕ → Bool) → List ℕ → Bool
 value_under main assigned output = output_value main.0 main.1 (λ i. assigned (slice_index_or (inputs_of main) i [])) output
 
 -- an output has one value in both main models under an assignment of values to names
-abbrev pub IsEqualUnder : TextsOf → (List ℕ → Bool) → List ℕ → Type 0
-IsEqualUnder texts assigned output = value_under (first_main texts) assigned output ≡ value_under (second_main texts) assigned output
+abbrev pub IsEqualUnder : GivenOf → (List ℕ → Bool) → List ℕ → Type 0
+IsEqualUnder given assigned output =
+    value_under (first_main given.options.bytes given.texts) assigned output ≡ value_under (second_main given.options.bytes given.texts) assigned output
 
 -- an assignment is allowed: the output of the assumption, if there is one, is 1 under it
-abbrev pub IsAllowedBy : Option (List ℕ) → (List ℕ → Bool) → Type 0
-IsAllowedBy None assigned = Unit {0}
-IsAllowedBy (Some text) assigned = value_under (assumption_main text) assigned (slice_index_or (outputs_of (assumption_main text)) 0 []) ≡ true
+abbrev pub IsAllowedBy : ℕ → Option (List ℕ) → (List ℕ → Bool) → Type 0
+IsAllowedBy limit None assigned = Unit {0}
+IsAllowedBy limit (Some text) assigned = value_under (assumption_main limit text) assigned (slice_index_or (outputs_of (assumption_main limit text)) 0 []) ≡ true
 
 abbrev pub IsAllowed : GivenOf → (List ℕ → Bool) → Type 0
-IsAllowed given assigned = IsAllowedBy given.assume assigned
+IsAllowed given assigned = IsAllowedBy given.options.bytes given.assume assigned
 
 -- no assignment is
 abbrev pub AllowsNone : GivenOf → Type 0
@@ -123,11 +125,11 @@ AllowsSome given = (assigned : List ℕ → Bool) × IsAllowed given assigned
 
 -- an output is equal under every allowed assignment
 abbrev pub IsAlwaysEqual : GivenOf → List ℕ → Type 0
-IsAlwaysEqual given output = (assigned : List ℕ → Bool) → IsAllowed given assigned → IsEqualUnder given.texts assigned output
+IsAlwaysEqual given output = (assigned : List ℕ → Bool) → IsAllowed given assigned → IsEqualUnder given assigned output
 
 -- the outputs that are compared: those of the names that are given, or all
 abbrev pub compared_outputs : GivenOf → List (List ℕ)
-compared_outputs given = chosen_outputs given.outputs (outputs_of (first_main given.texts))
+compared_outputs given = chosen_outputs given.outputs (outputs_of (first_main given.options.bytes given.texts))
 
 -- some assignment is allowed, and all of these are equal under every one that is
 pub record AreAlwaysEqual (given : GivenOf) : Type 0 where
@@ -144,11 +146,11 @@ pub record IsShown (given : GivenOf) (output : List ℕ) (d : DifferenceOf) : Ty
   pub named : d.output ≡ output
   pub assigned : List ℕ → Bool
   pub allowed : IsAllowed given assigned
-  pub inputs : map (λ name. (name, assigned name)) (inputs_of (first_main given.texts)) ≡ d.inputs
-  pub first_value : value_under (first_main given.texts) assigned output ≡ d.first
-  pub second_value : value_under (second_main given.texts) assigned output ≡ d.second
+  pub inputs : map (λ name. (name, assigned name)) (inputs_of (first_main given.options.bytes given.texts)) ≡ d.inputs
+  pub first_value : value_under (first_main given.options.bytes given.texts) assigned output ≡ d.first
+  pub second_value : value_under (second_main given.options.bytes given.texts) assigned output ≡ d.second
   pub different : d.first ≢ d.second
-  pub least : (smaller : List ℕ → Bool) → IsSmaller (inputs_of (first_main given.texts)) smaller assigned → IsAllowed given smaller → IsEqualUnder given.texts smaller output
+  pub least : (smaller : List ℕ → Bool) → IsSmaller (inputs_of (first_main given.options.bytes given.texts)) smaller assigned → IsAllowed given smaller → IsEqualUnder given smaller output
 
 -- the first of the compared outputs that differs is shown, alone
 pub record IsFirstToDiffer (given : GivenOf) (differences : List DifferenceOf) : Type 0 where
@@ -189,8 +191,8 @@ abbrev pub order_fails : Option (List ℕ) → (List ℕ → Bool) → Bool
 order_fails None test = false
 order_fails (Some text) test = test text
 
--- the checks of the options, of the texts and their main models, which may have so many inputs, with the names of chosen outputs,
--- of the order text, and of the assumption
+-- the checks of the options, of the texts and their main models, which may have so many bytes and inputs, with the names of chosen
+-- outputs, of the order text, and of the assumption
 abbrev pub option_checks : Options → List (Option Refused)
 option_checks options =
     refused_if (not (is_between 1 64 options.workers)) side.Options 81
@@ -198,17 +200,18 @@ option_checks options =
     ∷ refused_if (not (is_cell_count options.cells)) side.Options 83
     ∷ refused_if (not (is_between 0 16 options.forks)) side.Options 84
     ∷ refused_if (not (is_between 0 65535 options.inputs)) side.Options 85
+    ∷ refused_if (not (is_between 0 2147483647 options.bytes)) side.Options 86
     ∷ []
 
-abbrev pub text_checks : TextsOf → List (List ℕ) → ℕ → List (Option Refused)
-text_checks texts outputs limit =
-    refused_by_fault side.First (first_found texts)
-    ∷ refused_by_fault side.Second (second_found texts)
-    ∷ refused_by_code side.First (flat_code (first_main texts).0 (first_main texts).1 limit)
-    ∷ refused_by_code side.Second (flat_code (second_main texts).0 (second_main texts).1 limit)
-    ∷ refused_if (not (same_names (inputs_of (first_main texts)) (inputs_of (second_main texts)))) side.Pair 41
-    ∷ refused_if (not (same_names (outputs_of (first_main texts)) (outputs_of (second_main texts)))) side.Pair 42
-    ∷ refused_if (not (has_all (outputs_of (first_main texts)) outputs)) side.Pair 43
+abbrev pub text_checks : TextsOf → List (List ℕ) → ℕ → ℕ → List (Option Refused)
+text_checks texts outputs bytes limit =
+    refused_by_fault side.First (first_found bytes texts)
+    ∷ refused_by_fault side.Second (second_found bytes texts)
+    ∷ refused_by_code side.First (flat_code (first_main bytes texts).0 (first_main bytes texts).1 limit)
+    ∷ refused_by_code side.Second (flat_code (second_main bytes texts).0 (second_main bytes texts).1 limit)
+    ∷ refused_if (not (same_names (inputs_of (first_main bytes texts)) (inputs_of (second_main bytes texts)))) side.Pair 41
+    ∷ refused_if (not (same_names (outputs_of (first_main bytes texts)) (outputs_of (second_main bytes texts)))) side.Pair 42
+    ∷ refused_if (not (has_all (outputs_of (first_main bytes texts)) outputs)) side.Pair 43
     ∷ []
 
 abbrev pub order_checks : List (List ℕ) → Option (List ℕ) → List (Option Refused)
@@ -219,22 +222,22 @@ order_checks inputs order =
     ∷ refused_if (order_fails order (λ text. not (has_all (order_words text) inputs))) side.Order 53
     ∷ []
 
-abbrev pub assumption_checks : List (List ℕ) → ℕ → Option (List ℕ) → List (Option Refused)
-assumption_checks inputs limit None = []
-assumption_checks inputs limit (Some text) =
-    refused_by_fault side.Assume (assumption_found text)
-    ∷ refused_by_code side.Assume (flat_code (assumption_main text).0 (assumption_main text).1 limit)
-    ∷ refused_if (not (has_all inputs (inputs_of (assumption_main text)))) side.Assume 61
-    ∷ refused_if (not (length (outputs_of (assumption_main text)) == 1)) side.Assume 62
+abbrev pub assumption_checks : List (List ℕ) → ℕ → ℕ → Option (List ℕ) → List (Option Refused)
+assumption_checks inputs bytes limit None = []
+assumption_checks inputs bytes limit (Some text) =
+    refused_by_fault side.Assume (assumption_found bytes text)
+    ∷ refused_by_code side.Assume (flat_code (assumption_main bytes text).0 (assumption_main bytes text).1 limit)
+    ∷ refused_if (not (has_all inputs (inputs_of (assumption_main bytes text)))) side.Assume 61
+    ∷ refused_if (not (length (outputs_of (assumption_main bytes text)) == 1)) side.Assume 62
     ∷ []
 
 -- all checks, in their order. A check looks at main models that earlier checks found, and says nothing of its own
 -- where one of these refuses
 abbrev pub checks : GivenOf → List (Option Refused)
 checks given =
-    option_checks given.options ++ text_checks given.texts given.outputs given.options.inputs
-    ++ order_checks (inputs_of (first_main given.texts)) given.order
-    ++ assumption_checks (inputs_of (first_main given.texts)) given.options.inputs given.assume
+    option_checks given.options ++ text_checks given.texts given.outputs given.options.bytes given.options.inputs
+    ++ order_checks (inputs_of (first_main given.options.bytes given.texts)) given.order
+    ++ assumption_checks (inputs_of (first_main given.options.bytes given.texts)) given.options.bytes given.options.inputs given.assume
 
 -- a check of a list refuses, and all before it pass
 pub record IsFirstRefusal (all : List (Option Refused)) (refusal : Refused) : Type 0 where
@@ -254,14 +257,14 @@ with_others given order options = record given { order = order; options = option
 
 -- an order text, where there is one, names the inputs, wherever two netlists are accepted without it and the assumption
 abbrev pub FitsInputs : GivenOf → Type 0
-FitsInputs given = IsAccepted (alone given) → IfSome given.order (IsOrderOf (inputs_of (first_main given.texts)))
+FitsInputs given = IsAccepted (alone given) → IfSome given.order (IsOrderOf (inputs_of (first_main given.options.bytes given.texts)))
 
--- the answer is one for all options in their ranges that allow as many inputs and want as many differences, and all orders that name
--- the inputs; what is refused is refused alike whatever order there is
+-- the answer is one for all options in their ranges that allow as many bytes and inputs and want as many differences, and all orders
+-- that name the inputs; what is refused is refused alike whatever order there is
 abbrev pub AnswerIsOne : Type 0
 AnswerIsOne =
-    (given : GivenOf) (order : Option (List ℕ)) (options : Options) → AreInRange given.options → AreInRange options → given.options.inputs ≡ options.inputs
-    → given.options.every ≡ options.every
+    (given : GivenOf) (order : Option (List ℕ)) (options : Options) → AreInRange given.options → AreInRange options → given.options.bytes ≡ options.bytes
+    → given.options.inputs ≡ options.inputs → given.options.every ≡ options.every
     → FitsInputs given → FitsInputs (with_others given order options) → answer given ≡ answer (with_others given order options)
 
 -- it is `vacuous` exactly where two netlists and an assumption are accepted and no assignment is allowed
@@ -301,8 +304,8 @@ AnswerIsNoStop = (given : GivenOf) (code : ℕ) → answer given ≢ stopped cod
 -- is there
 abbrev pub ModelIsChosen : Type 0
 ModelIsChosen =
-    (text : List ℕ) (models : List ModelOf) (name : Option (List ℕ)) (place : ℕ) (m : MainOf) → outcome text ≡ Ok models
-    → (main_of (outcome text) name place ≡ Ok m) ↔ IsChoice models name place m
+    (limit : ℕ) (text : List ℕ) (models : List ModelOf) (name : Option (List ℕ)) (place : ℕ) (m : MainOf) → outcome limit text ≡ Ok models
+    → (main_of (outcome limit text) name place ≡ Ok m) ↔ IsChoice models name place m
 
 -- a report that answers a run, over readers whose bytes are known, is the answer on these, or says why the run was stopped
 abbrev pub IsAnswerOfRuns : {R : Type 0} → (R → Option (List ℕ)) → Type 0

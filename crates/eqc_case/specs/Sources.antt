@@ -22,27 +22,27 @@ given_of case =
 abbrev pub IsSecond : Case → List ℕ → Type 0
 IsSecond case text = items_of case.second ≡ Some text
 
--- what is read of a reader whose bytes are known
-abbrev pub IsRead : Option (List ℕ) → List ℕ → Type 0
-IsRead known text = IfSome known (λ bytes. text ≡ bytes_read bytes)
+-- what is read of a reader whose bytes are known, where a text may have so many
+abbrev pub IsRead : ℕ → Option (List ℕ) → List ℕ → Type 0
+IsRead limit known text = IfSome known (λ bytes. text ≡ bytes_read limit bytes)
 
 -- of one that may be missing
-abbrev pub MayBeRead : {R : Type 0} → (R → Option (List ℕ)) → Option R → Option (List ℕ) → Type 0
-MayBeRead remaining None None = Unit {0}
-MayBeRead remaining None (Some text) = ⊥
-MayBeRead remaining (Some reader) None = ⊥
-MayBeRead remaining (Some reader) (Some text) = IsRead (remaining reader) text
+abbrev pub MayBeRead : {R : Type 0} → ℕ → (R → Option (List ℕ)) → Option R → Option (List ℕ) → Type 0
+MayBeRead limit remaining None None = Unit {0}
+MayBeRead limit remaining None (Some text) = ⊥
+MayBeRead limit remaining (Some reader) None = ⊥
+MayBeRead limit remaining (Some reader) (Some text) = IsRead limit (remaining reader) text
 
 -- of one text, or of two
-abbrev pub AreTextsRead : {R : Type 0} → (R → Option (List ℕ)) → Texts R → List ℕ → Option (List ℕ) → Type 0
-AreTextsRead remaining (One text) first second = IsRead (remaining text) first × (second ≡ None)
-AreTextsRead remaining (Two text other) first second = IsRead (remaining text) first × MayBeRead remaining (Some other) second
+abbrev pub AreTextsRead : {R : Type 0} → ℕ → (R → Option (List ℕ)) → Texts R → List ℕ → Option (List ℕ) → Type 0
+AreTextsRead limit remaining (One text) first second = IsRead limit (remaining text) first × (second ≡ None)
+AreTextsRead limit remaining (Two text other) first second = IsRead limit (remaining text) first × MayBeRead limit remaining (Some other) second
 
--- of all that a run is given
-pub record AreRead {R : Type 0} (remaining : R → Option (List ℕ)) (given : Given R) (case : Case) : Type 0 where
-  pub texts : AreTextsRead remaining given.texts case.first.items (items_of case.second)
-  pub order : MayBeRead remaining given.order (items_of case.order)
-  pub assume : MayBeRead remaining given.assume (items_of case.assume)
+-- of all that a run is given, where the text of a netlist may have so many bytes, and an order text 16,777,216
+pub record AreRead {R : Type 0} (limit : ℕ) (remaining : R → Option (List ℕ)) (given : Given R) (case : Case) : Type 0 where
+  pub texts : AreTextsRead limit remaining given.texts case.first.items (items_of case.second)
+  pub order : MayBeRead 16777216 remaining given.order (items_of case.order)
+  pub assume : MayBeRead limit remaining given.assume (items_of case.assume)
   pub names : case.names ≡ given.names
   pub outputs : case.outputs ≡ given.outputs
   pub options : case.options ≡ given.options

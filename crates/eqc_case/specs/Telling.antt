@@ -27,7 +27,7 @@ IsToldWith (Err stop) warnings result = result ≡ Err stop
 
 -- where a report says how netlists compare, its warnings are those on the texts
 abbrev pub WarnsOf : GivenOf → ReportOf → Warnings → Type 0
-WarnsOf given report warnings = IsComparison report → warnings ≡ warnings_on given.texts
+WarnsOf given report warnings = IsComparison report → warnings ≡ warnings_on given.options.bytes given.texts
 
 -- the answer on the texts with its warnings, or why the run was stopped
 abbrev pub Tells : GivenOf → Result Told Stop → Type 0

@@ -33,7 +33,7 @@ abbrev pub contained : List (List ℕ) → MainOf → Option Contained
 contained compared m =
     option_map (λ (c : ModelOf). record { model = name_of m; container = c.name }) (find (is_container compared (name_of m)) m.0)
 
--- the warnings on two models of one text, and on models of two texts
+-- the warnings on two models of one text, and on models of two texts, which may have so many bytes each
 abbrev pub warnings_in_one : MainOf → MainOf → Warnings
 warnings_in_one m n = record {
   first = contained (name_of m ∷ name_of n ∷ []) m;
@@ -43,16 +43,17 @@ warnings_in_one m n = record {
 abbrev pub warnings_in_two : MainOf → MainOf → Warnings
 warnings_in_two m n = record { first = contained (name_of m ∷ []) m; second = contained (name_of n ∷ []) n }
 
-abbrev pub warnings_on : TextsOf → Warnings
-warnings_on (one_text names text) = warnings_in_one (first_main (one_text names text)) (second_main (one_text names text))
-warnings_on (two_texts names first second) = warnings_in_two (first_main (two_texts names first second)) (second_main (two_texts names first second))
+abbrev pub warnings_on : ℕ → TextsOf → Warnings
+warnings_on limit (one_text names text) = warnings_in_one (first_main limit (one_text names text)) (second_main limit (one_text names text))
+warnings_on limit (two_texts names first second) =
+    warnings_in_two (first_main limit (two_texts names first second)) (second_main limit (two_texts names first second))
 
 abbrev pub no_warnings : Warnings
 no_warnings = record { first = None; second = None }
 
 -- where a report on texts whose bytes are known says how netlists compare, its warnings are those on the texts
 abbrev pub WarnsOfKnown : {R : Type 0} → (R → Option (List ℕ)) → Given R → ReportOf → Warnings → Type 0
-WarnsOfKnown remaining given report found = IsComparison report → IfSome (known_texts given.names remaining given.texts) (λ known. found ≡ warnings_on known)
+WarnsOfKnown remaining given report found = IsComparison report → IfSome (known_texts given.names remaining given.texts) (λ known. found ≡ warnings_on given.options.bytes known)
 
 -- there are warnings where a verdict is given, and none where nothing was compared or the comparison stopped
 abbrev pub warnings_at : Status → Warnings → Warnings
@@ -65,4 +66,4 @@ warnings_at Stopped warnings = no_warnings
 -- what is warned of after a run with this status, over texts whose bytes may be known
 pub record IsWarned {R : Type 0} (remaining : R → Option (List ℕ)) (given : Given R) (status : Status) (found : Warnings) : Type 0 where
   pub verdict : warnings_at status found ≡ found
-  pub known : IfSome (known_texts given.names remaining given.texts) (λ known. found ≡ warnings_at status (warnings_on known))
+  pub known : IfSome (known_texts given.names remaining given.texts) (λ known. found ≡ warnings_at status (warnings_on given.options.bytes known))

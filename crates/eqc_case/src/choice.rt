@@ -1,10 +1,10 @@
 //! Which models of texts are compared, and which outputs of these.
-ghost use Rattle.std.specs.Prelude.{◌≡◌, ◌⊎◌, ◌<◌, [], length, IfOk, IfErr, Ok, Err};
+ghost use Rattle.std.specs.Prelude.{◌≡◌, ◌⊎◌, ◌<◌, ◌^◌, [], length, IfOk, IfErr, Ok, Err};
 ghost use Rattle.std.specs.Option.{option_copied};
 ghost use Rattle.eqc_blif.specs.Reading.{outcome};
 ghost use Rattle.eqc_case.specs.Answer.{chosen_number, chosen, main_of, no_names};
 
-use eqc_blif::{Library, Name, Refusal, Rule, read};
+use eqc_blif::{Library, Name, Refusal, Rule, read_within};
 use std::alloc::Global;
 use std::marker::Model;
 
@@ -105,20 +105,22 @@ pub struct Main {
     pub model: usize,
 }
 
-/// Reads a text and chooses its main model, as `choose` does. It fails with the line and the code by which the text is refused, or with
-/// the code of `choose`.
+/// Reads a text of at most `limit` bytes, fewer than 2^31, and chooses its main model, as `choose` does. It fails with the line and the
+/// code by which the text is refused, or with the code of `choose`.
 pub fn read_main(
     alloc: Global,
     text: &[u8],
+    limit: u32,
     name: Option<&[u8]>,
     place: usize,
 ) -> Result<Main, Refusal>
-    ensures read { IfOk result (λ main. outcome text.now ≡ Ok main.library) }
+    requires { limit < 2 ^ 31 }
+    ensures read { IfOk result (λ main. outcome limit text.now ≡ Ok main.library) }
     ensures there { IfOk result (λ main. main.model < length main.library) }
-    ensures chosen { IfOk result (λ main. main_of (outcome text.now) (option_copied name.entry) place ≡ Ok (main.library, main.model)) }
-    ensures refused { IfErr result (λ refusal. (refusal ≡ record { line = 0; code = 72 }) ⊎ (main_of (outcome text.now) (option_copied name.entry) place ≡ Err (refusal.line, refusal.code))) }
+    ensures chosen { IfOk result (λ main. main_of (outcome limit text.now) (option_copied name.entry) place ≡ Ok (main.library, main.model)) }
+    ensures refused { IfErr result (λ refusal. (refusal ≡ record { line = 0; code = 72 }) ⊎ (main_of (outcome limit text.now) (option_copied name.entry) place ≡ Err (refusal.line, refusal.code))) }
 {
-    let library = read(alloc, text)?;
+    let library = read_within(alloc, text, limit)?;
     let model = choose(alloc, &library, name, place)?;
     Ok(Main { library, model })
 }

@@ -23,7 +23,7 @@ pub trait Diagnostics {
     /// No assignment of the inputs meets the assumption.
     fn vacuous(&mut self);
 
-    /// An option was refused by this code, 81 to 84.
+    /// An option was refused by this code, 81 to 86.
     fn option(&mut self, code: u8);
 
     /// The run was stopped.

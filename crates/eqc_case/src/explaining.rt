@@ -1,48 +1,54 @@
 //! What is at fault in texts that are refused: the checks are made once more, in their order, up to the first that fails.
-ghost use Rattle.std.specs.Prelude.{◌<◌, length, IfOk, IfSome};
+ghost use Rattle.std.specs.Prelude.{◌<◌, ◌^◌, length, IfOk, IfSome};
 
 use crate::choice::{Main, choose, read_main};
 use crate::diagnostics::Diagnostics;
 use crate::given::{Case, bytes_of};
-use eqc_blif::{Library, Refusal, read};
+use eqc_blif::{Library, Refusal, read_within};
 use eqc_flat::{Flat, flatten_within};
 use eqc_pair::{Side, explain_assumption, explain_pair};
+use eqc_report::Options;
 use std::alloc::{AllocError, Global};
 
-/// Tells of a text that is refused, or in which a model isn't there. Fails where memory is refused.
+/// Tells of a text that may have so many bytes, and is refused or has no such model. Fails where memory is refused.
 fn tell_text<T: Diagnostics>(
     alloc: Global,
     side: Side,
     text: &[u8],
+    limit: u32,
     told: &mut T,
-) -> Result<(), AllocError> {
-    match read(alloc, text) {
+) -> Result<(), AllocError>
+    requires { limit < 2 ^ 31 }
+{
+    match read_within(alloc, text, limit) {
         Ok(library) => told.models(side, &library),
         Err(Refusal { line, .. }) => {
-            let finding = eqc_blif::explain(alloc, text)?;
+            let finding = eqc_blif::explain(alloc, text, limit)?;
             told.text(side, line, finding.as_ref());
         }
     }
     Ok(())
 }
 
-/// The main model of a text, or none where the text was told of. Fails where memory is refused.
+/// The main model of a text that may have so many bytes, or none where the text was told of. Fails where memory is refused.
 fn main_or_told<T: Diagnostics>(
     alloc: Global,
     side: Side,
     text: &[u8],
+    limit: u32,
     name: Option<&[u8]>,
     told: &mut T,
 ) -> Result<Option<Main>, AllocError>
+    requires { limit < 2 ^ 31 }
     ensures { IfOk result (λ found. IfSome found (λ main. main.model < length main.library)) }
 {
-    match read_main(alloc, text, name, 0) {
+    match read_main(alloc, text, limit, name, 0) {
         Ok(main) => Ok(Some(main)),
         Err(refusal) => {
             if refusal.is_memory() {
                 return Err(AllocError);
             }
-            tell_text(alloc, side, text, told)?;
+            tell_text(alloc, side, text, limit, told)?;
             Ok(None)
         }
     }
@@ -122,7 +128,7 @@ fn tell_flats<T: Diagnostics>(
         return Ok(());
     }
     match &case.assume {
-        Some(text) => tell_assumption(alloc, first, text, case.options.input_limit(), told),
+        Some(text) => tell_assumption(alloc, first, text, &case.options, told),
         None => Ok(()),
     }
 }
@@ -160,19 +166,20 @@ fn tell_assuming<T: Diagnostics>(
     }
 }
 
-/// Tells of an assumption that is refused for the first netlist's inputs, or with this limit of inputs. Fails where memory is
-/// refused.
+/// Tells of an assumption that is refused for the first netlist's inputs, or with these limits of bytes and inputs. Fails where
+/// memory is refused.
 fn tell_assumption<T: Diagnostics>(
     alloc: Global,
     first: &Flat<'_>,
     text: &[u8],
-    limit: u16,
+    options: &Options,
     told: &mut T,
 ) -> Result<(), AllocError> {
-    let Some(main) = main_or_told(alloc, Side::Assume, text, None, told)? else {
+    let limit = options.byte_limit();
+    let Some(main) = main_or_told(alloc, Side::Assume, text, limit, None, told)? else {
         return Ok(());
     };
-    tell_assuming(alloc, first, &main, limit, told)
+    tell_assuming(alloc, first, &main, options.input_limit(), told)
 }
 
 /// Tells of what stands behind the first text's model, where there is one text. Fails where memory is refused.
@@ -207,7 +214,9 @@ fn tell_of_two<T: Diagnostics>(
 ) -> Result<(), AllocError>
     requires { first.now.model < length first.now.library }
 {
-    let Some(second) = main_or_told(alloc, Side::Second, second, case.names.second, told)? else {
+    let limit = case.options.byte_limit();
+    let name = case.names.second;
+    let Some(second) = main_or_told(alloc, Side::Second, second, limit, name, told)? else {
         return Ok(());
     };
     tell_models(
@@ -225,8 +234,9 @@ pub fn tell_of_case<T: Diagnostics>(
     case: &Case<'_>,
     told: &mut T,
 ) -> Result<(), AllocError> {
+    let limit = case.options.byte_limit();
     let name = case.names.first;
-    let Some(first) = main_or_told(alloc, Side::First, &case.first, name, told)? else {
+    let Some(first) = main_or_told(alloc, Side::First, &case.first, limit, name, told)? else {
         return Ok(());
     };
     match &case.second {

@@ -1,10 +1,10 @@
 //! What a run is given, and what is read of it.
-ghost use Rattle.std.specs.Prelude.{◌≡◌, IfOk};
+ghost use Rattle.std.specs.Prelude.{◌≡◌, ◌<◌, ◌^◌, ◌≤◌, IfOk};
 ghost use Rattle.std.specs.Option.{option_copied};
 ghost use Rattle.eqc_case.specs.Sources.{items_of, IsRead, MayBeRead, AreRead};
 
 use crate::choice::{ModelNames, OutputNames};
-use crate::reading::read_text;
+use crate::reading::{Counted, read_text};
 use eqc_pair::Side;
 use eqc_report::{Options, StreamFault};
 use std::alloc::Global;
@@ -63,37 +63,50 @@ pub struct Unread {
     pub fault: StreamFault,
 }
 
-/// Reads the text of a side.
-fn read_side<R: Read>(alloc: Global, side: Side, text: &mut R) -> Result<Vec<u8>, Unread>
-    ensures { IfOk result (λ read. IsRead (R.remaining text.old) read.items) }
+/// How many bytes an order text may have.
+const ORDER_BYTES: u32 = 16_777_216;
+
+/// Reads the text of a side, which may have so many bytes.
+fn read_side<R: Read + Drop>(
+    alloc: Global,
+    side: Side,
+    text: R,
+    limit: u32,
+) -> Result<Vec<u8>, Unread>
+    requires { limit < 2 ^ 31 }
+    ensures { IfOk result (λ read. IsRead limit (R.remaining text) read.items) }
 {
-    match read_text(alloc, text) {
+    let mut reader = Counted::of(text);
+    match read_text(alloc, &mut reader, limit) {
         Ok(read) => Ok(read),
         Err(fault) => Err(Unread { side, fault }),
     }
 }
 
-/// A text that may be missing.
+/// A text that may be missing, and may have so many bytes.
 fn read_some<R: Read + Drop>(
     alloc: Global,
     side: Side,
     text: Option<R>,
+    limit: u32,
 ) -> Result<Option<Vec<u8>>, Unread>
-    ensures { IfOk result (λ read. MayBeRead R.remaining text (items_of read)) }
+    requires { limit < 2 ^ 31 }
+    ensures { IfOk result (λ read. MayBeRead limit R.remaining text (items_of read)) }
 {
     match text {
         None => Ok(None),
-        Some(mut text) => Ok(Some(read_side(alloc, side, &mut text)?)),
+        Some(text) => Ok(Some(read_side(alloc, side, text, limit)?)),
     }
 }
 
-/// Reads the first text whole, then the second, then the order text, then the assumption's. Of each at most one byte more is read
-/// than a text may have. It fails with the first text that was not read, and why: memory was refused, or its reader failed.
-pub fn read_given<'a, R: Read + Drop>(
+/// Reads what a run is given, where the text of a netlist may have so many bytes.
+fn read_within<'a, R: Read + Drop>(
     alloc: Global,
     given: Given<'a, R>,
+    limit: u32,
 ) -> Result<Case<'a>, Unread>
-    ensures { IfOk result (AreRead R.remaining given.entry) }
+    requires { limit < 2 ^ 31 }
+    ensures { IfOk result (AreRead limit R.remaining given.entry) }
 {
     let Given {
         texts,
@@ -103,14 +116,14 @@ pub fn read_given<'a, R: Read + Drop>(
         outputs,
         options,
     } = given;
-    let (mut first, second) = match texts {
+    let (first, second) = match texts {
         Texts::One(text) => (text, None),
         Texts::Two(first, second) => (first, Some(second)),
     };
-    let first = read_side(alloc, Side::First, &mut first)?;
-    let second = read_some(alloc, Side::Second, second)?;
-    let order = read_some(alloc, Side::Order, order)?;
-    let assume = read_some(alloc, Side::Assume, assume)?;
+    let first = read_side(alloc, Side::First, first, limit)?;
+    let second = read_some(alloc, Side::Second, second, limit)?;
+    let order = read_some(alloc, Side::Order, order, ORDER_BYTES)?;
+    let assume = read_some(alloc, Side::Assume, assume, limit)?;
     Ok(Case {
         first,
         second,
@@ -120,4 +133,17 @@ pub fn read_given<'a, R: Read + Drop>(
         outputs,
         options,
     })
+}
+
+/// Reads the first text whole, then the second, then the order text, then the assumption's. Of each at most one byte more is read
+/// than it may have: a netlist as many as the options allow, an order text 16,777,216. It fails with the first text that was not
+/// read, and why: memory was refused, or its reader failed.
+pub fn read_given<'a, R: Read + Drop>(
+    alloc: Global,
+    given: Given<'a, R>,
+) -> Result<Case<'a>, Unread>
+    ensures { given.entry.options.bytes ≤ 2147483647 → IfOk result (AreRead given.entry.options.bytes R.remaining given.entry) }
+{
+    let limit = given.options.byte_limit();
+    read_within(alloc, given, limit)
 }

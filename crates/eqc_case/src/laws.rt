@@ -3,8 +3,8 @@ ghost use Rattle.eqc_case.specs.AnswerLaws.{AnswerIsOne, AnswerIsVacuous, Answer
 
 use std::io::Read;
 
-/// The answer is one for all options in their ranges that allow as many inputs and want as many differences, and all orders that name
-/// the inputs. What is refused is refused alike, whatever order there is.
+/// The answer is one for all options in their ranges that allow as many bytes and inputs and want as many differences, and all orders
+/// that name the inputs. What is refused is refused alike, whatever order there is.
 pub fn answer_is_one_for_all_orders()
     ensures { AnswerIsOne }
 {}

@@ -3,22 +3,23 @@
 //!
 //! | | What | Call | In |
 //! |---|---|---|---|
-//! | 1 | the first text and the choice of its model | `read_main` | `decide` |
-//! | 2 | the second model, of the same text or of another | `choose`, `read_main` | `on_one`, `on_two` |
-//! | 3 | the hierarchies | `flatten_two`, `flatten` | `on_both`, `on_models` and `on_second` |
+//! | 1 | the first text and the choice of its model | `read` | `decide` |
+//! | 2 | the second model, of the same text or of another | `choose`, `read` | `on_one`, `on_two` |
+//! | 3 | the hierarchies | `flatten_two`, `flatten_within` | `on_both`, `on_models` and `on_second` |
 //! | 4 | the pair, the names of outputs, the order text | `pair_choosing` | `on_flats` |
-//! | 5 | the assumption's text and model, its hierarchy, what is asked of it | `read_main`, `flatten`, `Pair::assuming` | `on_assumption`, `on_main`, `on_assumed` |
-//! | 6 | the comparison | `decide_pair` | `on_flats`, `on_assumed` |
-ghost use Rattle.std.specs.Prelude.{◌≡◌, ◌≢◌, ◌<◌, length, None, Some, IfOk, IfErr, Ok, MatchResult};
+//! | 5 | the assumption's text and model, its hierarchy, what is asked of it | `read`, `flatten_within`, `Pair::assuming` | `on_assumption`, `on_main`, `on_assumed` |
+//! | 6 | the comparison | `known_by_structure`, `decide_pair` | `on_pair` |
+ghost use Rattle.std.specs.Prelude.{◌≡◌, ◌≢◌, ◌⊎◌, ◌<◌, length, None, Some, IfOk, IfErr, Ok, Err, MatchResult};
 ghost use Rattle.std.specs.Option.{option_copied};
 ghost use Rattle.eqc_blif.specs.Reading.{outcome};
 ghost use Rattle.eqc_hierarchy.specs.Codes.{flat_code};
 ghost use Rattle.eqc_flat.specs.Flattened.{IsFlatOf};
 ghost use Rattle.eqc_case.specs.Refusing.{IsRefused, flat_answer, flat_assumed};
 ghost use Rattle.eqc_compare.specs.Comparing.{netlist_of};
+ghost use Rattle.eqc_report.specs.PairReport.{pair_report};
 ghost use Rattle.eqc_report.specs.ReportView.{report_of};
 ghost use Rattle.eqc_report.specs.Options.{options_code};
-ghost use Rattle.eqc_case.specs.Answer.{MainOf, first_found, assumption_found, assumption_answer, models_answer, texts_answer, MayStop};
+ghost use Rattle.eqc_case.specs.Answer.{MainOf, main_of, first_found, assumption_found, assumption_answer, models_answer, texts_answer, MayStop};
 ghost use Rattle.eqc_case.specs.Sources.{given_of, IsSecond};
 ghost use Rattle.eqc_case.specs.Telling.{IsToldRefusal, IsToldWith, Tells};
 
@@ -27,7 +28,7 @@ use eqc_case::{
     Case, Main, Told, Warnings, bytes_of, choose, read_main, warnings_in_one, warnings_in_two,
 };
 use eqc_compare::Progress;
-use eqc_engine::{Comparison, decide_pair};
+use eqc_engine::{Comparison, decide_pair, known_by_structure};
 use eqc_flat::{Fault, FaultOfTwo, Flat, flatten_two, flatten_within};
 use eqc_pair::{Pair, Refused, Side, pair_choosing, recall_laws};
 use eqc_report::{Report, Undecided};
@@ -63,7 +64,7 @@ pub(crate) fn decide<R: Threads + Wait + Sync, P: Progress<R> + Sync>(
         case,
         watch,
     };
-    let first = match read_main(alloc, &case.first, case.names.first, 0) {
+    let first = match decision.read(&case.first, case.names.first) {
         Ok(first) => first,
         Err(refusal) => return told_refusal(Side::First, refusal),
     };
@@ -78,8 +79,8 @@ impl<'x, R: Threads + Wait + Sync, P: Progress<R> + Sync> Decision<'x, R, P> {
     fn on_one(&self, first: &Main, left: &mut Undecided) -> Result<Told, Stop>
         requires options { options_code self.now.case.now.options ≡ None }
         requires m { first.now.model < length first.now.library }
-        requires first { first_found (given_of self.now.case.now).texts ≡ Ok (first.now.library, first.now.model) }
-        requires read { outcome self.now.case.now.first.items ≡ Ok first.now.library }
+        requires first { first_found self.now.case.now.options.bytes (given_of self.now.case.now).texts ≡ Ok (first.now.library, first.now.model) }
+        requires read { outcome self.now.case.now.options.bytes self.now.case.now.first.items ≡ Ok first.now.library }
         requires one { self.now.case.now.second ≡ None }
         ensures { Tells (given_of self.now.case.now) result }
     {
@@ -98,12 +99,12 @@ impl<'x, R: Threads + Wait + Sync, P: Progress<R> + Sync> Decision<'x, R, P> {
     fn on_two(&self, first: &Main, second: &[u8], left: &mut Undecided) -> Result<Told, Stop>
         requires options { options_code self.now.case.now.options ≡ None }
         requires m { first.now.model < length first.now.library }
-        requires first { first_found (given_of self.now.case.now).texts ≡ Ok (first.now.library, first.now.model) }
+        requires first { first_found self.now.case.now.options.bytes (given_of self.now.case.now).texts ≡ Ok (first.now.library, first.now.model) }
         requires two { IsSecond self.now.case.now second.now }
         ensures { Tells (given_of self.now.case.now) result }
     {
         let case = self.case;
-        match read_main(self.alloc, second, case.names.second, 0) {
+        match self.read(second, case.names.second) {
             Ok(second) => {
                 let (f, g) = (
                     (&first.library, first.model),
@@ -204,7 +205,7 @@ impl<'x, R: Threads + Wait + Sync, P: Progress<R> + Sync> Decision<'x, R, P> {
         let order = bytes_of(&case.order);
         match pair_choosing(self.alloc, first, second, case.outputs.names, order) {
             Ok(pair) => match &case.assume {
-                None => decide_pair(&self.comparison(&pair), left),
+                None => self.on_pair(&pair, left),
                 Some(text) => self.on_assumption(pair, text, left),
             },
             Err(Refused { side, line, code }) => refused(side, Refusal { line, code }),
@@ -220,10 +221,10 @@ impl<'x, R: Threads + Wait + Sync, P: Progress<R> + Sync> Decision<'x, R, P> {
     ) -> Result<Report, Stop>
         requires options { options_code self.now.case.now.options ≡ None }
         requires outputs { pair.chosen ≡ self.now.case.now.outputs }
-        ensures report { IfOk result (λ report. report_of report ≡ assumption_answer (given_of self.now.case.now) (netlist_of pair.entry.first) (netlist_of pair.entry.second) (assumption_found text.now)) }
-        ensures stop { IfErr result (MayStop (assumption_answer (given_of self.now.case.now) (netlist_of pair.entry.first) (netlist_of pair.entry.second) (assumption_found text.now))) }
+        ensures report { IfOk result (λ report. report_of report ≡ assumption_answer (given_of self.now.case.now) (netlist_of pair.entry.first) (netlist_of pair.entry.second) (assumption_found self.now.case.now.options.bytes text.now)) }
+        ensures stop { IfErr result (MayStop (assumption_answer (given_of self.now.case.now) (netlist_of pair.entry.first) (netlist_of pair.entry.second) (assumption_found self.now.case.now.options.bytes text.now))) }
     {
-        match read_main(self.alloc, text, None, 0) {
+        match self.read(text, None) {
             Ok(main) => self.on_main(pair, &main, left),
             Err(refusal) => refused(Side::Assume, refusal),
         }
@@ -265,12 +266,24 @@ impl<'x, R: Threads + Wait + Sync, P: Progress<R> + Sync> Decision<'x, R, P> {
         ensures stop { IfErr result (MayStop (flat_assumed (given_of self.now.case.now) pair.entry.first pair.entry.second assumed.now)) }
     {
         match pair.assuming(self.alloc, assumed) {
-            Ok(pair) => decide_pair(&self.comparison(&pair), left),
+            Ok(pair) => self.on_pair(&pair, left),
             Err(refusal) => {
                 let Refused { side, line, code } = refusal;
                 refused(side, Refusal { line, code })
             }
         }
+    }
+
+    /// The models of a text of as many bytes as the options allow, and the number of the one of a name or, without one, of the first.
+    fn read(&self, text: &[u8], name: Option<&[u8]>) -> Result<Main, Refusal>
+        requires { options_code self.now.case.now.options ≡ None }
+        ensures read { IfOk result (λ main. outcome self.now.case.now.options.bytes text.now ≡ Ok main.library) }
+        ensures there { IfOk result (λ main. main.model < length main.library) }
+        ensures chosen { IfOk result (λ main. main_of (outcome self.now.case.now.options.bytes text.now) (option_copied name.entry) 0 ≡ Ok (main.library, main.model)) }
+        ensures refused { IfErr result (λ refusal. (refusal ≡ record { line = 0; code = 72 }) ⊎ (main_of (outcome self.now.case.now.options.bytes text.now) (option_copied name.entry) 0 ≡ Err (refusal.line, refusal.code))) }
+    {
+        let limit = self.case.options.byte_limit();
+        read_main(self.alloc, text, limit, name, 0)
     }
 
     /// How many inputs a main model may have.
@@ -279,6 +292,16 @@ impl<'x, R: Threads + Wait + Sync, P: Progress<R> + Sync> Decision<'x, R, P> {
         ensures { result ≡ self.now.case.now.options.inputs }
     {
         self.case.options.input_limit()
+    }
+
+    /// The report on a pair, behind all checks.
+    fn on_pair(&self, pair: &Pair<'_>, left: &mut Undecided) -> Result<Report, Stop>
+        requires { options_code self.now.case.now.options ≡ None }
+        ensures { IfOk result (λ report. report_of report ≡ pair_report self.now.case.now.options.every pair.now) }
+    {
+        let asked = self.comparison(pair);
+        let mut alike = known_by_structure(&asked);
+        decide_pair(&asked, &mut alike, left)
     }
 
     /// The comparison behind all checks.

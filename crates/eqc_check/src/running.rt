@@ -216,8 +216,11 @@ pub fn run_models<RT: Threads + Wait + Sync, R: Read + Drop, W: Write>(
 /// anywhere before the writing is reported as `stopped 72`. A write that fails or takes nothing, or a flush that fails, is
 /// `Write`, 92, and then a part of a report was written. Nothing is tried again. The answer is the kind of the report.
 ///
-/// As many threads compare as the options have workers; the call may wait, for them. The report is the same for every
-/// number of workers, and where they were stopped its code is from 71 to 74.
+/// It begins on one thread, as many pairs end there. Threads are started where the options have several workers and outputs are left: with
+/// fewer than 1,024 nodes at once, and else where the store of one thread is full or its operations took too many turns. Then as
+/// many compare as the options have workers, without forks no more than there are outputs to compare; searches for differences have
+/// as many too. The call may wait, for them. The report is the same for every number of workers, and where they were stopped its
+/// code is from 71 to 74.
 pub fn run<RT: Threads + Wait + Sync, R: Read + Drop, W: Write>(
     rt: &RT,
     alloc: Global,

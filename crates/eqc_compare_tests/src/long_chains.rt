@@ -65,6 +65,7 @@ fn reports(rt: &(impl AllocGlobal + Threads + Wait + Sync), text: &str, report: 
         forks: 0,
         conflicts: 100_000,
         inputs: 2_048,
+        bytes: 16_777_216,
         every: false,
     };
     let mut out = Vec::new(rt.alloc());

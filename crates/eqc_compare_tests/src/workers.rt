@@ -7,14 +7,15 @@ use crate::ends::holds;
 use crate::pairs::report_word;
 use eqc_blif::{Library, read};
 use eqc_check::{
-    Gate, NoGate, Options, Pair, Report, Status, Texts, check, check_with, options_fault, pair, run,
+    Gate, NoGate, Options, Pair, Report, Texts, check, check_with, options_fault, pair,
 };
-use eqc_engine::{Comparison, decide_pair};
+use eqc_engine::{Comparison, decide_pair, known_by_structure};
 use eqc_flat::Flat;
 use eqc_netlist_testing::two_flats;
 use eqc_plain::Plain;
 use eqc_report::Undecided;
-use eqc_testing::{DIFFERENCE, EQUAL, Row, UNEQUAL, is_text, lines};
+use eqc_run_testing::{given, options, workers_on};
+use eqc_testing::{DIFFERENCE, EQUAL, Feed, Row, UNEQUAL, lines};
 use eqc_tree::{References, Stop};
 use std::alloc::{AllocError, Global};
 use std::sync::Wait;
@@ -115,6 +116,7 @@ fn compared_in_course<R: Threads + Wait + Sync>(
         forks: 0,
         conflicts: 1_000,
         inputs: 2_048,
+        bytes: 16_777_216,
         every: false,
     };
     let comparison = Comparison {
@@ -125,7 +127,10 @@ fn compared_in_course<R: Threads + Wait + Sync>(
         watch: &NoGate,
     };
     match options_fault(&options) {
-        None => decide_pair(&comparison, &mut Undecided::none(alloc)),
+        None => {
+            let mut alike = known_by_structure(&comparison);
+            decide_pair(&comparison, &mut alike, &mut Undecided::none(alloc))
+        }
         Some(_) => Err(Stop::NodeLimit),
     }
 }
@@ -154,6 +159,7 @@ fn compared<R: Threads + Wait + Sync, G: Gate<R> + Sync>(
         forks: 0,
         conflicts: 0,
         inputs: 2_048,
+        bytes: 16_777_216,
         every: false,
     };
     match options_fault(&options) {
@@ -335,35 +341,31 @@ fn nothing_is_compared_behind_a_difference(rt: HostRuntime) -> Result<(), AllocE
     Ok(())
 }
 
-/// Whether a run of many workers over a text reports the second output.
-fn is_second<R: AllocGlobal + Threads + Wait + Sync>(rt: &R, text: &[u8]) -> bool {
-    let options = Options {
-        workers: 64,
-        nodes: 65_536,
-        cells: 8_192,
-        forks: 0,
-        conflicts: 100_000,
-        inputs: 2_048,
-        every: false,
-    };
-    let mut out = Vec::new(rt.alloc());
-    let done = run(
-        rt,
-        rt.alloc(),
-        Texts::One(text),
-        None,
-        None,
-        &options,
-        &mut out,
-    );
-    done == Ok(Status::Differs) && is_text(&out, SECOND)
+/// How many workers compared outputs, of so many that are waited for, in a run of many over the text `MANY` that reports the second
+/// output: none where it doesn't.
+fn workers_on_many<R: AllocGlobal + Threads + Wait + Sync>(
+    rt: &R,
+    forks: u32,
+    awaited: u32,
+) -> Option<u32> {
+    let options = options((64, 1_023, 8_192, forks));
+    let run = given(Texts::One(Feed::whole(MANY)), None, None, options);
+    workers_on(rt, run, awaited, SECOND)
 }
 
+/// How many levels of an operation workers share, and how many runs are made. Without such a level only three workers are started,
+/// since two of the five outputs are driven alike; with one all 64.
+static FORKS: &[(u32, u32)] = &[(0, 1_000), (16, 100)];
+
+/// Most runs go as they like. In each fiftieth three workers are held until all three compare an output.
 #[test]
-fn runs_of_many_workers_write_the_same(rt: HostRuntime) -> Result<(), AllocError> {
-    let text = lines(rt.alloc(), MANY)?;
-    for turn in 0..1_000 {
-        assert!(rt; is_second(&rt, &text), "{turn}");
+fn runs_of_many_workers_write_the_same(rt: HostRuntime) {
+    for (forks, turns) in FORKS {
+        for turn in 0..*turns {
+            let awaited = if turn % 50 == 0 { 3 } else { 0 };
+            let workers = workers_on_many(&rt, *forks, awaited);
+            let found = workers.is_some_and(|count| count >= awaited);
+            assert!(rt; found, "{forks} {turn}");
+        }
     }
-    Ok(())
 }

@@ -5,20 +5,22 @@
 //! |---|---|---|---|
 //! | 1 | equal structure | `alike_or_nothing` | outputs whose two signals have one structure are equal |
 //! | 2 | diagrams on one thread | `first_diagrams` | all outputs, where they fit |
-//! | 3 | short rounds of sweeping | `Inside::of`, `sweep_more` | outputs whose two signals became one are equal |
+//! | 3 | short rounds of sweeping, and a short search that refutes after each | `Inside::of`, `sweep_more`, `ask_while_found` | outputs that are found equal |
 //! | 4 | a short search, where simulation saw an output differ | `by_search` | all outputs, or all up to the first that differs |
 //! | 5 | diagrams on one thread in a larger room | `in_room` | the outputs left, where they fit |
 //! | 6 | long rounds of sweeping, as long as they find nodes equal | `sweep_more` | the same as 3 |
-//! | 7 | short searches | `ask_outputs`, then `by_search` | the same as 4 |
+//! | 7 | short searches | `by_search` | the same as 4 |
 //! | 8 | diagrams by all workers | `in_room` | the outputs left, where they fit |
 //! | 9 | a longer search that refutes | `ask_outputs` | outputs that are found equal |
 //! | 10 | longer searches | `by_search` | the same as 4 |
 //! | 11 | diagrams by all workers once more, where 9 found some outputs equal | `in_room` | the outputs left, where they fit |
 //!
-//! `decide_pair` has 1 and 2, `behind_first` begins with 3, and `by_sweeping` goes on from there. With few nodes or without conflicts 8
+//! `known_by_structure` has 1, `decide_pair` begins with 2, `behind_first` with 3, and `by_sweeping` goes on from there:
+//! `by_short_rounds` has 3 to 5, `by_long_rounds` 6 to 8, and `by_longer_searches` the others. With few nodes or without conflicts 8
 //! follows 2, and nothing else does.
-ghost use Rattle.std.specs.Prelude.{◌≡◌, Bool, List, None, length, IfOk, IfErr};
-ghost use Rattle.eqc_compare.specs.Alike.{AreEqual, IsKnown};
+ghost use Rattle.std.specs.Prelude.{◌≡◌, None, length, IfOk, IfErr};
+ghost use Rattle.eqc_compare.specs.Alike.{IsKnown};
+ghost use Rattle.eqc_inside.specs.Inside.{KeepsMarks};
 ghost use Rattle.eqc_report.specs.PairReport.{pair_report};
 ghost use Rattle.eqc_report.specs.ReportView.{report_of};
 ghost use Rattle.eqc_report.specs.Options.{options_code};
@@ -28,9 +30,8 @@ ghost use Rattle.eqc_report.specs.Left.{AddsLeft, AddsNone};
 use crate::workers::{
     Comparison, FIRST_NODES, check_by_team, check_first, first_nodes, has_large_room,
 };
-use eqc_compare::{Alike, Progress, Stage, alike_or_nothing, is_marked, known_outcome};
+use eqc_compare::{Alike, Progress, Stage, alike_or_nothing, known_outcome};
 use eqc_inside::{Conflicts, Inside, Rounds, Searched};
-use eqc_pair::Pair;
 use eqc_report::{Options, Report, Undecided, found_report, note_seen};
 use eqc_tree::Stop;
 use std::sync::Wait;
@@ -39,8 +40,11 @@ use std::thread::Threads;
 /// The fewest nodes with which a run does more than to make diagrams by all its workers. Who allows fewer asks about these.
 const SWEPT_NODES: u32 = 1_024;
 
-/// This part of the conflicts that a single output may have are given to all outputs left by sweeping at first, to find them equal.
+/// This part of the conflicts that the options allow are given to all outputs that a round of sweeping leaves, to find them equal.
 const FEW_PART: u64 = 20;
+
+/// So often they have as many at most, each time after some were found equal.
+const MOST_TIMES: u32 = 8;
 
 /// With this part of them all outputs are searched for differences at first.
 const SEARCH_PART: u64 = 5;
@@ -97,14 +101,22 @@ fn in_room<R: Threads + Wait + Sync, P: Progress<R> + Sync>(
     let Ok(alike) = alike.clone() else {
         return Err(Stop::Memory);
     };
-    if room == Room::Large && !has_large_room(pair, options) {
-        return Err(Stop::NodeLimit);
-    }
-    tell_room(comparison, room);
     match room {
-        Room::First => check_first(comparison, alike, first_nodes(pair, options)),
-        Room::Large => check_first(comparison, alike, FIRST_NODES),
-        Room::Whole => check_by_team(comparison, alike),
+        Room::First => {
+            tell_room(comparison, room);
+            check_first(comparison, alike, first_nodes(pair, options))
+        }
+        Room::Large => {
+            if !has_large_room(pair, options) {
+                return Err(Stop::NodeLimit);
+            }
+            tell_room(comparison, room);
+            check_first(comparison, alike, FIRST_NODES)
+        }
+        Room::Whole => {
+            tell_room(comparison, room);
+            check_by_team(comparison, alike)
+        }
     }
 }
 
@@ -137,6 +149,7 @@ fn by_search<R: Threads + Wait + Sync, P: Progress<R> + Sync>(
     requires known { IsKnown comparison.now.pair.now alike.old }
     ensures inside { inside.new ≡ inside.old }
     ensures known { IsKnown comparison.now.pair.now alike.new }
+    ensures kept { KeepsMarks comparison.now.pair.now alike.old.equal.items alike.new.equal.items }
     ensures report { IfOk result (λ report. report_of report ≡ pair_report comparison.now.options.now.every comparison.now.pair.now) }
     ensures seen { IsLeftOf comparison.now.pair.now left.old → IsLeftOf comparison.now.pair.now left.new }
     ensures none { AddsNone left.old left.new }
@@ -156,8 +169,17 @@ fn by_search<R: Threads + Wait + Sync, P: Progress<R> + Sync>(
             note_seen(alloc, pair, left, output, values);
             Err(Stop::NodeLimit)
         }
-        // Where memory is refused nothing was learned, and the run goes on without it.
+        // Where memory is refused the run goes on with what was found equal before.
         Ok(Searched::Open(_, None)) | Ok(Searched::Unasked) | Err(_) => Err(Stop::NodeLimit),
+    }
+}
+
+/// What short searches may cost.
+fn few_conflicts<R, P>(comparison: &Comparison<'_, R, P>) -> Conflicts {
+    let few = u64::from(comparison.options.conflicts) / SEARCH_PART;
+    Conflicts {
+        each: few,
+        all: few,
     }
 }
 
@@ -172,32 +194,50 @@ fn ask_outputs<R, P: Progress<R>>(
     requires { IsKnown inside.old alike.old }
     ensures pair { inside.new ≡ inside.old }
     ensures known { IsKnown inside.new alike.new }
+    ensures kept { KeepsMarks inside.old alike.old.equal.items alike.new.equal.items }
 {
     let Comparison { rt, watch, .. } = *comparison;
     watch.stage(rt, Stage::Asking);
     inside.ask_outputs(rt, alike, conflicts, watch)
 }
 
-/// Whether an output is chosen and not known to be equal.
-fn has_open(pair: &Pair<'_>, equal: &[bool]) -> bool {
-    for output in 0..pair.first().outputs().len() {
-        if pair.is_chosen(output) && !is_marked(equal, output) {
-            return true;
+/// Asks about the outputs that a round of sweeping left, with few conflicts, and again as long as some are found equal: what was found
+/// equal below them often makes them easy.
+fn ask_while_found<R, P: Progress<R>>(
+    comparison: &Comparison<'_, R, P>,
+    inside: &mut Inside<'_>,
+    alike: &mut Alike,
+)
+    requires inside { inside.old ≡ comparison.now.pair.now }
+    requires known { IsKnown inside.old alike.old }
+    ensures pair { inside.new ≡ inside.old }
+    ensures known { IsKnown inside.new alike.new }
+    ensures kept { KeepsMarks inside.old alike.old.equal.items alike.new.equal.items }
+{
+    let Comparison { alloc, pair, .. } = *comparison;
+    let few = u64::from(comparison.options.conflicts) / FEW_PART;
+    for _ in 0..MOST_TIMES {
+        if known_outcome(alloc, pair, &alike.equal).is_some() {
+            return;
+        }
+        if !ask_outputs(comparison, inside, alike, few) {
+            return;
         }
     }
-    false
 }
 
-/// Sweeps what is left in further rounds, as long as these find something and outputs are left.
+/// Sweeps what is left in further rounds, as long as these find something and outputs are left, which are asked about after each round.
 fn sweep_more<R: Threads + Wait + Sync, P: Progress<R> + Sync>(
     comparison: &Comparison<'_, R, P>,
     inside: &mut Inside<'_>,
     alike: &mut Alike,
     rounds: &mut Rounds,
 )
-    requires { IsKnown inside.old alike.old }
+    requires inside { inside.old ≡ comparison.now.pair.now }
+    requires known { IsKnown inside.old alike.old }
     ensures pair { inside.new ≡ inside.old }
     ensures known { IsKnown inside.new alike.new }
+    ensures kept { KeepsMarks inside.old alike.old.equal.items alike.new.equal.items }
 {
     let Comparison {
         rt,
@@ -207,7 +247,8 @@ fn sweep_more<R: Threads + Wait + Sync, P: Progress<R> + Sync>(
         ..
     } = *comparison;
     for _ in 0..MOST_ROUNDS {
-        if !rounds.has_next() || !has_open(pair, &alike.equal) {
+        ask_while_found(comparison, inside, alike);
+        if !rounds.has_next() || known_outcome(alloc, pair, &alike.equal).is_some() {
             return;
         }
         watch.stage(rt, Stage::Sweeping);
@@ -224,8 +265,94 @@ fn sweep_more<R: Threads + Wait + Sync, P: Progress<R> + Sync>(
     }
 }
 
-/// The report over what sweeping finds equal, which becomes known: by short searches for differences, by diagrams in all the room
-/// that there is, and then by longer searches. Where these find some outputs equal, diagrams are tried for the others once more.
+/// The report over what short rounds of sweeping find equal, which becomes known: by short searches where simulation saw an output
+/// differ, and by diagrams on one thread in a larger room.
+fn by_short_rounds<R: Threads + Wait + Sync, P: Progress<R> + Sync>(
+    comparison: &Comparison<'_, R, P>,
+    inside: &mut Inside<'_>,
+    alike: &mut Alike,
+    rounds: &mut Rounds,
+    left: &mut Undecided,
+) -> Result<Report, Stop>
+    requires options { options_code comparison.now.options.now ≡ None }
+    requires inside { inside.old ≡ comparison.now.pair.now }
+    requires known { IsKnown comparison.now.pair.now alike.old }
+    ensures inside { inside.new ≡ inside.old }
+    ensures known { IsKnown comparison.now.pair.now alike.new }
+    ensures kept { KeepsMarks comparison.now.pair.now alike.old.equal.items alike.new.equal.items }
+    ensures report { IfOk result (λ report. report_of report ≡ pair_report comparison.now.options.now.every comparison.now.pair.now) }
+    ensures seen { IsLeftOf comparison.now.pair.now left.old → IsLeftOf comparison.now.pair.now left.new }
+    ensures none { AddsNone left.old left.new }
+{
+    if let Ok(more) = inside.known(comparison.alloc, alike) {
+        *alike = more;
+    }
+    rounds.count(inside.tally());
+    sweep_more(comparison, inside, alike, rounds);
+    if inside.sees_difference(alike) {
+        match by_search(comparison, inside, alike, few_conflicts(comparison), left) {
+            Err(Stop::NodeLimit) => {}
+            report => return report,
+        }
+    }
+    in_room(comparison, Room::Large, alike)
+}
+
+/// The report over what long rounds of sweeping find equal, which becomes known: by short searches, and by diagrams of all workers.
+fn by_long_rounds<R: Threads + Wait + Sync, P: Progress<R> + Sync>(
+    comparison: &Comparison<'_, R, P>,
+    inside: &mut Inside<'_>,
+    alike: &mut Alike,
+    rounds: &mut Rounds,
+    left: &mut Undecided,
+) -> Result<Report, Stop>
+    requires options { options_code comparison.now.options.now ≡ None }
+    requires inside { inside.old ≡ comparison.now.pair.now }
+    requires known { IsKnown comparison.now.pair.now alike.old }
+    ensures inside { inside.new ≡ inside.old }
+    ensures known { IsKnown comparison.now.pair.now alike.new }
+    ensures kept { KeepsMarks comparison.now.pair.now alike.old.equal.items alike.new.equal.items }
+    ensures report { IfOk result (λ report. report_of report ≡ pair_report comparison.now.options.now.every comparison.now.pair.now) }
+    ensures seen { IsLeftOf comparison.now.pair.now left.old → IsLeftOf comparison.now.pair.now left.new }
+    ensures none { AddsNone left.old left.new }
+{
+    rounds.lengthen();
+    sweep_more(comparison, inside, alike, rounds);
+    match by_search(comparison, inside, alike, few_conflicts(comparison), left) {
+        Err(Stop::NodeLimit) => in_room(comparison, Room::Whole, alike),
+        report => report,
+    }
+}
+
+/// The report by longer searches. Where one that refutes finds some outputs equal, diagrams are tried for the others once more.
+fn by_longer_searches<R: Threads + Wait + Sync, P: Progress<R> + Sync>(
+    comparison: &Comparison<'_, R, P>,
+    inside: &mut Inside<'_>,
+    alike: &mut Alike,
+    left: &mut Undecided,
+) -> Result<Report, Stop>
+    requires options { options_code comparison.now.options.now ≡ None }
+    requires inside { inside.old ≡ comparison.now.pair.now }
+    requires known { IsKnown comparison.now.pair.now alike.old }
+    ensures known { IsKnown comparison.now.pair.now alike.new }
+    ensures kept { KeepsMarks comparison.now.pair.now alike.old.equal.items alike.new.equal.items }
+    ensures report { IfOk result (λ report. report_of report ≡ pair_report comparison.now.options.now.every comparison.now.pair.now) }
+    ensures seen { IsLeftOf comparison.now.pair.now left.old → IsLeftOf comparison.now.pair.now left.new }
+    ensures none { AddsNone left.old left.new }
+{
+    let conflicts = u64::from(comparison.options.conflicts);
+    let more = ask_outputs(comparison, inside, alike, conflicts);
+    let many = Conflicts {
+        each: conflicts,
+        all: u64::MAX,
+    };
+    match by_search(comparison, inside, alike, many, left) {
+        Err(Stop::NodeLimit) if more => in_room(comparison, Room::Whole, alike),
+        report => report,
+    }
+}
+
+/// The report over what sweeping finds equal, which becomes known: by short rounds, by long ones, and by longer searches.
 fn by_sweeping<R: Threads + Wait + Sync, P: Progress<R> + Sync>(
     comparison: &Comparison<'_, R, P>,
     inside: &mut Inside<'_>,
@@ -237,50 +364,20 @@ fn by_sweeping<R: Threads + Wait + Sync, P: Progress<R> + Sync>(
     requires inside { inside.old ≡ comparison.now.pair.now }
     requires known { IsKnown comparison.now.pair.now alike.old }
     ensures known { IsKnown comparison.now.pair.now alike.new }
+    ensures kept { KeepsMarks comparison.now.pair.now alike.old.equal.items alike.new.equal.items }
     ensures report { IfOk result (λ report. report_of report ≡ pair_report comparison.now.options.now.every comparison.now.pair.now) }
     ensures seen { IsLeftOf comparison.now.pair.now left.old → IsLeftOf comparison.now.pair.now left.new }
     ensures none { AddsNone left.old left.new }
 {
-    if let Ok(more) = inside.known(comparison.alloc, alike) {
-        *alike = more;
-    }
-    rounds.count(inside.tally());
-    sweep_more(comparison, inside, alike, rounds);
-    let each = u64::from(comparison.options.conflicts);
-    let few = Conflicts {
-        each: each / SEARCH_PART,
-        all: each / SEARCH_PART,
-    };
-    if inside.sees_difference(alike) {
-        match by_search(comparison, inside, alike, few, left) {
-            Err(Stop::NodeLimit) => {}
-            report => return report,
-        }
-    }
-    match in_room(comparison, Room::Large, alike) {
+    match by_short_rounds(comparison, inside, alike, rounds, left) {
         Err(Stop::NodeLimit) => {}
         report => return report,
     }
-    rounds.lengthen();
-    sweep_more(comparison, inside, alike, rounds);
-    ask_outputs(comparison, inside, alike, each / FEW_PART);
-    match by_search(comparison, inside, alike, few, left) {
+    match by_long_rounds(comparison, inside, alike, rounds, left) {
         Err(Stop::NodeLimit) => {}
         report => return report,
     }
-    match in_room(comparison, Room::Whole, alike) {
-        Err(Stop::NodeLimit) => {}
-        report => return report,
-    }
-    let more = ask_outputs(comparison, inside, alike, each);
-    let many = Conflicts {
-        each,
-        all: u64::MAX,
-    };
-    match by_search(comparison, inside, alike, many, left) {
-        Err(Stop::NodeLimit) if more => in_room(comparison, Room::Whole, alike),
-        report => report,
-    }
+    by_longer_searches(comparison, inside, alike, left)
 }
 
 /// The report where the first room didn't do: by the diagrams of all workers alone where there are few nodes or no conflicts, and
@@ -293,6 +390,7 @@ fn behind_first<R: Threads + Wait + Sync, P: Progress<R> + Sync>(
     requires options { options_code comparison.now.options.now ≡ None }
     requires known { IsKnown comparison.now.pair.now alike.old }
     ensures known { IsKnown comparison.now.pair.now alike.new }
+    ensures kept { KeepsMarks comparison.now.pair.now alike.old.equal.items alike.new.equal.items }
     ensures report { IfOk result (λ report. report_of report ≡ pair_report comparison.now.options.now.every comparison.now.pair.now) }
     ensures seen { IsLeftOf comparison.now.pair.now left.old → IsLeftOf comparison.now.pair.now left.new }
     ensures none { AddsNone left.old left.new }
@@ -320,34 +418,61 @@ fn behind_first<R: Threads + Wait + Sync, P: Progress<R> + Sync>(
     }
 }
 
-/// Decides a pair for a run, which does more than `check`: an output whose two signals have one structure is equal, and is not
-/// compared, and one diagram is built for all signals of one structure, of both netlists. Where diagrams on one thread don't
-/// decide it, the same holds of signals that are proved equal inside the netlists, and outputs are searched for differences
-/// before all workers make diagrams, and once more where that doesn't do. Where memory for any of that is refused, the run goes
-/// on without it. Where there is an assumption, whether it allows an assignment is asked of diagrams on one thread all the same.
+/// The report by the first stage that decides the pair, or why none does.
+fn by_stages<R: Threads + Wait + Sync, P: Progress<R> + Sync>(
+    comparison: &Comparison<'_, R, P>,
+    alike: &mut Alike,
+    left: &mut Undecided,
+) -> Result<Report, Stop>
+    requires options { options_code comparison.now.options.now ≡ None }
+    requires known { IsKnown comparison.now.pair.now alike.old }
+    ensures known { IsKnown comparison.now.pair.now alike.new }
+    ensures kept { KeepsMarks comparison.now.pair.now alike.old.equal.items alike.new.equal.items }
+    ensures report { IfOk result (λ report. report_of report ≡ pair_report comparison.now.options.now.every comparison.now.pair.now) }
+    ensures seen { IsLeftOf comparison.now.pair.now left.old → IsLeftOf comparison.now.pair.now left.new }
+    ensures none { AddsNone left.old left.new }
+{
+    match first_diagrams(comparison, alike) {
+        Err(Stop::NodeLimit) => behind_first(comparison, alike, left),
+        report => report,
+    }
+}
+
+/// What is known of a pair at first: outputs whose two signals have one structure are equal, and one diagram is built for all signals of
+/// one structure, of both netlists. Nothing where memory for that is refused. The watch is told of the stage.
+pub fn known_by_structure<R, P: Progress<R>>(comparison: &Comparison<'_, R, P>) -> Alike
+    ensures { IsKnown comparison.now.pair.now result }
+{
+    comparison.watch.stage(comparison.rt, Stage::Structure);
+    alike_or_nothing(comparison.alloc, comparison.pair)
+}
+
+/// Decides a pair for a run, which does more than `check`. Outputs that are known to be equal are not compared; `alike` has what is
+/// known of the pair, and gets what is found. Where diagrams on one thread don't decide it, signals become known that are proved
+/// equal inside the netlists, and outputs are searched for differences before all workers make diagrams, and once more where that
+/// doesn't do. Where memory for any of that is refused, the run goes on without it. Where there is an assumption, whether it allows an
+/// assignment is asked of diagrams on one thread all the same.
 ///
 /// The options are in their ranges. With 0 conflicts, only diagrams are made; with fewer than 1,024 nodes, only by all workers. The
 /// call may wait, as `check` may. The watch is told of each stage as it begins, and how far it is; of each comparison by diagrams
-/// it is told before that begins. Where it is given up, the outputs that are left are added to those in `left`, with what was seen of
-/// one that differs. The errors are the node limit 71, also where operations took too many turns, want of memory 72, the limit of
-/// references 73, and 74 where a thread could not be started.
+/// it is told before that begins. Where it is given up, the outputs that are left, which aren't known to be equal then, are added to
+/// those in `left`, with what was seen of one that differs. The errors are the node limit 71, also where operations took too many
+/// turns, want of memory 72, the limit of references 73, and 74 where a thread could not be started.
 pub fn decide_pair<R: Threads + Wait + Sync, P: Progress<R> + Sync>(
     comparison: &Comparison<'_, R, P>,
+    alike: &mut Alike,
     left: &mut Undecided,
 ) -> Result<Report, Stop>
-    requires { options_code comparison.now.options.now ≡ None }
+    requires options { options_code comparison.now.options.now ≡ None }
+    requires known { IsKnown comparison.now.pair.now alike.old }
     ensures report { IfOk result (λ report. report_of report ≡ pair_report comparison.now.options.now.every comparison.now.pair.now) }
+    ensures known { IsKnown comparison.now.pair.now alike.new }
+    ensures kept { KeepsMarks comparison.now.pair.now alike.old.equal.items alike.new.equal.items }
     ensures seen { IsLeftOf comparison.now.pair.now left.old → IsLeftOf comparison.now.pair.now left.new }
     ensures none { IfOk result (λ _. AddsNone left.old left.new) }
-    ensures left { IfErr result (λ _. (marks : List Bool) × AreEqual comparison.now.pair.now marks × AddsLeft comparison.now.pair.now marks (length comparison.now.pair.now.first.outputs) left.old left.new) }
+    ensures left { IfErr result (λ _. AddsLeft comparison.now.pair.now alike.new.equal.items (length comparison.now.pair.now.first.outputs) left.old left.new) }
 {
-    comparison.watch.stage(comparison.rt, Stage::Structure);
-    let mut alike = alike_or_nothing(comparison.alloc, comparison.pair);
-    let first = first_diagrams(comparison, &alike);
-    let report = match first {
-        Err(Stop::NodeLimit) => behind_first(comparison, &mut alike, left),
-        report => report,
-    };
+    let report = by_stages(comparison, alike, left);
     match report {
         Ok(report) => Ok(report),
         Err(stop) => {

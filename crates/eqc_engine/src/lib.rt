@@ -3,7 +3,7 @@
 //!
 //! What the report has to be is said in `specs/Report.antt` and `specs/PairReport.antt` of `eqc_report`. Read the modules in this order:
 //!
-//! - `course`, `decide_pair`: the stages of a run in their order
+//! - `course`, `known_by_structure` and `decide_pair`: the stages of a run in their order
 //! - `workers`, diagrams in rooms, by one thread and by several, of a run and of pairs without one; `watched`, how those of a run
 //!   tell of their nodes; `plain`, a pair's report by one thread
 #![tactic(auto, using(eqc_tree::proofs::HoldingLemmas::counts_itself))]
@@ -13,6 +13,6 @@ mod plain;
 mod watched;
 mod workers;
 
-pub use course::decide_pair;
+pub use course::{decide_pair, known_by_structure};
 pub use plain::check_plain;
 pub use workers::{Comparison, check, check_with};

@@ -1,5 +1,5 @@
 //! Reports by workers: outputs that differ, found by members in threads of their own.
-ghost use Rattle.std.specs.Prelude.{◌≡◌, ◌≤◌, None, length, vec_len, IfOk, IfErr};
+ghost use Rattle.std.specs.Prelude.{◌≡◌, ◌<◌, ◌≤◌, IsTrue, None, length, vec_len, IfOk, IfErr};
 ghost use Rattle.std.specs.List.{All};
 ghost use Rattle.eqc_tree.specs.Holding.{Holding};
 ghost use Rattle.eqc_compare.specs.Alike.{AreEqual, IsKnown};
@@ -110,10 +110,12 @@ const SOME_INPUTS: usize = 40;
 
 const LARGE_TURNS: u64 = 8_388_608;
 
-/// The nodes of the first room: as many as the options allow, but for a pair of few inputs those of the larger one.
+/// The nodes of the first room: as many as the options allow, but for a pair of few inputs those of the larger one. Who allows fewer
+/// than is usual gets no more than that.
 pub(crate) fn first_nodes(pair: &Pair<'_>, options: &Options) -> u32
     requires { options_code options.now ≡ None }
-    ensures { 1 ≤ result }
+    ensures some { 1 ≤ result }
+    ensures few { options.now.nodes < 65536 → result ≤ options.now.nodes }
 {
     if options.nodes >= USUAL_NODES && pair.first().inputs().len() <= FEW_INPUTS {
         return FIRST_NODES;
@@ -121,7 +123,8 @@ pub(crate) fn first_nodes(pair: &Pair<'_>, options: &Options) -> u32
     options.nodes
 }
 
-/// How many turns operations may take in the larger room: where there are few inputs, diagrams that are looked for long are mostly found.
+/// How many turns operations may take in the larger room: where there are few inputs, diagrams that are looked for long are mostly
+/// found.
 fn large_turns(pair: &Pair<'_>) -> u64 {
     if pair.first().inputs().len() <= SOME_INPUTS {
         LARGE_TURNS
@@ -130,9 +133,10 @@ fn large_turns(pair: &Pair<'_>) -> u64 {
     }
 }
 
-/// Whether there is a larger room on one thread than the first one was.
+/// Whether there is a larger room on one thread than the first one was: not for who allows fewer nodes than is usual.
 pub(crate) fn has_large_room(pair: &Pair<'_>, options: &Options) -> bool
     requires { options_code options.now ≡ None }
+    ensures { IsTrue result → 65536 ≤ options.now.nodes }
 {
     options.nodes >= USUAL_NODES && first_nodes(pair, options) < FIRST_NODES
 }
@@ -209,15 +213,16 @@ fn team_for(
     team_with(alloc, inputs, nodes, cells, workers, forks, allowance)
 }
 
-/// The report by diagrams on this thread, in a store of so many nodes at most, where this is known of the pair, or why it stopped. A store that is full is left at
-/// once: what was given back there makes no room. The watch is told of each comparison, and of the nodes in use behind each
-/// operation.
+/// The report by diagrams on this thread, in a store of so many nodes at most, where this is known of the pair, or why it stopped.
+/// Where the options allow fewer nodes than is usual it has no more than they do. A store that is full is left at once: what was
+/// given back there makes no room. The watch is told of each comparison, and of the nodes in use behind each operation.
 pub(crate) fn check_first<R, P: Progress<R>>(
     comparison: &Comparison<'_, R, P>,
     alike: Alike,
     nodes: u32,
 ) -> Result<Report, Stop>
     requires nodes { 1 ≤ nodes }
+    requires few { comparison.now.options.now.nodes < 65536 → nodes ≤ comparison.now.options.now.nodes }
     requires known { IsKnown comparison.now.pair.now alike }
     ensures report { IfOk result (λ report. report_of report ≡ pair_report comparison.now.options.now.every comparison.now.pair.now) }
 {

@@ -4,7 +4,7 @@ use Rattle.std.proofs.lemmas.List.{get_or_append_left, get_or-set_same, get_or-s
 use Rattle.std.proofs.Math.ListN.{length-set}
 use Rattle.std.proofs.Math.Nat.{min-eq_left, min-eq_right}
 use Rattle.std.proofs.Math.Seq.{get_or-append_seam}
-use Rattle.std.proofs.lemmas.Bool.{cases_eq, cases_lt}
+use Rattle.std.proofs.lemmas.Bool.{cases_eq, cases_lt, true≢false}
 use Rattle.eqc_netlist.specs.Graph.{value_of}
 use Rattle.eqc_pair.specs.PairOf.{PairOf, first_variables, second_variables, second_signals}
 use Rattle.eqc_build.specs.Steps.{StepsOf, AreSteps, IsChoice, chosen_for, first_root, second_root, roots_of, inputs_under, steps_in, value_at}
@@ -18,7 +18,7 @@ use Rattle.std.specs.Option.{unwrap_or}
 use Rattle.eqc_build.specs.Building.{reference_of}
 use Rattle.eqc_sweep.specs.Sweeping.{HasValue}
 use Rattle.eqc_gates.specs.Entering.{AreLiterals}
-use Rattle.eqc_inside.specs.Inside.{HaveOneLiteral, IsInside, TellEqual, literal_of}
+use Rattle.eqc_inside.specs.Inside.{HaveOneLiteral, IsInside, KeepsMarks, TellEqual, literal_of}
 use Rattle.eqc_graph.specs.declared.node.Node.{Node}
 use Rattle.eqc_graph.specs.Graph.{literal_value, IsWithin}
 use Rattle.eqc_compare.proofs.AlikeLaws.{never_where}
@@ -211,6 +211,30 @@ equal_set p marks o equal here = record {
     | inr other ↦ equal.each k inside (sym (get_or-set_other marks o k true false other) ∙ marked)
   ];
 }
+
+-- of the first n outputs those that were marked are marked still
+abbrev pub AreKeptBelow : List Bool → List Bool → ℕ → Type 0
+AreKeptBelow old new n = (o : ℕ) → o < n → is_marked old o ≡ true → is_marked new o ≡ true
+
+-- one mark more
+pub kept_more : (old new : List Bool) (mark : Bool) (n : ℕ) → length new ≡ n → AreKeptBelow old new n →
+    (is_marked old n ≡ true → mark ≡ true) → AreKeptBelow old (new ++ mark ∷ []) (n + 1)
+kept_more old new mark n size before here o less marked = by (cases_eq o n)
+  where
+    by : (o ≡ n) ⊎ (o ≡ n → ⊥) → is_marked (new ++ mark ∷ []) o ≡ true
+    by (inl e) = ap (λ k. get_or (new ++ mark ∷ []) k false) (e ∙ sym size) ∙ (get_or-append_seam new mark [] false ∙ here (ap (is_marked old) (sym e) ∙ marked))
+    by (inr other) =
+        let lower : o < n = omega (arith, less, other) in
+        get_or_append_left new (mark ∷ []) false o (omega (arith, lower, size)) ∙ before o lower marked
+
+-- an output that becomes marked leaves the others as they are
+pub kept_set : (p : PairOf) (old marks : List Bool) (o : ℕ) → KeepsMarks p old marks → KeepsMarks p old (set marks o true)
+kept_set p old marks o kept k inside marked = by (cases_eq k o) (cases_lt o (length marks))
+  where
+    by : (k ≡ o) ⊎ (k ≡ o → ⊥) → (o < length marks) ⊎ (length marks ≤ o) → is_marked (set marks o true) k ≡ true
+    by (inr other) place = get_or-set_other marks o k true false other ∙ kept k inside marked
+    by (inl e) (inl within) = ap (λ i. get_or (set marks o true) i false) e ∙ get_or-set_same marks o true false within
+    by (inl e) (inr past) = absurd (true≢false (sym (kept k inside marked) ∙ (ap (is_marked marks) e ∙ get_or_past marks o false past)))
 
 -- ---- literals of a graph
 

@@ -1,9 +1,10 @@
 -- What literals of a graph tell of a pair.
-use Rattle.std.specs.Prelude.{◌≡◌, ◌≢◌, ℕ, ◌<◌, Bool, List, Option}
+use Rattle.std.specs.Prelude.{◌≡◌, ◌≢◌, ℕ, ◌<◌, true, Bool, List, length, Option}
 use Rattle.std.specs.Option.{unwrap_or}
 use Rattle.eqc_pair.specs.PairOf.{PairOf}
 use Rattle.eqc_build.specs.Building.{reference_of}
 use Rattle.eqc_build.specs.Steps.{StepsOf, AreSteps, steps_in, value_at}
+use Rattle.eqc_build.specs.Turns.{is_marked}
 use Rattle.eqc_graph.specs.declared.node.Node.{Node}
 use Rattle.eqc_gates.specs.Entering.{AreLiterals}
 
@@ -24,3 +25,7 @@ pub record TellEqual (p : PairOf) (literals : List (Option ℕ)) : Type 0 where
 pub record IsInside (g : StepsOf) (nodes : List Node) (literals : List (Option ℕ)) : Type 0 where
   pub lawful : AreSteps g
   pub values : AreLiterals g.pair nodes literals
+
+-- outputs that were marked as equal are marked still
+abbrev pub KeepsMarks : PairOf → List Bool → List Bool → Type 0
+KeepsMarks p old new = (o : ℕ) → o < length p.first.outputs → is_marked old o ≡ true → is_marked new o ≡ true

@@ -1,6 +1,6 @@
 //! Which steps of a pair enter its graph, and how they do.
 ghost use Rattle.std.specs.Prelude.{◌≡◌, ◌≤◌, length, IfOk};
-ghost use Rattle.eqc_compare.specs.Alike.{IsKnown};
+ghost use Rattle.eqc_compare.specs.Alike.{AreEqual, IsKnown};
 ghost use Rattle.eqc_gates.specs.Entering.{AreClosed};
 ghost use Rattle.eqc_inside.specs.Inside.{IsInside};
 
@@ -8,7 +8,7 @@ use crate::inside::Inside;
 use crate::rounds::Rounds;
 use crate::searching::difference_literal;
 use eqc_build::Steps;
-use eqc_compare::{Alike, Progress, is_marked};
+use eqc_compare::{Alike, Progress, is_settled};
 use eqc_gates::{literals, needed, needed_within};
 use eqc_pair::Pair;
 use eqc_sweep::{Effort, Sweep};
@@ -43,24 +43,25 @@ fn work_seeing(nodes: u32) -> u64 {
     (u64::from(nodes) * ENTERED).saturating_add(words_shown(nodes))
 }
 
-/// Marks the chosen outputs that are not marked. Fails where memory is refused.
-fn unmarked(alloc: Global, pair: &Pair<'_>, marks: &[bool]) -> Result<Vec<bool>, AllocError>
+/// Marks the chosen outputs that are not marked as equal. Fails where memory is refused.
+fn unmarked(alloc: Global, pair: &Pair<'_>, equal: &[bool]) -> Result<Vec<bool>, AllocError>
+    requires { AreEqual pair.now equal.now }
     ensures size { IfOk result (λ wanted. length wanted.items ≡ length pair.now.first.outputs) }
 {
     let outputs = pair.first().outputs().len();
     let mut wanted = Vec::with_capacity(alloc, outputs)?;
     for output in 0..outputs {
-        wanted.push(pair.is_chosen(output) && !is_marked(marks, output))?;
+        wanted.push(!is_settled(pair, equal, output))?;
     }
     Ok(wanted)
 }
 
-/// Takes the marks away behind a place.
-fn unmark_behind(marks: &mut Vec<bool>, last: usize)
-    ensures { length marks.new.items ≡ length marks.old.items }
+/// Takes the marks of wanted outputs away behind a place.
+fn unmark_behind(wanted: &mut Vec<bool>, last: usize)
+    ensures { length wanted.new.items ≡ length wanted.old.items }
 {
-    for output in last.saturating_add(1)..marks.len() {
-        marks[output] = false;
+    for output in last.saturating_add(1)..wanted.len() {
+        wanted[output] = false;
     }
 }
 
@@ -140,18 +141,19 @@ fn first_seen(
     first_seen_in(alloc, steps, marks, wanted, &mut sweep, work)
 }
 
-/// Which steps enter for the chosen outputs of a pair that are not marked: unless `every` one that differs is looked for,
+/// Which steps enter for the chosen outputs of a pair that are not marked as equal: unless `every` one that differs is looked for,
 /// without those that only outputs behind the first need that is seen to differ. No step is marked where too much would enter. Fails
 /// where memory is refused.
 fn entering(
     alloc: Global,
     steps: &Steps<'_>,
-    marks: &[bool],
+    equal: &[bool],
     every: bool,
 ) -> Result<Wanted, AllocError>
+    requires { AreEqual steps.now.pair equal.now }
     ensures { IfOk result (λ wanted. AreClosed steps.now wanted.marks.items) }
 {
-    let mut outputs = unmarked(alloc, steps.pair(), marks)?;
+    let mut outputs = unmarked(alloc, steps.pair(), equal)?;
     let marks = needed_within(alloc, steps, &outputs, CHARACTERS)?;
     let mut work = 0;
     if every {

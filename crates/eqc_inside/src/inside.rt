@@ -1,10 +1,11 @@
 //! What literals of a graph tell of a pair: steps of one literal have one value, so that one of them needs to be made, and
 //! outputs whose two steps have one literal are equal.
-ghost use Rattle.std.specs.Prelude.{◌≡◌, ◌<◌, IsTrue, None, length, min, slice_index, slice_index_or, slice_set, IfOk};
+ghost use Rattle.std.specs.Prelude.{◌≡◌, ◌<◌, true, IsTrue, None, length, min, slice_index, slice_index_or, slice_set, IfOk};
 ghost use Rattle.eqc_build.specs.Steps.{AreSteps, IsChoice, chosen_for};
+ghost use Rattle.eqc_build.specs.Turns.{is_marked};
 ghost use Rattle.eqc_compare.specs.Alike.{AreEqual, IsKnown};
 ghost use Rattle.eqc_compare.specs.Comparing.{difference_at};
-ghost use Rattle.eqc_inside.specs.Inside.{HaveOneLiteral, TellEqual, literal_of};
+ghost use Rattle.eqc_inside.specs.Inside.{HaveOneLiteral, KeepsMarks, TellEqual, literal_of};
 
 use eqc_build::Steps;
 use eqc_compare::{Alike, Progress, is_marked};
@@ -127,7 +128,8 @@ fn is_known_equal(
     requires tell { TellEqual steps.now.pair literals.now }
     requires equal { AreEqual steps.now.pair marks.now }
     requires output { output < length steps.now.pair.first.outputs }
-    ensures { IsTrue result → difference_at steps.now.pair output ≡ None }
+    ensures equal { IsTrue result → difference_at steps.now.pair output ≡ None }
+    ensures kept { is_marked marks.now output ≡ true → result ≡ true }
 {
     if is_marked(marks, output) {
         return true;
@@ -145,7 +147,8 @@ fn outputs_of_one_literal(
     requires lawful { AreSteps steps.now }
     requires tell { TellEqual steps.now.pair literals.now }
     requires equal { AreEqual steps.now.pair marks.now }
-    ensures { IfOk result (λ more. AreEqual steps.now.pair more.items) }
+    ensures equal { IfOk result (λ more. AreEqual steps.now.pair more.items) }
+    ensures kept { IfOk result (λ more. KeepsMarks steps.now.pair marks.now more.items) }
 {
     let outputs = steps.pair().first().outputs().len();
     let mut more = Vec::with_capacity(alloc, outputs)?;
@@ -156,10 +159,11 @@ fn outputs_of_one_literal(
 }
 
 impl<'a> Inside<'a> {
-    /// What is known of the pair, with what the literals tell. Fails where memory is refused.
+    /// What is known of the pair, with what the literals tell: outputs that are marked stay so. Fails where memory is refused.
     pub fn known(&self, alloc: Global, alike: &Alike) -> Result<Alike, AllocError>
         requires { IsKnown self.now alike.now }
-        ensures { IfOk result (IsKnown self.now) }
+        ensures known { IfOk result (IsKnown self.now) }
+        ensures kept { IfOk result (λ more. KeepsMarks self.now alike.now.equal.items more.equal.items) }
     {
         let equal = outputs_of_one_literal(alloc, &self.steps, &self.literals, &alike.equal)?;
         let chosen = first_of_literal(alloc, &self.steps, &alike.chosen, &self.literals)?;
@@ -194,6 +198,7 @@ impl<'a> Inside<'a> {
         requires { IsKnown self.old alike.old }
         ensures pair { self.new ≡ self.old }
         ensures known { IsKnown self.new alike.new }
+        ensures kept { KeepsMarks self.old alike.old.equal.items alike.new.equal.items }
     {
         let mut left = conflicts;
         let mut found = false;

@@ -5,6 +5,7 @@
 //! comparison has to find in `eqc_compare`. Read the modules in this order:
 //!
 //! - `inside`, the graph, and the outputs and steps that are equal by it; `entering`, what enters it
+//! - `rounds`, what is asked once more with more effort
 //! - `searching`, outputs that differ, with their least assignments, and `asking`, several of them at once by several threads
 #![tactic(auto)]
 

@@ -7,10 +7,11 @@ ghost use Rattle.eqc_pair.specs.PairOf.{PairOf};
 ghost use Rattle.eqc_build.specs.Building.{reference_of};
 ghost use Rattle.eqc_build.specs.Steps.{value_at};
 ghost use Rattle.eqc_gates.specs.Entering.{AreLiterals};
+ghost use Rattle.eqc_compare.specs.Alike.{AreEqual, IsKnown};
 
 use crate::inside::{Inside, NONE, literal_of};
 use eqc_build::Steps;
-use eqc_compare::{Alike, Progress, is_marked};
+use eqc_compare::{Alike, Progress, is_settled};
 use eqc_pair::Pair;
 use eqc_sweep::{Comparison, Effort, Sweep, Tally, below, copied, copy};
 use std::alloc::{AllocError, Global};
@@ -131,13 +132,6 @@ impl Rounds {
     }
 }
 
-/// Whether an output is chosen and not known to be equal.
-fn is_open(pair: &Pair<'_>, marks: &[bool], output: usize) -> bool
-    requires { output < length pair.now.first.outputs }
-{
-    pair.is_chosen(output) && !is_marked(marks, output)
-}
-
 /// The literals of the steps that outputs which aren't known yet are made of, and that of the assumption. Fails where memory is
 /// refused.
 fn open_literals(
@@ -145,10 +139,12 @@ fn open_literals(
     steps: &Steps<'_>,
     literals: &[Option<u32>],
     marks: &[bool],
-) -> Result<Vec<u32>, AllocError> {
+) -> Result<Vec<u32>, AllocError>
+    requires { AreEqual steps.now.pair marks.now }
+{
     let mut open = Vec::new(alloc);
     for output in 0..steps.pair().first().outputs().len() {
-        if is_open(steps.pair(), marks, output) {
+        if !is_settled(steps.pair(), marks, output) {
             for step in steps.roots(output) {
                 let literal = literal_of(literals, step);
                 if literal != NONE {
@@ -221,11 +217,13 @@ impl<'a> Inside<'a> {
 
     /// Whether an output that isn't known to be equal is seen to differ by simulation. Nothing is promised of it.
     pub fn sees_difference(&mut self, alike: &Alike) -> bool
+        requires { IsKnown self.old alike.now }
         ensures { self.new ≡ self.old }
     {
         let outputs = self.steps.pair().first().outputs().len();
         for output in 0..outputs {
-            if is_open(self.steps.pair(), &alike.equal, output) && self.is_seen_to_differ(output) {
+            let settled = is_settled(self.steps.pair(), &alike.equal, output);
+            if !settled && self.is_seen_to_differ(output) {
                 return true;
             }
         }
@@ -247,6 +245,7 @@ impl<'a> Inside<'a> {
         sweep: &mut Sweep,
         watch: &P,
     ) -> Result<Vec<Option<u32>>, AllocError>
+        requires { IsKnown self.now alike.now }
         ensures { IfOk result (λ all. AreLiterals self.now sweep.new all.items) }
     {
         let open = open_literals(alloc, &self.steps, &self.literals, &alike.equal)?;
@@ -268,6 +267,7 @@ impl<'a> Inside<'a> {
         effort: Effort,
         watch: &P,
     ) -> Result<(), AllocError>
+        requires { IsKnown self.old alike.now }
         ensures pair { self.new ≡ self.old }
     {
         let mut sweep = self.sweep.again(alloc, effort)?;

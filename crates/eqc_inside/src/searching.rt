@@ -6,14 +6,14 @@ ghost use Rattle.eqc_graph.specs.Graph.{Extends, IsWithin};
 ghost use Rattle.eqc_witness.specs.Witnesses.{IsFoundOf};
 ghost use Rattle.eqc_compare.specs.Verdict.{is_allowed};
 ghost use Rattle.eqc_compare.specs.Comparing.{netlist_of, assumption_of};
-ghost use Rattle.eqc_compare.specs.Alike.{IsKnown};
-ghost use Rattle.eqc_inside.specs.Inside.{IsInside};
+ghost use Rattle.eqc_compare.specs.Alike.{AreEqual, IsKnown};
+ghost use Rattle.eqc_inside.specs.Inside.{IsInside, KeepsMarks};
 ghost use Rattle.eqc_inside.specs.Searching.{IsAnswerOf, IsSearched, IsWitnessAt, SaysAllowed, SaysDifferent, TellsVacuous};
 
 use crate::asking::{Answer, ask_all, questions_of};
 use crate::inside::{Inside, NONE, literal_of};
 use eqc_build::Steps;
-use eqc_compare::{Alike, Difference, Outcome, Progress, is_marked, is_settled};
+use eqc_compare::{Alike, Difference, Outcome, Progress, is_settled};
 use eqc_pair::Pair;
 use eqc_sweep::{Comparison, Sweep};
 use eqc_witness::{EARLIER, Witness, least_witness};
@@ -220,6 +220,7 @@ fn open_outputs(
     ahead: &[Answer],
     most: usize,
 ) -> Result<Vec<usize>, AllocError>
+    requires { AreEqual pair.now marks.now }
     ensures { IfOk result (λ next. All (λ o. o < length pair.now.first.outputs) next.items) }
 {
     let mut open = Vec::with_capacity(alloc, most)?;
@@ -231,7 +232,7 @@ fn open_outputs(
         if open.len() >= most || output >= answered {
             break;
         }
-        if pair.is_chosen(output) && !is_marked(marks, output) {
+        if !is_settled(pair, marks, output) {
             open.push(output)?;
         }
     }
@@ -349,6 +350,7 @@ impl<'a> Inside<'a> {
         conflicts: Conflicts,
         threads: u32,
     ) -> Result<Vec<Answer>, AllocError>
+        requires { AreEqual self.old marks.now }
         ensures pair { self.new ≡ self.old }
         ensures found { IfOk result (λ all. All (IsAnswerOf self.old) all.items) }
     {
@@ -409,6 +411,7 @@ impl<'a> Inside<'a> {
         threads: u32,
         ahead: &mut Vec<Answer>,
     ) -> Result<Witness, AllocError>
+        requires equal { AreEqual self.old marks.now }
         requires output { output < length self.old.first.outputs }
         requires ahead { All (IsAnswerOf self.old) ahead.old.items }
         ensures pair { self.new ≡ self.old }
@@ -449,6 +452,7 @@ impl<'a> Inside<'a> {
         requires allowed { TellsVacuous self.old false }
         ensures pair { self.new ≡ self.old }
         ensures known { IsKnown self.new alike.new }
+        ensures kept { KeepsMarks self.old alike.old.equal.items alike.new.equal.items }
         ensures found { IfOk result (IsSearched self.old every) }
     {
         let mut conflicts = conflicts;
@@ -504,6 +508,7 @@ impl<'a> Inside<'a> {
         requires { IsKnown self.old alike.old }
         ensures pair { self.new ≡ self.old }
         ensures known { IsKnown self.new alike.new }
+        ensures kept { KeepsMarks self.old alike.old.equal.items alike.new.equal.items }
         ensures found { IfOk result (IsSearched self.old every) }
     {
         match self.allows_none(alloc, conflicts.next())? {

@@ -61,17 +61,26 @@ abbrev is_fault : Option ℕ → Type 0
 is_fault None = ⊥
 is_fault (Some code) = Unit {0}
 
-abbrev in_turn : Bool → Bool → Bool → Bool → Bool → Option ℕ
-in_turn a b c d e = if not a then Some 81 else if not b then Some 82 else if not c then Some 83 else if not d then Some 84 else if not e then Some 85 else None
+abbrev in_turn : Bool → Bool → Bool → Bool → Bool → Bool → Option ℕ
+in_turn a b c d e f = if not a then Some 81 else if not b then Some 82 else if not c then Some 83 else if not d then Some 84 else if not e then Some 85 else if not f then Some 86 else None
 
 -- where no code comes all tests hold
-all_tests : (a b c d e : Bool) → in_turn a b c d e ≡ None → (a ≡ true) × (b ≡ true) × (c ≡ true) × (d ≡ true) × (e ≡ true)
-all_tests false b c d e none = absurd (subst is_fault none tt)
-all_tests true false c d e none = absurd (subst is_fault none tt)
-all_tests true true false d e none = absurd (subst is_fault none tt)
-all_tests true true true false e none = absurd (subst is_fault none tt)
-all_tests true true true true false none = absurd (subst is_fault none tt)
-all_tests true true true true true none = (refl, refl, refl, refl, refl)
+all_tests : (a b c d e f : Bool) → in_turn a b c d e f ≡ None → (a ≡ true) × (b ≡ true) × (c ≡ true) × (d ≡ true) × (e ≡ true) × (f ≡ true)
+all_tests false b c d e f none = absurd (subst is_fault none tt)
+all_tests true false c d e f none = absurd (subst is_fault none tt)
+all_tests true true false d e f none = absurd (subst is_fault none tt)
+all_tests true true true false e f none = absurd (subst is_fault none tt)
+all_tests true true true true false f none = absurd (subst is_fault none tt)
+all_tests true true true true true false none = absurd (subst is_fault none tt)
+all_tests true true true true true true none = (refl, refl, refl, refl, refl, refl)
+
+-- options in their ranges pass each test
+each_test : (o : Options) → options_code o ≡ None →
+    (is_between 1 64 o.workers ≡ true) × (is_between 1 1048574 o.nodes ≡ true) × (is_cell_count o.cells ≡ true) × (is_between 0 16 o.forks ≡ true)
+    × (is_between 0 65535 o.inputs ≡ true) × (is_between 0 2147483647 o.bytes ≡ true)
+each_test o e =
+    all_tests (is_between 1 64 o.workers) (is_between 1 1048574 o.nodes) (is_cell_count o.cells) (is_between 0 16 o.forks) (is_between 0 65535 o.inputs)
+    (is_between 0 2147483647 o.bytes) e
 
 between : (low high n : ℕ) → is_between low high n ≡ true → (low ≤ n) × (n ≤ high)
 between low high n e = let both = and_parts _ _ e in (leb-true low n both.0, leb-true n high both.1)
@@ -82,11 +91,13 @@ some_cells n e = let b = cell_count_bits n e in (let one = b.0 in omega (arith, 
 -- a team may be made with options in their ranges
 pub options_in_range : (o : Options) → options_code o ≡ None → ((1 ≤ o.nodes) × (o.nodes ≤ 1048574)) × ((1 ≤ o.cells) × (o.cells ≤ 1048576)) × ((1 ≤ o.workers) × (o.workers ≤ 64)) × (o.forks ≤ 16)
 options_in_range o e =
-    let t = all_tests (is_between 1 64 o.workers) (is_between 1 1048574 o.nodes) (is_cell_count o.cells) (is_between 0 16 o.forks) (is_between 0 65535 o.inputs) e in
+    let t = each_test o e in
     (between 1 1048574 o.nodes t.1, some_cells o.cells t.2, between 1 64 o.workers t.0, (between 0 16 o.forks t.3).1)
 
 -- netlists may have as many inputs as two bytes count
 pub inputs_in_range : (o : Options) → options_code o ≡ None → o.inputs ≤ 65535
-inputs_in_range o e =
-    let t = all_tests (is_between 1 64 o.workers) (is_between 1 1048574 o.nodes) (is_cell_count o.cells) (is_between 0 16 o.forks) (is_between 0 65535 o.inputs) e in
-    (between 0 65535 o.inputs t.4).1
+inputs_in_range o e = (between 0 65535 o.inputs (each_test o e).4).1
+
+-- and their texts fewer than 2^31 bytes
+pub bytes_in_range : (o : Options) → options_code o ≡ None → o.bytes ≤ 2147483647
+bytes_in_range o e = (between 0 2147483647 o.bytes (each_test o e).5).1

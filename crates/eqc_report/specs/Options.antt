@@ -1,5 +1,5 @@
 -- The ranges of a run's options: 1 to 64 workers, 1 to 1,048,574 nodes, a power of two from 1 to 1,048,576 as
--- the number of cells, at most 16 forks, and at most 65,535 inputs of a main model.
+-- the number of cells, at most 16 forks, at most 65,535 inputs of a main model, and at most 2,147,483,647 bytes of a netlist's text.
 use Rattle.std.specs.Prelude.{ℕ, ◌^◌, Bool, not, ◌&&◌, nat_le, ◌==◌, Option, Some, None, if◌then◌else◌}
 use Rattle.std.specs.List.{list_any, range_with_len}
 use Rattle.eqc_report.specs.declared.options.Options.{Options}
@@ -20,4 +20,5 @@ options_code o =
     else if not (is_cell_count o.cells) then Some 83
     else if not (is_between 0 16 o.forks) then Some 84
     else if not (is_between 0 65535 o.inputs) then Some 85
+    else if not (is_between 0 2147483647 o.bytes) then Some 86
     else None

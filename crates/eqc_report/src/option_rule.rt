@@ -17,19 +17,22 @@ pub enum OptionRule {
     Forks,
     #[error("inputs are from 0 to 65535")]
     Inputs,
+    #[error("bytes are from 0 to 2147483647")]
+    Bytes,
 }
 
 /// The rules of options, in the order of their codes.
-pub const OPTION_RULES: [OptionRule; 5] = [
+pub const OPTION_RULES: [OptionRule; 6] = [
     OptionRule::Workers,
     OptionRule::Nodes,
     OptionRule::Cells,
     OptionRule::Forks,
     OptionRule::Inputs,
+    OptionRule::Bytes,
 ];
 
 impl OptionRule {
-    /// The number that a report shows: 81 to 85, in the order of the variants.
+    /// The number that a report shows: 81 to 86, in the order of the variants.
     pub fn code(self) -> u8
         ensures { result ≡ option_rule_code self }
     {
@@ -39,6 +42,7 @@ impl OptionRule {
             OptionRule::Cells => 83,
             OptionRule::Forks => 84,
             OptionRule::Inputs => 85,
+            OptionRule::Bytes => 86,
         }
     }
 }

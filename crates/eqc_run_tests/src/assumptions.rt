@@ -1,8 +1,9 @@
 //! Runs in which an assumption says which assignments count, each difference is wanted, or outputs are chosen by their names.
 
 use crate::ends::holds_at;
+use crate::rows::at_once;
 use eqc_check::{Given, ModelNames, Options, OutputNames, Texts, run, run_models};
-use eqc_run_testing::{Numbers, TEAMS, options, status_of};
+use eqc_run_testing::{Numbers, TEAMS, given, options, status_of, workers_on};
 use eqc_testing::{EQUAL, Feed, is_text};
 use std::process::Abort;
 use std::sync::Wait;
@@ -49,6 +50,7 @@ static ASSUMED: &[(&str, &str, Beside, &str)] = &[
     ("its hierarchy", AND_OR, (None, Some(".model h;.outputs e;.subckt gone e=e"), false, &[]), "refused assume 0 21;"),
     ("no driver before 62", AND_OR, (None, Some(".model h;.outputs e f"), false, &[]), "refused assume 0 27;"),
     ("the order before it", AND_OR, (Some("x"), Some(""), false, &[]), "refused order 0 53;"),
+    ("two outputs under it", BOTH, (None, Some(".model h;.inputs a;.outputs e;.names a e;0 1"), false, &[]), "differs at p;a=0;first=0;second=1;"),
     ("an order with it", AND_OR, (Some("y x"), Some(".model h;.inputs x;.outputs e;.names x e;1 1"), false, &[]), "differs at z;x=1;y=0;first=0;second=1;"),
 ];
 
@@ -87,14 +89,16 @@ fn reader(text: Option<&'static str>) -> Option<Feed<'static>> {
     }
 }
 
-/// Whether a run writes this report, and has its status.
-fn reports_with(
+/// How many workers, of so many that are waited for, compared outputs at once in a run that writes this report, and has its status: none
+/// where it doesn't.
+fn workers_with(
     rt: &(impl AllocGlobal + Threads + Wait + Sync),
     text: &'static str,
     beside: Beside,
     numbers: Numbers,
+    awaited: u32,
     report: &str,
-) -> bool {
+) -> Option<u32> {
     let (order, assume, every, names) = beside;
     let given = Given {
         texts: Texts::One(Feed::whole(text)),
@@ -104,21 +108,30 @@ fn reports_with(
         outputs: OutputNames { names },
         options: options_with(numbers, every),
     };
-    let mut out = Vec::new(rt.alloc());
-    match run_models(rt, rt.alloc(), given, &mut out) {
-        Ok(finished) => Some(finished.status) == status_of(report) && is_text(&out, report),
-        Err(_) => false,
-    }
+    workers_on(rt, given, awaited, report)
 }
 
-/// Each row has its report with each of the teams.
+/// The rows with several outputs to compare.
+static SEVERAL: &[&str] = &[
+    "two outputs under it",
+    "the first alone",
+    "each",
+    "the first under an assumption",
+    "each under an assumption",
+    "one of two is equal under it",
+    "both by name, in their order",
+];
+
+/// Each row has its report with each of the teams, whose threads are started where several outputs are compared.
 fn check_rows_with(
     rt: &(impl Abort + AllocGlobal + Threads + Wait + Sync),
     rows: &'static [(&'static str, &'static str, Beside, &'static str)],
 ) {
     for numbers in TEAMS {
         for (name, text, beside, report) in rows {
-            let found = reports_with(rt, text, *beside, *numbers, report);
+            let wanted = at_once(SEVERAL, name, *numbers);
+            let workers = workers_with(rt, text, *beside, *numbers, wanted, report);
+            let found = workers.is_some_and(|count| count >= wanted);
             holds_at(rt, Ok(found), name, *numbers);
         }
     }
@@ -134,13 +147,34 @@ fn differences_and_outputs_are_wanted(rt: HostRuntime) {
     check_rows_with(&rt, WANTED);
 }
 
+/// An assumption that allows nothing.
+const NOTHING: &str = ".model h;.outputs e;.names e";
+
 #[test]
 fn a_run_takes_an_assumption(rt: HostRuntime) {
     let mut out = Vec::new(rt.alloc());
     let texts = Texts::One(Feed::whole(AND_OR));
-    let assume = Some(Feed::whole(".model h;.outputs e;.names e"));
-    let options = options(TEAMS[0]);
-    let done = run(&rt, rt.alloc(), texts, None, assume, &options, &mut out);
+    let assume = Some(Feed::whole(NOTHING));
+    let done = run(
+        &rt,
+        rt.alloc(),
+        texts,
+        None,
+        assume,
+        &options(TEAMS[0]),
+        &mut out,
+    );
     assert_eq!(rt; done.ok(), status_of("vacuous;"));
+    assert!(rt; is_text(&out, "vacuous;"));
+}
+
+#[test]
+fn a_run_of_models_takes_an_assumption(rt: HostRuntime) {
+    let mut out = Vec::new(rt.alloc());
+    let texts = Texts::One(Feed::whole(AND_OR));
+    let run = given(texts, None, Some(Feed::whole(NOTHING)), options(TEAMS[0]));
+    let done = run_models(&rt, rt.alloc(), run, &mut out);
+    let status = done.map(|finished| finished.status);
+    assert_eq!(rt; status.ok(), status_of("vacuous;"));
     assert!(rt; is_text(&out, "vacuous;"));
 }

@@ -1,7 +1,7 @@
 //! Runs over hierarchies: covers of covers, instances, ties, and their refusals.
 
 use crate::ends::{holds, same};
-use crate::rows::check_runs;
+use crate::rows::check_runs_by_several;
 use eqc_run_testing::{ADDERS, Numbers, TEAMS, TWO, WRONG_ADDERS, WRONG_SUM, reports_on};
 use eqc_testing::{Row, doubling, input_names};
 use std::alloc::{AllocError, Global};
@@ -34,16 +34,20 @@ static ROWS: &[Row<&str>] = &[
     ("wrong adders", WRONG_ADDERS, WRONG_SUM),
 ];
 
+/// The rows with several outputs to compare: in the others no two signals of an output have two structures, or there is one output.
+static SEVERAL: &[&str] = &["adders", "wrong adders"];
+
 #[test]
 fn hierarchies_are_compared(rt: HostRuntime) {
-    check_runs(&rt, TEAMS, ROWS);
+    check_runs_by_several(&rt, TEAMS, ROWS, SEVERAL);
 }
 
 /// Workers and forks, which change no report.
 static MORE_TEAMS: &[Numbers] = &[
     (1, 65_536, 8_192, 16),
-    (2, 65_536, 8_192, 16),
-    (64, 65_536, 8_192, 16),
+    (1, 1_023, 8_192, 16),
+    (2, 1_023, 8_192, 16),
+    (64, 1_023, 8_192, 16),
 ];
 
 /// The adders, which halves and forks of an operation are for.
@@ -54,7 +58,7 @@ static BOTH: &[Row<&str>] = &[
 
 #[test]
 fn workers_and_forks_change_no_report(rt: HostRuntime) {
-    check_runs(&rt, MORE_TEAMS, BOTH);
+    check_runs_by_several(&rt, MORE_TEAMS, BOTH, SEVERAL);
 }
 
 #[test]

@@ -1,15 +1,17 @@
 //! The tests of runs: from texts to the bytes of a report.
 //!
-//! - `runs`, options, order texts, one text and two; `inputs`, how many inputs are allowed
+//! - `runs`, options, order texts, one text and two; `inputs` and `bytes`, how many of these are allowed
 //! - `assumptions`, runs in which not every assignment counts, each difference is wanted or outputs are chosen
 //! - `compared_hierarchies`, `structures` and `inside`, what is reported of netlists; `costs`, of texts that would like to be dear;
 //!   `rows`, what compares rows of these
 //! - `watching`, what a run tells of how far it is
-//! - `large_netlists`, very many models and signals
+//! - `large_netlists`, very many models and signals; `many_workers`, very many threads
 #![tactic(auto)]
 
 #[cfg(test)]
 mod assumptions;
+#[cfg(test)]
+mod bytes;
 #[cfg(test)]
 mod compared_hierarchies;
 #[cfg(test)]
@@ -22,6 +24,8 @@ mod inputs;
 mod inside;
 #[cfg(test)]
 mod large_netlists;
+#[cfg(test)]
+mod many_workers;
 #[cfg(test)]
 mod rows;
 #[cfg(test)]

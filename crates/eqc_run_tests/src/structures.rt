@@ -3,7 +3,7 @@
 ghost use Rattle.std.specs.Prelude.{◌+◌, ◌<◌, ◌^◌};
 
 use crate::ends::{holds, same};
-use crate::rows::check_runs;
+use crate::rows::{check_runs, check_runs_by_several};
 use eqc_check::Options;
 use eqc_run_testing::{Numbers, TWO, options, reports_by, reports_on};
 use eqc_testing::Row;
@@ -54,17 +54,24 @@ static SHARED: &[Row<&str>] = &[
     ("an output of one structure between others", ".model f;.inputs x y;.outputs u v w;.names x y s;10 1;.names s y u;1- 1;-1 1;.names s v;1 1;.names s x w;11 1;.end;.model g;.inputs x y;.outputs u v w;.names x y s;10 1;.names y s u;1- 1;-1 1;.names s v;1 1;.names s x w;0- 1;.end;", "differs at w;x=0;y=0;first=0;second=1;"),
 ];
 
+/// The rows with several outputs to compare.
+static SEVERAL: &[&str] = &[
+    "a gate that two outputs need, behind a connection in the second netlist",
+    "an output of one structure between others",
+];
+
 /// Workers and forks.
 static BY_WORKERS: &[Numbers] = &[
     (1, 65_536, 8_192, 0),
-    (3, 65_536, 8_192, 0),
-    (8, 65_536, 8_192, 16),
-    (64, 65_536, 8_192, 0),
+    (1, 1_023, 8_192, 0),
+    (3, 1_023, 8_192, 0),
+    (8, 1_023, 8_192, 16),
+    (64, 1_023, 8_192, 0),
 ];
 
 #[test]
 fn what_both_netlists_have_is_built_for_both(rt: HostRuntime) {
-    check_runs(&rt, BY_WORKERS, SHARED);
+    check_runs_by_several(&rt, BY_WORKERS, SHARED, SEVERAL);
 }
 
 /// Declares the bits of two numbers as inputs and those of a result as outputs, and drives the first carry.

@@ -3,8 +3,10 @@
 
 use crate::beginnings::LATCH;
 use crate::ends::{holds_at, same};
-use eqc_check::{RunFault, Status, Texts};
-use eqc_run_testing::{ADDERS, Numbers, TWO, WRONG_ADDERS, WRONG_SUM, ran, reports};
+use eqc_check::{RunFault, Status, Texts, run};
+use eqc_run_testing::{
+    ADDERS, Numbers, TWO, WRONG_ADDERS, WRONG_SUM, given, options, ran, reports, workers_on,
+};
 use eqc_testing::{DIFFERENCE, Drain, EQUAL, Feed, NEVER, UNEQUAL};
 use std::io;
 use std::io::{ErrorKind, Write};
@@ -22,6 +24,9 @@ static READ: &[(&str, &str, &str)] = &[
     (ADDERS, BACKWARDS, "equivalent;"),
 ];
 
+/// An assumption that allows everything.
+const ALL: &str = ".model h;.outputs e;.names e;1;";
+
 /// Which reader fails.
 #[derive(Clone, Copy, Debug)]
 enum Failing {
@@ -29,6 +34,7 @@ enum Failing {
     First,
     Second,
     Order,
+    Assume,
 }
 
 static EACH: &[Failing] = &[
@@ -36,6 +42,7 @@ static EACH: &[Failing] = &[
     Failing::First,
     Failing::Second,
     Failing::Order,
+    Failing::Assume,
 ];
 
 /// How a run ends whose readers give a text, and an order text, and of which this one fails at this call; and whether nothing is written.
@@ -58,6 +65,19 @@ fn ended<'x>(
             let order = Feed::new(order, 1, call);
             ran(rt, Texts::One(whole), Some(order), TWO, &mut out)
         }
+        Failing::Assume => {
+            let (order, assume) = (Feed::whole(order), Feed::new(ALL, 1, call));
+            let (texts, options) = (Texts::One(whole), options(TWO));
+            run(
+                rt,
+                rt.alloc(),
+                texts,
+                Some(order),
+                Some(assume),
+                &options,
+                &mut out,
+            )
+        }
     };
     (done, out.calls == 0)
 }
@@ -71,6 +91,7 @@ fn fails_at_each(
 ) -> bool {
     let length = match failing {
         Failing::Order => order.len(),
+        Failing::Assume => ALL.len(),
         _ => text.len(),
     };
     // The last call sees the end.
@@ -93,8 +114,10 @@ fn a_reader_fails_at_each_call(rt: HostRuntime) {
             holds_at(&rt, Ok(found), report, *failing);
         }
         let texts = Texts::One(Feed::new(text, 1, NEVER));
-        let found = reports(&rt, texts, Some(Feed::new(order, 1, NEVER)), TWO, report);
-        same(&rt, found, true, *report);
+        let (order, assume) = (Feed::new(order, 1, NEVER), Feed::new(ALL, 1, NEVER));
+        let run = given(texts, Some(order), Some(assume), options(TWO));
+        let found = workers_on(&rt, run, 0, report);
+        same(&rt, found.is_some(), true, *report);
     }
 }
 

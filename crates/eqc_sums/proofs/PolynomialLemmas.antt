@@ -156,6 +156,18 @@ negated_sum nodes sign ts empty one outs h graph e none pushed has us read adds 
     opposite_at (terms_sum (literal_value nodes a) us) sign (h a) e
     (ap (λ (vs : List Term). terms_sum (literal_value nodes a) vs % 2 ^ 128) read ∙ has.sum a))
 
+-- an odd literal is the complement of the one before it
+pub odd_sum : (nodes : List Node) (l m : ℕ) (ts us : List Term) → (l % 2 ≡ 0 → ⊥) → m ≡ l - 1 → IsWithin nodes l
+    → ((others : List Node) → IsWithin others m → HasSum others ts (λ a. bit (literal_value others a m)))
+    → ((h : Value) → HasSum nodes ts (λ a. bit (h a)) → HasSum nodes us (λ a. bit (differ true (h a))))
+    → HasSum nodes us (λ a. bit (literal_value nodes a l))
+odd_sum nodes l m ts us odd before in_l alone negates =
+    let in_m : IsWithin nodes m = omega (arith, before, in_l, odd) in
+    has_same nodes us (λ a. bit (differ true (literal_value nodes a m))) (λ a. bit (literal_value nodes a l)) (negates (λ a. literal_value nodes a m) (alone nodes in_m))
+    (λ a.
+    ap (λ (b : Bool). bit b % 2 ^ 128)
+    (ap (λ (k : ℕ). not (literal_value nodes a k)) before ∙ (ap not (value_before nodes a l odd) ∙ not_not (literal_value nodes a l))))
+
 -- gates of a graph
 and_number : (x y : Bool) → bit (x && y) % 2 ^ 128 ≡ gate_number true (bit x) (bit y) % 2 ^ 128
 and_number true true = refl

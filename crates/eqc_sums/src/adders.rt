@@ -3,7 +3,7 @@ ghost use Rattle.std.specs.Prelude.{◌≡◌};
 ghost use Rattle.eqc_sums.specs.Forms.{Keeps};
 
 use crate::reduction::Reduction;
-use crate::support::{Support, joined, of_input};
+use crate::support::{ROOM, Support, joined, of_input};
 use eqc_graph::{Graph, Node, node_of};
 use eqc_sweep::Sweep;
 use std::alloc::{AllocError, Global};
@@ -23,14 +23,20 @@ pub(crate) struct Block {
 pub(crate) struct Known {
     pub(crate) level: u32,
     pub(crate) support: Support,
+    /// How many ways lead from it down to inputs.
+    ways: u32,
     /// Whether it is a conjunction of inputs, or stands for one.
     pub(crate) is_plain: bool,
+    /// Whether it was made to see whether it is there.
+    is_tried: bool,
     /// Literals of which it is the difference.
     pub(crate) pairs: Vec<(u32, u32)>,
     pub(crate) sums: Vec<Block>,
     pub(crate) carries: Vec<Block>,
     /// Three literals whose carry it is, the first of which has the other polarity in a carry that comes before it.
     pub(crate) relations: Vec<Block>,
+    /// Complements of which it is the conjunction, though it isn't made of them, and its literal that is.
+    pub(crate) others: Vec<(u32, u32, u32)>,
 }
 
 /// What is known of the nodes.
@@ -38,12 +44,32 @@ pub(crate) struct Known {
 pub(crate) struct Adders {
     alloc: Global,
     pub(crate) nodes: Vec<Known>,
-    /// How many nodes there were before anything was made.
+    /// How many inputs are few.
+    few: usize,
+    /// Whether it is asked for carries of each sum without an adder of three literals, and not only of those without any.
+    is_thorough: bool,
+    /// For so many of the first nodes adders were looked for.
+    seen: u32,
+    /// How many nodes there were at first, and when a form was begun.
     first: u32,
+    begun: u32,
 }
+
+/// So many times as many nodes as there were at first, and as many times this number at least, may be made for a form.
+const GROWTH: u32 = 2;
+
+const FEWEST: u32 = 1_000;
+
+/// A node isn't put as a polynomial of inputs from which so many ways lead to them.
+const WAYS: u32 = 4_096;
 
 /// In how many rounds carries are looked for.
 const ROUNDS: u32 = 6;
+
+/// At how many nodes it is looked to see whether there are adders, and how many there are then.
+const LOOKS: u32 = 2_000;
+
+const SOME: u32 = 8;
 
 /// The literals of three in one of four polarities.
 fn polarized(x: u32, y: u32, z: u32, polarity: u32) -> (u32, u32, u32) {
@@ -58,6 +84,11 @@ fn polarized(x: u32, y: u32, z: u32, polarity: u32) -> (u32, u32, u32) {
         3 => (x, y, z ^ 1),
         _ => (x, y, z),
     }
+}
+
+/// Three literals without their complements.
+fn plain(x: u32, y: u32, z: u32) -> (u32, u32, u32) {
+    (x - x % 2, y - y % 2, z - z % 2)
 }
 
 /// Whether a carry is a constant or one of the literals.
@@ -76,12 +107,37 @@ fn has_nodes(block: &Block, x: u32, y: u32, z: u32) -> bool {
 }
 
 impl Adders {
-    pub(crate) fn new(alloc: Global) -> Adders {
+    pub(crate) fn new(alloc: Global, few: usize, is_thorough: bool, first: u32) -> Adders {
         Adders {
             alloc,
             nodes: Vec::new(alloc),
-            first: 0,
+            few,
+            is_thorough,
+            seen: 0,
+            first,
+            begun: 0,
         }
+    }
+
+    /// How many nodes the graph may have before a form is given up: in steps that are in vain more and more products are made.
+    pub(crate) fn most(&self) -> u32 {
+        let more = self.first.max(FEWEST).saturating_mul(GROWTH);
+        self.begun.saturating_add(more)
+    }
+
+    /// A form is begun, in a graph of so many nodes.
+    pub(crate) fn begin(&mut self, nodes: u32) {
+        self.begun = nodes;
+    }
+
+    /// How many nodes there were at first.
+    pub(crate) fn first(&self) -> u32 {
+        self.first
+    }
+
+    /// How many inputs are few, and whether it is asked for many carries.
+    pub(crate) fn kind(&self) -> (usize, bool) {
+        (self.few, self.is_thorough)
     }
 
     pub(crate) fn known(&self, node: u32) -> Option<&Known> {
@@ -99,7 +155,15 @@ impl Adders {
     pub(crate) fn is_small(&self, node: u32) -> bool {
         match self.nodes.get(node as usize) {
             None => true,
-            Some(known) => known.support.is_small(),
+            Some(known) => known.support.count() <= self.few,
+        }
+    }
+
+    /// Whether so many inputs at most are below a node as supports have room for.
+    pub(crate) fn is_rather_small(&self, node: u32) -> bool {
+        match self.nodes.get(node as usize) {
+            None => true,
+            Some(known) => known.support.count() <= ROOM,
         }
     }
 
@@ -109,6 +173,16 @@ impl Adders {
             None => true,
             Some(known) => known.is_plain,
         }
+    }
+
+    /// Whether a sum may be taken for its adder: what comes of that is below it, but for a carry that isn't a sum.
+    pub(crate) fn is_useful(&self, node: u32, block: &Block) -> bool {
+        let level = self.level(node);
+        let carry = node_of(block.carry);
+        let is_below = [block.x, block.y, block.z]
+            .iter()
+            .all(|literal| self.level(node_of(*literal)) < level);
+        is_below && (!self.is_sum(carry) || self.is_small(carry) || self.level(carry) < level)
     }
 
     pub(crate) fn is_sum(&self, node: u32) -> bool {
@@ -166,12 +240,45 @@ impl Adders {
         Ok(Known {
             level,
             support,
+            ways: self.ways(node),
             is_plain,
+            is_tried: false,
             pairs,
             sums: Vec::new(self.alloc),
             carries: Vec::new(self.alloc),
             relations: Vec::new(self.alloc),
+            others: Vec::new(self.alloc),
         })
+    }
+
+    /// How many ways lead from a literal down to inputs.
+    fn ways_from(&self, literal: u32) -> u32 {
+        match self.nodes.get(node_of(literal) as usize) {
+            None => WAYS,
+            Some(known) => known.ways,
+        }
+    }
+
+    /// How many ways lead from a node down to inputs.
+    fn ways(&self, node: Node) -> u32 {
+        match node {
+            Node::Constant | Node::Input(_) => 1,
+            Node::And(x, y) => self.ways_from(x).saturating_add(self.ways_from(y)),
+            Node::Xor(x, y) => self.ways_from(x).saturating_add(self.ways_from(y)),
+        }
+    }
+
+    /// Whether a node's polynomial is made in little time: it is made once more on each way.
+    pub(crate) fn has_few_ways(&self, node: u32) -> bool {
+        match self.nodes.get(node as usize) {
+            None => false,
+            Some(known) => known.ways < WAYS,
+        }
+    }
+
+    /// Of how many nodes something is known.
+    fn count(&self) -> u32 {
+        self.nodes.len().min(u32::MAX as usize) as u32
     }
 
     /// The level above two literals.
@@ -204,11 +311,27 @@ impl Adders {
         Ok(())
     }
 
+    /// Takes in that a node is the conjunction of two complements, though it isn't made of them.
+    fn add_other(&mut self, graph: &Graph, literal: u32, x: u32, y: u32) -> Result<(), AllocError> {
+        let node = node_of(literal);
+        if x % 2 == 0 || y % 2 == 0 || node >= graph.len() || graph.node(node) == Node::And(x, y) {
+            return Ok(());
+        }
+        if let Some(known) = self.nodes.get_mut(node as usize) {
+            if !known.others.contains(&(x, y, literal)) {
+                known.others.push((x, y, literal))?;
+            }
+        }
+        Ok(())
+    }
+
     /// Takes in what differences were asked for, of nodes too that others stand for.
     fn add_asked(&mut self, sweep: &Sweep) -> Result<(), AllocError> {
         for place in 0..sweep.places() {
-            if let Some((Node::Xor(x, y), literal)) = sweep.asked(place) {
-                self.add_pair(literal, x, y)?;
+            match sweep.asked(place) {
+                Some((Node::Xor(x, y), literal)) => self.add_pair(literal, x, y)?,
+                Some((Node::And(x, y), literal)) => self.add_other(sweep.graph(), literal, x, y)?,
+                _ => {}
             }
         }
         Ok(())
@@ -228,42 +351,27 @@ impl Adders {
         }
     }
 
-    /// Puts three literals of which a node is the sum into a list, where a carry looks like an older node.
-    fn propose(
-        &self,
-        sweep: &Sweep,
-        x: u32,
-        y: u32,
-        z: u32,
-        out: &mut Vec<(u32, u32, u32)>,
-    ) -> Result<(), AllocError> {
-        let plain = (x - x % 2, y - y % 2, z - z % 2);
-        for polarity in 0..4 {
-            let (p, q, r) = polarized(plain.0, plain.1, plain.2, polarity);
-            if let Some(carry) = sweep.like_carry(p, q, r) {
-                if node_of(carry) < self.first {
-                    out.push(plain)?;
-                    return Ok(());
-                }
-            }
+    /// Whether a node was made to see whether it is there.
+    fn is_tried(&self, node: u32) -> bool {
+        match self.nodes.get(node as usize) {
+            None => false,
+            Some(known) => known.is_tried,
         }
-        Ok(())
     }
 
     /// The literals that a node may be the sum of.
     fn candidates_of(
         &self,
-        sweep: &Sweep,
         node: u32,
-        out: &mut Vec<(u32, u32, u32)>,
+        out: &mut Vec<(u32, (u32, u32, u32))>,
     ) -> Result<(), AllocError> {
         for at in 0..self.pairs(node) {
             if let Some((x, y)) = self.pair(node, at) {
-                self.propose(sweep, x, y, 0, out)?;
+                out.push((node, plain(x, y, 0)))?;
                 for (inner, other) in [(x, y), (y, x)] {
                     for k in 0..self.pairs(node_of(inner)) {
                         if let Some((p, q)) = self.pair(node_of(inner), k) {
-                            self.propose(sweep, p, q, other, out)?;
+                            out.push((node, plain(p, q, other)))?;
                         }
                     }
                 }
@@ -272,15 +380,64 @@ impl Adders {
         Ok(())
     }
 
-    /// The literals that nodes may be sums of.
-    fn candidates(&self, sweep: &Sweep) -> Result<Vec<(u32, u32, u32)>, AllocError> {
+    /// The literals that nodes from this one on may be sums of.
+    fn candidates(&self, from: u32) -> Result<Vec<(u32, (u32, u32, u32))>, AllocError> {
         let mut out = Vec::new(self.alloc);
-        for node in 0..self.first {
+        for node in from..self.count() {
             if !self.is_small(node) {
-                self.candidates_of(sweep, node, &mut out)?;
+                self.candidates_of(node, &mut out)?;
             }
         }
         Ok(out)
+    }
+
+    /// Whether a node looks like the sum of three literals that have a carry: whether it may be one, and whether it does.
+    fn looks_like_sum(&self, sweep: &Sweep, node: u32) -> (bool, bool) {
+        let Some((x, y)) = self.pair(node, 0) else {
+            return (false, false);
+        };
+        for (inner, other) in [(x, y), (y, x)] {
+            if let Some((p, q)) = self.pair(node_of(inner), 0) {
+                let has_carry = (0..4).any(|polarity| {
+                    let (p, q, r) = polarized(p, q, other, polarity);
+                    sweep.like_carry(p, q, r).is_some()
+                });
+                if has_carry {
+                    return (true, true);
+                }
+            }
+        }
+        (true, false)
+    }
+
+    /// Whether some of the nodes look like sums of adders.
+    pub(crate) fn has_some(&mut self, sweep: &Sweep) -> Result<bool, AllocError> {
+        self.catch_up(sweep.graph())?;
+        let mut looks: u32 = 0;
+        let mut sums: u32 = 0;
+        for node in 0..self.count() {
+            let (may_be, is_one) = self.looks_like_sum(sweep, node);
+            looks = looks.saturating_add(u32::from(may_be));
+            sums = sums.saturating_add(u32::from(is_one));
+            if looks >= LOOKS || sums >= SOME {
+                break;
+            }
+        }
+        Ok(sums >= SOME)
+    }
+
+    /// Whether it may be asked for carries of a node: where no adder of it is there by its gates, or none of three literals.
+    fn may_ask(&self, node: u32) -> bool {
+        match self.nodes.get(node as usize) {
+            None => false,
+            Some(known) => {
+                if self.is_thorough {
+                    known.sums.iter().all(|block| block.z == 0)
+                } else {
+                    known.sums.len() == 0
+                }
+            }
+        }
     }
 
     /// Whether three literals are known as those of a sum.
@@ -305,9 +462,17 @@ impl Adders {
         Ok(())
     }
 
+    /// Whether a carry is above its literals.
+    fn is_above(&self, block: Block) -> bool {
+        let level = self.level(node_of(block.carry));
+        [block.x, block.y, block.z]
+            .iter()
+            .all(|literal| self.level(node_of(*literal)) < level)
+    }
+
     /// Enters how the carry of one polarity comes from another one.
     fn relate(&mut self, block: Block) -> Result<(), AllocError> {
-        if block.x == 0 || is_degenerate(&block) {
+        if block.x == 0 || is_degenerate(&block) || !self.is_above(block) {
             return Ok(());
         }
         if let Some(known) = self.nodes.get_mut(node_of(block.carry) as usize) {
@@ -346,54 +511,107 @@ impl Adders {
         Ok(())
     }
 
+    /// Marks the nodes from this one on as tried.
+    fn mark_tried(&mut self, graph: &Graph, from: usize) -> Result<(), AllocError> {
+        self.catch_up(graph)?;
+        for at in from..self.nodes.len() {
+            self.nodes[at].is_tried = true;
+        }
+        Ok(())
+    }
+
     #[tactic(auto, using(crate::proofs::KeepLemmas::keeps_itself, crate::proofs::KeepLemmas::keeps_along))]
-    /// Tries the carries of three literals in four polarities.
-    fn try_block(
+    /// Three literals with their sum and their carry, where that one was there. If it isn't there by its gates it may be asked about.
+    fn tried(
         &mut self,
         reduction: &mut Reduction,
         x: u32,
         y: u32,
         z: u32,
+        asks: bool,
+    ) -> Result<Option<Block>, AllocError>
+        ensures { Keeps reduction.old.sweep reduction.new.sweep reduction.old.form reduction.new.form }
+    {
+        let alike = if asks {
+            reduction.sweep().like_carry(x, y, z)
+        } else {
+            reduction.sweep().carry_there(x, y, z)
+        };
+        let Some(alike) = alike else {
+            return Ok(None);
+        };
+        if self.is_tried(node_of(alike)) {
+            return Ok(None);
+        }
+        let nodes = self.nodes.len();
+        let Some((sum, carry)) = reduction.sum_and_carry(x, y, z)? else {
+            return Ok(None);
+        };
+        self.mark_tried(reduction.sweep().graph(), nodes)?;
+        if self.is_tried(node_of(carry)) {
+            return Ok(None);
+        }
+        Ok(Some(Block {
+            x,
+            y,
+            z,
+            sum,
+            carry,
+        }))
+    }
+
+    #[tactic(auto, using(crate::proofs::KeepLemmas::keeps_itself, crate::proofs::KeepLemmas::keeps_along))]
+    /// Tries the carries of three literals in four polarities.
+    fn try_block(
+        &mut self,
+        reduction: &mut Reduction,
+        three: (u32, u32, u32),
+        asks: bool,
     ) -> Result<(), AllocError>
         ensures { Keeps reduction.old.sweep reduction.new.sweep reduction.old.form reduction.new.form }
     {
         let mut found = Vec::new(self.alloc);
         'polarities: for polarity in 0..4 {
-            let (p, q, r) = polarized(x, y, z, polarity);
-            let seen = reduction.sweep().like_carry(p, q, r);
-            if seen.is_some() {
-                if let Some((sum, carry)) = reduction.sum_and_carry(p, q, r)? {
-                    if node_of(carry) < self.first {
-                        found.push((
-                            polarity,
-                            Block {
-                                x: p,
-                                y: q,
-                                z: r,
-                                sum,
-                                carry,
-                            },
-                        ))?;
-                    }
-                }
+            let (p, q, r) = polarized(three.0, three.1, three.2, polarity);
+            if let Some(block) = self.tried(reduction, p, q, r, asks)? {
+                found.push((polarity, block))?;
             }
         }
         self.enter_all(found.as_slice())
     }
 
     #[tactic(auto, using(crate::proofs::KeepLemmas::keeps_itself, crate::proofs::KeepLemmas::keeps_along))]
-    /// Tries the carries of all these literals.
-    fn try_all(
+    /// Asks for carries of three literals, or of two, of each of which a node is the sum.
+    fn ask_all(
         &mut self,
         reduction: &mut Reduction,
-        candidates: &[(u32, u32, u32)],
+        candidates: &[(u32, (u32, u32, u32))],
+        is_full: bool,
     ) -> Result<(), AllocError>
         ensures { Keeps reduction.old.sweep reduction.new.sweep reduction.old.form reduction.new.form }
     {
-        'candidates: for (x, y, z) in candidates {
-            self.try_block(reduction, *x, *y, *z)?;
+        'candidates: for (node, three) in candidates {
+            if (three.2 != 0) == is_full && self.may_ask(*node) {
+                self.try_block(reduction, *three, true)?;
+            }
         }
         Ok(())
+    }
+
+    #[tactic(auto, using(crate::proofs::KeepLemmas::keeps_itself, crate::proofs::KeepLemmas::keeps_along))]
+    /// Tries the carries of all these literals, of each of which a node is the sum: at first those that are there by their gates.
+    fn try_all(
+        &mut self,
+        reduction: &mut Reduction,
+        candidates: &[(u32, (u32, u32, u32))],
+    ) -> Result<(), AllocError>
+        ensures { Keeps reduction.old.sweep reduction.new.sweep reduction.old.form reduction.new.form }
+    {
+        'candidates: for (_, three) in candidates {
+            self.try_block(reduction, *three, false)?;
+        }
+        self.ask_all(reduction, candidates, true)?;
+        self.ask_all(reduction, candidates, false)
     }
 
     #[tactic(auto, using(crate::proofs::KeepLemmas::keeps_itself, crate::proofs::KeepLemmas::keeps_along))]
@@ -401,29 +619,44 @@ impl Adders {
     pub(crate) fn find(&mut self, reduction: &mut Reduction) -> Result<(), AllocError>
         ensures { Keeps reduction.old.sweep reduction.new.sweep reduction.old.form reduction.new.form }
     {
-        self.first = reduction.sweep().graph().len();
+        self.first = self.first.min(reduction.sweep().graph().len());
         self.catch_up(reduction.sweep().graph())?;
         self.add_asked(reduction.sweep())?;
         'rounds: for _round in 0..ROUNDS {
             let nodes = reduction.sweep().graph().len();
-            let candidates = self.candidates(reduction.sweep())?;
+            let candidates = self.candidates(0)?;
             self.try_all(reduction, candidates.as_slice())?;
             if reduction.sweep().graph().len() == nodes {
                 break;
             }
         }
-        self.catch_up(reduction.sweep().graph())
+        self.seen = reduction.sweep().graph().len();
+        Ok(())
+    }
+
+    #[tactic(auto, using(crate::proofs::KeepLemmas::keeps_itself, crate::proofs::KeepLemmas::keeps_along))]
+    /// Finds adders among the nodes that came since adders were looked for.
+    pub(crate) fn find_more(&mut self, reduction: &mut Reduction) -> Result<(), AllocError>
+        ensures { Keeps reduction.old.sweep reduction.new.sweep reduction.old.form reduction.new.form }
+    {
+        if reduction.sweep().graph().len() == self.seen {
+            return Ok(());
+        }
+        self.catch_up(reduction.sweep().graph())?;
+        let candidates = self.candidates(self.seen)?;
+        self.try_all(reduction, candidates.as_slice())?;
+        self.seen = reduction.sweep().graph().len();
+        Ok(())
     }
 }
 
 /// The literals of a carry, the one first that has the other polarity in another carry.
 fn turned(block: Block, polarity: u32, other: u32) -> Block {
-    let flipped = if block.z == 0 {
+    let flipped = if block.z == 0 || polarity == 0 || other == 0 {
         polarity ^ other
-    } else if polarity == 0 {
-        other
     } else {
-        polarity
+        // Two have the other polarity: so has the third one in the complement of the carry.
+        6u32.saturating_sub(polarity).saturating_sub(other)
     };
     match flipped {
         2 => Block {

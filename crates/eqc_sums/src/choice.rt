@@ -18,6 +18,9 @@ const ASKED: u8 = 4;
 /// A step for a node left its coefficient as it was: there is none for it.
 const STUCK: u8 = 8;
 
+/// Another conjunction was taken for a node.
+const TURNED: u8 = 16;
+
 /// How often a node is taken for a sum.
 const OFTEN: u8 = 8;
 
@@ -25,7 +28,7 @@ const OFTEN: u8 = 8;
 const DEPTH: u32 = 24;
 
 /// How many rules there are.
-const RULES: u32 = 11;
+const RULES: u32 = 16;
 
 /// The rule for sums.
 const SUM: u32 = 1;
@@ -33,7 +36,7 @@ const SUM: u32 = 1;
 /// The rule that asks whether nodes are equal, and the last one before sums are allowed again.
 const ALIKE: u32 = 7;
 
-const LAST: u32 = 8;
+const LAST: u32 = 10;
 
 /// How often the other rules have their turn with sums again.
 const TURNS: u32 = 6;
@@ -48,6 +51,8 @@ pub(crate) struct Choice {
     turns: u32,
     /// The node and the coefficient for which the last step was chosen.
     last: (u32, u128),
+    /// Pairs of nodes that were asked about, the later one first.
+    asked: Vec<(u32, u32)>,
     /// Whether carries of sums that are used aren't taken for carries any more.
     are_sums_used: bool,
 }
@@ -78,6 +83,7 @@ impl Choice {
             times: Vec::new(alloc),
             turns: 0,
             last: (0, 0),
+            asked: Vec::new(alloc),
             are_sums_used: false,
         }
     }
@@ -256,9 +262,14 @@ impl Choice {
             4 => self.carry(reduction, adders, node, factor, lowest),
             5 => self.small(reduction, adders, node, factor),
             6 => self.small_product(reduction, adders, node, factor),
-            ALIKE => self.alike(reduction, adders, node, factor),
+            ALIKE => self.alike(reduction, node, factor),
             8 => self.carry_product(reduction, adders, node, factor, lowest),
-            9 => self.plain_sum(adders, node, factor),
+            9 => self.either_product(reduction, adders, node, factor, false),
+            10 => self.other_conjunction(adders, node, factor),
+            11 => self.rather_small(reduction, adders, node, factor),
+            12 => self.used_carry(reduction, adders, node, factor, lowest),
+            13 => self.either_product(reduction, adders, node, factor, true),
+            14 => self.plain_sum(adders, node, factor),
             _ => self.plain_product(reduction, adders, node, factor),
         }
     }
@@ -302,6 +313,9 @@ impl Choice {
         }
         let mut best: Option<(u32, Block)> = None;
         for block in adders.known(node)?.sums.as_slice() {
+            if !adders.is_useful(node, block) {
+                continue;
+            }
             let score = self.fitting(reduction, block, factor);
             let is_better = match best {
                 None => true,
@@ -432,7 +446,36 @@ impl Choice {
         factor: u128,
         lowest: u32,
     ) -> Option<Move> {
-        if adders.is_small(node) || self.has(node, NO_CARRY) || factor.trailing_zeros() <= lowest {
+        if self.has(node, NO_CARRY) {
+            return None;
+        }
+        self.any_carry(reduction, adders, node, factor, lowest)
+    }
+
+    /// A carry of a sum that is used, as long as it may be taken.
+    fn used_carry(
+        &mut self,
+        reduction: &Reduction,
+        adders: &Adders,
+        node: u32,
+        factor: u128,
+        lowest: u32,
+    ) -> Option<Move> {
+        let step = self.any_carry(reduction, adders, node, factor, lowest)?;
+        self.count(node)?;
+        Some(step)
+    }
+
+    /// A carry, of whatever sum.
+    fn any_carry(
+        &mut self,
+        reduction: &Reduction,
+        adders: &Adders,
+        node: u32,
+        factor: u128,
+        lowest: u32,
+    ) -> Option<Move> {
+        if adders.is_small(node) || factor.trailing_zeros() <= lowest {
             return None;
         }
         let mut best: Option<(u32, Block)> = None;
@@ -464,7 +507,24 @@ impl Choice {
         node: u32,
         factor: u128,
     ) -> Option<Move> {
-        if !adders.is_small(node) || adders.is_plain(node) || !is_gate(reduction, node) {
+        if !adders.is_small(node) || adders.is_plain(node) || !can_expand(reduction, adders, node) {
+            return None;
+        }
+        Some(Move::Expand(node.wrapping_mul(2), DEPTH, factor))
+    }
+
+    /// A node of somewhat more inputs.
+    fn rather_small(
+        &self,
+        reduction: &Reduction,
+        adders: &Adders,
+        node: u32,
+        factor: u128,
+    ) -> Option<Move> {
+        if !adders.is_rather_small(node)
+            || adders.is_plain(node)
+            || !can_expand(reduction, adders, node)
+        {
             return None;
         }
         Some(Move::Expand(node.wrapping_mul(2), DEPTH, factor))
@@ -487,27 +547,89 @@ impl Choice {
             {
                 continue;
             }
-            if is_gate(reduction, node_of(other)) {
+            if can_expand(reduction, adders, node_of(other)) {
                 return Some(Move::ExpandProduct(by, other, DEPTH, factor));
             }
         }
         None
     }
 
-    /// A node that looks like an older one.
-    fn alike(
-        &mut self,
+    /// The next literal that a node looks like and about which it wasn't asked.
+    fn like(&self, reduction: &Reduction, node: u32) -> Option<u32> {
+        let mut but = [node; 8];
+        let mut count: usize = 1;
+        for (later, earlier) in self.asked.as_slice() {
+            let other = if *later == node { *earlier } else { *later };
+            if (*later == node || *earlier == node) && count < 8 {
+                but[count] = other;
+                count += 1;
+            }
+        }
+        if count >= 8 {
+            return None;
+        }
+        reduction.sweep().like_node(node, &but)
+    }
+
+    /// A node that looks like an earlier one, or like a later one of the form.
+    fn alike(&mut self, reduction: &Reduction, node: u32, factor: u128) -> Option<Move> {
+        if self.has(node, ASKED) || !is_gate(reduction, node) {
+            return None;
+        }
+        let Some(other) = self.like(reduction, node) else {
+            self.mark(node, ASKED);
+            return None;
+        };
+        if node_of(other) < node {
+            if self.asked.push((node, node_of(other))).is_err() {
+                return None;
+            }
+            return Some(Move::Unify(node.wrapping_mul(2), other, factor));
+        }
+        let more = reduction.form().coefficient(node_of(other));
+        if self.asked.push((node_of(other), node)).is_err() || more == 0 {
+            return None;
+        }
+        Some(Move::Unify(other - other % 2, node.wrapping_mul(2) ^ other % 2, more))
+    }
+
+    /// A product of a conjunction of complements. Unless it is forced, of two that are never both true.
+    fn either_product(
+        &self,
         reduction: &Reduction,
         adders: &Adders,
         node: u32,
         factor: u128,
+        is_forced: bool,
     ) -> Option<Move> {
-        if adders.is_small(node) || self.has(node, ASKED) || !is_gate(reduction, node) {
+        let (x, y) = self.conjunction(reduction, adders, node)?;
+        for (by, either) in [(x, y), (y, x)] {
+            if by % 2 == 1 || either % 2 == 1 {
+                continue;
+            }
+            let Some((p, q)) = self.conjunction(reduction, adders, node_of(either)) else {
+                continue;
+            };
+            let are_both = p % 2 == 1 && q % 2 == 1;
+            let is_split = are_both && reduction.sweep().like_carry(p ^ 1, q ^ 1, 0) == Some(0);
+            if is_split || is_forced && p % 2 == 1 {
+                return Some(Move::SplitProduct(by, p ^ 1, q, minus(factor)));
+            }
+            if is_forced && q % 2 == 1 {
+                return Some(Move::SplitProduct(by, q ^ 1, p, minus(factor)));
+            }
+        }
+        None
+    }
+
+    /// Another conjunction of complements that is equal.
+    fn other_conjunction(&mut self, adders: &Adders, node: u32, factor: u128) -> Option<Move> {
+        if adders.is_small(node) || self.has(node, TURNED) {
             return None;
         }
-        self.mark(node, ASKED);
-        let other = reduction.sweep().like_node(node)?;
-        Some(Move::Unify(node.wrapping_mul(2), other, factor))
+        let (x, y, literal) = *adders.known(node)?.others.get(0)?;
+        self.mark(node, TURNED);
+        Some(Move::Split(x ^ 1, y, minus(towards(literal, factor))))
     }
 
     /// A product of a carry.
@@ -599,4 +721,9 @@ fn is_gate(reduction: &Reduction, node: u32) -> bool {
         Node::And(_, _) | Node::Xor(_, _) => true,
         Node::Constant | Node::Input(_) => false,
     }
+}
+
+/// Whether a node is a gate whose polynomial is made in little time.
+fn can_expand(reduction: &Reduction, adders: &Adders, node: u32) -> bool {
+    is_gate(reduction, node) && adders.has_few_ways(node)
 }

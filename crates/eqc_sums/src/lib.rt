@@ -9,6 +9,7 @@
 //! - `words`, the terms that compare two words (`specs/Adding.antt`)
 //! - `reduction`, a form over a graph that grows: what it comes to stays
 //! - `moves`, steps as values; `sums`, the public type and its calls
+//! - `names`, words among outputs
 //! - `support` and `adders`, what is found in the graph; `choice`, which step comes next: of these nothing is believed
 #![tactic(auto)]
 
@@ -17,6 +18,7 @@ mod choice;
 mod form;
 mod gates;
 mod moves;
+mod names;
 mod polynomial;
 mod reduction;
 mod steps;
@@ -26,6 +28,7 @@ mod term;
 mod words;
 
 pub use form::Form;
+pub use names::words_of;
 pub use reduction::Reduction;
-pub use sums::{Limits, Sums};
+pub use sums::{Limits, Sums, has_adders};
 pub use term::Term;

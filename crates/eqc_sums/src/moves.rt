@@ -18,6 +18,8 @@ pub(crate) enum Move {
     Polarity(u32, u32, u32, u128),
     /// An adder times the first literal, so many times.
     Product(u32, u32, u32, u32, u128),
+    /// A literal that is split by another one, times the first one.
+    SplitProduct(u32, u32, u32, u128),
     /// A literal's polynomial, down to so many gates below it, so many times.
     Expand(u32, u32, u128),
     /// A literal times the polynomial of another one, in place of their conjunction, so many times.
@@ -41,6 +43,7 @@ pub(crate) fn apply(
         Move::Split(x, y, factor) => reduction.split(x, y, factor)?,
         Move::Polarity(x, y, z, factor) => reduction.polarity(x, y, z, factor)?,
         Move::Product(by, x, y, z, factor) => reduction.product(by, x, y, z, factor)?,
+        Move::SplitProduct(by, x, y, factor) => reduction.split_product(by, x, y, factor)?,
         Move::Expand(literal, depth, factor) => reduction.expand(literal, depth, factor)?,
         Move::ExpandProduct(by, literal, depth, factor) => reduction.expand_product(
             by, literal, depth, factor,

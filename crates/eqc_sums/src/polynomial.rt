@@ -141,6 +141,21 @@ fn alone(alloc: Global, literal: u32) -> Result<Vec<Term>, AllocError>
     Ok(terms)
 }
 
+/// A literal as a polynomial of its node.
+fn of_node(alloc: Global, graph: &Graph, literal: u32) -> Result<Vec<Term>, AllocError>
+    requires { IsWithin graph.now literal }
+    ensures { IfOk result (λ ts. HasSum graph.now ts.items (λ a. bit (literal_value graph.now a literal))) }
+{
+    let _ = graph.len();
+    if literal % 2 == 0 {
+        let terms = alone(alloc, literal)?;
+        return Ok(terms);
+    }
+    let terms = alone(alloc, literal - 1)?;
+    let negated = negated_terms(alloc, terms, true)?;
+    Ok(negated)
+}
+
 #[tactic(auto, using(crate::proofs::PolynomialLemmas::gate_and, crate::proofs::PolynomialLemmas::gate_xor))]
 /// Whether a gate is a conjunction, and its literals.
 fn gate_of(graph: &Graph, node: u32) -> Option<(bool, u32, u32)>
@@ -169,7 +184,7 @@ pub(crate) fn polynomial(
         return alone(alloc, literal);
     }
     let Some((is_and, x, y)) = gate_of(sweep.graph(), literal / 2) else {
-        return alone(alloc, literal);
+        return of_node(alloc, sweep.graph(), literal);
     };
     let first = polynomial(alloc, sweep, x, depth - 1)?;
     let second = polynomial(alloc, sweep, y, depth - 1)?;

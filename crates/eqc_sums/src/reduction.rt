@@ -7,11 +7,11 @@ ghost use Rattle.eqc_sums.specs.Adding.{IsFormOf};
 
 use crate::form::Form;
 use crate::polynomial::{expansion, product_expansion};
-use crate::steps::{adder, alias, parity, polarity, product, split};
+use crate::steps::{adder, alias, parity, polarity, product, split, split_product};
 use crate::term::Term;
 use crate::words::{MOST, are_within, difference};
 use eqc_graph::node_of;
-use eqc_sweep::{Comparison, Sweep};
+use eqc_sweep::{Comparison, Effort, Sweep};
 use std::alloc::{AllocError, Global};
 
 /// A form over a graph that grows.
@@ -50,6 +50,14 @@ impl Reduction {
         ensures { result ≡ self.sweep }
     {
         self.sweep
+    }
+
+    /// From now on new nodes are asked about with this effort.
+    pub(crate) fn ask_again(&mut self, effort: Effort) -> Result<(), AllocError>
+        ensures sweep { self.new.sweep ≡ self.old.sweep }
+        ensures form { self.new.form ≡ self.old.form }
+    {
+        self.sweep.ask_again(effort)
     }
 
     /// The form.
@@ -150,6 +158,18 @@ impl Reduction {
             return Ok(());
         }
         let terms = product(self.alloc, &mut self.sweep, by, (x, y, z), factor)?;
+        self.add_step(terms.as_slice())
+    }
+
+    #[tactic(auto, using(crate::proofs::KeepLemmas::keeps_extended, crate::proofs::KeepLemmas::keeps_itself, crate::proofs::KeepLemmas::keeps_grown))]
+    /// Adds a literal that is split by another one, times a third one and so many times: by x y + by (not x) y - by y.
+    pub fn split_product(&mut self, by: u32, x: u32, y: u32, factor: u128) -> Result<(), AllocError>
+        ensures { Keeps self.old.sweep self.new.sweep self.old.form self.new.form }
+    {
+        if !self.has(by) || !self.has(x) || !self.has(y) {
+            return Ok(());
+        }
+        let terms = split_product(self.alloc, &mut self.sweep, by, x, y, factor)?;
         self.add_step(terms.as_slice())
     }
 

@@ -197,3 +197,25 @@ pub(crate) fn product(
     times(sweep, by, 1, &terms, &mut out)?;
     Ok(out)
 }
+
+#[tactic(auto, using(crate::proofs::GateLemmas::extends_both))]
+/// A literal that is split by another one, times a third one.
+pub(crate) fn split_product(
+    alloc: Global,
+    sweep: &mut Sweep,
+    by: u32,
+    x: u32,
+    y: u32,
+    factor: u128,
+) -> Result<Vec<Term>, AllocError>
+    requires by { IsWithin sweep.old by }
+    requires x { IsWithin sweep.old x }
+    requires y { IsWithin sweep.old y }
+    ensures extends { Extends sweep.old sweep.new }
+    ensures zero { IfOk result (λ ts. IsZeroStep sweep.new ts.items) }
+{
+    let terms = split(sweep, x, y, factor)?;
+    let mut out = Vec::new(alloc);
+    times(sweep, by, 1, &terms, &mut out)?;
+    Ok(out)
+}

@@ -8,18 +8,50 @@ use crate::adders::Adders;
 use crate::choice::Choice;
 use crate::moves::{Move, apply};
 use crate::reduction::Reduction;
-use eqc_sweep::Sweep;
+use eqc_sweep::{Effort, Sweep};
 use std::alloc::{AllocError, Global};
 
-/// What may be done for a pair of words.
+/// What may be done to find adders, and for a pair of words.
 #[derive(Clone, Copy, PartialEq, Eq, Debug)]
 pub struct Limits {
     /// Steps.
     pub steps: u32,
     /// Terms of a form.
     pub terms: usize,
-    /// Conflicts of all questions whether two nodes are equal.
+    /// The most conflicts of a question.
+    pub question: u64,
+    /// Conflicts of all questions about nodes of a form.
     pub conflicts: u64,
+    /// The work of all questions about nodes that are made, as for an `Effort`.
+    pub work: u64,
+}
+
+/// What there may be for each hundred thousand conflicts.
+const USUAL: Limits = Limits {
+    steps: 20_000,
+    terms: 20_000,
+    question: 3_000,
+    conflicts: 100_000,
+    work: 200_000_000,
+};
+
+impl Limits {
+    /// In proportion to the conflicts that a run may have.
+    pub fn of(conflicts: u64) -> Limits {
+        let part = conflicts.min(USUAL.conflicts);
+        Limits {
+            steps: USUAL.steps,
+            terms: USUAL.terms,
+            question: USUAL.question.min(conflicts),
+            conflicts,
+            work: (USUAL.work / USUAL.conflicts).saturating_mul(part),
+        }
+    }
+
+    /// What new nodes are asked with.
+    fn effort(&self) -> Effort {
+        Effort::of(self.question, self.work)
+    }
 }
 
 /// A graph whose adders were looked for.
@@ -30,8 +62,18 @@ pub struct Sums {
     adders: Adders,
 }
 
-/// Conflicts for a question whether two nodes are equal.
-const EACH: u64 = 2_000;
+/// How many inputs of a node are few: at first, and where that fails.
+const FEW: usize = 6;
+
+const MORE: usize = 8;
+
+const FEWER: usize = 4;
+
+/// Whether some nodes of a graph look like adders. Nothing is promised of it: it is a look that takes little time. Fails where memory is
+/// refused.
+pub fn has_adders(alloc: Global, sweep: &Sweep) -> Result<bool, AllocError> {
+    Adders::new(alloc, FEW, false, u32::MAX).has_some(sweep)
+}
 
 #[tactic(auto, using(crate::proofs::KeepLemmas::keeps_itself, crate::proofs::KeepLemmas::keeps_along, crate::proofs::KeepLemmas::keeps_same))]
 /// Adds steps to a form, until it is zero or none is found.
@@ -48,13 +90,14 @@ fn reduce(
     let mut conflicts = limits.conflicts;
     choice.sync(reduction, adders, false)?;
     'steps: for _step in 0..limits.steps {
-        if choice.len() == 0 || choice.len() > limits.terms {
+        let nodes = reduction.sweep().graph().len();
+        if choice.len() == 0 || choice.len() > limits.terms || nodes > adders.most() {
             return Ok(());
         }
         let Some(next) = choice.next(reduction, adders, lowest) else {
             return Ok(());
         };
-        let given = conflicts.min(EACH);
+        let given = conflicts.min(limits.question);
         let mut left = given;
         let _ = apply(reduction, next, &mut left)?;
         conflicts = conflicts.saturating_sub(given.saturating_sub(left));
@@ -62,6 +105,7 @@ fn reduce(
             Move::Expand(_, _, _) => true,
             _ => false,
         };
+        adders.find_more(reduction)?;
         choice.sync(reduction, adders, are_plain)?;
     }
     Ok(())
@@ -75,7 +119,7 @@ impl Sums {
         Sums {
             alloc,
             reduction: Reduction::new(alloc, sweep),
-            adders: Adders::new(alloc),
+            adders: Adders::new(alloc, FEW, false, u32::MAX),
         }
     }
 
@@ -93,22 +137,63 @@ impl Sums {
         self.reduction.sweep()
     }
 
-    /// Looks for adders among all nodes that there are.
-    pub fn find_adders(&mut self) -> Result<(), AllocError>
+    /// Looks for adders among all nodes that there are, within these limits. Fails where memory is refused.
+    pub fn find_adders(&mut self, limits: Limits) -> Result<(), AllocError>
         ensures { Extends self.old.reduction.sweep self.new.reduction.sweep }
     {
-        self.adders.find(&mut self.reduction)
+        self.reduction.ask_again(limits.effort())?;
+        self.adders.find(&mut self.reduction)?;
+        self.reduction.ask_again(limits.effort())
     }
 
+    #[tactic(auto, using(crate::proofs::GateLemmas::extends_both))]
     /// Whether two words of literals, the lowest first, are shown equal, within these limits. Words of unequal length, of none or of more
     /// than 128 literals aren't. Fails where memory is refused.
     pub fn show(&mut self, ps: &[u32], qs: &[u32], limits: Limits) -> Result<bool, AllocError>
         ensures extends { Extends self.old.reduction.sweep self.new.reduction.sweep }
         ensures equal { IfOk result (λ is. IsTrue is → AreEqualWords self.new.reduction.sweep ps.now qs.now) }
     {
+        if self.attempt(ps, qs, (FEW, false), limits)? {
+            return Ok(true);
+        }
+        if self.attempt(ps, qs, (FEW, true), limits)? {
+            return Ok(true);
+        }
+        if self.attempt(ps, qs, (MORE, true), limits)? {
+            return Ok(true);
+        }
+        self.attempt(ps, qs, (FEWER, true), limits)
+    }
+
+    #[tactic(auto, using(crate::proofs::GateLemmas::extends_both))]
+    /// Whether two words are shown equal where so many inputs are few, and it is asked for many carries or not.
+    fn attempt(
+        &mut self,
+        ps: &[u32],
+        qs: &[u32],
+        kind: (usize, bool),
+        limits: Limits,
+    ) -> Result<bool, AllocError>
+        ensures extends { Extends self.old.reduction.sweep self.new.reduction.sweep }
+        ensures equal { IfOk result (λ is. IsTrue is → AreEqualWords self.new.reduction.sweep ps.now qs.now) }
+    {
+        if self.adders.kind() != kind {
+            let first = self.adders.first();
+            self.adders = Adders::new(self.alloc, kind.0, kind.1, first);
+            self.find_adders(limits)?;
+        }
+        self.shown(ps, qs, limits)
+    }
+
+    /// Whether two words are shown equal by the adders that are known.
+    fn shown(&mut self, ps: &[u32], qs: &[u32], limits: Limits) -> Result<bool, AllocError>
+        ensures extends { Extends self.old.reduction.sweep self.new.reduction.sweep }
+        ensures equal { IfOk result (λ is. IsTrue is → AreEqualWords self.new.reduction.sweep ps.now qs.now) }
+    {
         if !self.reduction.begin(ps, qs)? {
             return Ok(false);
         }
+        self.adders.begin(self.reduction.sweep().graph().len());
         let lowest = 128u32.saturating_sub(ps.len().min(128) as u32);
         reduce(
             self.alloc,

@@ -1,47 +1,48 @@
 //! The inputs below a node, where these are few.
 
-/// How many inputs are few.
-pub(crate) const FEW: usize = 6;
+/// How many inputs there is room for.
+pub(crate) const ROOM: usize = 8;
 
 /// Some inputs, by their nodes.
 #[derive(Clone, Copy, PartialEq, Eq, Debug)]
 pub(crate) struct Support {
-    inputs: [u32; 6],
-    /// How many there are, or one more than few.
+    inputs: [u32; 8],
+    /// How many there are, or one more than there is room for.
     count: usize,
 }
 
 impl Support {
     pub(crate) fn none() -> Support {
         Support {
-            inputs: [0; 6],
+            inputs: [0; 8],
             count: 0,
         }
     }
 
     pub(crate) fn many() -> Support {
         Support {
-            inputs: [0; 6],
-            count: FEW + 1,
+            inputs: [0; 8],
+            count: ROOM + 1,
         }
     }
 
-    pub(crate) fn is_small(&self) -> bool {
-        self.count <= FEW
+    /// How many there are, or more than `ROOM`.
+    pub(crate) fn count(&self) -> usize {
+        self.count
     }
 
     /// With one more input.
     fn with(self, input: u32) -> Support {
         let mut more = self;
-        for at in 0..FEW {
+        for at in 0..ROOM {
             if at < more.count && more.inputs[at] == input {
                 return more;
             }
         }
-        if more.count < FEW {
+        if more.count < ROOM {
             more.inputs[more.count] = input;
         }
-        more.count = more.count.saturating_add(1).min(FEW + 1);
+        more.count = more.count.saturating_add(1).min(ROOM + 1);
         more
     }
 }
@@ -53,11 +54,11 @@ pub(crate) fn of_input(node: u32) -> Support {
 
 /// The inputs of two.
 pub(crate) fn joined(first: Support, second: Support) -> Support {
-    if !first.is_small() || !second.is_small() {
+    if first.count > ROOM || second.count > ROOM {
         return Support::many();
     }
     let mut all = first;
-    for at in 0..FEW {
+    for at in 0..ROOM {
         if at < second.count {
             all = all.with(second.inputs[at]);
         }

@@ -2,15 +2,36 @@
 
 use crate::ends::same;
 use crate::multipliers::{Architecture, product};
-use eqc_sums::{Limits, Sums};
+use eqc_sums::{Limits, Sums, has_adders, words_of};
 use eqc_sweep::{Effort, Sweep};
 use std::alloc::{AllocError, Global};
 
-const LIMITS: Limits = Limits {
-    steps: 10_000,
-    terms: 100_000,
-    conflicts: 100_000,
-};
+/// Two products in one graph.
+fn products(
+    alloc: Global,
+    sweep: &mut Sweep,
+    width: u32,
+    first: Architecture,
+    second: Architecture,
+    fault: usize,
+) -> Result<(Vec<u32>, Vec<u32>), AllocError> {
+    let p = product(alloc, sweep, width, first, 0)?;
+    let q = product(alloc, sweep, width, second, fault)?;
+    Ok((p, q))
+}
+
+/// Whether two words are shown equal, and whether they are one anyway.
+fn shown(sums: &mut Sums, p: &[u32], q: &[u32]) -> Result<(bool, bool), AllocError> {
+    let limits = Limits::of(100_000);
+    sums.find_adders(limits)?;
+    Ok((sums.show(p, q, limits)?, p == q))
+}
+
+/// The same in a graph. It stands apart for its proof's sake: what is known of adders is let go in one exit.
+fn shown_in(alloc: Global, sweep: Sweep, p: &[u32], q: &[u32]) -> Result<(bool, bool), AllocError> {
+    let mut sums = Sums::new(alloc, sweep);
+    shown(&mut sums, p, q)
+}
 
 /// Whether two products are shown equal, and whether they are one anyway.
 fn compared(
@@ -21,13 +42,8 @@ fn compared(
     fault: usize,
 ) -> Result<(bool, bool), AllocError> {
     let mut sweep = Sweep::new(alloc, Effort::of(3_000, 100_000_000))?;
-    let p = product(alloc, &mut sweep, width, first, 0)?;
-    let q = product(alloc, &mut sweep, width, second, fault)?;
-    let is_one = p.as_slice() == q.as_slice();
-    let mut sums = Sums::new(alloc, sweep);
-    sums.find_adders()?;
-    let is_shown = sums.show(p.as_slice(), q.as_slice(), LIMITS)?;
-    Ok((is_shown, is_one))
+    let (p, q) = products(alloc, &mut sweep, width, first, second, fault)?;
+    shown_in(alloc, sweep, p.as_slice(), q.as_slice())
 }
 
 /// Products: their width, their architectures, an adder with another carry, whether they are shown equal, and whether sweeping made
@@ -49,5 +65,20 @@ fn products_are_shown_equal(rt: HostRuntime) -> Result<(), AllocError> {
         let found = compared(rt.alloc(), *width, *first, *second, *fault)?;
         same(&rt, found, *shown, *case);
     }
+    Ok(())
+}
+
+#[test]
+fn words_are_found(rt: HostRuntime) -> Result<(), AllocError> {
+    let words = words_of(rt.alloc(), &["p[1]", "p[0]", "q", "p[2]"])?;
+    same(&rt, words.len(), 1, "words");
+    Ok(())
+}
+
+#[test]
+fn adders_are_seen(rt: HostRuntime) -> Result<(), AllocError> {
+    let mut sweep = Sweep::new(rt.alloc(), Effort::of(30, 100_000_000))?;
+    let _ = product(rt.alloc(), &mut sweep, 6, Architecture::Array, 0)?;
+    same(&rt, has_adders(rt.alloc(), &sweep)?, true, "6 bits");
     Ok(())
 }

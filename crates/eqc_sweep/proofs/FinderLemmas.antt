@@ -1,46 +1,20 @@
 -- What refuted questions say of two literals.
-use Rattle.std.proofs.Common.{◌≡◌, ℕ, ◌+◌, ◌/◌, ◌<◌, Bool, true, false, not, ◌&&◌, ◌||◌, List, [], ◌∷◌, length, refl, sym, ap, ◌∙◌, arith}
+use Rattle.std.proofs.Common.{◌≡◌, ℕ, Bool, true, false, not, ◌&&◌, ◌||◌, List, [], ◌∷◌, refl, sym, ap, ◌∙◌}
 use Rattle.eqc_graph.specs.declared.node.Node.{Node}
-use Rattle.eqc_graph.specs.Graph.{literal_value, IsWithin, IsGraph}
+use Rattle.eqc_graph.specs.Graph.{literal_value}
 use Rattle.eqc_clause.specs.Clauses.{IsRefuted}
 use Rattle.eqc_sweep.specs.Gates.{AreOpposite}
-use Rattle.eqc_sweep.specs.Finding.{AreEqual, AreNever, IsOlder}
-use Rattle.eqc_sweep.proofs.ConstantLemmas.{value_false}
-use Rattle.eqc_sweep.proofs.BoolLemmas.{and_false, equal_both}
+use Rattle.eqc_sweep.specs.Finding.{AreEqual, AreNever}
+use Rattle.eqc_sweep.proofs.BoolLemmas.{equal_both}
 
 one_false : (x y : Bool) → (not x || (not y || false)) ≡ true → (x && y) ≡ false
 one_false true true h = cc
 one_false true false h = refl
 one_false false y h = refl
 
-first_false : (x y : Bool) → (not x || false) ≡ true → (x && y) ≡ false
-first_false true y h = cc
-first_false false y h = refl
-
-second_false : (x y : Bool) → (not y || false) ≡ true → (x && y) ≡ false
-second_false x true h = cc
-second_false x false h = and_false x
-
--- the questions of two literals, and of one of them
+-- the question of two literals
 pub never_both : (nodes : List Node) (x y : ℕ) → IsRefuted nodes (x ∷ y ∷ []) → AreNever nodes x y
 never_both nodes x y r = record { value = λ a. one_false (literal_value nodes a x) (literal_value nodes a y) (r.one_is_false a) }
-
-pub never_first : (nodes : List Node) (x y : ℕ) → IsRefuted nodes (x ∷ []) → AreNever nodes x y
-never_first nodes x y r = record { value = λ a. first_false (literal_value nodes a x) (literal_value nodes a y) (r.one_is_false a) }
-
-pub never_second : (nodes : List Node) (x y : ℕ) → IsRefuted nodes (y ∷ []) → AreNever nodes x y
-never_second nodes x y r = record { value = λ a. second_false (literal_value nodes a x) (literal_value nodes a y) (r.one_is_false a) }
-
--- what is false is never true with another
-pub never_zero : (nodes : List Node) (x y : ℕ) → IsGraph nodes → x ≡ 0 → AreNever nodes x y
-never_zero nodes x y g e = record { value = λ a. ap (λ (b : Bool). b && literal_value nodes a y) (ap (λ (l : ℕ). literal_value nodes a l) e ∙ value_false nodes g a) }
-
-pub never_with_zero : (nodes : List Node) (x y : ℕ) → IsGraph nodes → y ≡ 0 → AreNever nodes x y
-never_with_zero nodes x y g e = record {
-  value = λ a.
-      ap (λ (b : Bool). literal_value nodes a x && b) (ap (λ (l : ℕ). literal_value nodes a l) e ∙ value_false nodes g a)
-      ∙ and_false (literal_value nodes a x);
-}
 
 -- literals neither of which is true where the other is false
 pub equal_by_two : (nodes : List Node) (x y m n : ℕ) → AreOpposite x m → AreOpposite y n → AreNever nodes x n → AreNever nodes m y → AreEqual nodes x y

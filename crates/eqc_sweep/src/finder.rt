@@ -28,6 +28,9 @@ const CANDIDATES: u32 = 3;
 /// In so many rows one input has another value than in a counterexample.
 const FLIPPED: usize = 4;
 
+/// How many rows of uneven values are simulated where it is asked again.
+const MORE_ROWS: usize = 16;
+
 /// What is known of the nodes by simulation, and the search.
 #[derive(Drop)]
 pub(crate) struct Finder {
@@ -45,37 +48,8 @@ pub(crate) struct Finder {
     doubts: Vec<u8>,
 }
 
-#[tactic(auto, using(crate::proofs::FinderLemmas::never_both, crate::proofs::FinderLemmas::never_first, crate::proofs::FinderLemmas::never_second, crate::proofs::FinderLemmas::never_zero, crate::proofs::FinderLemmas::never_with_zero))]
-/// Asks whether two literals can both be true.
-fn ask(
-    search: &mut Search,
-    graph: &Graph,
-    x: u32,
-    y: u32,
-    budget: &mut Budget,
-) -> Result<Answer, AllocError>
-    ensures { IfOk result (λ answer. answer ≡ Answer.Refuted → AreNever graph.now x y) }
-{
-    let _ = graph.len();
-    if x == 0 {
-        return Ok(Answer::Refuted);
-    }
-    if y == 0 {
-        return Ok(Answer::Refuted);
-    }
-    if x == 1 {
-        let answer = search.ask(graph, &[y], budget)?;
-        return Ok(answer);
-    }
-    if y == 1 {
-        let answer = search.ask(graph, &[x], budget)?;
-        return Ok(answer);
-    }
-    let answer = search.ask(graph, &[x, y], budget)?;
-    Ok(answer)
-}
-
-/// Asks whether two literals differ: either may be true where the other is false.
+/// Asks whether two literals differ: either may be true where the other is false. The second question looks at the window of the first,
+/// and has what was learned there: both need the same gates.
 fn ask_both(
     search: &mut Search,
     graph: &Graph,
@@ -87,13 +61,13 @@ fn ask_both(
 {
     let not_x = negated(x);
     let not_y = negated(y);
-    let first = ask(search, graph, x, not_y, budget)?;
+    let first = search.ask(graph, &[x, not_y], budget)?;
     match first {
         Answer::Satisfied => return Ok(Answer::Satisfied),
         Answer::GaveUp => return Ok(Answer::GaveUp),
         Answer::Refuted => {}
     }
-    let answer = ask(search, graph, not_x, y, budget)?;
+    let answer = search.ask_again(graph, &[not_x, y], budget)?;
     Ok(answer)
 }
 
@@ -198,6 +172,24 @@ impl Finder {
     /// From now on new nodes are simulated alone.
     pub(crate) fn ask_no_more(&mut self) {
         self.effort.asks = false;
+    }
+
+    /// From now on new nodes are asked about with this effort, as if nothing was spent and nothing doubted so far, where they are
+    /// simulated. Before that more rows are.
+    pub(crate) fn ask_again(&mut self, graph: &Graph, effort: Effort) -> Result<(), AllocError> {
+        if !self.effort.simulates {
+            return Ok(());
+        }
+        self.effort = Effort {
+            simulates: true,
+            ..effort
+        };
+        self.account = Account::patient(self.effort);
+        for row in 0..MORE_ROWS {
+            let words = self.patterns.uneven_row(self.alloc, graph, row)?;
+            self.patterns.add_row(graph, words)?;
+        }
+        self.classes.rebuild(self.patterns.signatures())
     }
 
     /// The candidate of a node that wasn't tried, with the complement that simulation says.

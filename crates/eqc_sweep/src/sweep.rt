@@ -81,6 +81,15 @@ impl Sweep {
         self.finder.ask_no_more();
     }
 
+    /// From now on new nodes are asked about again, with this effort, as if nothing was spent so far, and alike about all. Before that
+    /// more assignments are simulated, such as make carries go far. A sweep that doesn't simulate asks nothing. Fails where memory is
+    /// refused.
+    pub fn ask_again(&mut self, effort: Effort) -> Result<(), AllocError>
+        ensures { self.new ≡ self.old }
+    {
+        self.finder.ask_again(&self.graph, effort)
+    }
+
     #[tactic(auto, using(crate::proofs::ConstantLemmas::constant_true, crate::proofs::ConstantLemmas::constant_false))]
     /// The literal that is always true, or the one that is always false.
     pub fn constant(&self, value: bool) -> u32

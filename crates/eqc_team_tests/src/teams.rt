@@ -69,6 +69,8 @@ fn a_result_that_was_just_made_is_compared_in_a_cell(rt: HostRuntime) {
     same(&rt, lone.close(&rt), 0, "close");
 }
 
+/// The conjunction has its node by other operations too: by the exclusive or of a disjunction and an exclusive or, none of which asks for
+/// it.
 #[test]
 fn a_result_of_another_member_is_compared_in_a_shared_cell(rt: HostRuntime) {
     let (mut lead, mut waiting) = first(&rt, 2, 8, 8, 2, 0);
@@ -77,11 +79,16 @@ fn a_result_of_another_member_is_compared_in_a_shared_cell(rt: HostRuntime) {
     place_of(&rt, &mut lead, Wanted::Literal(1));
     place_of(&rt, &mut second, Wanted::Literal(0));
     place_of(&rt, &mut second, Wanted::Literal(1));
-    let is = second.cached_is(&rt, Op::And, 0, 1, 0);
+    let either = place_of(&rt, &mut second, Wanted::Applied(Op::Or, 0, 1));
+    let one = place_of(&rt, &mut second, Wanted::Applied(Op::Xor, 0, 1));
+    let both = place_of(&rt, &mut second, Wanted::Applied(Op::Xor, either, one));
+    let is = second.cached_is(&rt, Op::And, 0, 1, both);
     same(&rt, is, None, "before it is made");
     place_of(&rt, &mut lead, Wanted::Applied(Op::And, 0, 1));
     let is = second.cached_is(&rt, Op::And, 0, 1, 0);
     same(&rt, is, Some(false), "an operand");
+    let is = second.cached_is(&rt, Op::And, 0, 1, both);
+    same(&rt, is, Some(true), "the result");
     lead.absorb(&rt, second);
     same(&rt, lead.close(&rt), 0, "close");
 }

@@ -413,7 +413,11 @@ fn option_said(alloc: Global, options: Options, code: u8) -> Result<String, Allo
             options.cells
         ),
         84 => format!(in alloc; "--forks {}: 0 to 16 are allowed (84)", options.forks),
-        _ => format!(in alloc; "--inputs {}: 0 to 65535 are allowed (85)", options.inputs),
+        85 => format!(in alloc; "--inputs {}: 0 to 65535 are allowed (85)", options.inputs),
+        _ => format!(in alloc;
+            "--bytes {}: 0 to 2147483647 are allowed (86)",
+            options.bytes
+        ),
     }
 }
 

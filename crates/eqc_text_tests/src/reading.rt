@@ -12,7 +12,8 @@ ghost use Rattle.std.specs.Prelude.{◌<◌, length};
 
 use crate::ends::{check_rows, holds, same};
 use eqc_blif::{
-    Cover, Instance, Library, Name, Rows, allows, cover_value, is_on, is_on_set, read, row_matches,
+    Cover, Instance, Library, Name, Rows, allows, cover_value, is_on, is_on_set, read, read_within,
+    row_matches,
 };
 use eqc_testing::{Row, lines};
 use std::alloc::{AllocError, Global};
@@ -297,6 +298,35 @@ fn refuses_a_long_text(rt: HostRuntime) {
     let text = vec![in rt.alloc(); b'\n'; 16_777_217].expect(&rt, "memory");
     holds(&rt, gives(rt.alloc(), &text, "0 2"), "too long");
     holds(&rt, gives(rt.alloc(), &text[1..], "0 13"), "the longest");
+}
+
+/// How many bytes a text of line ends has, how many are allowed, and the code.
+static SIZES: &[(usize, u32, u8)] = &[
+    (0, 0, 13),
+    (1, 0, 2),
+    (7, 7, 13),
+    (8, 7, 2),
+    (16_777_217, 16_777_216, 2),
+    (16_777_217, 16_777_217, 13),
+    (1_000, 2_147_483_647, 13),
+];
+
+/// The code by which so many bytes of a text are refused, where so many are allowed.
+fn code_within(alloc: Global, text: &[u8], bytes: usize, limit: u32) -> Option<u8> {
+    let part = &text[..bytes.min(text.len())];
+    match read_within(alloc, part, limit.min(2_147_483_647)) {
+        Ok(_) => None,
+        Err(refusal) => Some(refusal.code),
+    }
+}
+
+#[test]
+fn reads_as_many_bytes_as_are_allowed(rt: HostRuntime) {
+    let text = vec![in rt.alloc(); b'\n'; 16_777_217].expect(&rt, "memory");
+    for (bytes, limit, code) in SIZES {
+        let found = code_within(rt.alloc(), &text, *bytes, *limit);
+        same(&rt, found == Some(*code), true, bytes);
+    }
 }
 
 /// Whether the library of a text has a model of this name there.

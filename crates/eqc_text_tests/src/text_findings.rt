@@ -1,8 +1,8 @@
 //! What is at fault in a text that is refused, worked out by hand.
 
 use crate::ends::{check_rows, holds};
-use eqc_blif::{Finding, explain};
-use eqc_testing::{Line, Row};
+use eqc_blif::{DEFAULT_BYTES, Finding, explain};
+use eqc_testing::{Line, Row, lines};
 use std::alloc::{AllocError, Global};
 
 /// A finding on one line: its code, and what it names.
@@ -32,9 +32,9 @@ fn shown(alloc: Global, finding: &Finding) -> Result<Line, AllocError> {
     }
 }
 
-/// What is at fault in a text, or `-` where nothing is named.
-fn found(alloc: Global, text: &[u8]) -> Result<Line, AllocError> {
-    match explain(alloc, text)? {
+/// What is at fault in a text that may have so many bytes, or `-` where nothing is named.
+fn found(alloc: Global, text: &[u8], limit: u32) -> Result<Line, AllocError> {
+    match explain(alloc, text, limit.min(2_147_483_647))? {
         Some(finding) => shown(alloc, &finding),
         None => Line::new(alloc, "-"),
     }
@@ -75,7 +75,7 @@ static TEXTS: &[Row<&str>] = &[
 
 /// Whether this is at fault in a text.
 fn has(alloc: Global, text: &[u8], wanted: &str) -> Result<bool, AllocError> {
-    Ok(found(alloc, text)?.is(wanted))
+    Ok(found(alloc, text, DEFAULT_BYTES)?.is(wanted))
 }
 
 #[test]
@@ -91,4 +91,28 @@ fn names_the_size_of_a_long_text(rt: HostRuntime) {
         has(rt.alloc(), &text, "2 16777217 16777216"),
         "too long",
     );
+}
+
+/// A short text, how many bytes are allowed, and what is at fault.
+#[rattlefmt::skip]
+static SIZES: &[(&str, u32, &str)] = &[
+    (".names a z;1 1;", 15, "-"),
+    (".names a z;1 1;", 14, "2 15 14"),
+    (".names a z;2 1;", 15, "7 21 1"),
+    (".names a z;2 1;", 14, "2 15 14"),
+    ("", 0, "13"),
+    ("#", 0, "2 1 0"),
+    ("", 2_147_483_647, "13"),
+];
+
+/// Whether this is at fault in a text that may have so many bytes.
+fn has_within(alloc: Global, text: &str, limit: u32, wanted: &str) -> Result<bool, AllocError> {
+    Ok(found(alloc, &lines(alloc, text)?, limit)?.is(wanted))
+}
+
+#[test]
+fn names_the_size_that_is_allowed(rt: HostRuntime) {
+    for (text, limit, wanted) in SIZES {
+        holds(&rt, has_within(rt.alloc(), text, *limit, wanted), wanted);
+    }
 }

@@ -47,13 +47,14 @@ with_version a = on_top (λ s. record s { has_version = true }) a
 abbrev pub with_numbers : App → App
 with_numbers a =
     with_rule
-    (with_rule (with_rule (with_rule (with_rule (with_rule a
+    (with_rule (with_rule (with_rule (with_rule (with_rule (with_rule a
     (number_rule (codes "workers") (codes "2")))
     (number_rule (codes "nodes") (codes "65536")))
     (number_rule (codes "cells") (codes "8192")))
     (number_rule (codes "forks") (codes "0")))
     (number_rule (codes "conflicts") (codes "100000")))
-    (number_rule (codes "inputs") (codes "2048"))
+    (number_rule (codes "inputs") (codes "2048")))
+    (number_rule (codes "bytes") (codes "16777216"))
 
 -- the paths of the order text and the assumption, whether each difference is wanted, names of outputs, and the names of two models
 abbrev pub with_choices : App → App
@@ -101,6 +102,7 @@ pub record IsAsked (rows : List Row) (request : Request) : Type 0 where
   pub forks : number_of (codes "forks") rows ≡ Some request.options.forks
   pub conflicts : number_of (codes "conflicts") rows ≡ Some request.options.conflicts
   pub inputs : number_of (codes "inputs") rows ≡ Some request.options.inputs
+  pub bytes : number_of (codes "bytes") rows ≡ Some request.options.bytes
   pub explain : IsFlag (one_of (codes "explain") rows) request.explain
   pub progress : IsFlag (one_of (codes "progress") rows) request.progress
   pub every : IsFlag (one_of (codes "all") rows) request.options.every

@@ -8,8 +8,8 @@ ghost use Rattle.clap.specs.Walk.{rows_of, rule_of};
 ghost use Rattle.eqc_words.specs.CommandLine.{eqc_app, with_numbers, with_choices, with_files, number_rule, text_rule, names_rule, flag_rule, path_rule, number_of, all_of, rows_asked, IsAsked};
 
 use crate::help::{
-    ABOUT, ALL, ASSUME, CELLS, CONFLICTS, EXPLAIN, FIRST, FIRST_MODEL, FORKS, INPUTS, NODES, ORDER,
-    OUTPUT, PROGRESS, SECOND, SECOND_MODEL, USAGE, WORKERS, answers,
+    ABOUT, ALL, ASSUME, BYTES, CELLS, CONFLICTS, EXPLAIN, FIRST, FIRST_MODEL, FORKS, INPUTS, NODES,
+    ORDER, OUTPUT, PROGRESS, SECOND, SECOND_MODEL, USAGE, WORKERS, answers,
 };
 use crate::version::VERSION;
 use clap::error::ErrorKind;
@@ -102,7 +102,8 @@ fn with_numbers<'a>(alloc: Global, command: Command<'a>) -> Result<Command<'a>, 
         .arg(number(alloc, "cells", "8192", CELLS))?
         .arg(number(alloc, "forks", "0", FORKS))?
         .arg(number(alloc, "conflicts", "100000", CONFLICTS))?
-        .arg(number(alloc, "inputs", "2048", INPUTS))
+        .arg(number(alloc, "inputs", "2048", INPUTS))?
+        .arg(number(alloc, "bytes", "16777216", BYTES))
 }
 
 /// A command, and the options that say what is compared.
@@ -188,6 +189,7 @@ fn request_of<'a>(matches: &ArgMatches<'a>, outputs: Vec<&'a [u8]>) -> Option<Re
             forks: number_given(matches, "forks")?,
             conflicts: number_given(matches, "conflicts")?,
             inputs: number_given(matches, "inputs")?,
+            bytes: number_given(matches, "bytes")?,
             every: matches.get_flag("all"),
         },
         explain: matches.get_flag("explain"),

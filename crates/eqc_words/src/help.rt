@@ -1,4 +1,5 @@
 //! The texts of `--help`. What a number means is said by the type that has it.
+use eqc_netlist::text_rule::Rule as TextRule;
 use eqc_report::RunFault;
 use eqc_tree::Stop;
 use std::alloc::{AllocError, Global};
@@ -8,7 +9,7 @@ pub const ABOUT: &str =
     "Decides whether two combinational netlists in BLIF compute the same outputs.";
 
 pub const USAGE: &str = "\
-eqc [--workers N] [--nodes N] [--cells N] [--forks N] [--conflicts N] [--inputs N]
+eqc [--workers N] [--nodes N] [--cells N] [--forks N] [--conflicts N] [--inputs N] [--bytes N]
            [--order FILE] [--assume FILE] [--all] [--output NAME]..
            [--first-model NAME] [--second-model NAME] [--explain] [--progress]
            [FILE [FILE]]";
@@ -29,6 +30,9 @@ pub const CONFLICTS: &str =
 
 pub const INPUTS: &str =
     "Refuses a netlist whose compared model has more inputs than this, which is 65535 at most";
+
+pub const BYTES: &str =
+    "Refuses a netlist whose text has more bytes than this, which is 2147483647 at most";
 
 pub const ORDER: &str =
     "Takes the variables in this file's order, a word for each input of the first netlist";
@@ -80,6 +84,10 @@ Statuses and reports:
 /// What ends a comparison with 71. The store's own word for it knows nothing of turns, which a comparison counts.
 const NODE_LIMIT: &str = "the store of diagrams is full, or operations on them take too many turns";
 
+/// What is refused with 2. The rule's own words know of no option.
+const TEXT_TOO_LONG: &str =
+    "a netlist of more bytes than are allowed, or an order text of over 16777216";
+
 /// Appends the line of a number.
 fn push_code<M: Display>(
     alloc: Global,
@@ -95,7 +103,10 @@ fn push_code<M: Display>(
 fn push_netlist_codes(alloc: Global, text: &mut String) -> Result<(), AllocError> {
     text.push_str("\n\nCodes of reading a netlist (an order text can have 2):")?;
     for rule in &eqc_netlist::text_rule::RULES {
-        push_code(alloc, text, rule.code(), rule)?;
+        match rule {
+            TextRule::TextTooLong => push_code(alloc, text, rule.code(), &TEXT_TOO_LONG)?,
+            _ => push_code(alloc, text, rule.code(), rule)?,
+        }
     }
     text.push_str("\n\nCodes of following instances:")?;
     for rule in &eqc_netlist::RULES {

@@ -81,7 +81,7 @@ fn bad_command_lines_are_told(rt: HostRuntime) {
 /// The numbers of all refusals, stops and faults.
 static NUMBERS: &[u8] = &[
     1, 2, 3, 4, 5, 6, 7, 8, 9, 10, 11, 12, 13, 21, 22, 23, 24, 25, 26, 27, 28, 29, 30, 41, 42, 43,
-    51, 52, 53, 61, 62, 71, 72, 73, 74, 81, 82, 83, 84, 91, 92,
+    51, 52, 53, 61, 62, 71, 72, 73, 74, 81, 82, 83, 84, 85, 86, 91, 92,
 ];
 
 /// Whether a refusal, stop or fault has a line of its own in the help.
@@ -104,6 +104,7 @@ static OPTIONS: &[&str] = &[
     "--forks <N>",
     "--conflicts <N>",
     "--inputs <N>",
+    "--bytes <N>",
     "--order <FILE>",
     "--assume <FILE>",
     "--all",

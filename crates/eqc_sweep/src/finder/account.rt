@@ -70,6 +70,8 @@ pub(crate) struct Account {
     /// Of late, questions about nodes of which something is doubted: those by which a node was found equal, and those given up.
     doubted_found: u32,
     doubted_open: u32,
+    /// Whether questions about such nodes may have as much as others.
+    is_patient: bool,
 }
 
 /// What a question may spend that may have so many conflicts, and so much work.
@@ -115,6 +117,15 @@ impl Account {
             is_cut: false,
             doubted_found: 0,
             doubted_open: 0,
+            is_patient: false,
+        }
+    }
+
+    /// The same, where questions about nodes of which something is doubted may have as much as others.
+    pub(crate) fn patient(effort: Effort) -> Account {
+        Account {
+            is_patient: true,
+            ..Account::new(effort)
         }
     }
 
@@ -130,7 +141,7 @@ impl Account {
 
     /// Whether questions about nodes of which something is doubted are mostly in vain.
     fn minds_doubt(&self) -> bool {
-        self.doubted_found < self.doubted_open
+        !self.is_patient && self.doubted_found < self.doubted_open
     }
 
     /// What may be spent on a graph of so many nodes yet.

@@ -16,13 +16,13 @@ impl Finder {
         Some(negated_if(2 * node, phase != self.patterns.phase(node)))
     }
 
-    /// The oldest literal that simulation doesn't tell from a node, if that is another one and older.
-    pub(crate) fn like_node(&self, node: u32) -> Option<u32> {
+    /// The oldest literal that simulation doesn't tell from a node, if that isn't one of these nodes.
+    pub(crate) fn like_node(&self, node: u32, but: &[u32]) -> Option<u32> {
         let signature = self.patterns.signature(node);
         let other = self
             .classes
-            .first(self.patterns.signatures(), signature, &[node])?;
-        if other >= node || other >= 1 << 30 {
+            .first(self.patterns.signatures(), signature, but)?;
+        if other == node || other >= 1 << 30 {
             return None;
         }
         Some(negated_if(

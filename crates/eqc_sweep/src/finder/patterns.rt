@@ -1,25 +1,14 @@
 //! Simulation: words of random patterns and of counterexamples, and each node's signature. Nothing is believed of it.
 
 pub(crate) mod carry;
+pub(crate) mod fixed;
+pub(crate) mod uneven;
 
+use crate::finder::patterns::fixed::{FIXED, input_word};
 use crate::finder::random::Random;
 use crate::finder::words::{share_of, word_at, word_by, word_of};
 use eqc_graph::{Graph, Node};
 use std::alloc::{AllocError, Global};
-
-/// How many rows of random patterns there are.
-const RANDOM: usize = 8;
-
-/// The random row in the last two places of which all inputs are true, and all are false. So a conjunction of all inputs doesn't look
-/// constant either.
-const ALIKE: usize = RANDOM - 1;
-
-/// How many rows there are in which all inputs but one are true, each of 256 inputs in its turn, and how many in which all but one
-/// are false. They tell conjunctions of many inputs apart, and disjunctions, which look constant under random patterns.
-const ALL_BUT_ONE: usize = 4;
-
-/// How many rows there are before those of counterexamples.
-const FIXED: usize = RANDOM + 2 * ALL_BUT_ONE;
 
 /// How many rows there may be, with those of counterexamples.
 const MOST: usize = FIXED + 32;
@@ -41,34 +30,6 @@ pub(crate) struct Patterns {
     inputs: u32,
     /// The row of counterexamples that is replaced next, once there are all.
     oldest: usize,
-}
-
-/// The word of an input of this number in a row in which each input but one has the same value.
-fn turn_of(input: u32, row: usize) -> u64 {
-    let row = row.saturating_sub(RANDOM);
-    let place = input as usize % (64 * ALL_BUT_ONE);
-    let mut other: u64 = 0;
-    if place / 64 == row % ALL_BUT_ONE {
-        other = 1 << (input % 64);
-    }
-    if row < ALL_BUT_ONE {
-        other ^ u64::MAX
-    } else {
-        other
-    }
-}
-
-/// The word of an input of this number in a row.
-fn input_word(random: &mut Random, input: u32, row: usize) -> u64 {
-    if row >= RANDOM && row < FIXED {
-        return turn_of(input, row);
-    }
-    let word = random.next();
-    if row == ALIKE {
-        word >> 2 | 1 << 62
-    } else {
-        word
-    }
 }
 
 /// The word that an input of this number has in a row: of those that were kept, or a new one.

@@ -8,8 +8,13 @@ pub(crate) struct Random {
 
 impl Random {
     pub(crate) fn new() -> Random {
+        Random::numbered(0)
+    }
+
+    /// One of several generators, by its number.
+    pub(crate) fn numbered(number: u64) -> Random {
         Random {
-            state: 0x9E37_79B9_7F4A_7C15,
+            state: 0x9E37_79B9_7F4A_7C15u64.wrapping_mul(number.wrapping_add(1)),
         }
     }
 

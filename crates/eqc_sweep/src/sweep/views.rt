@@ -1,7 +1,10 @@
 //! What a sweep knows besides its graph: the gates that were asked for, and nodes that look alike. Nothing is promised of it.
 
+use crate::reduced::Reduced;
+use crate::rules::reduced;
 use crate::sweep::Sweep;
-use eqc_graph::Node;
+use crate::table::order::ordered;
+use eqc_graph::{Node, negated, negated_if, node_of};
 
 impl Sweep {
     /// How many places there are for gates that were asked for.
@@ -18,13 +21,42 @@ impl Sweep {
         Some((known.node, known.literal))
     }
 
+    /// The literal of a gate, if it is there by the rules or by its form.
+    fn there(&self, x: u32, y: u32, is_and: bool) -> Option<u32> {
+        let nodes = self.graph.len();
+        if node_of(x) >= nodes || node_of(y) >= nodes {
+            return None;
+        }
+        let node = if is_and {
+            Node::And(x, y)
+        } else {
+            Node::Xor(x, y)
+        };
+        match reduced(&self.graph, node) {
+            Reduced::There(literal) => Some(literal),
+            Reduced::Absent(other) => {
+                let (form, complement) = ordered(other);
+                Some(negated_if(self.table.find(form)?, complement))
+            }
+        }
+    }
+
+    /// The carry of three literals, if its gates are there.
+    pub fn carry_there(&self, x: u32, y: u32, z: u32) -> Option<u32> {
+        let one = self.there(x, y, false)?;
+        let both = self.there(x, y, true)?;
+        let carried = self.there(one, z, true)?;
+        let neither = self.there(negated(both), negated(carried), true)?;
+        Some(negated(neither))
+    }
+
     /// The oldest literal that simulation doesn't tell from the carry of three others, if there is one.
     pub fn like_carry(&self, x: u32, y: u32, z: u32) -> Option<u32> {
         self.finder.like_carry(x, y, z)
     }
 
-    /// The oldest literal that simulation doesn't tell from a node, if that is another one and older.
-    pub fn like_node(&self, node: u32) -> Option<u32> {
-        self.finder.like_node(node)
+    /// The oldest literal that simulation doesn't tell from a node, if that isn't one of these nodes.
+    pub fn like_node(&self, node: u32, but: &[u32]) -> Option<u32> {
+        self.finder.like_node(node, but)
     }
 }

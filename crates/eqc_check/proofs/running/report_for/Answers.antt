@@ -1,7 +1,8 @@
-use Rattle.std.proofs.Common.{◌≡◌, ◌∙◌, sym, subst, None}
+use Rattle.std.proofs.Common.{◌≡◌, ◌∙◌, sym, ap, subst, None}
 use Rattle.eqc_case.specs.Answer.{IsComparison}
 use Rattle.eqc_case.specs.Sources.{given_of}
 use Rattle.eqc_report.specs.Options.{options_code}
+use Rattle.eqc_report.proofs.OptionsLemmas.{bytes_in_range}
 use Rattle.eqc_report.specs.ReportView.{report_of}
 use Rattle.eqc_report.specs.declared.report.Report.{Report}
 use Rattle.eqc_case.proofs.RunLaws.{memory_reports, read_reports, read_warns}
@@ -17,14 +18,23 @@ returns-in-Err g c =
       read = tt;
     }
 
+pub decide-requires-clause-options : goal.decide-requires-clause-options
+decide-requires-clause-options g c κs lent =
+    let within : options_code c.args.given.options ≡ None = sym c.options_fault.ensures ∙ c.in-None.is in
+    let read = rw c.in-Ok.is at (c.read_given.ensures (bytes_in_range c.args.given.options within)) in
+    ap options_code read.options ∙ within
+
 pub returns-clause-report : goal.returns-clause-report
 returns-clause-report g c =
     let within : options_code c.args.given.options ≡ None = sym c.options_fault.ensures ∙ c.in-None.is in
+    let read = rw c.in-Ok.is at (c.read_given.ensures (bytes_in_range c.args.given.options within)) in
     rw within
-    (read_reports g.R.Read.remaining c.args.given c.in-Ok.case _ c.in-Ok.ensures
+    (read_reports g.R.Read.remaining c.args.given c.in-Ok.case _ read
     (told_or_stopped (given_of c.in-Ok.case) c.decide.result c.of-told.result c.decide.ensures c.of-told.ensures.told c.of-told.ensures.stop))
 
 pub returns-clause-warned : goal.returns-clause-warned
 returns-clause-warned g c =
-    read_warns g.R.Read.remaining c.args.given c.in-Ok.case _ _ c.in-Ok.ensures
+    let within : options_code c.args.given.options ≡ None = sym c.options_fault.ensures ∙ c.in-None.is in
+    let read = rw c.in-Ok.is at (c.read_given.ensures (bytes_in_range c.args.given.options within)) in
+    read_warns g.R.Read.remaining c.args.given c.in-Ok.case _ _ read
     (warned_or_stopped (given_of c.in-Ok.case) c.decide.result c.of-told.result c.decide.ensures c.of-told.ensures.told c.of-told.ensures.stop)

@@ -1,6 +1,6 @@
 use Rattle.std.proofs.Common.{◌∷◌, [], arith}
 use Rattle.std.proofs.lemmas.List.{length-append}
-use Rattle.eqc_inside.proofs.InsideLaws.{equal_more}
+use Rattle.eqc_inside.proofs.InsideLaws.{equal_more, kept_more}
 use Rattle.eqc_inside.proofs.inside.outputs_of_one_literal.Goals as goal
 
 pub loop-output-preserved : goal.loop-output-preserved
@@ -9,5 +9,6 @@ loop-output-preserved c =
     let i = c.loop-output.invariant in
     rw c.in_ok-push.ensures.items (
       omega (arith, i.0, length-append c.loop-output.more.items (c.is_known_equal.result ∷ [])),
-      equal_more p c.loop-output.more.items c.is_known_equal.result c.loop-output.output i.0 i.1 c.is_known_equal.ensures,
+      equal_more p c.loop-output.more.items c.is_known_equal.result c.loop-output.output i.0 i.1 c.is_known_equal.ensures.equal,
+      kept_more c.args.marks.now c.loop-output.more.items c.is_known_equal.result c.loop-output.output i.0 i.2 c.is_known_equal.ensures.kept,
     )

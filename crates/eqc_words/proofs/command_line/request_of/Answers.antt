@@ -12,6 +12,7 @@ returns c = record {
   forks = c.in_ok-number_given-4.ensures;
   conflicts = c.in_ok-number_given-5.ensures;
   inputs = c.in_ok-number_given-6.ensures;
+  bytes = c.in_ok-number_given-7.ensures;
   explain = flag_read (found_of c.args.matches.now) (codes "explain") c.get_flag-2.result c.get_flag-2.ensures.none c.get_flag-2.ensures.value c.get_flag-2.ensures.other;
   progress = flag_read (found_of c.args.matches.now) (codes "progress") c.get_flag-3.result c.get_flag-3.ensures.none c.get_flag-3.ensures.value c.get_flag-3.ensures.other;
   every = flag_read (found_of c.args.matches.now) (codes "all") c.get_flag.result c.get_flag.ensures.none c.get_flag.ensures.value c.get_flag.ensures.other;

@@ -1,6 +1,5 @@
-use Rattle.std.proofs.Common.{◌≡◌, ◌∙◌, ap, ap₂, Some, IfOk}
+use Rattle.std.proofs.Common.{◌≡◌, ◌∙◌, ap, Some, IfOk}
 use Rattle.eqc_pair.specs.PairOf.{PairOf}
-use Rattle.eqc_report.specs.declared.options.Options.{Options}
 use Rattle.eqc_report.specs.PairReport.{pair_report}
 use Rattle.eqc_report.specs.ReportView.{report_of}
 use Rattle.eqc_compare.specs.Comparing.{netlist_of}
@@ -13,10 +12,8 @@ returns-in-Ok-clause-report g c =
     let given = given_of c.args.self.now.case.now in
     let p = c.in-Ok.pair in
     let is = c.in-Ok.ensures.pair in
-    let compares : IfOk c.decide_pair.result (λ report. report_of report ≡ pair_report given.options.every c.in-Ok.pair) =
-    reported c.decide_pair.result _ _ c.decide_pair.ensures.report
-    (ap₂ (λ (o : Options) (x : PairOf). pair_report o.every x) c.comparison.ensures.options c.comparison.ensures.pair) in
-    reported c.decide_pair.result _ _ compares
+    let compares : IfOk c.on_pair.result (λ report. report_of report ≡ pair_report given.options.every c.in-Ok.pair) = c.on_pair.ensures in
+    reported c.on_pair.result _ _ compares
     (pair_compared given p c.args.pair.first c.args.pair.second (Some c.args.assumed.now) (ap (λ (x : PairOf). x.first) is)
     (ap (λ (x : PairOf). x.second) is) (ap (λ (x : PairOf). x.assumes) is) (ap (λ (x : PairOf). x.chosen) is ∙ c.requires.outputs)
     ∙ assumption_taken given c.args.pair.first c.args.pair.second c.args.assumed.now c.in-Ok.ensures.taken)
@@ -24,5 +21,5 @@ returns-in-Ok-clause-report g c =
 pub returns-in-Ok-clause-stop : goal.returns-in-Ok-clause-stop
 returns-in-Ok-clause-stop g c =
     let given = given_of c.args.self.now.case.now in
-    stop_alike c.decide_pair.result _ _ (compared_stop given (netlist_of c.args.pair.first) (netlist_of c.args.pair.second) (Some (netlist_of c.args.assumed.now)) c.decide_pair.result)
+    stop_alike c.on_pair.result _ _ (compared_stop given (netlist_of c.args.pair.first) (netlist_of c.args.pair.second) (Some (netlist_of c.args.assumed.now)) c.on_pair.result)
     (assumption_taken given c.args.pair.first c.args.pair.second c.args.assumed.now c.in-Ok.ensures.taken)

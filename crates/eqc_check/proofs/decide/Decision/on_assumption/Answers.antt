@@ -8,7 +8,7 @@ use Rattle.eqc_check.proofs.decide.Decision.on_assumption.Goals as goal
 pub returns-in-Err-clause-report : goal.returns-in-Err-clause-report
 returns-in-Err-clause-report g c =
     assumption_fault (given_of c.args.self.now.case.now) (netlist_of c.args.pair.first) (netlist_of c.args.pair.second)
-    (assumption_found c.args.text.now) c.in-Err.refusal c.refused.result c.refused.ensures c.in-Err.ensures.refused
+    (assumption_found c.args.self.now.case.now.options.bytes c.args.text.now) c.in-Err.refusal c.refused.result c.refused.ensures c.in-Err.ensures.refused
 
 pub returns-in-Ok-clause-report : goal.returns-in-Ok-clause-report
 returns-in-Ok-clause-report g c =

@@ -1,7 +1,6 @@
 use Rattle.std.proofs.Common.{◌≡◌, ◌∙◌, sym, ap, ap₂, None, IfOk}
 use Rattle.eqc_netlist.specs.Graph.{FlatOf}
-use Rattle.eqc_pair.specs.PairOf.{PairOf, pair_refusal}
-use Rattle.eqc_report.specs.declared.options.Options.{Options}
+use Rattle.eqc_pair.specs.PairOf.{pair_refusal}
 use Rattle.eqc_report.specs.PairReport.{pair_report}
 use Rattle.eqc_report.specs.ReportView.{report_of}
 use Rattle.eqc_compare.specs.Comparing.{netlist_of}
@@ -23,10 +22,8 @@ returns-in-None-clause-report g c =
     let taken : pair_refusal f k given.outputs given.order ≡ None = sym (ap₂ (pair_refusal f k) outputs order) ∙ c.in-Ok.ensures.taken in
     let unasked : assumed_answer given (netlist_of f) (netlist_of k) given.assume ≡ compared given (netlist_of f) (netlist_of k) None =
     ap (λ a. assumed_answer given (netlist_of f) (netlist_of k) (items_of a)) (sym asks ∙ c.in-None.is) in
-    let compares : IfOk c.decide_pair.result (λ report. report_of report ≡ pair_report given.options.every c.in-Ok.pair) =
-    reported c.decide_pair.result _ _ c.decide_pair.ensures.report
-    (ap₂ (λ (o : Options) (x : PairOf). pair_report o.every x) c.comparison.ensures.options c.comparison.ensures.pair) in
-    reported c.decide_pair.result _ _ compares
+    let compares : IfOk c.on_pair.result (λ report. report_of report ≡ pair_report given.options.every c.in-Ok.pair) = c.on_pair.ensures in
+    reported c.on_pair.result _ _ compares
     (pair_compared given c.in-Ok.pair f k None c.in-Ok.ensures.netlists.0 c.in-Ok.ensures.netlists.1 c.in-Ok.ensures.chosen.0 (c.in-Ok.ensures.chosen.1 ∙ outputs)
     ∙ (sym unasked ∙ behind_pair f k given taken))
 
@@ -42,7 +39,7 @@ returns-in-None-clause-stop g c =
     let taken : pair_refusal f k given.outputs given.order ≡ None = sym (ap₂ (pair_refusal f k) outputs order) ∙ c.in-Ok.ensures.taken in
     let unasked : assumed_answer given (netlist_of f) (netlist_of k) given.assume ≡ compared given (netlist_of f) (netlist_of k) None =
     ap (λ a. assumed_answer given (netlist_of f) (netlist_of k) (items_of a)) (sym asks ∙ c.in-None.is) in
-    stop_alike c.decide_pair.result _ _ (compared_stop given (netlist_of f) (netlist_of k) None c.decide_pair.result) (sym unasked ∙ behind_pair f k given taken)
+    stop_alike c.on_pair.result _ _ (compared_stop given (netlist_of f) (netlist_of k) None c.on_pair.result) (sym unasked ∙ behind_pair f k given taken)
 
 pub returns-in-Some-clause-stop : goal.returns-in-Some-clause-stop
 returns-in-Some-clause-stop g c =
@@ -55,11 +52,11 @@ returns-in-Some-clause-stop g c =
     let asks = ap (λ (x : Case). x.assume) c.case.view_is in
     let taken : pair_refusal f k given.outputs given.order ≡ None = sym (ap₂ (pair_refusal f k) outputs order) ∙ c.in-Ok.ensures.taken in
     let text = c.in-Some.text.items in
-    let asked : assumed_answer given (netlist_of f) (netlist_of k) given.assume ≡ assumption_answer given (netlist_of f) (netlist_of k) (assumption_found text) =
+    let asked : assumed_answer given (netlist_of f) (netlist_of k) given.assume ≡ assumption_answer given (netlist_of f) (netlist_of k) (assumption_found given.options.bytes text) =
     ap (λ a. assumed_answer given (netlist_of f) (netlist_of k) (items_of a)) (sym asks ∙ c.in-Some.is) in
     stop_alike c.on_assumption.result _ _ c.on_assumption.ensures.stop
-    (ap₂ (λ (x y : FlatOf). assumption_answer given (netlist_of x) (netlist_of y) (assumption_found c.deref.result.now)) c.in-Ok.ensures.netlists.0 c.in-Ok.ensures.netlists.1
-    ∙ (ap (λ t. assumption_answer given (netlist_of f) (netlist_of k) (assumption_found t)) c.deref.ensures.value ∙ (sym asked ∙ behind_pair f k given taken)))
+    (ap₂ (λ (x y : FlatOf). assumption_answer given (netlist_of x) (netlist_of y) (assumption_found given.options.bytes c.deref.result.now)) c.in-Ok.ensures.netlists.0 c.in-Ok.ensures.netlists.1
+    ∙ (ap (λ t. assumption_answer given (netlist_of f) (netlist_of k) (assumption_found given.options.bytes t)) c.deref.ensures.value ∙ (sym asked ∙ behind_pair f k given taken)))
 
 pub returns-in-Err-clause-stop : goal.returns-in-Err-clause-stop
 returns-in-Err-clause-stop g c = refused_stop c.in-Err.field-0.side (record { line = c.in-Err.field-0.line; code = c.in-Err.field-0.code }) c.refused.result _ c.refused.ensures

@@ -10,14 +10,15 @@ pub returns-in-Ok : goal.returns-in-Ok
 returns-in-Ok g c =
     let case = c.args.self.now.case.now in
     let given = given_of case in
+    let limit = case.options.bytes in
     let library = c.args.first.now.library in
     let m : MainOf = (library, c.args.first.now.model) in
     let n : MainOf = (library, c.in-Ok.other) in
-    let second : second_found given.texts ≡ Ok n =
-    second_of_one case.names case.first.items (items_of case.second) (ap items_of c.requires.one)
+    let second : second_found limit given.texts ≡ Ok n =
+    second_of_one limit case.names case.first.items (items_of case.second) (ap items_of c.requires.one)
     ∙ (ap (λ o. main_of o case.names.second 1) c.requires.read ∙ (ap (λ (x : Case). chosen library x.names.second 1) (sym c.case.view_is) ∙ c.in-Ok.ensures.chosen)) in
     let texts : one_text case.names case.first.items ≡ given.texts = sym (ap (λ s. read_texts case.names case.first.items (items_of s)) c.requires.one) in
-    let warned : warnings_in_one m n ≡ warnings_on given.texts =
-    one_warned case.names case.first.items m n (ap first_found texts ∙ c.requires.first) (ap second_found texts ∙ second) ∙ ap warnings_on texts in
+    let warned : warnings_in_one m n ≡ warnings_on limit given.texts =
+    one_warned limit case.names case.first.items m n (ap (first_found limit) texts ∙ c.requires.first) (ap (second_found limit) texts ∙ second) ∙ ap (warnings_on limit) texts in
     models_tell given m n (warnings_in_one m n) c.on_both.result c.warnings_in_one.result c.with_warnings.result c.requires.first second warned
     c.on_both.ensures.report c.on_both.ensures.stop c.warnings_in_one.ensures c.with_warnings.ensures

@@ -3,7 +3,7 @@ use Rattle.std.specs.List.{All}
 use Rattle.eqc_inside.specs.Searching.{IsAnswerOf}
 use Rattle.eqc_compare.specs.declared.outcome.Difference.{Difference}
 use Rattle.eqc_compare.specs.Comparing.{difference_at, told_at, is_chosen_at}
-use Rattle.eqc_inside.proofs.InsideLaws.{equal_set}
+use Rattle.eqc_inside.proofs.InsideLaws.{equal_set, kept_set}
 use Rattle.eqc_compare.proofs.ToldLaws.{told_skip, told_more, told_first, told_chosen, told_equal}
 use Rattle.eqc_compare.proofs.OutcomeLaws.{compared_outcome}
 use Rattle.eqc_inside.proofs.inside.Inside.search_each.Goals as goal
@@ -21,6 +21,7 @@ loop-output-preserved-then-is_settled g c =
     record {
       pair = i.pair;
       known = i.known;
+      kept = i.kept;
       ahead = i.ahead;
       told = told_skip p c.args.every c.loop-output.found.items o i.told inside none;
     }
@@ -61,6 +62,7 @@ loop-output-preserved g c =
               equal = rw (w.alike-is, w.mark.ensures.equal) (equal_set p c.loop-output.alike.equal.items o i.known.equal none);
               choice = rw (w.alike-is, w.mark.ensures.chosen) i.known.choice;
             };
+            kept = rw (w.alike-is, w.mark.ensures.equal) (kept_set p c.args.alike.now.equal.items c.loop-output.alike.equal.items o i.kept);
             told = rw w.found-is (told_skip p c.args.every c.loop-output.found.items o i.told inside (told_equal p o none));
           }
       | in-Least+in_ok-push-in-Least+else-not-every w ↦
@@ -75,6 +77,7 @@ loop-output-preserved g c =
             pair = c.self-in-loop-output-2.view_is ∙ (c.in_ok-witness.ensures.pair ∙ i.pair);
             ahead = subst (λ q. All (IsAnswerOf q) c.next_witness.new.ahead.items) i.pair c.in_ok-witness.ensures.ahead;
             known = rw w.alike-is i.known;
+            kept = rw w.alike-is i.kept;
             told = rw (w.found-is, w.in_ok-push-in-Least.ensures.items) (told_more p c.args.every c.loop-output.found.items o i.told inside d refl told w.if-not-every.false);
           }
     ]

@@ -1,0 +1,7 @@
+use Rattle.std.proofs.Common.{ℕ, subst, IfOk}
+use Rattle.eqc_case.specs.Sources.{AreRead}
+use Rattle.eqc_case.proofs.given.read_given.Goals as goal
+
+pub returns : goal.returns
+returns g c fits =
+    subst (λ (n : ℕ). IfOk c.read_within.result (AreRead n g.R.Read.remaining c.args.given)) (c.byte_limit-limit.ensures.given fits) c.read_within.ensures
