@@ -20,6 +20,8 @@ pub enum Stage {
     Sweeping,
     /// It asks of the outputs that are left, one by one, whether they are equal.
     Asking,
+    /// It looks for words of outputs that stand for the same number, since they add up the same.
+    Adding,
     /// It searches the outputs that are left, one by one, for their least differences.
     Searching,
     /// It compares outputs by diagrams of all its workers.
@@ -33,8 +35,8 @@ pub trait Progress<R>: Gate<R> {
     /// Called on the run's own thread as it begins with a stage. One may come more than once.
     fn stage(&self, rt: &R, stage: Stage);
 
-    /// Called on the run's own thread at any time in a stage: it is through with `done` of `all` steps while it sweeps, and with
-    /// so many outputs in each other stage that comes by them. Outputs that aren't compared or asked about count too.
+    /// Called on the run's own thread at any time in a stage: it is through with `done` of `all` steps while it sweeps, words while it
+    /// adds up, and with so many outputs in each other stage that comes by them. Outputs that aren't compared or asked about count too.
     fn step(&self, rt: &R, done: usize, all: usize);
 
     /// Called on a member's own thread behind each operation on diagrams: so many nodes are in use. Where members share them it

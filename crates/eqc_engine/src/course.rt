@@ -7,17 +7,18 @@
 //! | 2 | diagrams on one thread | `first_diagrams` | all outputs, where they fit |
 //! | 3 | short rounds of sweeping, and a short search that refutes after each | `Inside::of`, `sweep_more`, `ask_while_found` | outputs that are found equal |
 //! | 4 | a short search, where simulation saw an output differ | `by_search` | all outputs, or all up to the first that differs |
-//! | 5 | diagrams on one thread in a larger room | `in_room` | the outputs left, where they fit |
-//! | 6 | long rounds of sweeping, as long as they find nodes equal | `sweep_more` | the same as 3 |
-//! | 7 | short searches | `by_search` | the same as 4 |
-//! | 8 | diagrams by all workers | `in_room` | the outputs left, where they fit |
-//! | 9 | a longer search that refutes | `ask_outputs` | outputs that are found equal |
-//! | 10 | longer searches | `by_search` | the same as 4 |
-//! | 11 | diagrams by all workers once more, where 9 found some outputs equal | `in_room` | the outputs left, where they fit |
+//! | 5 | words of outputs that add up the same | `by_sums` | outputs whose words are shown equal |
+//! | 6 | 2 in a larger room, and one worker that takes dead nodes back | `in_room` | the outputs left, where they fit |
+//! | 7 | long rounds of sweeping, as long as they find nodes equal | `sweep_more` | the same as 3 |
+//! | 8 | short searches | `by_search` | the same as 4 |
+//! | 9 | diagrams by all workers | `in_room` | the outputs left, where they fit |
+//! | 10 | a longer search that refutes | `ask_outputs` | outputs that are found equal |
+//! | 11 | longer searches | `by_search` | the same as 4 |
+//! | 12 | diagrams by all workers once more, where 10 found some outputs equal | `in_room` | the outputs left, where they fit |
 //!
 //! `known_by_structure` has 1, `decide_pair` begins with 2, `behind_first` with 3, and `by_sweeping` goes on from there:
-//! `by_short_rounds` has 3 to 5, `by_long_rounds` 6 to 8, and `by_longer_searches` the others. With few nodes or without conflicts 8
-//! follows 2, and nothing else does.
+//! `by_short_rounds` has 3 and 4, `by_sums` 5, `by_long_rounds` 7 to 9, and `by_longer_searches` the others. With few nodes or without
+//! conflicts 9 follows 2, and nothing else does.
 ghost use Rattle.std.specs.Prelude.{◌≡◌, None, length, IfOk, IfErr};
 ghost use Rattle.eqc_compare.specs.Alike.{IsKnown};
 ghost use Rattle.eqc_inside.specs.Inside.{KeepsMarks};
@@ -27,9 +28,7 @@ ghost use Rattle.eqc_report.specs.Options.{options_code};
 ghost use Rattle.eqc_report.specs.Seen.{IsLeftOf};
 ghost use Rattle.eqc_report.specs.Left.{AddsLeft, AddsNone};
 
-use crate::workers::{
-    Comparison, FIRST_NODES, check_by_team, check_first, first_nodes, has_large_room,
-};
+use crate::workers::{Comparison, check_by_team, check_in_first, check_in_large, has_large_room};
 use eqc_compare::{Alike, Progress, Stage, alike_or_nothing, known_outcome};
 use eqc_inside::{Conflicts, Inside, Rounds, Searched};
 use eqc_report::{Options, Report, Undecided, found_report, note_seen};
@@ -98,22 +97,22 @@ fn in_room<R: Threads + Wait + Sync, P: Progress<R> + Sync>(
     if let Some(outcome) = known_outcome(alloc, pair, &alike.equal) {
         return found_report(alloc, pair, options.every, outcome);
     }
-    let Ok(alike) = alike.clone() else {
-        return Err(Stop::Memory);
-    };
     match room {
         Room::First => {
             tell_room(comparison, room);
-            check_first(comparison, alike, first_nodes(pair, options))
+            check_in_first(comparison, alike)
         }
         Room::Large => {
             if !has_large_room(pair, options) {
                 return Err(Stop::NodeLimit);
             }
             tell_room(comparison, room);
-            check_first(comparison, alike, FIRST_NODES)
+            check_in_large(comparison, alike)
         }
         Room::Whole => {
+            let Ok(alike) = alike.clone() else {
+                return Err(Stop::Memory);
+            };
             tell_room(comparison, room);
             check_by_team(comparison, alike)
         }
@@ -266,7 +265,7 @@ fn sweep_more<R: Threads + Wait + Sync, P: Progress<R> + Sync>(
 }
 
 /// The report over what short rounds of sweeping find equal, which becomes known: by short searches where simulation saw an output
-/// differ, and by diagrams on one thread in a larger room.
+/// differ.
 fn by_short_rounds<R: Threads + Wait + Sync, P: Progress<R> + Sync>(
     comparison: &Comparison<'_, R, P>,
     inside: &mut Inside<'_>,
@@ -289,13 +288,41 @@ fn by_short_rounds<R: Threads + Wait + Sync, P: Progress<R> + Sync>(
     }
     rounds.count(inside.tally());
     sweep_more(comparison, inside, alike, rounds);
-    if inside.sees_difference(alike) {
-        match by_search(comparison, inside, alike, few_conflicts(comparison), left) {
-            Err(Stop::NodeLimit) => {}
-            report => return report,
-        }
+    if !inside.sees_difference(alike) {
+        return Err(Stop::NodeLimit);
     }
-    in_room(comparison, Room::Large, alike)
+    by_search(comparison, inside, alike, few_conflicts(comparison), left)
+}
+
+/// The report where words of outputs are shown equal by what they add up to, which become known.
+fn by_sums<R: Threads + Wait + Sync, P: Progress<R> + Sync>(
+    comparison: &Comparison<'_, R, P>,
+    inside: &mut Inside<'_>,
+    alike: &mut Alike,
+) -> Result<Report, Stop>
+    requires inside { inside.old ≡ comparison.now.pair.now }
+    requires known { IsKnown comparison.now.pair.now alike.old }
+    ensures inside { inside.new ≡ inside.old }
+    ensures known { IsKnown comparison.now.pair.now alike.new }
+    ensures kept { KeepsMarks comparison.now.pair.now alike.old.equal.items alike.new.equal.items }
+    ensures report { IfOk result (λ report. report_of report ≡ pair_report comparison.now.options.now.every comparison.now.pair.now) }
+{
+    let Comparison {
+        rt,
+        alloc,
+        pair,
+        options,
+        watch,
+    } = *comparison;
+    if known_outcome(alloc, pair, &alike.equal).is_none() {
+        let conflicts = u64::from(options.conflicts);
+        // Where memory is refused the run goes on with what was shown before.
+        let _ = inside.add_up(rt, alloc, alike, conflicts, watch);
+    }
+    match known_outcome(alloc, pair, &alike.equal) {
+        Some(outcome) => found_report(alloc, pair, options.every, outcome),
+        None => Err(Stop::NodeLimit),
+    }
 }
 
 /// The report over what long rounds of sweeping find equal, which becomes known: by short searches, and by diagrams of all workers.
@@ -352,7 +379,8 @@ fn by_longer_searches<R: Threads + Wait + Sync, P: Progress<R> + Sync>(
     }
 }
 
-/// The report over what sweeping finds equal, which becomes known: by short rounds, by long ones, and by longer searches.
+/// The report over what sweeping finds equal, which becomes known: by short rounds, by words that add up the same, in a larger room, by
+/// long rounds, and by longer searches.
 fn by_sweeping<R: Threads + Wait + Sync, P: Progress<R> + Sync>(
     comparison: &Comparison<'_, R, P>,
     inside: &mut Inside<'_>,
@@ -370,6 +398,14 @@ fn by_sweeping<R: Threads + Wait + Sync, P: Progress<R> + Sync>(
     ensures none { AddsNone left.old left.new }
 {
     match by_short_rounds(comparison, inside, alike, rounds, left) {
+        Err(Stop::NodeLimit) => {}
+        report => return report,
+    }
+    match by_sums(comparison, inside, alike) {
+        Err(Stop::NodeLimit) => {}
+        report => return report,
+    }
+    match in_room(comparison, Room::Large, alike) {
         Err(Stop::NodeLimit) => {}
         report => return report,
     }

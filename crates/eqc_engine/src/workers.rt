@@ -75,7 +75,7 @@ pub fn check_with<R: Threads + Wait + Sync, D: Diagrams<R> + Send + Drop, G: Gat
 
 /// The most nodes of the store of one thread in which a run's comparison begins. None is laid out before it is needed, and none
 /// is taken back: most comparisons end there before a forest would have begun.
-pub(crate) const FIRST_NODES: u32 = 524_288;
+const FIRST_NODES: u32 = 524_288;
 
 /// Who allows as many nodes for all workers, which is the usual number, gets them in the larger room on one thread, too.
 const USUAL_NODES: u32 = 65_536;
@@ -110,35 +110,85 @@ const SOME_INPUTS: usize = 40;
 
 const LARGE_TURNS: u64 = 8_388_608;
 
-/// The nodes of the first room: as many as the options allow, but for a pair of few inputs those of the larger one. Who allows fewer
-/// than is usual gets no more than that.
-pub(crate) fn first_nodes(pair: &Pair<'_>, options: &Options) -> u32
+/// The first room of a pair of no more than these inputs has so many nodes at least: those that the usual number doesn't hold take less
+/// time than a round of sweeping.
+const SOME_NODES: u32 = 131_072;
+
+/// Over so many inputs diagrams are thin where they fit at all, and each operation makes them anew: one worker goes on behind the larger
+/// room, which such diagrams fill with dead nodes.
+const MANY_INPUTS: usize = 400;
+
+/// The nodes of the forest in which one worker goes on where the larger room is full of dead ones: the most that there can be, or for a
+/// pair of many inputs so many as stay in the caches of a processor.
+const MOST_NODES: u32 = 1_048_574;
+
+const THIN_NODES: u32 = 65_536;
+
+/// How many turns it may take there.
+const ALONE_TURNS: u64 = 16_777_216;
+
+/// The least nodes of the first room for a pair of so many inputs, where the options allow the usual number.
+fn least_nodes(inputs: usize) -> u32
+    ensures { 1 ≤ result }
+{
+    if inputs <= FEW_INPUTS {
+        FIRST_NODES
+    } else if inputs <= SOME_INPUTS {
+        SOME_NODES
+    } else {
+        USUAL_NODES
+    }
+}
+
+/// The nodes of the first room: as many as the options allow, but more for a pair of few inputs. Who allows fewer than is usual gets no
+/// more than that.
+fn first_nodes(pair: &Pair<'_>, options: &Options) -> u32
     requires { options_code options.now ≡ None }
     ensures some { 1 ≤ result }
     ensures few { options.now.nodes < 65536 → result ≤ options.now.nodes }
 {
-    if options.nodes >= USUAL_NODES && pair.first().inputs().len() <= FEW_INPUTS {
-        return FIRST_NODES;
+    if options.nodes < USUAL_NODES {
+        return options.nodes;
     }
-    options.nodes
+    let least = least_nodes(pair.first().inputs().len());
+    options.nodes.max(least)
 }
 
-/// How many turns operations may take in the larger room: where there are few inputs, diagrams that are looked for long are mostly
-/// found.
+/// Whether there are so few inputs that diagrams which are looked for long are mostly found.
+fn has_some_inputs(pair: &Pair<'_>) -> bool {
+    pair.first().inputs().len() <= SOME_INPUTS
+}
+
+/// How many turns operations may take in the larger room.
 fn large_turns(pair: &Pair<'_>) -> u64 {
-    if pair.first().inputs().len() <= SOME_INPUTS {
+    if has_some_inputs(pair) {
         LARGE_TURNS
     } else {
         FIRST_TURNS
     }
 }
 
-/// Whether there is a larger room on one thread than the first one was: not for who allows fewer nodes than is usual.
+/// Whether there are so many inputs that diagrams are thin where they fit.
+fn has_many_inputs(pair: &Pair<'_>) -> bool {
+    pair.first().inputs().len() >= MANY_INPUTS
+}
+
+/// Whether one worker goes on alone behind the larger room. Those of real flows whose diagrams don't fit mostly have inputs between.
+fn goes_on_alone(pair: &Pair<'_>) -> bool {
+    has_some_inputs(pair) || has_many_inputs(pair)
+}
+
+/// Whether more may fit than into a first room of so many nodes: on one thread, or where one worker goes on.
+fn may_be_larger(first: u32, pair: &Pair<'_>) -> bool {
+    first < FIRST_NODES || goes_on_alone(pair)
+}
+
+/// Whether there is a larger room than the first one was: not for who allows fewer nodes than is usual.
 pub(crate) fn has_large_room(pair: &Pair<'_>, options: &Options) -> bool
     requires { options_code options.now ≡ None }
     ensures { IsTrue result → 65536 ≤ options.now.nodes }
 {
-    options.nodes >= USUAL_NODES && first_nodes(pair, options) < FIRST_NODES
+    options.nodes >= USUAL_NODES && may_be_larger(first_nodes(pair, options), pair)
 }
 
 /// The store of a room on one thread, with a variable for each input of a pair. It has no more nodes than this.
@@ -216,7 +266,7 @@ fn team_for(
 /// The report by diagrams on this thread, in a store of so many nodes at most, where this is known of the pair, or why it stopped.
 /// Where the options allow fewer nodes than is usual it has no more than they do. A store that is full is left at once: what was
 /// given back there makes no room. The watch is told of each comparison, and of the nodes in use behind each operation.
-pub(crate) fn check_first<R, P: Progress<R>>(
+fn check_first<R, P: Progress<R>>(
     comparison: &Comparison<'_, R, P>,
     alike: Alike,
     nodes: u32,
@@ -260,8 +310,34 @@ fn turns_for(options: &Options) -> u64
     }
 }
 
+/// The report by a team of as many workers as these options say, of which each may take so many turns, where this is known of the
+/// pair, or why it stopped. The watch is told as in the first room.
+fn check_team<R: Threads + Wait + Sync, P: Progress<R> + Sync>(
+    comparison: &Comparison<'_, R, P>,
+    alike: Alike,
+    options: &Options,
+    turns: u64,
+) -> Result<Report, Stop>
+    requires options { options_code options.now ≡ None }
+    requires known { IsKnown comparison.now.pair.now alike }
+    ensures report { IfOk result (λ report. report_of report ≡ pair_report comparison.now.options.now.every comparison.now.pair.now) }
+{
+    let Comparison {
+        rt,
+        alloc,
+        pair,
+        watch,
+        ..
+    } = *comparison;
+    let team = team_for(alloc, pair, options, Some(turns))?;
+    let members = all_watched(alloc, team, watch)?;
+    let every = comparison.options.every;
+    let patience = Patience::of_forks(options.forks);
+    check_known(rt, alloc, pair, every, members, alike, patience, watch)
+}
+
 /// The report by the team that the options ask for, without workers that aren't needed, where this is known of the pair, or why it
-/// stopped. It is given up as the turns of one of its workers are spent. The watch is told as in the first room.
+/// stopped. It is given up as the turns of one of its workers are spent.
 pub(crate) fn check_by_team<R: Threads + Wait + Sync, P: Progress<R> + Sync>(
     comparison: &Comparison<'_, R, P>,
     alike: Alike,
@@ -270,28 +346,99 @@ pub(crate) fn check_by_team<R: Threads + Wait + Sync, P: Progress<R> + Sync>(
     requires known { IsKnown comparison.now.pair.now alike }
     ensures report { IfOk result (λ report. report_of report ≡ pair_report comparison.now.options.now.every comparison.now.pair.now) }
 {
-    let Comparison {
-        rt,
-        alloc,
-        pair,
-        options,
-        watch,
-    } = *comparison;
-    let turns = turns_for(options);
+    let Comparison { pair, options, .. } = *comparison;
     let needed = needed_options(pair, &alike.equal, options);
-    let team = team_for(alloc, pair, &needed, Some(turns))?;
-    let members = all_watched(alloc, team, watch)?;
-    let patience = Patience::of_forks(options.forks);
-    check_known(
-        rt,
-        alloc,
-        pair,
-        options.every,
-        members,
-        alike,
-        patience,
-        watch,
-    )
+    check_team(comparison, alike, &needed, turns_for(options))
+}
+
+/// The options with one worker alone, which has so many nodes.
+fn alone_options(options: &Options, nodes: u32) -> Options
+    requires options { options_code options.now ≡ None }
+    requires some { 1 ≤ nodes }
+    requires most { nodes ≤ 1048574 }
+    ensures options { options_code result ≡ None }
+    ensures alone { result.workers ≡ 1 }
+    ensures nodes { result.nodes ≡ nodes }
+{
+    Options {
+        workers: 1,
+        forks: 0,
+        nodes,
+        ..*options
+    }
+}
+
+/// The report by one worker in a forest of so many nodes, where this is known of the pair, or why it stopped. Dead
+/// nodes are taken back there, so it goes on where a store of one thread is full of them.
+fn check_alone<R: Threads + Wait + Sync, P: Progress<R> + Sync>(
+    comparison: &Comparison<'_, R, P>,
+    alike: Alike,
+    nodes: u32,
+) -> Result<Report, Stop>
+    requires options { options_code comparison.now.options.now ≡ None }
+    requires some { 1 ≤ nodes }
+    requires most { nodes ≤ 1048574 }
+    requires few { comparison.now.options.now.nodes < 65536 → nodes ≤ comparison.now.options.now.nodes }
+    requires known { IsKnown comparison.now.pair.now alike }
+    ensures report { IfOk result (λ report. report_of report ≡ pair_report comparison.now.options.now.every comparison.now.pair.now) }
+{
+    let alone = alone_options(comparison.options, nodes);
+    check_team(comparison, alike, &alone, ALONE_TURNS)
+}
+
+/// The nodes that one worker has behind the larger room.
+fn alone_nodes(pair: &Pair<'_>) -> u32
+    ensures some { 1 ≤ result }
+    ensures most { result ≤ 1048574 }
+{
+    if has_some_inputs(pair) {
+        MOST_NODES
+    } else {
+        THIN_NODES
+    }
+}
+
+/// The report by diagrams in the first room, where this is known of the pair, or why it stopped.
+pub(crate) fn check_in_first<R, P: Progress<R>>(
+    comparison: &Comparison<'_, R, P>,
+    alike: &Alike,
+) -> Result<Report, Stop>
+    requires options { options_code comparison.now.options.now ≡ None }
+    requires known { IsKnown comparison.now.pair.now alike.now }
+    ensures report { IfOk result (λ report. report_of report ≡ pair_report comparison.now.options.now.every comparison.now.pair.now) }
+{
+    let Comparison { pair, options, .. } = *comparison;
+    let Ok(alike) = alike.clone() else {
+        return Err(Stop::Memory);
+    };
+    check_first(comparison, alike, first_nodes(pair, options))
+}
+
+/// The report by diagrams in the larger room, and by one worker alone behind it where there are few inputs or very many, where this is
+/// known of the pair, or why these stopped.
+pub(crate) fn check_in_large<R: Threads + Wait + Sync, P: Progress<R> + Sync>(
+    comparison: &Comparison<'_, R, P>,
+    alike: &Alike,
+) -> Result<Report, Stop>
+    requires options { options_code comparison.now.options.now ≡ None }
+    requires usual { 65536 ≤ comparison.now.options.now.nodes }
+    requires known { IsKnown comparison.now.pair.now alike.now }
+    ensures report { IfOk result (λ report. report_of report ≡ pair_report comparison.now.options.now.every comparison.now.pair.now) }
+{
+    let Comparison { pair, options, .. } = *comparison;
+    if first_nodes(pair, options) < FIRST_NODES {
+        let Ok(first) = alike.clone() else {
+            return Err(Stop::Memory);
+        };
+        match check_first(comparison, first, FIRST_NODES) {
+            Err(Stop::NodeLimit) if goes_on_alone(pair) => {}
+            report => return report,
+        }
+    }
+    let Ok(again) = alike.clone() else {
+        return Err(Stop::Memory);
+    };
+    check_alone(comparison, again, alone_nodes(pair))
 }
 
 /// Compares a pair by as many workers as the options say, each in a thread of its own: they share one forest of `nodes` nodes

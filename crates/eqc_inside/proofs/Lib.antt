@@ -1,3 +1,4 @@
 pub mod InsideLaws
 pub mod SearchingLaws
 pub mod RoundLaws
+pub mod AddingLaws

@@ -1,2 +1,3 @@
+pub mod Adding
 pub mod Inside
 pub mod Searching

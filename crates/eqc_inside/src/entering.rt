@@ -31,7 +31,7 @@ const PART: u64 = 10;
 
 /// So many characters of covers enter at most. A cover enters anew for each instance of its model, so that a short text may have
 /// billions of them, and a million takes half a second. Of real flows few netlists have any.
-const CHARACTERS: u64 = 8_000_000;
+pub(crate) const CHARACTERS: u64 = 8_000_000;
 
 /// The work for a graph of so many nodes.
 fn work_for(nodes: u32) -> u64 {
@@ -168,7 +168,7 @@ fn entering(
 }
 
 /// Enters the marked steps into a graph, and answers their literals. The watch is told of each step. Fails where memory is refused.
-fn entered<R, P: Progress<R>>(
+pub(crate) fn entered<R, P: Progress<R>>(
     rt: &R,
     alloc: Global,
     steps: &Steps<'_>,

@@ -5,10 +5,11 @@
 //! comparison has to find in `eqc_compare`. Read the modules in this order:
 //!
 //! - `inside`, the graph, and the outputs and steps that are equal by it; `entering`, what enters it
-//! - `rounds`, what is asked once more with more effort
+//! - `rounds`, what is asked once more with more effort; `adding`, words of outputs that add up the same (`specs/Adding.antt`)
 //! - `searching`, outputs that differ, with their least assignments, and `asking`, several of them at once by several threads
 #![tactic(auto)]
 
+mod adding;
 mod asking;
 mod entering;
 mod inside;

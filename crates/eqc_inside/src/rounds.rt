@@ -202,7 +202,7 @@ fn put(place: &mut Sweep, sweep: Sweep)
 
 impl<'a> Inside<'a> {
     /// Whether an output is seen to differ by simulation. Nothing is promised of it.
-    fn is_seen_to_differ(&mut self, output: usize) -> bool
+    pub(crate) fn is_seen_to_differ(&mut self, output: usize) -> bool
         requires { output < length self.old.first.outputs }
         ensures { self.new ≡ self.old }
     {

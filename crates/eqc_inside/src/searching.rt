@@ -276,7 +276,7 @@ fn next_found(
 }
 
 /// Marks an output, if it has a mark.
-fn mark(alike: &mut Alike, output: usize)
+pub(crate) fn mark(alike: &mut Alike, output: usize)
     ensures equal { alike.new.equal.items ≡ slice_set alike.old.equal.items output true }
     ensures chosen { alike.new.chosen ≡ alike.old.chosen }
 {

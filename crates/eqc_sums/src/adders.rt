@@ -9,7 +9,7 @@ use eqc_sweep::Sweep;
 use std::alloc::{AllocError, Global};
 
 /// Three literals, their sum and their carry.
-#[derive(Clone, Copy, PartialEq, Eq, Debug)]
+#[derive(Clone, Copy)]
 pub(crate) struct Block {
     pub(crate) x: u32,
     pub(crate) y: u32,
@@ -21,6 +21,8 @@ pub(crate) struct Block {
 /// What is known of a node.
 #[derive(Drop)]
 pub(crate) struct Known {
+    /// What makes it, in the graph.
+    pub(crate) gate: Node,
     pub(crate) level: u32,
     pub(crate) support: Support,
     /// How many ways lead from it down to inputs.
@@ -206,6 +208,28 @@ impl Adders {
         }
     }
 
+    /// Whether a node is a gate.
+    pub(crate) fn is_gate(&self, node: u32) -> bool {
+        match self.nodes.get(node as usize) {
+            None => false,
+            Some(known) => match known.gate {
+                Node::And(_, _) | Node::Xor(_, _) => true,
+                Node::Constant | Node::Input(_) => false,
+            },
+        }
+    }
+
+    /// The literals of a conjunction.
+    pub(crate) fn literals(&self, node: u32) -> Option<(u32, u32)> {
+        match self.nodes.get(node as usize) {
+            None => None,
+            Some(known) => match known.gate {
+                Node::And(x, y) => Some((x, y)),
+                Node::Constant | Node::Input(_) | Node::Xor(_, _) => None,
+            },
+        }
+    }
+
     fn support(&self, literal: u32) -> Support {
         match self.nodes.get(node_of(literal) as usize) {
             None => Support::many(),
@@ -238,6 +262,7 @@ impl Adders {
             }
         };
         Ok(Known {
+            gate: node,
             level,
             support,
             ways: self.ways(node),
@@ -338,7 +363,7 @@ impl Adders {
     }
 
     /// The pair of a node at a place of its list.
-    fn pair(&self, node: u32, at: usize) -> Option<(u32, u32)> {
+    pub(crate) fn pair(&self, node: u32, at: usize) -> Option<(u32, u32)> {
         let known = self.nodes.get(node as usize)?;
         let pair = *known.pairs.get(at)?;
         Some(pair)

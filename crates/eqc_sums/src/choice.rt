@@ -2,10 +2,12 @@
 
 ghost use Rattle.std.specs.Prelude.{◌≡◌};
 
-use crate::adders::{Adders, Block};
+use crate::adders::Adders;
 use crate::moves::Move;
+use crate::place::{Place, minus, towards};
 use crate::reduction::Reduction;
-use eqc_graph::{Node, node_of};
+use eqc_graph::node_of;
+use eqc_sweep::Sweep;
 use std::alloc::{AllocError, Global};
 
 /// A node isn't taken for a sum, or not for a carry; was asked about.
@@ -23,9 +25,6 @@ const TURNED: u8 = 16;
 
 /// How often a node is taken for a sum.
 const OFTEN: u8 = 8;
-
-/// How many gates deep polynomials go.
-const DEPTH: u32 = 24;
 
 /// How many rules there are.
 const RULES: u32 = 16;
@@ -55,24 +54,6 @@ pub(crate) struct Choice {
     asked: Vec<(u32, u32)>,
     /// Whether carries of sums that are used aren't taken for carries any more.
     are_sums_used: bool,
-}
-
-fn minus(factor: u128) -> u128 {
-    0u128.wrapping_sub(factor)
-}
-
-/// A factor that is even, halved as a signed one.
-fn half(factor: u128) -> u128 {
-    factor >> 1 | factor & 1 << 127
-}
-
-/// The factor of a step that takes a literal away, where its node has this coefficient.
-fn towards(literal: u32, factor: u128) -> u128 {
-    if literal % 2 == 1 {
-        minus(factor)
-    } else {
-        factor
-    }
 }
 
 impl Choice {
@@ -198,8 +179,14 @@ impl Choice {
     ) -> Option<Move> {
         for back in 0..self.terms.len() {
             if let Some(node) = self.node(back) {
-                let factor = reduction.form().coefficient(node);
-                if let Some(step) = self.for_node(reduction, adders, rule, node, factor, lowest) {
+                let place = Place {
+                    form: reduction.form(),
+                    adders,
+                    node,
+                    factor: reduction.form().coefficient(node),
+                    lowest,
+                };
+                if let Some(step) = self.of_use(reduction.sweep(), rule, &place) {
                     return Some(step);
                 }
             }
@@ -225,122 +212,54 @@ impl Choice {
     }
 
     /// The step that a rule has for a node, unless it is of no use.
-    fn for_node(
-        &mut self,
-        reduction: &Reduction,
-        adders: &Adders,
-        rule: u32,
-        node: u32,
-        factor: u128,
-        lowest: u32,
-    ) -> Option<Move> {
-        if factor == 0 || self.has(node, STUCK) {
+    fn of_use(&mut self, sweep: &Sweep, rule: u32, place: &Place<'_>) -> Option<Move> {
+        if place.factor == 0 || self.has(place.node, STUCK) {
             return None;
         }
-        let step = self.by_one(reduction, adders, rule, node, factor, lowest)?;
+        let step = self.by_one(sweep, rule, place)?;
         if rule != ALIKE {
-            self.last = (node, factor);
+            self.last = (place.node, place.factor);
         }
         Some(step)
     }
 
     /// The step that a rule has for a node.
-    fn by_one(
-        &mut self,
-        reduction: &Reduction,
-        adders: &Adders,
-        rule: u32,
-        node: u32,
-        factor: u128,
-        lowest: u32,
-    ) -> Option<Move> {
+    fn by_one(&mut self, sweep: &Sweep, rule: u32, place: &Place<'_>) -> Option<Move> {
         match rule {
-            0 => self.relation(adders, node, factor),
-            SUM => self.sum(reduction, adders, node, factor),
-            2 => self.product(reduction, adders, node, factor),
-            3 => self.complement(reduction, adders, node, factor),
-            4 => self.carry(reduction, adders, node, factor, lowest),
-            5 => self.small(reduction, adders, node, factor),
-            6 => self.small_product(reduction, adders, node, factor),
-            ALIKE => self.alike(reduction, node, factor),
-            8 => self.carry_product(reduction, adders, node, factor, lowest),
-            9 => self.either_product(reduction, adders, node, factor, false),
-            10 => self.other_conjunction(adders, node, factor),
-            11 => self.rather_small(reduction, adders, node, factor),
-            12 => self.used_carry(reduction, adders, node, factor, lowest),
-            13 => self.either_product(reduction, adders, node, factor, true),
-            14 => self.plain_sum(adders, node, factor),
-            _ => self.plain_product(reduction, adders, node, factor),
-        }
-    }
-
-    /// A carry of another polarity.
-    fn relation(&self, adders: &Adders, node: u32, factor: u128) -> Option<Move> {
-        if adders.is_small(node) {
-            return None;
-        }
-        let block = *adders.known(node)?.relations.get(0)?;
-        Some(Move::Polarity(block.x, block.y, block.z, towards(block.carry, factor)))
-    }
-
-    /// How well an adder fits the form.
-    fn fitting(&self, reduction: &Reduction, block: &Block, factor: u128) -> u32 {
-        let step = towards(block.sum, factor);
-        let twice = minus(step.wrapping_add(step));
-        let change = towards(block.carry, twice);
-        let there = reduction.form().coefficient(node_of(block.carry));
-        if there != 0 && there.wrapping_add(change) == 0 {
-            4
-        } else if there != 0 && there >> 127 != change >> 127 {
-            3
-        } else if block.z != 0 {
-            2
-        } else {
-            1
+            0 => place.relation(),
+            SUM => self.sum(place),
+            2 => self.product(place),
+            3 => place.complement(),
+            4 => self.carry(place),
+            5 => place.small(false),
+            6 => place.small_product(),
+            ALIKE => self.alike(sweep, place),
+            8 => self.carry_product(place),
+            9 => place.either_product(sweep, false),
+            10 => self.other_conjunction(place),
+            11 => place.small(true),
+            12 => self.used_carry(place),
+            13 => place.either_product(sweep, true),
+            14 => self.plain_sum(place),
+            _ => place.plain_product(),
         }
     }
 
     /// A sum whose adder is known.
-    fn sum(
-        &mut self,
-        reduction: &Reduction,
-        adders: &Adders,
-        node: u32,
-        factor: u128,
-    ) -> Option<Move> {
-        if adders.is_small(node) || !adders.is_sum(node) || self.has(node, NO_SUM) {
+    fn sum(&mut self, place: &Place<'_>) -> Option<Move> {
+        let is_sum = place.adders.is_sum(place.node);
+        if place.is_small() || !is_sum || self.has(place.node, NO_SUM) {
             return None;
         }
-        let mut best: Option<(u32, Block)> = None;
-        for block in adders.known(node)?.sums.as_slice() {
-            if !adders.is_useful(node, block) {
-                continue;
-            }
-            let score = self.fitting(reduction, block, factor);
-            let is_better = match best {
-                None => true,
-                Some(other) => score > other.0,
-            };
-            if is_better {
-                best = Some((score, *block));
-            }
+        let best = place.best_sum();
+        self.count(place.node)?;
+        let Some(block) = best else {
+            return place.parity();
+        };
+        if self.are_sums_used {
+            self.mark(node_of(block.carry), NO_CARRY);
         }
-        self.count(node)?;
-        match best {
-            Some((_, block)) => {
-                if self.are_sums_used {
-                    self.mark(node_of(block.carry), NO_CARRY);
-                }
-                Some(Move::Adder(block.x, block.y, block.z, towards(block.sum, factor)))
-            }
-            None => {
-                if factor.wrapping_add(factor) != 0 {
-                    return None;
-                }
-                let (x, y) = *adders.known(node)?.pairs.get(0)?;
-                Some(Move::Parity(x, y))
-            }
-        }
+        Some(Move::Adder(block.x, block.y, block.z, towards(block.sum, place.factor)))
     }
 
     /// Counts that a node is taken for a sum, as long as it may be.
@@ -353,209 +272,54 @@ impl Choice {
         Some(())
     }
 
-    /// The literals of a conjunction that is neither a sum nor small.
-    fn conjunction(&self, reduction: &Reduction, adders: &Adders, node: u32) -> Option<(u32, u32)> {
-        if adders.is_small(node) || adders.is_sum(node) || adders.is_carry(node) {
-            return None;
-        }
-        literals(reduction, node)
-    }
-
-    /// A conjunction of a complement.
-    fn complement(
-        &self,
-        reduction: &Reduction,
-        adders: &Adders,
-        node: u32,
-        factor: u128,
-    ) -> Option<Move> {
-        let (x, y) = self.conjunction(reduction, adders, node)?;
-        if x % 2 == 1 {
-            return Some(Move::Split(x ^ 1, y, minus(factor)));
-        }
-        if y % 2 == 1 {
-            return Some(Move::Split(y ^ 1, x, minus(factor)));
-        }
-        None
-    }
-
     /// A product of a sum whose adder is known.
-    fn product(
-        &self,
-        reduction: &Reduction,
-        adders: &Adders,
-        node: u32,
-        factor: u128,
-    ) -> Option<Move> {
-        let (x, y) = self.conjunction(reduction, adders, node)?;
+    fn product(&self, place: &Place<'_>) -> Option<Move> {
+        let (x, y) = place.conjunction()?;
         for (by, sum) in [(x, y), (y, x)] {
             if by % 2 == 1 || self.has(node_of(sum), NO_SUM) {
                 continue;
             }
-            if let Some(known) = adders.known(node_of(sum)) {
-                let full = known.sums.iter().find(|block| block.z != 0);
-                let block = match full {
-                    Some(block) => *block,
-                    None => match known.sums.get(0) {
-                        None => continue,
-                        Some(block) => *block,
-                    },
-                };
-                if block.sum == sum {
-                    return Some(Move::Product(by, block.x, block.y, block.z, factor));
-                }
-                if sum % 2 == 0 {
-                    return Some(Move::Split(sum, by, minus(factor)));
-                }
+            let Some(block) = place.adder_of(node_of(sum)) else {
+                continue;
+            };
+            if block.sum == sum {
+                return Some(Move::Product(by, block.x, block.y, block.z, place.factor));
+            }
+            if sum % 2 == 0 {
+                return Some(Move::Split(sum, by, minus(place.factor)));
             }
         }
         None
     }
 
-    /// How well an adder fits the form by its carry.
-    fn carried(&self, reduction: &Reduction, block: &Block, step: u128) -> u32 {
-        let mut score: u32 = if block.z != 0 { 1 } else { 0 };
-        for (literal, change) in [
-            (block.x, step),
-            (block.y, step),
-            (block.z, step),
-            (block.sum, minus(step)),
-        ] {
-            if literal == 0 {
-                continue;
-            }
-            let there = reduction.form().coefficient(node_of(literal));
-            if there != 0 {
-                let more = if there.wrapping_add(towards(literal, change)) == 0 {
-                    4
-                } else {
-                    1
-                };
-                score = score.saturating_add(more);
-            }
-        }
-        score
-    }
-
     /// A carry whose coefficient is a multiple of a column's.
-    fn carry(
-        &mut self,
-        reduction: &Reduction,
-        adders: &Adders,
-        node: u32,
-        factor: u128,
-        lowest: u32,
-    ) -> Option<Move> {
-        if self.has(node, NO_CARRY) {
+    fn carry(&mut self, place: &Place<'_>) -> Option<Move> {
+        if self.has(place.node, NO_CARRY) {
             return None;
         }
-        self.any_carry(reduction, adders, node, factor, lowest)
+        self.any_carry(place)
     }
 
     /// A carry of a sum that is used, as long as it may be taken.
-    fn used_carry(
-        &mut self,
-        reduction: &Reduction,
-        adders: &Adders,
-        node: u32,
-        factor: u128,
-        lowest: u32,
-    ) -> Option<Move> {
-        let step = self.any_carry(reduction, adders, node, factor, lowest)?;
-        self.count(node)?;
+    fn used_carry(&mut self, place: &Place<'_>) -> Option<Move> {
+        let step = self.any_carry(place)?;
+        self.count(place.node)?;
         Some(step)
     }
 
     /// A carry, of whatever sum.
-    fn any_carry(
-        &mut self,
-        reduction: &Reduction,
-        adders: &Adders,
-        node: u32,
-        factor: u128,
-        lowest: u32,
-    ) -> Option<Move> {
-        if adders.is_small(node) || factor.trailing_zeros() <= lowest {
+    fn any_carry(&mut self, place: &Place<'_>) -> Option<Move> {
+        if place.is_small() {
             return None;
         }
-        let mut best: Option<(u32, Block)> = None;
-        for block in adders.known(node)?.carries.as_slice() {
-            let score = self.carried(reduction, block, towards(block.carry, half(factor)));
-            let is_better = match best {
-                None => true,
-                Some(other) => score > other.0,
-            };
-            if is_better {
-                best = Some((score, *block));
-            }
-        }
-        let (_, block) = best?;
+        let half = place.half()?;
+        let block = place.best_carry(half)?;
         self.mark(node_of(block.sum), NO_SUM);
-        Some(Move::Adder(
-            block.x,
-            block.y,
-            block.z,
-            towards(block.carry, half(factor)),
-        ))
-    }
-
-    /// A node of few inputs.
-    fn small(
-        &self,
-        reduction: &Reduction,
-        adders: &Adders,
-        node: u32,
-        factor: u128,
-    ) -> Option<Move> {
-        if !adders.is_small(node) || adders.is_plain(node) || !can_expand(reduction, adders, node) {
-            return None;
-        }
-        Some(Move::Expand(node.wrapping_mul(2), DEPTH, factor))
-    }
-
-    /// A node of somewhat more inputs.
-    fn rather_small(
-        &self,
-        reduction: &Reduction,
-        adders: &Adders,
-        node: u32,
-        factor: u128,
-    ) -> Option<Move> {
-        if !adders.is_rather_small(node)
-            || adders.is_plain(node)
-            || !can_expand(reduction, adders, node)
-        {
-            return None;
-        }
-        Some(Move::Expand(node.wrapping_mul(2), DEPTH, factor))
-    }
-
-    /// A product of a node of few inputs.
-    fn small_product(
-        &self,
-        reduction: &Reduction,
-        adders: &Adders,
-        node: u32,
-        factor: u128,
-    ) -> Option<Move> {
-        let (x, y) = self.conjunction(reduction, adders, node)?;
-        for (by, other) in [(x, y), (y, x)] {
-            if by % 2 == 1
-                || other % 2 == 1
-                || !adders.is_small(node_of(other))
-                || adders.is_plain(node_of(other))
-            {
-                continue;
-            }
-            if can_expand(reduction, adders, node_of(other)) {
-                return Some(Move::ExpandProduct(by, other, DEPTH, factor));
-            }
-        }
-        None
+        Some(Move::Adder(block.x, block.y, block.z, towards(block.carry, half)))
     }
 
     /// The next literal that a node looks like and about which it wasn't asked.
-    fn like(&self, reduction: &Reduction, node: u32) -> Option<u32> {
+    fn like(&self, sweep: &Sweep, node: u32) -> Option<u32> {
         let mut but = [node; 8];
         let mut count: usize = 1;
         for (later, earlier) in self.asked.as_slice() {
@@ -568,15 +332,16 @@ impl Choice {
         if count >= 8 {
             return None;
         }
-        reduction.sweep().like_node(node, &but)
+        sweep.like_node(node, &but)
     }
 
     /// A node that looks like an earlier one, or like a later one of the form.
-    fn alike(&mut self, reduction: &Reduction, node: u32, factor: u128) -> Option<Move> {
-        if self.has(node, ASKED) || !is_gate(reduction, node) {
+    fn alike(&mut self, sweep: &Sweep, place: &Place<'_>) -> Option<Move> {
+        let node = place.node;
+        if self.has(node, ASKED) || !place.is_gate() {
             return None;
         }
-        let Some(other) = self.like(reduction, node) else {
+        let Some(other) = self.like(sweep, node) else {
             self.mark(node, ASKED);
             return None;
         };
@@ -584,146 +349,49 @@ impl Choice {
             if self.asked.push((node, node_of(other))).is_err() {
                 return None;
             }
-            return Some(Move::Unify(node.wrapping_mul(2), other, factor));
+            return Some(place.unified(other));
         }
-        let more = reduction.form().coefficient(node_of(other));
+        let more = place.form.coefficient(node_of(other));
         if self.asked.push((node_of(other), node)).is_err() || more == 0 {
             return None;
         }
-        Some(Move::Unify(other - other % 2, node.wrapping_mul(2) ^ other % 2, more))
-    }
-
-    /// A product of a conjunction of complements. Unless it is forced, of two that are never both true.
-    fn either_product(
-        &self,
-        reduction: &Reduction,
-        adders: &Adders,
-        node: u32,
-        factor: u128,
-        is_forced: bool,
-    ) -> Option<Move> {
-        let (x, y) = self.conjunction(reduction, adders, node)?;
-        for (by, either) in [(x, y), (y, x)] {
-            if by % 2 == 1 || either % 2 == 1 {
-                continue;
-            }
-            let Some((p, q)) = self.conjunction(reduction, adders, node_of(either)) else {
-                continue;
-            };
-            let are_both = p % 2 == 1 && q % 2 == 1;
-            let is_split = are_both && reduction.sweep().like_carry(p ^ 1, q ^ 1, 0) == Some(0);
-            if is_split || is_forced && p % 2 == 1 {
-                return Some(Move::SplitProduct(by, p ^ 1, q, minus(factor)));
-            }
-            if is_forced && q % 2 == 1 {
-                return Some(Move::SplitProduct(by, q ^ 1, p, minus(factor)));
-            }
-        }
-        None
+        Some(place.unifying(other, more))
     }
 
     /// Another conjunction of complements that is equal.
-    fn other_conjunction(&mut self, adders: &Adders, node: u32, factor: u128) -> Option<Move> {
-        if adders.is_small(node) || self.has(node, TURNED) {
+    fn other_conjunction(&mut self, place: &Place<'_>) -> Option<Move> {
+        if place.is_small() || self.has(place.node, TURNED) {
             return None;
         }
-        let (x, y, literal) = *adders.known(node)?.others.get(0)?;
-        self.mark(node, TURNED);
-        Some(Move::Split(x ^ 1, y, minus(towards(literal, factor))))
+        let (x, y, literal) = *place.adders.known(place.node)?.others.get(0)?;
+        self.mark(place.node, TURNED);
+        Some(Move::Split(x ^ 1, y, minus(towards(literal, place.factor))))
     }
 
     /// A product of a carry.
-    fn carry_product(
-        &mut self,
-        reduction: &Reduction,
-        adders: &Adders,
-        node: u32,
-        factor: u128,
-        lowest: u32,
-    ) -> Option<Move> {
-        let (x, y) = self.conjunction(reduction, adders, node)?;
-        if factor.trailing_zeros() <= lowest {
-            return None;
-        }
+    fn carry_product(&mut self, place: &Place<'_>) -> Option<Move> {
+        let (x, y) = place.conjunction()?;
+        let half = place.half()?;
         for (by, carry) in [(x, y), (y, x)] {
             if by % 2 == 1 || carry % 2 == 1 {
                 continue;
             }
-            if let Some(known) = adders.known(node_of(carry)) {
-                if let Some(block) = known.carries.get(0) {
-                    let block = *block;
-                    self.mark(node_of(block.sum), NO_SUM);
-                    return Some(Move::Product(
-                        by,
-                        block.x,
-                        block.y,
-                        block.z,
-                        towards(block.carry, half(factor)),
-                    ));
-                }
+            if let Some(block) = place.carry_of(node_of(carry)) {
+                self.mark(node_of(block.sum), NO_SUM);
+                let factor = towards(block.carry, half);
+                return Some(Move::Product(by, block.x, block.y, block.z, factor));
             }
         }
         None
     }
 
     /// A sum without an adder.
-    fn plain_sum(&mut self, adders: &Adders, node: u32, factor: u128) -> Option<Move> {
-        if adders.is_small(node) || self.has(node, NO_SUM) {
+    fn plain_sum(&mut self, place: &Place<'_>) -> Option<Move> {
+        if place.is_small() || self.has(place.node, NO_SUM) {
             return None;
         }
-        let (x, y) = *adders.known(node)?.pairs.get(0)?;
-        self.count(node)?;
-        Some(Move::Adder(x, y, 0, factor))
+        let (x, y) = place.adders.pair(place.node, 0)?;
+        self.count(place.node)?;
+        Some(Move::Adder(x, y, 0, place.factor))
     }
-
-    /// A product of a sum without an adder.
-    fn plain_product(
-        &self,
-        reduction: &Reduction,
-        adders: &Adders,
-        node: u32,
-        factor: u128,
-    ) -> Option<Move> {
-        let (x, y) = self.conjunction(reduction, adders, node)?;
-        for (by, sum) in [(x, y), (y, x)] {
-            if sum % 2 == 1 || by % 2 == 1 {
-                continue;
-            }
-            if let Some(known) = adders.known(node_of(sum)) {
-                if let Some((p, q)) = known.pairs.get(0) {
-                    return Some(Move::Product(by, *p, *q, 0, factor));
-                }
-            }
-        }
-        None
-    }
-}
-
-/// The literals of a conjunction.
-fn literals(reduction: &Reduction, node: u32) -> Option<(u32, u32)> {
-    let graph = reduction.sweep().graph();
-    if node >= graph.len() {
-        return None;
-    }
-    match graph.node(node) {
-        Node::And(x, y) => Some((x, y)),
-        Node::Constant | Node::Input(_) | Node::Xor(_, _) => None,
-    }
-}
-
-/// Whether a node is a gate.
-fn is_gate(reduction: &Reduction, node: u32) -> bool {
-    let graph = reduction.sweep().graph();
-    if node >= graph.len() {
-        return false;
-    }
-    match graph.node(node) {
-        Node::And(_, _) | Node::Xor(_, _) => true,
-        Node::Constant | Node::Input(_) => false,
-    }
-}
-
-/// Whether a node is a gate whose polynomial is made in little time.
-fn can_expand(reduction: &Reduction, adders: &Adders, node: u32) -> bool {
-    is_gate(reduction, node) && adders.has_few_ways(node)
 }

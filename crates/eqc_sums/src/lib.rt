@@ -19,6 +19,7 @@ mod form;
 mod gates;
 mod moves;
 mod names;
+mod place;
 mod polynomial;
 mod reduction;
 mod steps;

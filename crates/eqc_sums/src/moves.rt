@@ -2,11 +2,10 @@
 ghost use Rattle.eqc_sums.specs.Forms.{Keeps};
 
 use crate::reduction::Reduction;
-use eqc_sweep::Comparison;
 use std::alloc::AllocError;
 
 /// A step of a reduction.
-#[derive(Clone, Copy, PartialEq, Eq, Debug)]
+#[derive(Clone, Copy)]
 pub(crate) enum Move {
     /// An adder of three literals, so many times.
     Adder(u32, u32, u32, u128),
@@ -29,32 +28,28 @@ pub(crate) enum Move {
 }
 
 #[tactic(auto, using(crate::proofs::KeepLemmas::keeps_itself))]
-/// Does a step. Answers whether something came of it. For a question there are so many conflicts.
+/// Does a step. For a question there are so many conflicts, of which those are taken away that there were.
 pub(crate) fn apply(
     reduction: &mut Reduction,
     step: Move,
     conflicts: &mut u64,
-) -> Result<bool, AllocError>
+) -> Result<(), AllocError>
     ensures { Keeps reduction.old.sweep reduction.new.sweep reduction.old.form reduction.new.form }
 {
     match step {
-        Move::Adder(x, y, z, factor) => reduction.adder(x, y, z, factor)?,
-        Move::Parity(x, y) => reduction.parity(x, y)?,
-        Move::Split(x, y, factor) => reduction.split(x, y, factor)?,
-        Move::Polarity(x, y, z, factor) => reduction.polarity(x, y, z, factor)?,
-        Move::Product(by, x, y, z, factor) => reduction.product(by, x, y, z, factor)?,
-        Move::SplitProduct(by, x, y, factor) => reduction.split_product(by, x, y, factor)?,
-        Move::Expand(literal, depth, factor) => reduction.expand(literal, depth, factor)?,
+        Move::Adder(x, y, z, factor) => reduction.adder(x, y, z, factor),
+        Move::Parity(x, y) => reduction.parity(x, y),
+        Move::Split(x, y, factor) => reduction.split(x, y, factor),
+        Move::Polarity(x, y, z, factor) => reduction.polarity(x, y, z, factor),
+        Move::Product(by, x, y, z, factor) => reduction.product(by, x, y, z, factor),
+        Move::SplitProduct(by, x, y, factor) => reduction.split_product(by, x, y, factor),
+        Move::Expand(literal, depth, factor) => reduction.expand(literal, depth, factor),
         Move::ExpandProduct(by, literal, depth, factor) => reduction.expand_product(
             by, literal, depth, factor,
-        )?,
+        ),
         Move::Unify(x, y, factor) => {
-            let found = reduction.unify(x, y, factor, conflicts)?;
-            if let Comparison::Equal = found {
-                return Ok(true);
-            }
-            return Ok(false);
+            let _ = reduction.unify(x, y, factor, conflicts)?;
+            Ok(())
         }
     }
-    Ok(true)
 }

@@ -74,6 +74,23 @@ impl Reduction {
         node_of(literal) < self.sweep.graph().len()
     }
 
+    /// Whether two literals are of the graph.
+    fn has_both(&self, x: u32, y: u32) -> bool
+        ensures x { IsTrue result → IsWithin self.now.sweep x }
+        ensures y { IsTrue result → IsWithin self.now.sweep y }
+    {
+        self.has(x) && self.has(y)
+    }
+
+    /// Whether three literals are.
+    fn has_three(&self, x: u32, y: u32, z: u32) -> bool
+        ensures x { IsTrue result → IsWithin self.now.sweep x }
+        ensures y { IsTrue result → IsWithin self.now.sweep y }
+        ensures z { IsTrue result → IsWithin self.now.sweep z }
+    {
+        self.has_both(x, y) && self.has(z)
+    }
+
     /// The nodes whose coefficients may have changed since this was asked, which are forgotten.
     pub fn take_touched(&mut self) -> Vec<u32>
         ensures sweep { self.new.sweep ≡ self.old.sweep }
@@ -99,7 +116,7 @@ impl Reduction {
     pub fn adder(&mut self, x: u32, y: u32, z: u32, factor: u128) -> Result<(), AllocError>
         ensures { Keeps self.old.sweep self.new.sweep self.old.form self.new.form }
     {
-        if !self.has(x) || !self.has(y) || !self.has(z) {
+        if !self.has_three(x, y, z) {
             return Ok(());
         }
         let terms = adder(&mut self.sweep, x, y, z, factor)?;
@@ -111,7 +128,7 @@ impl Reduction {
     pub fn parity(&mut self, x: u32, y: u32) -> Result<(), AllocError>
         ensures { Keeps self.old.sweep self.new.sweep self.old.form self.new.form }
     {
-        if !self.has(x) || !self.has(y) {
+        if !self.has_both(x, y) {
             return Ok(());
         }
         let terms = parity(&mut self.sweep, x, y)?;
@@ -123,7 +140,7 @@ impl Reduction {
     pub fn split(&mut self, x: u32, y: u32, factor: u128) -> Result<(), AllocError>
         ensures { Keeps self.old.sweep self.new.sweep self.old.form self.new.form }
     {
-        if !self.has(x) || !self.has(y) {
+        if !self.has_both(x, y) {
             return Ok(());
         }
         let terms = split(&mut self.sweep, x, y, factor)?;
@@ -135,7 +152,7 @@ impl Reduction {
     pub fn polarity(&mut self, x: u32, y: u32, z: u32, factor: u128) -> Result<(), AllocError>
         ensures { Keeps self.old.sweep self.new.sweep self.old.form self.new.form }
     {
-        if !self.has(x) || !self.has(y) || !self.has(z) {
+        if !self.has_three(x, y, z) {
             return Ok(());
         }
         let terms = polarity(&mut self.sweep, x, y, z, factor)?;
@@ -154,7 +171,7 @@ impl Reduction {
     ) -> Result<(), AllocError>
         ensures { Keeps self.old.sweep self.new.sweep self.old.form self.new.form }
     {
-        if !self.has(by) || !self.has(x) || !self.has(y) || !self.has(z) {
+        if !self.has(by) || !self.has_three(x, y, z) {
             return Ok(());
         }
         let terms = product(self.alloc, &mut self.sweep, by, (x, y, z), factor)?;
@@ -166,7 +183,7 @@ impl Reduction {
     pub fn split_product(&mut self, by: u32, x: u32, y: u32, factor: u128) -> Result<(), AllocError>
         ensures { Keeps self.old.sweep self.new.sweep self.old.form self.new.form }
     {
-        if !self.has(by) || !self.has(x) || !self.has(y) {
+        if !self.has_three(by, x, y) {
             return Ok(());
         }
         let terms = split_product(self.alloc, &mut self.sweep, by, x, y, factor)?;
@@ -196,7 +213,7 @@ impl Reduction {
     ) -> Result<(), AllocError>
         ensures { Keeps self.old.sweep self.new.sweep self.old.form self.new.form }
     {
-        if !self.has(by) || !self.has(literal) {
+        if !self.has_both(by, literal) {
             return Ok(());
         }
         let terms = product_expansion(self.alloc, &mut self.sweep, by, literal, depth, factor)?;
@@ -213,7 +230,7 @@ impl Reduction {
     ) -> Result<Option<(u32, u32)>, AllocError>
         ensures { Keeps self.old.sweep self.new.sweep self.old.form self.new.form }
     {
-        if !self.has(x) || !self.has(y) || !self.has(z) {
+        if !self.has_three(x, y, z) {
             return Ok(None);
         }
         let terms = adder(&mut self.sweep, x, y, z, 0)?;
@@ -238,7 +255,7 @@ impl Reduction {
     ) -> Result<Comparison, AllocError>
         ensures { Keeps self.old.sweep self.new.sweep self.old.form self.new.form }
     {
-        if !self.has(x) || !self.has(y) {
+        if !self.has_both(x, y) {
             return Ok(Comparison::Unknown);
         }
         let found = self.sweep.equal(x, y, conflicts)?;

@@ -76,9 +76,29 @@ pub fn has_adders(alloc: Global, sweep: &Sweep) -> Result<bool, AllocError> {
 }
 
 #[tactic(auto, using(crate::proofs::KeepLemmas::keeps_itself, crate::proofs::KeepLemmas::keeps_along, crate::proofs::KeepLemmas::keeps_same))]
-/// Adds steps to a form, until it is zero or none is found.
-fn reduce(
-    alloc: Global,
+/// Does a step, with so many conflicts at most for a question, and takes in what came of it.
+fn do_step(
+    choice: &mut Choice,
+    reduction: &mut Reduction,
+    adders: &mut Adders,
+    step: Move,
+    conflicts: &mut u64,
+) -> Result<(), AllocError>
+    ensures { Keeps reduction.old.sweep reduction.new.sweep reduction.old.form reduction.new.form }
+{
+    apply(reduction, step, conflicts)?;
+    adders.find_more(reduction)?;
+    let are_plain = match step {
+        Move::Expand(_, _, _) => true,
+        _ => false,
+    };
+    choice.sync(reduction, adders, are_plain)
+}
+
+#[tactic(auto, using(crate::proofs::KeepLemmas::keeps_itself, crate::proofs::KeepLemmas::keeps_along, crate::proofs::KeepLemmas::keeps_same))]
+/// Adds the steps that are chosen to a form, until it is zero or there is none.
+fn reduce_by(
+    choice: &mut Choice,
     reduction: &mut Reduction,
     adders: &mut Adders,
     lowest: u32,
@@ -86,7 +106,6 @@ fn reduce(
 ) -> Result<(), AllocError>
     ensures { Keeps reduction.old.sweep reduction.new.sweep reduction.old.form reduction.new.form }
 {
-    let mut choice = Choice::new(alloc);
     let mut conflicts = limits.conflicts;
     choice.sync(reduction, adders, false)?;
     'steps: for _step in 0..limits.steps {
@@ -99,16 +118,23 @@ fn reduce(
         };
         let given = conflicts.min(limits.question);
         let mut left = given;
-        let _ = apply(reduction, next, &mut left)?;
+        do_step(choice, reduction, adders, next, &mut left)?;
         conflicts = conflicts.saturating_sub(given.saturating_sub(left));
-        let are_plain = match next {
-            Move::Expand(_, _, _) => true,
-            _ => false,
-        };
-        adders.find_more(reduction)?;
-        choice.sync(reduction, adders, are_plain)?;
     }
     Ok(())
+}
+
+/// Adds steps to a form, until it is zero or none is found.
+fn reduce(
+    alloc: Global,
+    reduction: &mut Reduction,
+    adders: &mut Adders,
+    lowest: u32,
+    limits: Limits,
+) -> Result<(), AllocError>
+    ensures { Keeps reduction.old.sweep reduction.new.sweep reduction.old.form reduction.new.form }
+{
+    reduce_by(&mut Choice::new(alloc), reduction, adders, lowest, limits)
 }
 
 impl Sums {

@@ -4,7 +4,7 @@
 pub(crate) const ROOM: usize = 8;
 
 /// Some inputs, by their nodes.
-#[derive(Clone, Copy, PartialEq, Eq, Debug)]
+#[derive(Clone, Copy)]
 pub(crate) struct Support {
     inputs: [u32; 8],
     /// How many there are, or one more than there is room for.

@@ -18,7 +18,7 @@ const PAUSE: u64 = 100;
 #[derive(Drop, Clone, Copy)]
 pub struct Told {
     stage: Stage,
-    /// How many steps are done, or outputs before the one that it is at.
+    /// How many steps are done, or outputs or words before the one that it is at.
     done: usize,
     /// Of how many; 0 where the stage doesn't come by them.
     all: usize,
@@ -53,6 +53,7 @@ fn words(stage: Stage) -> &'static str {
         Stage::FirstDiagrams => "diagrams",
         Stage::Sweeping => "sweeping",
         Stage::Asking => "asking what is equal",
+        Stage::Adding => "comparing sums",
         Stage::Searching => "searching for differences",
         Stage::AllDiagrams => "diagrams by all workers",
         Stage::Writing => "writing",
@@ -66,9 +67,11 @@ impl Told {
         if all == 0 {
             return Ok(());
         }
+        let next = done.saturating_add(1).min(all);
         match self.stage {
             Stage::Sweeping => write!(f, ", step {done} of {all}"),
-            _ => write!(f, ", output {} of {all}", done.saturating_add(1).min(all)),
+            Stage::Adding => write!(f, ", word {next} of {all}"),
+            _ => write!(f, ", output {next} of {all}"),
         }
     }
 

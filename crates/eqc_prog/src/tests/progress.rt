@@ -101,8 +101,9 @@ static LINES: &[Line] = &[
     (Stage::FirstDiagrams, 0, 64, Some(41_310), "eqc: diagrams, output 1 of 64, 41310 nodes, 1 min 15 s"),
     (Stage::Sweeping, 1_200, 50_000, None, "eqc: sweeping, step 1200 of 50000, 1 min 40 s"),
     (Stage::Asking, 2, 64, None, "eqc: asking what is equal, output 3 of 64, 2 min 5 s"),
-    (Stage::Searching, 63, 64, None, "eqc: searching for differences, output 64 of 64, 2 min 30 s"),
-    (Stage::AllDiagrams, 64, 64, Some(524_288), "eqc: diagrams by all workers, output 64 of 64, about 524288 nodes, 2 min 55 s"),
+    (Stage::Adding, 1, 2, None, "eqc: comparing sums, word 2 of 2, 2 min 30 s"),
+    (Stage::Searching, 63, 64, None, "eqc: searching for differences, output 64 of 64, 2 min 55 s"),
+    (Stage::AllDiagrams, 64, 64, Some(524_288), "eqc: diagrams by all workers, output 64 of 64, about 524288 nodes, 3 min 20 s"),
 ];
 
 /// A runtime whose clock is a terminal's.

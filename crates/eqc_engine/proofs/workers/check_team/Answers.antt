@@ -3,7 +3,7 @@ use Rattle.std.specs.List.{All}
 use Rattle.eqc_apply.specs.declared.applier.Applier.{Applier}
 use Rattle.eqc_apply.specs.Extending.{holding_in}
 use Rattle.eqc_engine.proofs.WatchedLemmas.{of_each}
-use Rattle.eqc_engine.proofs.workers.check_by_team.Goals as goal
+use Rattle.eqc_engine.proofs.workers.check_team.Goals as goal
 
 pub check_known-requires-clause-variables : goal.check_known-requires-clause-variables
 check_known-requires-clause-variables g c κs within =

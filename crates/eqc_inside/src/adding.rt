@@ -1,0 +1,313 @@
+//! Outputs that are equal since the words to which they belong add up the same.
+//!
+//! The graph of the pair isn't asked: what was found equal in it took the place of other nodes, among them adders. The words enter a
+//! graph of their own, which is swept with few conflicts, since what is hard to see is what the sums are for.
+ghost use Rattle.std.specs.Prelude.{◌≡◌, ℕ, ◌<◌, ◌≤◌, [], None, length, slice_index, IfOk};
+ghost use Rattle.std.specs.List.{All};
+ghost use Rattle.eqc_pair.specs.PairOf.{PairOf};
+ghost use Rattle.eqc_build.specs.Steps.{AreSteps};
+ghost use Rattle.eqc_gates.specs.Entering.{AreClosed};
+ghost use Rattle.eqc_compare.specs.Alike.{AreEqual, IsKnown};
+ghost use Rattle.eqc_compare.specs.Comparing.{difference_at};
+ghost use Rattle.eqc_inside.specs.Inside.{IsInside, KeepsMarks};
+ghost use Rattle.eqc_inside.specs.Adding.{AreAskedBy};
+
+use crate::entering::{CHARACTERS, entered};
+use crate::inside::{Inside, NONE, literal_of};
+use crate::searching::mark;
+use eqc_build::Steps;
+use eqc_compare::{Alike, Progress, Stage, is_settled};
+use eqc_gates::needed_within;
+use eqc_graph::{Node, node_of};
+use eqc_netlist::Name;
+use eqc_sums::{Limits, Sums, has_adders, words_of};
+use eqc_sweep::{Effort, Sweep};
+use std::alloc::{AllocError, Global};
+
+/// The most conflicts of a question of the sweep under the sums.
+const CHEAP: u64 = 30;
+
+/// The work of the questions in each attempt to show a word: so much for each node of the graph, and for the graph as a whole.
+const EACH_NODE: u64 = 10_000;
+
+const WHOLE: u64 = 60_000_000;
+
+/// So many words that aren't shown equal end it.
+const MOST_FAILED: u32 = 3;
+
+/// The limits for words in a graph of so many nodes.
+fn limits_in(nodes: u32, conflicts: u64) -> Limits {
+    let limits = Limits::of(conflicts);
+    let work = u64::from(nodes) * EACH_NODE + WHOLE;
+    Limits {
+        work: limits.work.min(work),
+        ..limits
+    }
+}
+
+/// The names of outputs, where they are texts in UTF-8: else empty ones, which belong to no word.
+fn names<'a>(alloc: Global, outputs: &'a [Name]) -> Result<Vec<&'a str>, AllocError>
+    ensures { IfOk result (λ names. length names.items ≡ length outputs.now) }
+{
+    let mut names = Vec::with_capacity(alloc, outputs.len())?;
+    for k in 0..outputs.len() {
+        names.push(str::from_utf8(outputs[k].as_bytes()).unwrap_or(""))?;
+    }
+    Ok(names)
+}
+
+/// Marks the outputs of words, of so many. Fails where memory is refused.
+fn of_words(alloc: Global, outputs: usize, words: &[Vec<usize>]) -> Result<Vec<bool>, AllocError>
+    ensures { IfOk result (λ marks. length marks.items ≡ outputs) }
+{
+    let mut marks = vec![in alloc; false; outputs]?;
+    'words: for word in words {
+        for output in word {
+            if *output < outputs {
+                marks[*output] = true;
+            }
+        }
+    }
+    Ok(marks)
+}
+
+/// The literals of the two signals of a word's outputs, in turn.
+#[derive(Drop)]
+struct Literals {
+    firsts: Vec<u32>,
+    seconds: Vec<u32>,
+}
+
+/// The literals of a word's outputs, up to the first one that has none. Fails where memory is refused.
+fn literals_of(
+    alloc: Global,
+    steps: &Steps<'_>,
+    literals: &[Option<u32>],
+    word: &[usize],
+) -> Result<Literals, AllocError>
+    requires lawful { AreSteps steps.now }
+    requires outputs { All (λ o. o < length steps.now.pair.first.outputs) word.now }
+    ensures { IfOk result (λ both. AreAskedBy steps.now literals.now word.now both.firsts.items both.seconds.items) }
+{
+    let mut firsts = Vec::new(alloc);
+    let mut seconds = Vec::new(alloc);
+    'outputs: for k in 0..word.len() {
+        let roots = steps.roots(word[k]);
+        let x = literal_of(literals, roots[0]);
+        let y = literal_of(literals, roots[1]);
+        if x == NONE || y == NONE {
+            break;
+        }
+        firsts.push(x)?;
+        seconds.push(y)?;
+    }
+    Ok(Literals { firsts, seconds })
+}
+
+/// Marks the first so many outputs of a word, where none of these differs.
+fn mark_first(alike: &mut Alike, word: &[usize], count: usize)
+    requires { count ≤ length word.now }
+    ensures known { (p : PairOf) → IsKnown p alike.old → ((k : ℕ) → k < count → difference_at p (slice_index word.now k) ≡ None) → IsKnown p alike.new }
+    ensures kept { (p : PairOf) → KeepsMarks p alike.old.equal.items alike.new.equal.items }
+{
+    for k in 0..count {
+        mark(alike, word[k]);
+    }
+}
+
+/// What is to be shown.
+#[derive(Clone, Copy)]
+struct Task<'a> {
+    alloc: Global,
+    steps: &'a Steps<'a>,
+    words: &'a [Vec<usize>],
+    limits: Limits,
+}
+
+/// Whether a word is shown equal, in a graph whose adders are known: then its outputs become marked. Fails where memory is refused.
+fn show_word(
+    task: &Task<'_>,
+    literals: &[Option<u32>],
+    word: &[usize],
+    sums: &mut Sums,
+    alike: &mut Alike,
+) -> Result<bool, AllocError>
+    requires inside { IsInside task.now.steps.now sums.old.reduction.sweep literals.now }
+    requires outputs { All (λ o. o < length task.now.steps.now.pair.first.outputs) word.now }
+    requires known { IsKnown task.now.steps.now.pair alike.old }
+    ensures inside { IsInside task.now.steps.now sums.new.reduction.sweep literals.now }
+    ensures known { IsKnown task.now.steps.now.pair alike.new }
+    ensures kept { KeepsMarks task.now.steps.now.pair alike.old.equal.items alike.new.equal.items }
+{
+    let Literals { firsts, seconds } = literals_of(task.alloc, task.steps, literals, word)?;
+    let is_shown = sums.show(&firsts, &seconds, task.limits)?;
+    if is_shown {
+        mark_first(alike, word, firsts.len());
+    }
+    Ok(is_shown)
+}
+
+/// Shows words equal one by one, in a graph that has their literals, until too many aren't shown. The watch is told of each word. Fails
+/// where memory is refused; what was marked before stays then.
+fn show_words<R, P: Progress<R>>(
+    rt: &R,
+    task: &Task<'_>,
+    literals: &[Option<u32>],
+    sums: &mut Sums,
+    alike: &mut Alike,
+    watch: &P,
+) -> Result<(), AllocError>
+    requires inside { IsInside task.now.steps.now sums.old.reduction.sweep literals.now }
+    requires outputs { All (λ w. All (λ o. o < length task.now.steps.now.pair.first.outputs) w.items) task.now.words.now }
+    requires known { IsKnown task.now.steps.now.pair alike.old }
+    ensures known { IsKnown task.now.steps.now.pair alike.new }
+    ensures kept { KeepsMarks task.now.steps.now.pair alike.old.equal.items alike.new.equal.items }
+{
+    sums.find_adders(task.limits)?;
+    let mut failed = 0u32;
+    let words = task.words;
+    for k in 0..words.len() {
+        watch.step(rt, k, words.len());
+        if !show_word(task, literals, &words[k], sums, alike)? {
+            failed = failed.saturating_add(1);
+        }
+        if failed >= MOST_FAILED {
+            break;
+        }
+    }
+    Ok(())
+}
+
+/// Enters the marked steps into a graph, and shows words equal in it. The watch is told of each step, and then of each word. Fails where
+/// memory is refused; what was marked before stays then.
+fn add_words<R, P: Progress<R>>(
+    rt: &R,
+    task: &Task<'_>,
+    marks: &[bool],
+    alike: &mut Alike,
+    watch: &P,
+) -> Result<(), AllocError>
+    requires closed { AreClosed task.now.steps.now marks.now }
+    requires outputs { All (λ w. All (λ o. o < length task.now.steps.now.pair.first.outputs) w.items) task.now.words.now }
+    requires known { IsKnown task.now.steps.now.pair alike.old }
+    ensures known { IsKnown task.now.steps.now.pair alike.new }
+    ensures kept { KeepsMarks task.now.steps.now.pair alike.old.equal.items alike.new.equal.items }
+{
+    let Task {
+        alloc,
+        steps,
+        limits,
+        ..
+    } = *task;
+    watch.stage(rt, Stage::Sweeping);
+    let effort = Effort::of(CHEAP, limits.work);
+    let mut sweep = Sweep::new(alloc, effort)?;
+    let literals = entered(rt, alloc, steps, marks, &mut sweep, watch)?;
+    watch.stage(rt, Stage::Adding);
+    let mut sums = Sums::new(alloc, sweep);
+    show_words(rt, task, &literals, &mut sums, alike, watch)
+}
+
+impl<'a> Inside<'a> {
+    /// Whether the signal of a literal is an exclusive or.
+    fn is_sum(&self, literal: u32) -> bool {
+        let graph = self.sweep.graph();
+        let node = node_of(literal);
+        node < graph.len() && matches!(graph.node(node), Node::Xor(_, _))
+    }
+
+    /// Whether both signals of an output are exclusive ors, as the bits of a sum mostly are.
+    fn are_sums(&self, output: usize) -> bool
+        requires { output < length self.now.first.outputs }
+    {
+        let roots = self.steps.roots(output);
+        self.is_sum(literal_of(&self.literals, roots[0]))
+            && self.is_sum(literal_of(&self.literals, roots[1]))
+    }
+
+    /// The part of a word that is to be shown equal: from its lowest output to its highest one that is open, below one that is seen to
+    /// differ. Outputs below that are known to be equal are needed too, since carries come from there. Where less than half of the open
+    /// ones look like bits of a sum it is empty. Fails where memory is refused.
+    fn open_part(
+        &mut self,
+        alloc: Global,
+        word: &[usize],
+        marks: &[bool],
+    ) -> Result<Vec<usize>, AllocError>
+        requires outputs { All (λ o. o < length self.old.first.outputs) word.now }
+        requires equal { AreEqual self.old marks.now }
+        ensures pair { self.new ≡ self.old }
+        ensures outputs { IfOk result (λ part. All (λ o. o < length self.old.first.outputs) part.items) }
+    {
+        let mut part = Vec::new(alloc);
+        let mut end = 0;
+        let mut open = 0u32;
+        let mut sums = 0u32;
+        for k in 0..word.len() {
+            let output = word[k];
+            if self.is_seen_to_differ(output) {
+                break;
+            }
+            part.push(output)?;
+            if !is_settled(self.steps.pair(), marks, output) {
+                end = part.len();
+                open = open.saturating_add(1);
+                sums = sums.saturating_add(u32::from(self.are_sums(output)));
+            }
+        }
+        part.truncate(if sums < open / 2 { 0 } else { end });
+        Ok(part)
+    }
+
+    /// The parts of words of outputs that are to be shown equal, by their names. Fails where memory is refused.
+    fn open_words(&mut self, alloc: Global, marks: &[bool]) -> Result<Vec<Vec<usize>>, AllocError>
+        requires equal { AreEqual self.old marks.now }
+        ensures pair { self.new ≡ self.old }
+        ensures outputs { IfOk result (λ words. All (λ w. All (λ o. o < length self.old.first.outputs) w.items) words.items) }
+    {
+        let names = names(alloc, self.steps.pair().first().outputs())?;
+        let words = words_of(alloc, &names)?;
+        let mut open = Vec::new(alloc);
+        for k in 0..words.len() {
+            let part = self.open_part(alloc, &words[k], marks)?;
+            if part.len() > 0 {
+                open.push(part)?;
+            }
+        }
+        Ok(open)
+    }
+
+    /// Marks outputs whose words are shown equal by what they add up to: products, say, that are summed up in different ways. A word are
+    /// outputs of one name with numbers (`words_of`); what is known of it by its marks isn't shown again, and nothing is shown of one
+    /// of more than 128 outputs. Where nothing looks like an adder it is left at a look; else it takes work in proportion to the conflicts.
+    /// The watch is told of each step that enters a graph of these words, and of each word. Fails where memory is refused; what was marked
+    /// before stays then.
+    pub fn add_up<R, P: Progress<R>>(
+        &mut self,
+        rt: &R,
+        alloc: Global,
+        alike: &mut Alike,
+        conflicts: u64,
+        watch: &P,
+    ) -> Result<(), AllocError>
+        requires { IsKnown self.old alike.old }
+        ensures pair { self.new ≡ self.old }
+        ensures known { IsKnown self.new alike.new }
+        ensures kept { KeepsMarks self.old alike.old.equal.items alike.new.equal.items }
+    {
+        let words = self.open_words(alloc, &alike.equal)?;
+        if words.is_empty() || !has_adders(alloc, &self.sweep)? {
+            return Ok(());
+        }
+        let steps = Steps::each(alloc, self.steps.pair());
+        let outputs = of_words(alloc, steps.pair().first().outputs().len(), &words)?;
+        let marks = needed_within(alloc, &steps, &outputs, CHARACTERS)?;
+        let task = Task {
+            alloc,
+            steps: &steps,
+            words: &words,
+            limits: limits_in(self.sweep.graph().len(), conflicts),
+        };
+        add_words(rt, &task, &marks, alike, watch)
+    }
+}
