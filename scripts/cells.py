@@ -145,30 +145,42 @@ class Genlib:
 
 
 class RegisterCell:
-    """yosys's register cells, whose names tell edge, reset with its value, and enable: the formula of what goes in, and
-    where the reset is asynchronous that of what comes out, over the reset `R` and what is held, `H`."""
+    """yosys's register cells, whose names tell edge or level, reset with its value, set, what is loaded without a clock, and
+    enable: the formula of what goes in, and where any is asynchronous that of what comes out, what is held, `H`, behind pins."""
 
     ANY = re.compile(rb"\$_(?:S?DFF\w*|ALDFF\w*|DLATCH\w*|SR|FF)_(?:[NP01]+_)?")
-    NAME = re.compile(rb"\$_(S?)DFF(C?)(E?)_([NP])(?:([NP])([01]))?([NP])?_")
+    NAMES = (
+        re.compile(
+            rb"\$_(?P<sync>S?)DFF(?P<joined>C?)(?P<E>E?)_(?P<edge>[NP])(?:(?P<reset>[NP])(?P<value>[01]))?(?P<enable>[NP])?_"
+        ),
+        re.compile(rb"\$_DFFSR(?P<E>E?)_(?P<edge>[NP])(?P<set>[NP])(?P<reset>[NP])(?P<enable>[NP])?_"),
+        re.compile(rb"\$_ALDFF(?P<E>E?)_(?P<edge>[NP])(?P<load>[NP])(?P<enable>[NP])?_"),
+        re.compile(rb"\$_DLATCH_(?P<level>[NP])(?P<reset>[NP])(?P<value>[01])_"),
+        re.compile(rb"\$_DLATCHSR_(?P<level>[NP])(?P<set>[NP])(?P<reset>[NP])_"),
+    )
+    KINDS = {(True, b"P"): b"re", (True, b"N"): b"fe", (False, b"P"): b"ah", (False, b"N"): b"al"}
 
     def __init__(self, name, line):
-        found = self.NAME.fullmatch(name)
-        sync, needs_enable, has_enable, edge, reset, value, enable = found.groups() if found else (b"",) * 7
-        if not found or bool(has_enable) != bool(enable) or (sync and not reset):
+        found = next(filter(None, (it.fullmatch(name) for it in self.NAMES)), None)
+        part = {key: value for key, value in found.groupdict().items() if value} if found else {}
+        if not found or ("E" in part) != ("enable" in part) or ("sync" in part and "reset" not in part):
             said = f"the register cell {shown(name)}; yosys's 'dfflegalize -cell $_DFF_P_ x' may make a plain one of it"
             raise Fault(said, 21, line)
-        self.kind = b"re" if edge == b"P" else b"fe"
-        steps = [(b"E", enable, b"Q", True)] * bool(enable) + [(b"R", reset, value, False)] * bool(reset)
+        self.clock = b"C" if "edge" in part else b"E"
+        self.kind = self.KINDS["edge" in part, part.get("edge") or part["level"]]
+        enables = [(b"E", part["enable"], b"Q", True)] if "enable" in part else []
+        # What goes before the others comes last.
+        resets = [("load", b"L", b"AD"), ("set", b"S", b"1"), ("reset", b"R", part.get("value", b"0"))]
+        resets = [(pin, part[key], value, False) for key, pin, value in resets if key in part]
         # A reset goes before the enable, unless it needs the enable.
-        text = b"D"
-        for step in reversed(steps) if needs_enable else steps:
-            text = self.chosen(text, *step)
-        self.next = Formula(text)
-        self.has_reset = bool(reset) and not sync
-        self.now = Formula(self.chosen(b"H", b"R", reset, value, False)) if self.has_reset else None
+        self.next = self.chosen_by(b"D", resets + enables if "joined" in part else enables + resets)
+        self.has_reset = bool(resets) and "sync" not in part
+        self.now = self.chosen_by(b"H", resets) if self.has_reset else None
 
     @staticmethod
-    def chosen(text, pin, active, other, has_active):
-        """A formula where a pin is active, or where it isn't, and another one elsewhere."""
-        on, off = (pin, b"!" + pin) if (active == b"P") == has_active else (b"!" + pin, pin)
-        return b"(%s*%s+%s*%s)" % (on, text, off, other)
+    def chosen_by(text, steps):
+        """A formula, where none of some pins says something else, by its level at which it counts, or at which it doesn't."""
+        for pin, active, other, has_active in steps:
+            on, off = (pin, b"!" + pin) if (active == b"P") == has_active else (b"!" + pin, pin)
+            text = b"(%s*%s+%s*%s)" % (off, other, on, text)
+        return Formula(text)

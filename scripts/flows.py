@@ -129,14 +129,14 @@ class FlowReader(Reader):
         if name not in self.cells:
             self.cells[name] = RegisterCell(name, number)
         cell, (actuals, _) = self.cells[name], self.pairs(number, words)
-        for pin in (*cell.next.pins, b"C", b"Q"):
+        for pin in (*cell.next.pins, cell.clock, b"Q"):
             if pin not in actuals:
                 raise Fault(f"{shown(name)} has no pair for {shown(pin)}", 25, number)
         held = actuals[b"Q"]
         data = b"%s$next$%d" % (held, number)
-        register = Register(data, held, cell.kind, actuals[b"C"], OPEN, number)
+        register = Register(data, held, cell.kind, actuals[cell.clock], OPEN, number)
         if cell.has_reset:
-            register.resets, register.reset_rows = [actuals[b"R"]], cell.now.rows
+            register.resets, register.reset_rows = [actuals[it] for it in cell.now.pins if it != b"H"], cell.now.rows
         self.model.covers.append(Cover([actuals[it] for it in cell.next.pins], data, number, cell.next.rows))
         self.model.registers.append(register)
         self.changed[name] += 1

@@ -1,4 +1,5 @@
-"""Cells of a library in Liberty, for `prepare`: functions of outputs, and registers by `ff` and `latch` groups."""
+"""Cells of a library in Liberty, for `prepare`: functions of outputs, and registers by `ff`, `latch` and `statetable` groups."""
+import itertools
 import re
 from dataclasses import dataclass, field
 
@@ -124,6 +125,61 @@ class Parser:
             self.at = before
 
 
+# A table of more inputs isn't read.
+MOST_INPUTS_OF_TABLE = 8
+LEVELS = (b"L", b"H", b"-", b"L/H", b"H/L")
+
+
+def rows_of_table(group):
+    """The rows of a `statetable`: levels of inputs, and what the node is then, or `N` where it stays. `L/H` is for two rows."""
+    text = group.values.get(b"table", b"").replace(b"\\", b" ")
+    for row in filter(bytes.strip, text.split(b",")):
+        levels, now, after, *rest = (it.split() for it in (*row.split(b":"), b"", b""))
+        if any(rest) or now != [b"-"] or len(after) != 1 or any(it not in LEVELS for it in levels):
+            raise ValueError("states or edges")
+        for turn in (0, 1) if b"/" in b"".join([*levels, *after]) else (0,):
+            chosen = [it.split(b"/")[turn] if b"/" in it else it for it in (*levels, *after)]
+            if chosen[-1] not in (b"L", b"H", b"N"):
+                raise ValueError("levels that are left open")
+            yield chosen[:-1], chosen[-1]
+
+
+def found_in_table(group, inputs):
+    """What a `statetable` says of the node at all levels of its inputs: the first row that fits counts."""
+    if len(inputs) > MOST_INPUTS_OF_TABLE:
+        raise ValueError(f"over {MOST_INPUTS_OF_TABLE} inputs")
+    rows = list(rows_of_table(group))
+    if any(len(levels) != len(inputs) for levels, _ in rows):
+        raise ValueError("a row of another length")
+    for values in itertools.product((b"L", b"H"), repeat=len(inputs)):
+        fitting = (after for levels, after in rows if all(it in (b"-", value) for it, value in zip(levels, values)))
+        yield values, next(fitting, b"")
+
+
+def sum_of(inputs, rows):
+    """The function that is 1 at these levels of its inputs."""
+    products = (b"*".join(it if value == b"H" else b"!" + it for it, value in zip(inputs, values)) or b"1" for values in rows)
+    return b"+".join(products) or b"0"
+
+
+def latch_of(group):
+    """The `latch` that a `statetable` of levels is. Where one input decides whether its node follows others, that is enable."""
+    inputs, nodes = (it.split() for it in (*group.names, b"", b"")[:2])
+    if len(nodes) != 1:
+        raise ValueError("several nodes")
+    found = dict(found_in_table(group, inputs))
+    if b"" in found.values():
+        raise ValueError("levels that no row fits")
+    follows = [values for values, after in found.items() if after != b"N"]
+    enable, kept = sum_of(inputs, follows), range(len(inputs))
+    for k, name in enumerate(inputs):
+        for level in (b"L", b"H"):
+            if follows == [values for values in found if values[k] == level]:
+                enable, kept = name if level == b"H" else b"!" + name, [it for it in kept if it != k]
+    ones = [[values[k] for k in kept] for values in follows if found[values] == b"H"]
+    return Group(b"latch", nodes, group.line, {b"data_in": sum_of([inputs[k] for k in kept], ones), b"enable": enable})
+
+
 def plain_pin(formula):
     """The pin that a formula is, and whether it is its inverse; none where it is something else."""
     if len(formula.pins) == 1 and formula.rows in ([b"11"], [b"00"], [b"01"], [b"10"]):
@@ -175,10 +231,9 @@ class Placed:
 
     def put(self):
         """Adds the registers, then the outputs."""
-        if self.group.named(b"ff_bank", b"latch_bank", b"statetable", b"bus", b"bundle"):
-            kind = self.group.named(b"ff_bank", b"latch_bank", b"statetable", b"bus", b"bundle")[0].kind
-            raise self.fault(f"has a {shown(kind)}, which isn't read")
-        registers = self.group.named(b"ff", b"latch")
+        for it in self.group.named(b"ff_bank", b"latch_bank", b"bus", b"bundle"):
+            raise self.fault(f"has a {shown(it.kind)}, which isn't read")
+        registers = self.group.named(b"ff", b"latch") + [self.latch(it) for it in self.group.named(b"statetable")]
         for number, state in enumerate(registers):
             self.name_state(state, number)
         for number, state in enumerate(registers):
@@ -187,19 +242,30 @@ class Placed:
             self.add_output(name, pin)
         return bool(registers)
 
+    def latch(self, table):
+        try:
+            return latch_of(table)
+        except ValueError as error:
+            raise self.fault(f"has a statetable that isn't read: {error}") from None
+
     def name_state(self, state, number):
         """A register holds what the first of its outputs is, if one is it unchanged."""
         variable = state.names[0]
-        own = [self.signals[name] for name, pin in self.outputs.items() if self.function(pin) == variable]
+        own = [self.signals[name] for name, pin in self.outputs.items() if self.function(pin).strip(b" ()") == variable]
         held = own[0] if own else self.fresh(b"state%d" % number)
         self.signals[variable] = held
+        for pin in self.group.named(b"pin"):
+            if pin.values.get(b"internal_node") == variable:
+                self.signals.update((name, held) for name in pin.names if name not in self.outputs)
         if len(state.names) > 1:
             self.signals[state.names[1]] = self.fresh(b"inverse%d" % number)
             self.design.covers.append(Cover([held], self.signals[state.names[1]], self.cell.line, [b"01"]))
 
     @staticmethod
     def function(pin):
-        return pin.values.get(b"function", b"").strip(b" ()")
+        """What an output is: a function of pins and of what is held."""
+        texts = (pin.values.get(it, b"") for it in (b"function", b"state_function", b"internal_node"))
+        return next(filter(None, texts), b"")
 
     def add_register(self, state, number):
         values, is_latch = state.values, state.kind == b"latch"
@@ -243,8 +309,8 @@ class Placed:
         if pin.values.get(b"three_state"):
             raise self.fault(f"has a three-state output {shown(name)}")
         # The register's own output has its driver.
-        if self.signals.get(function) != self.signals[name]:
-            self.cover(self.formula(pin.values[b"function"]), self.signals[name])
+        if self.signals.get(function.strip(b" ()")) != self.signals[name]:
+            self.cover(self.formula(function), self.signals[name])
 
 
 class Liberty:

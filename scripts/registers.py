@@ -10,6 +10,9 @@ from spelling import met
 OTHER_EDGES = {b"re": b"fe", b"fe": b"re", b"ah": b"al", b"al": b"ah"}
 # A cover of which more columns aren't known isn't looked at value by value.
 MOST_OPEN = 8
+# The way into a cell of an FPGA library, at a register's end, and that into an instance without a name.
+CELL_PART = re.compile(rb"\d+:[^/]*\$\d+/[^/]*\Z")
+NUMBERED_PART = re.compile(rb"(?:\A|[./])\d+:[^/]+/")
 
 
 def ends_of_buffers(design):
@@ -293,9 +296,19 @@ def have_names_of_cells(registers, others):
     return bool(made) and all(any(name.startswith(base) for base in bases) for name in made[:SHOWN_NAMES])
 
 
+def have_numbers_of_instances(registers):
+    """Whether registers have numbers of instances in the ways to them, which other files number otherwise or not at all."""
+    return any(NUMBERED_PART.search(CELL_PART.sub(b"", it.name)) for it in registers)
+
+
 def hint(lost):
     """What may have become of registers that either file has alone, by their names; nothing where no name tells."""
     first, second = lost
+    spelt = met([it.name for it in first], [it.name for it in second])
+    for other, name in spelt.items():
+        return f"other spellings of {counted(len(spelt), 'name')}, as {shown(other)} for {shown(name)}: try --names"
+    if have_numbers_of_instances(first) or have_numbers_of_instances(second):
+        return "numbers of instances in place of names: write with `write_blif -cname`, or flatten before"
     if have_names_of_cells(first, second) or have_names_of_cells(second, first):
         return "names of cells in place of the design's, as `opt_clean -purge` leaves them: write with plain `opt_clean`"
     both = {base_of(it.name) for it in first} & {base_of(it.name) for it in second}

@@ -6,8 +6,9 @@ from netlist import BUFFER, TABLE_HEAD, Cover, names_in
 
 # Each way of spelling takes the ones before it along; the last ones are tried for what is left.
 BRACKETS = re.compile(rb"[<({](\d+)[>)}]")
-UNDERSCORES = re.compile(rb"((?:_\d+_)+)\Z")
+UNDERSCORES = re.compile(rb"((?:_\d+_)+)(?=\.|\Z)")
 UNDERSCORE = re.compile(rb"_(\d+)\Z")
+SIGNS = re.compile(rb"[^0-9A-Za-z$]+")
 
 
 def plain(name):
@@ -25,11 +26,16 @@ def by_underscore(name):
     return UNDERSCORE.sub(rb"[\1]", by_underscores(name))
 
 
+def without_signs(name):
+    """The same with `_` for whatever else stands between letters and digits, since tools flatten `u[1].a` to `u_1__a`."""
+    return SIGNS.sub(b"_", by_underscore(name)).strip(b"_")
+
+
 def without_case(name):
-    return by_underscore(name).lower()
+    return without_signs(name).lower()
 
 
-SPELLINGS = (plain, by_underscores, by_underscore, without_case)
+SPELLINGS = (plain, by_underscores, by_underscore, without_signs, without_case)
 
 
 def alone(names, spelling):

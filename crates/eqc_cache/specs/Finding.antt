@@ -18,7 +18,7 @@ use Rattle.eqc_guard.specs.Telling.{IsResult}
 abbrev pub IsOrdered : Op → ℕ → ℕ → ℕ × ℕ → Type 0
 IsOrdered op f g p = (p ≡ (f, g)) ⊎ ((op ≢ AndNot) × (p ≡ (g, f)))
 
--- the name x was counted up after a second look: it is held once more, and nothing is announced
+-- the name x was counted up after a second look: it is held once more, and the first announcement word announces nothing
 pub record IsTaken (x : ℕ) (old new : Standing) : Type 0 where
   pub forest : new.forest ≡ old.forest
   pub core : new.known.core ≡ record old.known.core { held = old.known.core.held ++ x ∷ []; phases = set old.known.core.phases 0 Idle }

@@ -1,12 +1,31 @@
 //! What is told of a run that gave no verdict, beside its report.
 
 use eqc_blif::Library;
-use eqc_pair::{Finding, Side};
+use eqc_pair::{Finding, Pair, Side};
+use eqc_place::Places;
 use eqc_report::Undecided;
 use eqc_tree::Stop;
 use std::io;
 
-/// Is told why a run gave no verdict, once and after its report was written, if it has one.
+/// A netlist that is compared: its text, the models of that, and the number of its own.
+#[derive(Clone, Copy)]
+pub struct Netlist<'a> {
+    pub text: &'a [u8],
+    pub library: &'a Library,
+    pub model: usize,
+}
+
+/// The places at which an output of a pair begins to differ.
+#[derive(Clone, Copy)]
+pub struct Located<'a> {
+    pub output: &'a [u8],
+    pub pair: &'a Pair<'a>,
+    pub places: &'a Places,
+    pub first: Netlist<'a>,
+    pub second: Netlist<'a>,
+}
+
+/// Is told why a run gave no verdict, once and after its report was written, if it has one; and where differences begin.
 pub trait Diagnostics {
     /// The text of this side was refused, at a line that counts from 1, or at none (0). There is no finding for a latch.
     fn text(&mut self, side: Side, line: u32, finding: Option<&eqc_blif::Finding>);
@@ -37,6 +56,15 @@ pub trait Diagnostics {
 
     /// The report could not be written whole.
     fn unwritten(&mut self, error: &io::Error);
+
+    /// Whether it is to be told where differences begin.
+    fn wants_places(&self) -> bool;
+
+    /// Where one of the differences begins that the report tells.
+    fn places(&mut self, located: &Located<'_>);
+
+    /// Memory was refused, and not all differences were told of.
+    fn unlocated(&mut self);
 }
 
 /// Is told nothing.
@@ -63,4 +91,12 @@ impl Diagnostics for NoDiagnostics {
     fn unread(&mut self, _side: Side, _error: &io::Error) {}
 
     fn unwritten(&mut self, _error: &io::Error) {}
+
+    fn wants_places(&self) -> bool {
+        false
+    }
+
+    fn places(&mut self, _located: &Located<'_>) {}
+
+    fn unlocated(&mut self) {}
 }

@@ -9,12 +9,13 @@ ghost use Rattle.eqc_case.specs.Warning.{warnings_at, IsWarned, WarnsOfKnown};
 use crate::decide::decide;
 use eqc_case::{
     Case, Diagnostics, Given, ModelNames, NoDiagnostics, OutputNames, Texts, Told, Unread,
-    Warnings, read_given, tell_of_case,
+    Warnings, locate_in_case, read_given, tell_of_case,
 };
 use eqc_compare::{NoGate, Progress, Stage};
 use eqc_pair::{Refused, Side};
 use eqc_report::{
-    Options, Report, RunFault, Status, StreamFault, Undecided, options_fault, write_or_stop,
+    Differences, Options, Report, RunFault, Status, StreamFault, Undecided, options_fault,
+    write_or_stop,
 };
 use eqc_tree::Stop;
 use std::alloc::Global;
@@ -98,10 +99,28 @@ pub struct Finished {
     pub warnings: Warnings,
 }
 
-/// Tells why a report is a refusal or a stop. Where memory is refused for it, nothing is told.
+/// Tells where differences begin, if that is wanted.
+fn tell_places<T: Diagnostics>(
+    alloc: Global,
+    reported: &Reported<'_>,
+    differences: &Differences,
+    told: &mut T,
+) {
+    if !told.wants_places() {
+        return;
+    }
+    if let Some(case) = &reported.case {
+        if locate_in_case(alloc, case, differences, told).is_err() {
+            told.unlocated();
+        }
+    }
+}
+
+/// Tells why a report is a refusal or a stop, or where its differences begin. Where memory is refused for it, nothing is told.
 fn tell<T: Diagnostics>(alloc: Global, reported: &Reported<'_>, told: &mut T) {
     match &reported.told.report {
-        Report::Equivalent | Report::Differs(_) => {}
+        Report::Equivalent => {}
+        Report::Differs(differences) => tell_places(alloc, reported, differences, told),
         Report::Vacuous => told.vacuous(),
         Report::Stopped(stop) => {
             told.stopped(*stop);
@@ -219,7 +238,7 @@ pub fn run_models<RT: Threads + Wait + Sync, R: Read + Drop, W: Write>(
 /// It begins on one thread, as many pairs end there. Threads are started where the options have several workers and outputs are left: with
 /// fewer than 1,024 nodes at once, and else where the store of one thread is full or its operations took too many turns. Then as
 /// many compare as the options have workers, without forks no more than there are outputs to compare; searches for differences have
-/// as many too. The call may wait, for them. The report is the same for every number of workers, and where they were stopped its
+/// as many too, and so have the questions of sweeping, a few for each. The call may wait, for them. The report is the same for every number of workers, and where they were stopped its
 /// code is from 71 to 74.
 pub fn run<RT: Threads + Wait + Sync, R: Read + Drop, W: Write>(
     rt: &RT,

@@ -12,7 +12,7 @@ use Rattle.eqc_command.specs.Sources.{source_remaining, AreAskedFor}
 use Rattle.eqc_words.specs.declared.command_line.Request.{Request}
 use Rattle.eqc_command.specs.declared.ending.End.TheVariants.{Failed}
 use Rattle.eqc_command.specs.declared.source.Sources.{Sources}
-use Rattle.eqc_command.specs.Ends.{Grows, given_by, MayBeExplained, IsRunEnd, IsShowing, fault_text}
+use Rattle.eqc_command.specs.Ends.{Grows, given_by, MayBeExplained, is_explained, IsRunEnd, IsShowing, fault_text}
 use Rattle.eqc_report.proofs.ReportLemmas.{two_digits}
 
 nothing_grows : (known : Option (List ℕ)) → Grows known known
@@ -51,7 +51,7 @@ write_line = sym (ap (λ ds. codes "fault " ++ ds ++ 10 ∷ []) (two_digits 92 (
 pub run_failed : {R F : Type 0} (input_remaining : R → Option (List ℕ)) (file_remaining : F → Option (List ℕ)) (request : Request) (input : R)
     (old new err_old err_new : Option (List ℕ)) (fault : RunFault) (sources : Sources R F) → AreAskedFor request input sources
     → (fault ≡ Write → IsCutOff (source_remaining input_remaining file_remaining) (given_by request sources) old new)
-    → (fault ≡ Read → new ≡ old) → fault ≢ Memory → MayBeExplained request.explain err_old err_new → IsRunEnd input_remaining file_remaining request input old new err_old err_new (Failed fault)
+    → (fault ≡ Read → new ≡ old) → fault ≢ Memory → MayBeExplained (is_explained request) err_old err_new → IsRunEnd input_remaining file_remaining request input old new err_old err_new (Failed fault)
 run_failed input_remaining file_remaining request input old new err_old err_new Memory sources opened cut kept never explained = absurd (never refl)
 run_failed input_remaining file_remaining request input old new err_old err_new Read sources opened cut kept never explained = (kept refl, explained)
 run_failed input_remaining file_remaining request input old new err_old err_new Write sources opened cut kept never explained =

@@ -1,5 +1,5 @@
 -- How the program ends, by its words and its input, and what it has written.
-use Rattle.std.specs.Prelude.{◌≡◌, ◌≢◌, ◌⊎◌, Result, Err, IfOk, IfErr, ℕ, Bool, true, false, List, [], ◌++◌, ◌∷◌, map, codes, Option, option_map}
+use Rattle.std.specs.Prelude.{◌≡◌, ◌≢◌, ◌⊎◌, Result, Err, IfOk, IfErr, ℕ, Bool, true, false, ◌||◌, List, [], ◌++◌, ◌∷◌, map, codes, Option, option_map}
 use Rattle.std.specs.Fmt.{decimal}
 use Rattle.std.specs.Io.KnownBytes.{Appends}
 use Rattle.clap.specs.Walk.{Text}
@@ -78,7 +78,11 @@ pub record IsRunOn {R F : Type 0} (request : Request) (input : R) (Writes : Give
   pub opened : AreAskedFor request input sources
   pub writes : Writes (given_by request sources)
 
--- standard error got some text, where an explanation is asked for
+-- whether it is asked for why there is no verdict, or for where differences begin
+abbrev pub is_explained : Request → Bool
+is_explained request = request.explain || request.locate
+
+-- standard error got some text, where an explanation is asked for, or places of differences are
 abbrev pub MayBeExplained : Bool → Option (List ℕ) → Option (List ℕ) → Type 0
 MayBeExplained false old new = new ≡ old
 MayBeExplained true old new = Grows old new
@@ -90,7 +94,7 @@ pub record IsReported {R : Type 0} (remaining : R → Option (List ℕ)) (reques
   pub warned : IsWarned remaining given status warnings
   pub err : Option (List ℕ)
   pub told : IsToldOf (warnings_text request warnings) err_old err
-  pub explained : MayBeExplained request.explain err err_new
+  pub explained : MayBeExplained (is_explained request) err err_new
 
 -- an end of a run: no report is written where a file can't be opened or a read fails, and a part of it where a write
 -- fails
@@ -99,9 +103,9 @@ IsRunEnd input_remaining file_remaining request input old new err_old err_new (R
     IsRunOn request input (λ given. IsReported (source_remaining input_remaining file_remaining) request given old new err_old err_new status)
 IsRunEnd input_remaining file_remaining request input old new err_old err_new Helped = ⊥
 IsRunEnd input_remaining file_remaining request input old new err_old err_new (Failed run_fault.Memory) = ⊥
-IsRunEnd input_remaining file_remaining request input old new err_old err_new (Failed run_fault.Read) = (new ≡ old) × MayBeExplained request.explain err_old err_new
+IsRunEnd input_remaining file_remaining request input old new err_old err_new (Failed run_fault.Read) = (new ≡ old) × MayBeExplained (is_explained request) err_old err_new
 IsRunEnd input_remaining file_remaining request input old new err_old err_new (Failed run_fault.Write) =
-    IsRunOn request input (λ given. IsCutOff (source_remaining input_remaining file_remaining) given old new) × MayBeExplained request.explain err_old err_new
+    IsRunOn request input (λ given. IsCutOff (source_remaining input_remaining file_remaining) given old new) × MayBeExplained (is_explained request) err_old err_new
 IsRunEnd input_remaining file_remaining request input old new err_old err_new (BadWords error) = ⊥
 
 -- a request for help or for the version

@@ -3,7 +3,7 @@ ghost use Rattle.std.specs.Prelude.{◌≡◌, ◌↔◌, IfSome, IsSome, IsTrue
 ghost use Rattle.std.specs.Option.{option_copied, option_map};
 ghost use Rattle.std.specs.Thread.{IsSync};
 ghost use Rattle.clap.specs.Values.{kind_of};
-ghost use Rattle.eqc_command.specs.Ends.{names_of, given_by, IsRun, IsRunEnd, MayBeExplained, IsShowing, IsHelpEnd, IsEnd, IsDone};
+ghost use Rattle.eqc_command.specs.Ends.{names_of, given_by, is_explained, IsRun, IsRunEnd, MayBeExplained, IsShowing, IsHelpEnd, IsEnd, IsDone};
 
 use crate::ending::{End, tell};
 use crate::source::{Source, Sources, Unopened, open};
@@ -80,11 +80,18 @@ fn given_by<'x, 'a, R, F>(
     }
 }
 
+/// Whether it is to be explained why there is no verdict, or where differences begin.
+fn is_explained(request: &Request<'_>) -> bool
+    ensures { result ≡ is_explained request.now }
+{
+    request.explain || request.locate
+}
+
 /// Writes an explanation, where one is asked for. Where a write fails, a part of it is lost.
 fn explain<E: Write>(request: &Request<'_>, explanation: &Explanation<'_>, err: &mut E)
-    ensures { MayBeExplained request.now.explain (E.contents err.old) (E.contents err.new) }
+    ensures { MayBeExplained (is_explained request.now) (E.contents err.old) (E.contents err.new) }
 {
-    if !request.explain {
+    if !is_explained(request) {
         return;
     }
     let bytes = explanation.as_bytes();
@@ -98,7 +105,7 @@ fn if_asked<'x, 'a>(
     request: &Request<'_>,
     explanation: &'x mut Explanation<'a>,
 ) -> Option<&'x mut Explanation<'a>> {
-    if request.explain {
+    if is_explained(request) {
         Some(explanation)
     } else {
         None
@@ -188,10 +195,11 @@ fn compare<
 ///
 /// The words are those of the command line, the program's name first; `input`, `out` and `err` are standard input,
 /// output and error. The options are `--workers N`, `--nodes N`, `--cells N`, `--forks N`, `--conflicts N`, `--order FILE`,
-/// `--assume FILE`, `--all`, `--output NAME` as often as wanted, `--first-model NAME`, `--second-model NAME`, `--explain` and
+/// `--assume FILE`, `--all`, `--output NAME` as often as wanted, `--first-model NAME`, `--second-model NAME`, `--explain`, `--locate` and
 /// `--progress`, and up to two files are compared. All files are opened before one is read. The report is written to `out`. Where
 /// it is a verdict on a model that a model of its text contains which isn't compared, `err` gets a warning on it. Where there is no
-/// verdict and `--explain` is given, `err` gets lines on what is at fault. With `--progress` the runtime's own standard error has a
+/// verdict and `--explain` is given, `err` gets lines on what is at fault, and where outputs differ and `--locate` is, lines on where that
+/// begins. With `--progress` the runtime's own standard error has a
 /// line that tells how far the run is, and which is gone before anything is written to `out` or `err`.
 ///
 /// The status is 0 where the netlists are equivalent, 1 where they differ, 2 where the input is refused and 3 where

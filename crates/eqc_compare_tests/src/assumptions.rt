@@ -3,12 +3,12 @@
 ghost use Rattle.std.specs.Prelude.{◌≤◌, length};
 
 use crate::ends::holds;
-use crate::pairs::report_word;
 use crate::workers::two_stores;
 use eqc_blif::{Library, read};
 use eqc_check::{Gate, Pair, Report, allows_none, check_plain, check_with, pair_assuming};
 use eqc_flat::Flat;
 use eqc_netlist_testing::{flat_of, two_flats};
+use eqc_pair_testing::report_word;
 use eqc_plain::Plain;
 use eqc_testing::{Row, lines};
 use eqc_tree::Stop;

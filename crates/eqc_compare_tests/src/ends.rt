@@ -2,7 +2,7 @@
 //! at each of its branches, with all that it holds there.
 
 use std::alloc::AllocError;
-use std::fmt::{Debug, Display};
+use std::fmt::Display;
 use std::process::Abort;
 
 /// Ends the test, and names the row, where it doesn't hold.
@@ -12,14 +12,4 @@ pub(crate) fn holds(rt: &impl Abort, found: Result<bool, AllocError>, row: impl 
         Ok(false) => panic!(rt; "{row}"),
         Err(_) => panic!(rt; "no memory: {row}"),
     }
-}
-
-/// Ends the test, and names the row, where something else is found there.
-pub(crate) fn same<T: PartialEq + Debug + Copy>(
-    rt: &impl Abort,
-    found: T,
-    wanted: T,
-    row: impl Display + Copy,
-) {
-    assert_eq!(rt; found, wanted, "{row}");
 }

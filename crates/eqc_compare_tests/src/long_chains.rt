@@ -2,9 +2,9 @@
 //! a recursion that would be as deep.
 
 use crate::ends::holds;
-use crate::pairs::{Ask, is_ordered_answer};
 use crate::workers::{Way, gives};
 use eqc_check::{NoGate, Options, Texts, run};
+use eqc_pair_testing::{Ask, is_ordered_answer};
 use eqc_testing::{Feed, input_names, is_text};
 use std::alloc::{AllocError, Global};
 use std::sync::Wait;

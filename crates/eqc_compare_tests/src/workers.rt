@@ -4,7 +4,6 @@ ghost use Rattle.std.specs.Prelude.{◌≤◌, vec_len, IfOk};
 ghost use Rattle.std.specs.List.{All};
 
 use crate::ends::holds;
-use crate::pairs::report_word;
 use eqc_blif::{Library, read};
 use eqc_check::{
     Gate, NoGate, Options, Pair, Report, Texts, check, check_with, options_fault, pair,
@@ -12,6 +11,7 @@ use eqc_check::{
 use eqc_engine::{Comparison, decide_pair, known_by_structure};
 use eqc_flat::Flat;
 use eqc_netlist_testing::two_flats;
+use eqc_pair_testing::report_word;
 use eqc_plain::Plain;
 use eqc_report::Undecided;
 use eqc_run_testing::{given, options, workers_on};

@@ -607,8 +607,8 @@ impl Worker {
     /// twice: its result stays until it is released.
     ///
     /// There is none where the word has no node as its result, or the second look finds another
-    /// word. Then nothing is announced. A worker that is alone acquires the word that its cell has,
-    /// where that has a node as its result.
+    /// word. Then the first announcement word, which it goes by, announces nothing. A worker that is
+    /// alone acquires the word that its cell has, where that has a node as its result.
     pub fn acquire(&mut self, cell: u32) -> Option<u64>
         requires { MayLook self.old.known.core 0 cell }
         ensures some { IfSome result (λ word. IsAcquired 0 word self.old self.new) }
@@ -653,7 +653,7 @@ impl Worker {
         false
     }
 
-    /// Withdraws what is announced.
+    /// Withdraws what the first announcement word announces.
     pub fn release(&mut self)
         requires { MayAnnounce self.old.known.core 0 0 }
         ensures step { Steps self.old (announced self.old.known.core 0) self.new }
@@ -723,7 +723,8 @@ impl Worker {
     /// longer. At most as many names are retired then as there are announcement words, and none at
     /// a worker that is alone, has a copy of the words, and announces nothing.
     ///
-    /// No scan is under way, nothing is announced, and at most 2^39 names are held.
+    /// No scan is under way, the first announcement word announces nothing, and at most 2^39 names are
+    /// held. What the other announcement words announce stays.
     pub fn scan(&mut self)
         requires ready { IsReady self.old.known.core }
         requires may { MayScan self.old.known.core }

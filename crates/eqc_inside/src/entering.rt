@@ -14,6 +14,7 @@ use eqc_pair::Pair;
 use eqc_sweep::{Effort, Sweep};
 use eqc_witness::{first_shown, words_shown};
 use std::alloc::{AllocError, Global};
+use std::thread::Threads;
 
 /// How much work the searches for differences may do beside their conflicts, all together: so much for each node of the graph and
 /// for the graph as a whole, and never more than so much, whatever the netlist.
@@ -188,40 +189,33 @@ pub(crate) fn entered<R, P: Progress<R>>(
 }
 
 impl<'a> Inside<'a> {
-    /// The steps of a pair of which these are wanted, in a graph that has none yet. It stands apart from `of` for its proof's sake, as
+    /// The marked steps of a pair in a graph in which nothing was asked yet. It stands apart from `of` for its proof's sake, as
     /// `first_seen_in` does: the steps and the graph are let go in one exit.
-    fn within<R, P: Progress<R>>(
-        rt: &R,
-        alloc: Global,
-        steps: Steps<'a>,
-        wanted: Wanted,
-        sweep: Sweep,
-        rounds: &Rounds,
-        watch: &P,
-    ) -> Result<Inside<'a>, AllocError>
-        requires { AreClosed steps wanted.marks.items }
+    fn unswept(alloc: Global, steps: Steps<'a>, marks: &[bool]) -> Result<Inside<'a>, AllocError>
+        requires { AreClosed steps marks.now }
         ensures { IfOk result (λ inside. inside ≡ steps.entry.pair) }
     {
-        let mut sweep = sweep;
-        let literals = entered(rt, alloc, &steps, &wanted.marks, &mut sweep, watch)?;
-        let work = rounds.in_proportion(work_for(sweep.graph().len()));
+        let mut sweep = Sweep::new(alloc, Effort::none())?;
+        let _count = steps.len();
+        let ignored = |_step: u32| {};
+        let literals = literals(alloc, &steps, marks, &mut sweep, &ignored)?;
         Ok(Inside {
             steps,
             sweep,
             literals,
-            work: work.saturating_sub(wanted.work).max(work / PART),
+            work: 0,
             earlier: Vec::new(alloc),
             gave_up: false,
         })
     }
 
-    /// Enters the steps of a pair that its chosen outputs need which are not marked, where this is known of it: a step that is chosen
-    /// in place of others is entered for them. Unless `every` output that differs is looked for, those behind the first that is seen
-    /// to differ aren't needed. It takes time and memory in proportion to the steps and to the rows of their covers, for each instance
-    /// of a model anew, or once for all instances where a cover has at most six columns; where these are very many nothing is entered,
-    /// and nothing is found of any output. What the first round may cost, and all searches, is told by `rounds`. The watch is told of each
-    /// step. Fails where memory is refused.
-    pub fn of<R, P: Progress<R>>(
+    /// Enters the steps of a pair that its chosen outputs need which are not marked, where this is known of it, and sweeps them in a first
+    /// round: a step that is chosen in place of others is entered for them. Unless `every` output that differs is looked for, those behind
+    /// the first that is seen to differ aren't needed. It takes time and memory in proportion to the steps and to the rows of their
+    /// covers, for each instance of a model anew, or once for all instances where a cover has at most six columns; where these are very
+    /// many nothing is entered, and nothing is found of any output. What the first round may cost, and all searches, is told by `rounds`.
+    /// The watch is told of each node that is swept. Fails where memory is refused.
+    pub fn of<R: Threads + Sync, P: Progress<R>>(
         rt: &R,
         alloc: Global,
         pair: &'a Pair<'a>,
@@ -235,7 +229,17 @@ impl<'a> Inside<'a> {
     {
         let steps = Steps::of(alloc, pair, alike.chosen.clone()?);
         let wanted = entering(alloc, &steps, &alike.equal, every)?;
-        let sweep = Sweep::new(alloc, rounds.effort())?;
-        Inside::within(rt, alloc, steps, wanted, sweep, rounds, watch)
+        let mut inside = Inside::unswept(alloc, steps, &wanted.marks)?;
+        inside.sweep_again(rt, alloc, alike, rounds.effort(), watch)?;
+        inside.allow_searches(rounds, wanted.work);
+        Ok(inside)
+    }
+
+    /// What the searches may do, where so much work was done to see which outputs differ.
+    fn allow_searches(&mut self, rounds: &Rounds, seeing: u64)
+        ensures { self.new ≡ self.old }
+    {
+        let work = rounds.in_proportion(work_for(self.sweep.graph().len()));
+        self.work = work.saturating_sub(seeing).max(work / PART);
     }
 }

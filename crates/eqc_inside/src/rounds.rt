@@ -13,8 +13,9 @@ use crate::inside::{Inside, NONE, literal_of};
 use eqc_build::Steps;
 use eqc_compare::{Alike, Progress, is_settled};
 use eqc_pair::Pair;
-use eqc_sweep::{Comparison, Effort, Sweep, Tally, below, copied, copy};
+use eqc_sweep::{Comparison, Effort, Sweep, Tally, below, copied, copy, no_copies};
 use std::alloc::{AllocError, Global};
+use std::thread::Threads;
 
 /// The most conflicts of a question in each level of rounds, and how much work a round of it may take of all that there is, in
 /// hundredths.
@@ -47,6 +48,7 @@ const WORTHWHILE: u64 = 8;
 #[derive(Clone, Copy, Debug)]
 pub struct Rounds {
     conflicts: u64,
+    workers: u32,
     level: usize,
     left: u64,
     is_short: bool,
@@ -59,8 +61,8 @@ pub struct Rounds {
 const USUAL: u64 = 100_000;
 
 impl Rounds {
-    /// Before the first round over two netlists, with what so many conflicts are worth for all of them.
-    pub fn of(pair: &Pair<'_>, conflicts: u64) -> Rounds {
+    /// Before the first round over two netlists, with what so many conflicts are worth for all of them, by so many workers.
+    pub fn of(pair: &Pair<'_>, conflicts: u64, workers: u32) -> Rounds {
         let steps = pair
             .first()
             .steps()
@@ -68,6 +70,7 @@ impl Rounds {
             .saturating_add(pair.second().steps().len());
         Rounds {
             conflicts,
+            workers,
             level: usize::from(steps < MANY_STEPS),
             left: conflicts.saturating_mul(WORK),
             is_short: true,
@@ -100,7 +103,9 @@ impl Rounds {
         } else {
             (LONG_NODE, LONG_WHOLE)
         };
-        effort.within(self.in_proportion(node), self.in_proportion(whole))
+        effort
+            .within(self.in_proportion(node), self.in_proportion(whole))
+            .by(self.workers)
     }
 
     /// From now on rounds may cost all that there is. Where the last one gave no question up there is none.
@@ -132,21 +137,22 @@ impl Rounds {
     }
 }
 
-/// The literals of the steps that outputs which aren't known yet are made of, and that of the assumption. Fails where memory is
-/// refused.
+/// The literals of the steps that outputs which aren't known yet are made of, in the first netlist alone or in both, and that of the
+/// assumption. Fails where memory is refused.
 fn open_literals(
     alloc: Global,
     steps: &Steps<'_>,
     literals: &[Option<u32>],
     marks: &[bool],
+    netlists: usize,
 ) -> Result<Vec<u32>, AllocError>
     requires { AreEqual steps.now.pair marks.now }
 {
     let mut open = Vec::new(alloc);
     for output in 0..steps.pair().first().outputs().len() {
         if !is_settled(steps.pair(), marks, output) {
-            for step in steps.roots(output) {
-                let literal = literal_of(literals, step);
+            for step in steps.roots(output).iter().take(netlists) {
+                let literal = literal_of(literals, *step);
                 if literal != NONE {
                     open.push(literal)?;
                 }
@@ -235,9 +241,9 @@ impl<'a> Inside<'a> {
         self.sweep.tally()
     }
 
-    /// The literals of steps in another graph, into which what open outputs depend on is copied. The watch is told of each node. Fails
-    /// where memory is refused.
-    fn literals_in<R, P: Progress<R>>(
+    /// The literals of steps in another graph, into which what open outputs depend on is copied: all that is in the first netlist before
+    /// the rest, so that what is equal in the second one finds it there. The watch is told of each node. Fails where memory is refused.
+    fn literals_in<R: Threads + Sync, P: Progress<R>>(
         &self,
         rt: &R,
         alloc: Global,
@@ -248,18 +254,21 @@ impl<'a> Inside<'a> {
         requires { IsKnown self.now alike.now }
         ensures { IfOk result (λ all. AreLiterals self.now sweep.new all.items) }
     {
-        let open = open_literals(alloc, &self.steps, &self.literals, &alike.equal)?;
         let graph = self.sweep.graph();
-        let marks = below(alloc, graph, &open)?;
         let count = graph.len() as usize;
         let told = |k: u32| watch.step(rt, k as usize, count);
-        let table = copy(alloc, graph, &marks, sweep, &told)?;
+        let mut table = no_copies(alloc, graph)?;
+        for netlists in 1..=2 {
+            let open = open_literals(alloc, &self.steps, &self.literals, &alike.equal, netlists)?;
+            let marks = below(alloc, graph, &open)?;
+            copy(rt, graph, &marks, sweep, &mut table, &told)?;
+        }
         moved(alloc, &self.literals, &table)
     }
 
     /// Sweeps what the outputs depend on which aren't known to be equal, once more with this effort. The watch is told of each node.
     /// Fails where memory is refused; what was found before stays then.
-    pub fn sweep_again<R, P: Progress<R>>(
+    pub fn sweep_again<R: Threads + Sync, P: Progress<R>>(
         &mut self,
         rt: &R,
         alloc: Global,

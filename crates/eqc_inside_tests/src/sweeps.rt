@@ -4,9 +4,10 @@ ghost use Rattle.eqc_graph.specs.Graph.{IsWithin, Extends};
 
 use crate::ends::same;
 use eqc_graph::negated;
-use eqc_sweep::{Comparison, Effort, Sweep};
+use eqc_sweep::{Comparison, Effort, Sweep, below, copied, copy, no_copies};
 use std::alloc::{AllocError, Global};
 use std::process::Abort;
+use std::thread::Threads;
 
 /// What is found of two literals.
 #[derive(Clone, Copy, PartialEq, Eq, Debug)]
@@ -220,5 +221,43 @@ fn what_is_made_again_has_one_literal(rt: HostRuntime) -> Result<(), AllocError>
     same(&rt, are_known(&mut sweep), Ok([true; 3]), "gates");
     same(&rt, are_plain(&mut sweep), Ok([true; 4]), "plain gates");
     same(&rt, have_one(&mut sweep), Ok(true), "variables");
+    Ok(())
+}
+
+/// Whether a carry and a majority have one literal in a copy of their graph by so many threads, whether two parities do, and how many
+/// nodes there are.
+fn copies<R: Threads + Sync>(
+    rt: &R,
+    alloc: Global,
+    workers: u32,
+) -> Result<(bool, bool, u32), AllocError> {
+    let mut plain = Sweep::new(alloc, Effort::none())?;
+    let x = plain.input(7)?;
+    let y = plain.input(8)?;
+    let z = plain.input(9)?;
+    let carry = carry(&mut plain, x, y, z)?;
+    let majority = majority(&mut plain, x, y, z)?;
+    let forth = parity(&mut plain, FORTH)?;
+    let back = parity(&mut plain, BACK)?;
+    let mut sweep = Sweep::new(alloc, effort(true).by(workers))?;
+    let graph = plain.graph();
+    let marks = below(alloc, graph, &[carry, majority, forth, back])?;
+    let mut table = no_copies(alloc, graph)?;
+    let told = |_entered: u32| {};
+    copy(rt, graph, &marks, &mut sweep, &mut table, &told)?;
+    Ok((
+        copied(&table, carry) == copied(&table, majority),
+        copied(&table, forth) == copied(&table, back),
+        sweep.graph().len(),
+    ))
+}
+
+#[test]
+fn copies_are_the_same_by_any_number_of_threads(rt: HostRuntime) -> Result<(), AllocError> {
+    let alone = copies(&rt, rt.alloc(), 1)?;
+    same(&rt, (alone.0, alone.1), (true, true), "by one");
+    for workers in [2, 3, 4, 16] {
+        same(&rt, copies(&rt, rt.alloc(), workers), Ok(alone), workers);
+    }
     Ok(())
 }

@@ -15,8 +15,12 @@ pub static MULTIPLIERS: &str = ".model f;.inputs a0 a1 a2 a3 a4 a5 a6 a7 b0 b1 b
 
 /// Numbers of workers, nodes and conflicts, and what is reported with them.
 static ROWS: &[(u32, u32, u32, &str)] = &[
+    (1, 1_024, CONFLICTS, "equivalent;"),
     (2, 1_024, CONFLICTS, "equivalent;"),
+    (3, 1_024, CONFLICTS, "equivalent;"),
+    (4, 1_024, CONFLICTS, "equivalent;"),
     (8, 1_024, CONFLICTS, "equivalent;"),
+    (16, 1_024, CONFLICTS, "equivalent;"),
     (2, 1_023, CONFLICTS, "stopped 71;"),
     (2, 1_024, 0, "stopped 71;"),
     (2, 65_536, 0, "equivalent;"),

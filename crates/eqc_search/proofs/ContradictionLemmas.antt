@@ -3,7 +3,7 @@ use Rattle.std.proofs.Common.{◌≡◌, ℕ, ◌<◌, ◌∙◌, ap, Bool, true
 use Rattle.std.proofs.lemmas.List.Folds.{list_any_at}
 use Rattle.std.specs.List.{list_any}
 use Rattle.eqc_graph.specs.declared.node.Node.{Node}
-use Rattle.eqc_graph.specs.Graph.{literal_value}
+use Rattle.eqc_graph.specs.Graph.{IsGraph, literal_value, node_at, node_value}
 use Rattle.eqc_clause.specs.Clauses.{IsRefuted}
 use Rattle.eqc_search.specs.Contradiction.{IsAmong}
 
@@ -18,6 +18,12 @@ pub false_refutes : (nodes : List Node) (assumptions : List ℕ) (l : ℕ) → I
 false_refutes nodes assumptions l among never = record {
   one_is_false = λ a. among.found (λ k. not (literal_value nodes a k)) (ap not (never a));
 }
+
+-- the literal of the first node of a graph, which is the constant, refutes
+pub constant_refutes : (nodes : List Node) (assumptions : List ℕ) (n : Node) → IsGraph nodes → n ≡ node_at nodes 0 →
+    ((a : ℕ → Bool) → literal_value nodes a 0 ≡ node_value a (literal_value nodes a) n) → IsAmong 0 assumptions → IsRefuted nodes assumptions
+constant_refutes nodes assumptions n graph is value among =
+    false_refutes nodes assumptions 0 among (λ a. value a ∙ ap (node_value a (literal_value nodes a)) (is ∙ graph.constant))
 
 -- of two complements one is false
 one_is_false : (nodes : List Node) (assumptions : List ℕ) (l m : ℕ) (a : ℕ → Bool) (v : Bool) → IsAmong l assumptions → IsAmong m assumptions →

@@ -1,9 +1,10 @@
 //! Assumptions that can't be true together whatever the gates are.
 ghost use Rattle.std.specs.Prelude.{IsTrue, List};
+ghost use Rattle.eqc_graph.specs.declared.node.Node.{Node};
 ghost use Rattle.eqc_clause.specs.Clauses.{IsRefuted};
 ghost use Rattle.eqc_search.specs.Contradiction.{IsAmong};
 
-use eqc_graph::{Graph, Node, negated};
+use eqc_graph::{Graph, negated};
 
 #[tactic(auto, using(crate::proofs::ContradictionLemmas::among_at))]
 /// Whether a literal is among some.
@@ -18,18 +19,15 @@ fn is_among(l: u32, literals: &[u32]) -> bool
     false
 }
 
-#[tactic(auto, using(crate::proofs::ContradictionLemmas::false_refutes))]
+#[tactic(auto, using(crate::proofs::ContradictionLemmas::constant_refutes))]
 /// Whether the constant that is false is assumed.
 fn assumes_false(graph: &Graph, assumptions: &[u32]) -> bool
     ensures { IsTrue result → IsRefuted graph.now assumptions.now }
 {
-    if graph.len() == 0 || !is_among(0, assumptions) {
-        return false;
-    }
-    match graph.node(0) {
-        Node::Constant => true,
-        Node::Input(_) | Node::And(_, _) | Node::Xor(_, _) => false,
-    }
+    // What is known of a graph is known of its first node, the constant.
+    let _count = graph.len();
+    let _constant = graph.node(0);
+    is_among(0, assumptions)
 }
 
 #[tactic(auto, using(crate::proofs::ContradictionLemmas::both_refute))]

@@ -36,10 +36,12 @@ pub(crate) struct Decisions {
     /// In a row with room for each node.
     heap: Vec<Entry>,
     size: u32,
-    /// By node: its place in the heap, if it is there; when it was last in a conflict; the value that it last had.
+    /// By node: its place in the heap, if it is there; when it was last in a conflict; the value that it last had, and the one that it
+    /// has at the beginning of a question.
     places: Vec<u32>,
     stamps: Vec<u32>,
     phases: Vec<bool>,
+    first_phases: Vec<bool>,
     clock: u32,
 }
 
@@ -51,6 +53,7 @@ impl Decisions {
             places: Vec::new(alloc),
             stamps: Vec::new(alloc),
             phases: Vec::new(alloc),
+            first_phases: Vec::new(alloc),
             clock: 0,
         }
     }
@@ -60,7 +63,15 @@ impl Decisions {
         lengthen(&mut self.heap, nodes, NO_ENTRY)?;
         lengthen(&mut self.places, nodes, NONE)?;
         lengthen(&mut self.stamps, nodes, 0)?;
+        lengthen(&mut self.first_phases, nodes, false)?;
         lengthen(&mut self.phases, nodes, false)
+    }
+
+    /// Forgets what questions left of a node.
+    pub(crate) fn forget(&mut self, node: u32) {
+        let first = read(&self.first_phases, node, false);
+        self.set_phase(node, first);
+        write(&mut self.stamps, node, 0);
     }
 
     pub(crate) fn phase(&self, node: u32) -> bool {
@@ -71,9 +82,11 @@ impl Decisions {
         write(&mut self.phases, node, value);
     }
 
-    /// Sets the value of a node for which there may be no room yet.
+    /// Sets the value that a node, for which there may be no room yet, has at the beginning of each question.
     pub(crate) fn set_first_phase(&mut self, node: u32, value: bool) -> Result<(), AllocError> {
         lengthen(&mut self.phases, node.saturating_add(1), false)?;
+        lengthen(&mut self.first_phases, node.saturating_add(1), false)?;
+        write(&mut self.first_phases, node, value);
         self.set_phase(node, value);
         Ok(())
     }

@@ -217,10 +217,14 @@ impl Engine {
         self.analysis.clear();
     }
 
-    /// Forgets the window, and what was learned, since the next question is about another graph.
+    /// Forgets the window, and what was learned, since the next question is about another graph. What is answered doesn't depend on what
+    /// was asked before, so that it doesn't matter which of several searches is asked.
     pub(crate) fn forget(&mut self) {
         self.learned.clear();
         self.restarts = Restarts::new();
+        for node in self.window.nodes() {
+            self.decisions.forget(*node);
+        }
         self.window.clear();
         self.aim = FIRST_WINDOW;
     }

@@ -83,7 +83,7 @@ impl Search {
         self.model.as_slice()
     }
 
-    /// Lets a decision on a node begin with this value, until the search has given it another one. The node may be one
+    /// Lets decisions on a node begin with this value in each question, until the search has given it another one. The node may be one
     /// that comes next in a graph. Fails where memory is refused.
     pub fn prefer(&mut self, node: u32, value: bool) -> Result<(), AllocError>
         ensures { self.new ≡ self.old }

@@ -1,7 +1,7 @@
 -- Tables of the literals that nodes have in another graph.
-use Rattle.std.proofs.Common.{◌≡◌, ℕ, ◌+◌, ◌*◌, ◌/◌, ◌%◌, ◌<◌, ◌≤◌, Bool, true, false, List, [], ◌∷◌, ◌++◌, length, get_or, Option, Some, None, IfSome, refl, sym, ◌∙◌, ap, inl, inr, arith, eqb-true, eqb}
+use Rattle.std.proofs.Common.{◌≡◌, ℕ, ◌+◌, ◌*◌, ◌/◌, ◌%◌, ◌<◌, ◌≤◌, Bool, true, false, List, [], ◌∷◌, ◌++◌, length, get_or, set, replicate, Option, Some, None, IfSome, refl, sym, ◌∙◌, ap, inl, inr, arith, eqb-true, eqb}
 use Rattle.std.proofs.lemmas.Bool.{cases_eq, cases_lt, eqb-false}
-use Rattle.std.proofs.lemmas.List.{get_or_push, get_or_append_left, get_or_past, length_push}
+use Rattle.std.proofs.lemmas.List.{get_or-set_same, get_or-set_other, get_or-replicate, get_or_past, length-replicate}
 use Rattle.eqc_graph.specs.declared.node.Node.{Node}
 use Rattle.eqc_graph.specs.Graph.{differ, literal_value, node_value, Extends}
 use Rattle.eqc_graph.proofs.GraphLemmas.{extends_itself, extends_along}
@@ -33,59 +33,43 @@ copies_stay old now new table more are = record {
   each = λ k c is. (let h = are.each k c is in record { within = omega (arith, h.within, more.longer); value = λ a. more.same c a h.within ∙ h.value a });
 }
 
--- the first k nodes were looked at
-pub record IsCopying (old first now : List Node) (table : List (Option ℕ)) (k : ℕ) : Type 0 where
-  pub size : length table ≡ k
-  pub extends : Extends first now
-  pub copies : AreCopies old now table
-
-pub copying_begins : (old nodes : List Node) → IsCopying old nodes nodes [] 0
-copying_begins old nodes = record {
-  size = refl;
-  extends = extends_itself nodes;
-  copies = record { each = λ k l is. absurd (let q = is in cc) };
-}
-
-pushed_front : (table : List (Option ℕ)) (x : Option ℕ) (i : ℕ) → i < length table → copy_of (table ++ x ∷ []) i ≡ copy_of table i
-pushed_front table x i inside = get_or_append_left table (x ∷ []) None i inside
-
-pushed_last : (table : List (Option ℕ)) (x : Option ℕ) (k : ℕ) → length table ≡ k → copy_of (table ++ x ∷ []) k ≡ x
-pushed_last table x k size = get_or_push table x None k size
-
--- what is behind the table's end has no literal
-pushed_past : (table : List (Option ℕ)) (x : Option ℕ) (i : ℕ) → length table < i → copy_of (table ++ x ∷ []) i ≡ None
-pushed_past table x i past = get_or_past (table ++ x ∷ []) i None (omega (arith, past, length_push table x))
-
--- one more node, with a literal or without
-pub copying_more : (old first now new : List Node) (table more : List (Option ℕ)) (k : ℕ) (x : Option ℕ) → IsCopying old first now table k → Extends now new
-    → IfSome x (IsCopyOf old new (2 * k)) → more ≡ table ++ x ∷ [] → IsCopying old first new more (k + 1)
-copying_more old first now new table more k x so_far extends value is = rw is (record {
-  size = length_push table x ∙ ap (λ n. n + 1) so_far.size;
-  extends = extends_along first now new so_far.extends extends;
-  copies = record {
-    each = λ i l there. elim (cases_lt i k) [
-      | inl front ↦ (copies_stay old now new table extends so_far.copies).each i l (sym (pushed_front table x i (omega (arith, front, so_far.size))) ∙ there)
-      | inr past ↦ elim (cases_eq i k) [
-        | inl last ↦ rw last (some x l value (sym (pushed_last table x k so_far.size) ∙ (ap (copy_of (table ++ x ∷ [])) (sym last) ∙ there)))
-        | inr apart ↦ absurd (let none : None ≡ Some l = sym (pushed_past table x i (omega (arith, past, apart, so_far.size))) ∙ there in cc)
-      ]
-    ];
-  };
-})
-  where
-    some : (x : Option ℕ) (l : ℕ) → IfSome x (IsCopyOf old new (2 * k)) → x ≡ Some l → IsCopyOf old new (2 * k) l
-    some (Some m) l value same = (let e : m ≡ l = cc in rw (← e) value)
-    some None l value same = absurd (let q = same in cc)
-
 -- a copy of what a node says is a copy of the node
 pub copy_of_node : (old new : List Node) (n : Node) (k : ℕ) (x : Option ℕ) → ((a : ℕ → Bool) → literal_value old a (2 * k) ≡ node_value a (literal_value old a) n)
     → IfSome x (IsCopyOfNode old new n) → IfSome x (IsCopyOf old new (2 * k))
 copy_of_node old new n k (Some c) says has = record { within = has.within; value = λ a. has.value a ∙ sym (says a) }
 copy_of_node old new n k None says has = has
 
-pub copying_none : (old first now : List Node) (table more : List (Option ℕ)) (k : ℕ) → IsCopying old first now table k → more ≡ table ++ None ∷ []
-    → IsCopying old first now more (k + 1)
-copying_none old first now table more k so_far is = copying_more old first now now table more k None so_far (extends_itself now) nothing is
+-- a table gets the literal of a node, or none, in a graph that goes on
+pub copies_set : (old first now : List Node) (table more : List (Option ℕ)) (k : ℕ) (x : Option ℕ) → AreCopies old first table → Extends first now
+    → IfSome x (IsCopyOf old now (2 * k)) → k < length table → more ≡ set table k x → AreCopies old now more
+copies_set old first now table more k x are extends value inside is = rw is (record {
+  each = λ i l there. elim (cases_eq i k) [
+    | inl same ↦ rw same (some x l value (sym (get_or-set_same table k x None inside) ∙ (ap (copy_of (set table k x)) (sym same) ∙ there)))
+    | inr apart ↦ (copies_stay old first now table extends are).each i l (sym (get_or-set_other table k i x None apart) ∙ there)
+  ];
+})
   where
-    nothing : IfSome None (IsCopyOf old now (2 * k))
-    nothing = search
+    some : (x : Option ℕ) (l : ℕ) → IfSome x (IsCopyOf old now (2 * k)) → x ≡ Some l → IsCopyOf old now (2 * k) l
+    some (Some m) l value same = (let e : m ≡ l = cc in rw (← e) value)
+    some None l value same = absurd (let q = same in cc)
+
+-- a table without literals
+pub copies_none : (old new : List Node) (table : List (Option ℕ)) (n : ℕ) → table ≡ replicate n None → AreCopies old new table
+copies_none old new table n is = let nothing : Option ℕ = None in rw is (record {
+  each = λ k c there. absurd (let none : None ≡ Some c = sym (elim (cases_lt k n) [
+    | inl inside ↦ get_or-replicate n k None None inside
+    | inr past ↦ get_or_past (replicate n None) k None (omega (arith, past, length-replicate n nothing))
+  ]) ∙ there in cc);
+})
+
+-- some nodes have entered
+pub record IsEntering (old first now : List Node) (table : List (Option ℕ)) : Type 0 where
+  pub extends : Extends first now
+  pub copies : AreCopies old now table
+
+pub entering_begins : (old nodes : List Node) (table : List (Option ℕ)) → AreCopies old nodes table → IsEntering old nodes nodes table
+entering_begins old nodes table are = record { extends = extends_itself nodes; copies = are }
+
+pub entering_more : (old first now new : List Node) (table more : List (Option ℕ)) → IsEntering old first now table → Extends now new
+    → AreCopies old new more → IsEntering old first new more
+entering_more old first now new table more is extends are = record { extends = extends_along first now new is.extends extends; copies = are }

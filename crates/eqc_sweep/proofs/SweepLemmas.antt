@@ -8,6 +8,8 @@ use Rattle.eqc_sweep.specs.declared.reduced.Reduced.TheVariants.{There, Absent}
 use Rattle.eqc_sweep.specs.Sweeping.{HasValue, HasValueOf}
 use Rattle.eqc_sweep.specs.Reducing.{StandsFor}
 use Rattle.eqc_sweep.specs.Finding.{IsOlder}
+use Rattle.eqc_sweep.specs.Team.{IsMerge}
+use Rattle.eqc_sweep.specs.declared.finder.team.Merge.{Merge}
 use Rattle.eqc_sweep.specs.Ordering.{IsFormOf}
 use Rattle.eqc_sweep.specs.declared.table.Known.{Known}
 use Rattle.eqc_sweep.specs.Known.{IsLiteralOf, AreKnown}
@@ -73,3 +75,14 @@ value_older old big new n l m pushed back is value o =
 pub taken_back : (old big new : List Node) (n : Node) (k : ℕ) → big ≡ old ++ n ∷ [] → new ≡ take k big → k ≡ length old → new ≡ old
 taken_back old big new n k pushed cut e =
     cut ∙ (ap (λ (nodes : List Node). take k nodes) pushed ∙ (ap (λ (i : ℕ). take i (old ++ n ∷ [])) e ∙ cut_back old (n ∷ [])))
+
+-- the literal of an older node that equals one stands for what that says
+pub literal_older : (nodes : List Node) (n : Node) (m : Merge) (k : ℕ) → IsMerge nodes m → k ≡ m.new / 2 → k < length nodes → IsBelow k n
+    → ((a : ℕ → Bool) → literal_value nodes a (2 * k) ≡ node_value a (literal_value nodes a) n) → IsLiteralOf nodes n m.older
+literal_older nodes n m k is at inside below value =
+    let same : m.new ≡ 2 * k = omega (arith, is.plain, at) in
+    record {
+      operands = below_most k (length nodes) n (omega (arith, inside)) below;
+      within = omega (arith, is.older.older, at, inside);
+      value = λ a. sym (is.older.equal.value a) ∙ (ap (λ (l : ℕ). literal_value nodes a l) same ∙ value a);
+    }

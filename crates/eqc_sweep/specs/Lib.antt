@@ -5,3 +5,4 @@ pub mod Known
 pub mod Ordering
 pub mod Finding
 pub mod Copying
+pub mod Team

@@ -1,12 +1,17 @@
 //! The nodes of a graph in another one, in which more of them may be found equal.
 ghost use Rattle.std.specs.Prelude.{◌≡◌, ◌*◌, ◌<◌, List, length, IfOk, IfSome};
+ghost use Rattle.std.specs.List.{All};
 ghost use Rattle.eqc_graph.specs.declared.node.Node.{Node};
 ghost use Rattle.eqc_graph.specs.Graph.{Extends};
 ghost use Rattle.eqc_sweep.specs.Copying.{AreCopies, IsCopyOf, copy_of};
 
+pub(crate) mod ready;
+
+use crate::copying::ready::Ready;
 use crate::sweep::Sweep;
 use eqc_graph::{Graph, Node, is_negated, negated_if, node_of};
 use std::alloc::{AllocError, Global};
+use std::thread::Threads;
 
 fn is_marked(marks: &[bool], k: u32) -> bool {
     marks.get(k as usize).copied().unwrap_or(false)
@@ -95,31 +100,116 @@ fn copy_of(
     }
 }
 
-#[tactic(auto, using(crate::proofs::CopyingLemmas::copying_begins, crate::proofs::CopyingLemmas::copying_more, crate::proofs::CopyingLemmas::copying_none))]
-/// The literals that the marked nodes of a graph have in another one, which goes on from what it is: none for those that aren't
-/// marked, but for inputs, which all enter. `marks` says what is marked, as `below` does; `told` is told of each node before it is
-/// looked at. Fails where memory is refused, or where the other graph has no room for more nodes.
-pub fn copy<F: Fn(u32)>(
-    alloc: Global,
+#[tactic(auto, using(crate::proofs::CopyingLemmas::copies_set))]
+/// Enters a node into another graph, and puts its literal there into the table, where its operands have one. Fails where memory is
+/// refused.
+fn enter(
+    graph: &Graph,
+    k: u32,
+    sweep: &mut Sweep,
+    table: &mut Vec<Option<u32>>,
+) -> Result<Option<u32>, AllocError>
+    requires within { k < length graph.now }
+    requires copies { AreCopies graph.now sweep.old table.old.items }
+    ensures extends { Extends sweep.old sweep.new }
+    ensures copies { IfOk result (λ _. AreCopies graph.now sweep.new table.new.items) }
+{
+    let copy = copy_of(graph, k, table, sweep)?;
+    let at = k as usize;
+    if at >= table.len() {
+        return Ok(None);
+    }
+    table[at] = copy;
+    Ok(copy)
+}
+
+#[tactic(auto, using(crate::proofs::CopyingLemmas::entering_begins, crate::proofs::CopyingLemmas::entering_more))]
+/// Enters all nodes that may, as long as there are some, and answers those that wait then. Fails where memory is refused.
+fn enter_ready<F: Fn(u32)>(
+    graph: &Graph,
+    ready: &mut Ready,
+    sweep: &mut Sweep,
+    table: &mut Vec<Option<u32>>,
+    told: &F,
+) -> Result<Vec<u32>, AllocError>
+    requires told { F.IsAlwaysCallable told.now }
+    requires copies { AreCopies graph.now sweep.old table.old.items }
+    ensures extends { Extends sweep.old sweep.new }
+    ensures copies { IfOk result (λ _. AreCopies graph.now sweep.new table.new.items) }
+    ensures waiting { IfOk result (λ waiting. All (λ k. k < length graph.now) waiting.items) }
+{
+    let mut waiting = Vec::new(sweep.alloc());
+    'nodes: for _ in 0..graph.len() {
+        let Some(k) = ready.next(graph.len()) else {
+            break;
+        };
+        told(ready.before());
+        match enter(graph, k, sweep, table)? {
+            Some(literal) if sweep.is_waiting(literal) => waiting.push(k)?,
+            _ => ready.release(k)?,
+        }
+    }
+    Ok(waiting)
+}
+
+#[tactic(auto, using(crate::proofs::CopyingLemmas::entering_begins, crate::proofs::CopyingLemmas::entering_more))]
+/// Enters once more what waited and was asked about: it has the literals of the older nodes that it equals now. Fails where memory is
+/// refused.
+fn enter_again(
+    graph: &Graph,
+    waiting: &[u32],
+    ready: &mut Ready,
+    sweep: &mut Sweep,
+    table: &mut Vec<Option<u32>>,
+) -> Result<(), AllocError>
+    requires within { All (λ k. k < length graph.now) waiting.now }
+    requires copies { AreCopies graph.now sweep.old table.old.items }
+    ensures extends { Extends sweep.old sweep.new }
+    ensures copies { IfOk result (λ _. AreCopies graph.now sweep.new table.new.items) }
+{
+    for k in waiting {
+        let _ = enter(graph, *k, sweep, table)?;
+        ready.release(*k)?;
+    }
+    Ok(())
+}
+
+#[tactic(auto, using(crate::proofs::CopyingLemmas::copies_none))]
+/// A table for the literals that the nodes of a graph have in another one, without one. Fails where memory is refused.
+pub fn no_copies(alloc: Global, graph: &Graph) -> Result<Vec<Option<u32>>, AllocError>
+    ensures { IfOk result (λ table. (old new : List Node) → AreCopies old new table.items) }
+{
+    vec![in alloc; None; graph.len() as usize]
+}
+
+#[tactic(auto, using(crate::proofs::CopyingLemmas::entering_begins, crate::proofs::CopyingLemmas::entering_more))]
+/// Puts the literals that the marked nodes of a graph have in another one, which goes on from what it is, into a table that has some of
+/// them: inputs enter too, marked or not. `marks` says what is marked, as `below` does; `told` is told how many nodes have entered before
+/// the next one does. Nodes that may be equal to older ones are asked about side by side, as many at once as don't depend on one
+/// another. Fails where memory is refused, or where the other graph has no room for more nodes.
+pub fn copy<R: Threads + Sync, F: Fn(u32)>(
+    rt: &R,
     graph: &Graph,
     marks: &[bool],
     sweep: &mut Sweep,
+    table: &mut Vec<Option<u32>>,
     told: &F,
-) -> Result<Vec<Option<u32>>, AllocError>
+) -> Result<(), AllocError>
     requires told { F.IsAlwaysCallable told.now }
-    ensures copies { IfOk result (λ table. AreCopies graph.now sweep.new table.items) }
+    requires copies { AreCopies graph.now sweep.old table.old.items }
+    ensures copies { IfOk result (λ _. AreCopies graph.now sweep.new table.new.items) }
     ensures extends { Extends sweep.old sweep.new }
 {
-    let nodes = graph.len();
-    let mut table = Vec::with_capacity(alloc, nodes as usize)?;
-    for k in 0..nodes {
-        told(k);
-        if !is_marked(marks, k) && !matches!(graph.node(k), Node::Input(_)) {
-            table.push(None)?;
-            continue;
+    let mut ready = Ready::of(sweep.alloc(), graph, marks, table)?;
+    sweep.begin_waiting();
+    'turns: for _ in 0..graph.len() {
+        let waiting = enter_ready(graph, &mut ready, sweep, table, told)?;
+        if waiting.is_empty() {
+            break;
         }
-        let copy = copy_of(graph, k, &table, sweep)?;
-        table.push(copy)?;
+        sweep.ask_waiting(rt)?;
+        enter_again(graph, &waiting, &mut ready, sweep, table)?;
     }
-    Ok(table)
+    sweep.end_waiting();
+    Ok(())
 }

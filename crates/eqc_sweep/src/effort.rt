@@ -12,6 +12,8 @@ pub struct Effort {
     pub(crate) each_node: u64,
     pub(crate) whole: u64,
     pub(crate) work: u64,
+    /// So many threads ask side by side.
+    pub(crate) workers: u32,
 }
 
 impl Effort {
@@ -24,6 +26,7 @@ impl Effort {
             each_node: 0,
             whole: 0,
             work: 0,
+            workers: 0,
         }
     }
 
@@ -38,7 +41,13 @@ impl Effort {
             each_node: 0,
             whole: work,
             work,
+            workers: 1,
         }
+    }
+
+    /// The same by so many threads, where nodes are copied. What is found doesn't depend on how many there are.
+    pub fn by(self, workers: u32) -> Effort {
+        Effort { workers, ..self }
     }
 
     /// The same with no more work than so much for each node, and so much for the graph as a whole.

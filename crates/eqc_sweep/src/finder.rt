@@ -10,6 +10,8 @@ pub(crate) mod comparison;
 pub(crate) mod counterexamples;
 pub(crate) mod patterns;
 pub(crate) mod random;
+pub(crate) mod team;
+pub(crate) mod waiting;
 pub(crate) mod words;
 
 use crate::effort::{Effort, Tally};
@@ -18,12 +20,14 @@ use crate::finder::classes::Classes;
 use crate::finder::comparison::Comparison;
 use crate::finder::counterexamples::{Counterexamples, ROOM};
 use crate::finder::patterns::Patterns;
+use crate::finder::team::copied;
+use crate::finder::waiting::{Waiting, team_of};
 use eqc_graph::{Graph, Node, negated, negated_if, node_of};
 use eqc_search::{Answer, Budget, Search};
 use std::alloc::{AllocError, Global};
 
 /// How many older nodes a new one is asked against.
-const CANDIDATES: u32 = 3;
+pub(crate) const CANDIDATES: usize = 3;
 
 /// In so many rows one input has another value than in a counterexample.
 const FLIPPED: usize = 4;
@@ -43,14 +47,18 @@ pub(crate) struct Finder {
     search: Search,
     /// The inputs' nodes and variables.
     inputs: Vec<(u32, u32)>,
-    /// For each node how many questions were given up on a way below it, one for each node: where nodes that are equal weren't found
-    /// to be, those above them are harder to find.
+    /// For each node how many questions were given up on a way below it: where nodes that are equal weren't found to be, those above them
+    /// are harder to find.
     doubts: Vec<u8>,
+    /// Whether new nodes wait until all that wait are asked about, those that do, and who asks then.
+    waits: bool,
+    waiting: Vec<Waiting>,
+    searches: Vec<Search>,
 }
 
 /// Asks whether two literals differ: either may be true where the other is false. The second question looks at the window of the first,
 /// and has what was learned there: both need the same gates.
-fn ask_both(
+pub(crate) fn ask_both(
     search: &mut Search,
     graph: &Graph,
     x: u32,
@@ -76,8 +84,11 @@ impl Finder {
         Finder::by(alloc, effort, Patterns::new(alloc)?)
     }
 
-    /// One for another graph whose inputs are those of this one, in the same order: it simulates the same patterns.
+    /// One for another graph whose inputs are those of this one, in the same order: it simulates the same patterns, if this one does.
     pub(crate) fn again(&self, effort: Effort) -> Result<Finder, AllocError> {
+        if !self.effort.simulates {
+            return Finder::new(self.alloc, effort);
+        }
         let patterns = self.patterns.again(self.alloc, &self.inputs)?;
         Finder::by(self.alloc, effort, patterns)
     }
@@ -94,6 +105,9 @@ impl Finder {
             search: Search::new(alloc),
             inputs: Vec::new(alloc),
             doubts: Vec::new(alloc),
+            waits: false,
+            waiting: Vec::new(alloc),
+            searches: team_of(alloc, effort.workers)?,
         };
         finder.enter(0, Node::Constant)?;
         finder.doubts.push(0)?;
@@ -107,7 +121,11 @@ impl Finder {
         if self.patterns.shorten() {
             self.classes.rebuild(self.patterns.signatures())?;
         }
-        self.search.prefer(k, self.patterns.phase(k))?;
+        let phase = self.patterns.phase(k);
+        self.search.prefer(k, phase)?;
+        for search in &mut self.searches {
+            search.prefer(k, phase)?;
+        }
         if let Node::Input(variable) = node {
             self.inputs.push((k, variable))?;
         }
@@ -126,10 +144,13 @@ impl Finder {
         self.enter(k, graph.node(k))?;
         let doubt = self.doubt_below(graph.node(k));
         self.doubts.push(doubt)?;
-        let found = if self.effort.asks {
-            self.search_older(graph, new)?
-        } else {
+        let found = if !self.effort.asks {
             None
+        } else if self.waits {
+            self.let_wait(k)?;
+            None
+        } else {
+            self.search_older(graph, new)?
         };
         if found.is_some() {
             self.patterns.pop();
@@ -225,7 +246,10 @@ impl Finder {
             tried.push(node_of(older))?;
             match self.try_pair(graph, new, older)? {
                 Answer::Refuted => return Ok(Some(older)),
-                Answer::Satisfied => self.simulate(graph)?,
+                Answer::Satisfied => {
+                    let model = copied(self.alloc, self.search.model())?;
+                    self.simulate(graph, &model)?;
+                }
                 Answer::GaveUp => gave_up = true,
             }
         }
@@ -248,8 +272,8 @@ impl Finder {
         answer
     }
 
-    /// Takes the counterexample of the last question in, and simulates where there are enough.
-    fn simulate(&mut self, graph: &Graph) -> Result<(), AllocError> {
+    /// Takes a counterexample in, and simulates where there are enough.
+    fn simulate(&mut self, graph: &Graph, model: &[(u32, bool)]) -> Result<(), AllocError> {
         let alloc = self.alloc;
         // A row that nobody simulates isn't begun either: that takes a word for each node.
         if !self.account.has_rows() {
@@ -259,9 +283,9 @@ impl Finder {
             .begin(alloc, graph, &mut self.patterns)?;
         if self.account.is_alone() {
             self.counterexamples
-                .add_with_neighbours(self.search.model(), &mut self.patterns);
+                .add_with_neighbours(model, &mut self.patterns);
         } else {
-            self.counterexamples.add(self.search.model());
+            self.counterexamples.add(model);
         }
         if self.counterexamples.count() < ROOM {
             return Ok(());
@@ -271,20 +295,20 @@ impl Finder {
         if self.account.take_row(graph.len()) {
             self.patterns.add_row(graph, row)?;
             if alone {
-                self.simulate_flipped(graph)?;
+                self.simulate_flipped(graph, model)?;
             }
             self.classes.rebuild(self.patterns.signatures())?;
         }
         Ok(())
     }
 
-    /// Simulates assignments that differ from the counterexample of the last question at one input.
-    fn simulate_flipped(&mut self, graph: &Graph) -> Result<(), AllocError> {
-        let rows = (self.search.model().len() / 64 + 1).min(FLIPPED);
+    /// Simulates assignments that differ from a counterexample at one input.
+    fn simulate_flipped(&mut self, graph: &Graph, model: &[(u32, bool)]) -> Result<(), AllocError> {
+        let rows = (model.len() / 64 + 1).min(FLIPPED);
         for row in 0..rows {
             self.counterexamples
                 .begin(self.alloc, graph, &mut self.patterns)?;
-            self.counterexamples.add_flipped(self.search.model(), row);
+            self.counterexamples.add_flipped(model, row);
             let words = self.counterexamples.take(self.alloc);
             self.account.spend_row(graph.len());
             self.patterns.add_row(graph, words)?;

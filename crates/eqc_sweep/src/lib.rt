@@ -7,8 +7,9 @@
 //! - `rules`, what stands in place of a gate, by its `and_rules` and `xor_rules`; in it `gate`, what a literal is of its
 //!   gate's operands, and `relations`, what numbers of literals tell; `reduced`, what a rule gives
 //! - `finder`, older nodes that a new one equals; in it `patterns` and `counterexamples`, simulation, with `words` and
-//!   `random`; `classes`, nodes by their signatures; `account`, what may be spent; `comparison`, what is found of two literals
-//! - `copying`, the nodes of a graph in another one
+//!   `random`; `classes`, nodes by their signatures; `account`, what may be spent; `comparison`, what is found of two literals;
+//!   `waiting` and `team`, nodes that are asked about side by side
+//! - `copying`, the nodes of a graph in another one; in it `ready`, which of them may enter
 //! - `table`, structural hashing, by the `order` of a gate's operands under which it is looked up
 #![tactic(auto)]
 
@@ -20,7 +21,7 @@ mod rules;
 mod sweep;
 mod table;
 
-pub use copying::{below, copied, copy};
+pub use copying::{below, copied, copy, no_copies};
 pub use effort::{Effort, Tally};
 pub use finder::comparison::Comparison;
 pub use sweep::Sweep;

@@ -3,19 +3,23 @@ ghost use Rattle.std.specs.Prelude.{◌≡◌, ℕ, Bool, ◌&&◌, [], ◌∷�
 ghost use Rattle.eqc_graph.specs.Graph.{differ, literal_value, node_value, IsWithin, IsBelow, Extends};
 ghost use Rattle.eqc_sweep.specs.Sweeping.{HasValue, HasValueOf};
 ghost use Rattle.eqc_sweep.specs.Finding.{IsRight};
+ghost use Rattle.std.specs.List.{All};
+ghost use Rattle.eqc_sweep.specs.Team.{IsMerge};
 
 pub(crate) mod views;
 
 use crate::effort::{Effort, Tally};
 use crate::finder::Finder;
 use crate::finder::comparison::Comparison;
+use crate::finder::team::Merge;
 use crate::reduced::Reduced;
 use crate::rules::reduced;
 use crate::table::Table;
 use crate::table::order::ordered;
-use eqc_graph::{Graph, Node, negated_if};
+use eqc_graph::{Graph, Node, negated_if, node_of};
 use std::alloc::{AllocError, Global};
 use std::marker::Model;
+use std::thread::Threads;
 
 /// A graph, seen as its nodes, in which a node that is found equal to an older one is not made.
 #[derive(Drop)]
@@ -79,6 +83,64 @@ impl Sweep {
         ensures { self.new ≡ self.old }
     {
         self.finder.ask_no_more();
+    }
+
+    /// Where its memory comes from.
+    pub(crate) fn alloc(&self) -> Global {
+        self.table.alloc
+    }
+
+    /// From now on what a new node may equal isn't asked at once: the node waits until it is asked about all that do, by `ask_waiting`.
+    pub(crate) fn begin_waiting(&mut self)
+        ensures { self.new ≡ self.old }
+    {
+        self.finder.wait(true);
+    }
+
+    /// From now on new nodes are asked about at once, as at first.
+    pub(crate) fn end_waiting(&mut self)
+        ensures { self.new ≡ self.old }
+    {
+        self.finder.wait(false);
+    }
+
+    /// Whether the node of a literal waits. It isn't to be built on until it doesn't.
+    pub(crate) fn is_waiting(&self, literal: u32) -> bool {
+        self.finder.is_waiting(node_of(literal))
+    }
+
+    /// Asks about all nodes that wait. Where one is found equal to an older one, its literal is that of the older one, for who asks for
+    /// it again. Fails where memory is refused.
+    pub(crate) fn ask_waiting<R: Threads + Sync>(&mut self, rt: &R) -> Result<(), AllocError>
+        ensures { self.new ≡ self.old }
+    {
+        let merges = self.finder.ask_waiting(rt, &self.graph)?;
+        self.put_all(&merges)
+    }
+
+    /// Keeps the literals of older nodes for those that equal them.
+    fn put_all(&mut self, merges: &[Merge]) -> Result<(), AllocError>
+        requires { All (IsMerge self.old) merges.now }
+        ensures { self.new ≡ self.old }
+    {
+        for merge in merges {
+            self.put_older(*merge)?;
+        }
+        Ok(())
+    }
+
+    #[tactic(auto, using(crate::proofs::SweepLemmas::literal_older))]
+    /// Keeps the literal of an older node for one that equals it.
+    fn put_older(&mut self, merge: Merge) -> Result<(), AllocError>
+        requires { IsMerge self.old merge }
+        ensures { self.new ≡ self.old }
+    {
+        let k = node_of(merge.new);
+        if k >= self.graph.len() {
+            return Ok(());
+        }
+        let node = self.graph.node(k);
+        self.table.put(node, merge.older)
     }
 
     /// From now on new nodes are asked about again, with this effort, as if nothing was spent so far, and alike about all. Before that

@@ -27,7 +27,7 @@ const FREE: Known = Known {
 /// The literals of gates and inputs, each in the first place that was free behind its home.
 #[derive(Drop)]
 pub(crate) struct Table {
-    alloc: Global,
+    pub(crate) alloc: Global,
     pub(crate) entries: Vec<Known>,
     used: usize,
 }

@@ -3,9 +3,10 @@
 //! A path of an instance is read from the main model down: `2:adder/1:cell` is, in the second `.subckt` of the main model, an
 //! `adder`, its first one, a `cell`.
 
+use crate::places::{mending_said, output_said, place_said};
 use crate::warning::{first_source, second_source};
 use eqc_blif::{Finding as TextFinding, Library};
-use eqc_case::Diagnostics;
+use eqc_case::{Diagnostics, Located};
 use eqc_flat::{Circle, Finding, FoundFormal, FoundInstance, HierarchicalName};
 use eqc_pair::{Finding as PairFinding, Side, Unmatched};
 use eqc_report::{Options, RunFault, Seen, Undecided};
@@ -23,13 +24,16 @@ const NO_BLIF_HINT: &str =
 const SHOWN: usize = 60;
 
 /// How many names of a list are shown, and how many steps at each end of a path.
-const LISTED: usize = 10;
+pub(crate) const LISTED: usize = 10;
 
 /// The most nodes that may be asked for.
 const MOST_NODES: u32 = 1_048_574;
 
 /// The fewest nodes with which equal signals are looked for inside the netlists.
 const SWEPT_NODES: u32 = 1_024;
+
+/// What is said where memory was refused for the places of differences.
+const UNLOCATED: &str = "the memory is exhausted, so not all places are told of";
 
 /// What is said where nothing was compared.
 const VACUOUS: &str = "no assignment of the inputs meets the assumption, so nothing was compared";
@@ -49,6 +53,9 @@ pub struct Explanation<'a> {
     /// Empty where there is no assumption.
     assume: &'a str,
     options: Options,
+    /// Whether it is told why there is no verdict, and where differences begin.
+    explains: bool,
+    locates: bool,
     lines: String,
 }
 
@@ -63,7 +70,7 @@ fn put_byte<W: fmt::Write>(f: &mut Formatter<W>, byte: u8) -> fmt::Result {
 
 /// Bytes of a name or a row, cut to a readable length, with `\xNN` for those that don't print.
 #[derive(Clone, Copy)]
-struct Shown<'a>(&'a [u8]);
+pub(crate) struct Shown<'a>(pub(crate) &'a [u8]);
 
 impl<'a> Display for Shown<'a> {
     fn fmt<W: fmt::Write>(&self, f: &mut Formatter<W>) -> fmt::Result {
@@ -79,7 +86,7 @@ impl<'a> Display for Shown<'a> {
 
 /// Bytes of a name, all of them, with `\xNN` for those that don't print.
 #[derive(Clone, Copy)]
-struct Whole<'a>(&'a [u8]);
+pub(crate) struct Whole<'a>(pub(crate) &'a [u8]);
 
 impl<'a> Display for Whole<'a> {
     fn fmt<W: fmt::Write>(&self, f: &mut Formatter<W>) -> fmt::Result {
@@ -501,6 +508,8 @@ pub fn explanation_for<'a>(alloc: Global, request: &Request<'a>) -> Explanation<
         order: request.order.unwrap_or(""),
         assume: request.assume.unwrap_or(""),
         options: request.options,
+        explains: request.explain,
+        locates: request.locate,
         lines: String::new(alloc),
     }
 }
@@ -523,12 +532,23 @@ impl<'a> Explanation<'a> {
 
     /// Puts a line behind the others.
     fn tell(&mut self, said: Result<String, AllocError>) -> Result<(), AllocError> {
+        if !self.explains {
+            return Ok(());
+        }
+        self.put(said)
+    }
+
+    /// Puts a line behind the others, whatever is asked for.
+    fn put(&mut self, said: Result<String, AllocError>) -> Result<(), AllocError> {
         let line = format!(in self.alloc; "eqc: {}\n", said?)?;
         self.lines.push_str(&line)
     }
 
     /// Puts a line behind the others on something that has a name, as a file.
     fn tell_of(&mut self, name: &str, said: Result<String, AllocError>) -> Result<(), AllocError> {
+        if !self.explains {
+            return Ok(());
+        }
         let line = format!(in self.alloc; "eqc: {name}: {}\n", said?)?;
         self.lines.push_str(&line)
     }
@@ -581,6 +601,19 @@ impl<'a> Explanation<'a> {
             Finding::Undriven(_) => self.hint(UNDRIVEN_HINT),
             _ => Ok(()),
         }
+    }
+
+    /// Tells of the places of a difference.
+    fn tell_places(&mut self, located: &Located<'_>) -> Result<(), AllocError> {
+        self.put(output_said(self.alloc, located))?;
+        let places = located.places;
+        for (place, mending) in places.each.iter().zip(&places.mendings) {
+            self.put(place_said(self.alloc, located, place))?;
+            if let Some(mending) = mending {
+                self.put(mending_said(self.alloc, located, mending))?;
+            }
+        }
+        Ok(())
     }
 
     /// Tells of a file that can't be opened or read, or of a report that can't be written, and the system's reason.
@@ -642,5 +675,17 @@ impl<'a> Diagnostics for Explanation<'a> {
 
     fn unwritten(&mut self, error: &io::Error) {
         self.tell_failed("standard output", error, RunFault::Write);
+    }
+
+    fn wants_places(&self) -> bool {
+        self.locates
+    }
+
+    fn places(&mut self, located: &Located<'_>) {
+        let _ = self.tell_places(located);
+    }
+
+    fn unlocated(&mut self) {
+        let _ = self.put(String::from_str(self.alloc, UNLOCATED));
     }
 }

@@ -68,12 +68,13 @@ with_choices a =
     (text_rule (codes "first-model")))
     (text_rule (codes "second-model"))
 
--- whether to explain, whether to show how far the run is, and at most two paths
+-- whether to explain, whether to tell where differences begin, whether to show how far the run is, and at most two paths
 abbrev pub with_files : App → App
 with_files a =
     with_rule
-    (with_rule (with_rule (with_rule a
+    (with_rule (with_rule (with_rule (with_rule a
     (flag_rule (codes "explain")))
+    (flag_rule (codes "locate")))
     (flag_rule (codes "progress")))
     (path_rule (codes "first")))
     (path_rule (codes "second"))
@@ -104,6 +105,7 @@ pub record IsAsked (rows : List Row) (request : Request) : Type 0 where
   pub inputs : number_of (codes "inputs") rows ≡ Some request.options.inputs
   pub bytes : number_of (codes "bytes") rows ≡ Some request.options.bytes
   pub explain : IsFlag (one_of (codes "explain") rows) request.explain
+  pub locate : IsFlag (one_of (codes "locate") rows) request.locate
   pub progress : IsFlag (one_of (codes "progress") rows) request.progress
   pub every : IsFlag (one_of (codes "all") rows) request.options.every
   pub order : option_map (λ s. s.now) request.order ≡ first_of (codes "order") rows

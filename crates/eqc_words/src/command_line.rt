@@ -8,8 +8,8 @@ ghost use Rattle.clap.specs.Walk.{rows_of, rule_of};
 ghost use Rattle.eqc_words.specs.CommandLine.{eqc_app, with_numbers, with_choices, with_files, number_rule, text_rule, names_rule, flag_rule, path_rule, number_of, all_of, rows_asked, IsAsked};
 
 use crate::help::{
-    ABOUT, ALL, ASSUME, BYTES, CELLS, CONFLICTS, EXPLAIN, FIRST, FIRST_MODEL, FORKS, INPUTS, NODES,
-    ORDER, OUTPUT, PROGRESS, SECOND, SECOND_MODEL, USAGE, WORKERS, answers,
+    ABOUT, ALL, ASSUME, BYTES, CELLS, CONFLICTS, EXPLAIN, FIRST, FIRST_MODEL, FORKS, INPUTS,
+    LOCATE, NODES, ORDER, OUTPUT, PROGRESS, SECOND, SECOND_MODEL, USAGE, WORKERS, answers,
 };
 use crate::version::VERSION;
 use clap::error::ErrorKind;
@@ -23,6 +23,8 @@ pub struct Request<'a> {
     pub options: Options,
     /// Whether a refusal or a stop is to be explained.
     pub explain: bool,
+    /// Whether it is to be told where differences begin.
+    pub locate: bool,
     /// Whether it is to be shown how far the run is.
     pub progress: bool,
     /// The path of the order text.
@@ -125,6 +127,7 @@ fn with_files<'a>(alloc: Global, command: Command<'a>) -> Result<Command<'a>, Al
 {
     command
         .arg(flag(alloc, "explain", EXPLAIN))?
+        .arg(flag(alloc, "locate", LOCATE))?
         .arg(flag(alloc, "progress", PROGRESS))?
         .arg(path(alloc, "first", FIRST))?
         .arg(path(alloc, "second", SECOND))
@@ -193,6 +196,7 @@ fn request_of<'a>(matches: &ArgMatches<'a>, outputs: Vec<&'a [u8]>) -> Option<Re
             every: matches.get_flag("all"),
         },
         explain: matches.get_flag("explain"),
+        locate: matches.get_flag("locate"),
         progress: matches.get_flag("progress"),
         order: matches.get_str("order"),
         assume: matches.get_str("assume"),

@@ -11,7 +11,7 @@ pub const ABOUT: &str =
 pub const USAGE: &str = "\
 eqc [--workers N] [--nodes N] [--cells N] [--forks N] [--conflicts N] [--inputs N] [--bytes N]
            [--order FILE] [--assume FILE] [--all] [--output NAME]..
-           [--first-model NAME] [--second-model NAME] [--explain] [--progress]
+           [--first-model NAME] [--second-model NAME] [--explain] [--locate] [--progress]
            [FILE [FILE]]";
 
 pub const WORKERS: &str = "Compares outputs on this many threads, 1 to 64";
@@ -48,6 +48,9 @@ pub const FIRST_MODEL: &str = "Compares the model of this name of the first netl
 pub const SECOND_MODEL: &str = "Compares the model of this name of the second netlist's text";
 
 pub const EXPLAIN: &str = "Tells on standard error why there is no verdict";
+
+pub const LOCATE: &str =
+    "Tells on standard error at which signals each difference that is reported may begin";
 
 pub const PROGRESS: &str =
     "Shows on standard error how far the run is, in a line that changes in place";

@@ -312,6 +312,7 @@ fn is_said_of(alloc: Global, stop: Stop, said: &str) -> bool {
             every: false,
         },
         explain: true,
+        locate: false,
         progress: false,
         order: None,
         assume: None,
@@ -331,4 +332,41 @@ fn stops_are_explained(rt: HostRuntime) {
     for (stop, said) in STOPS {
         same(&rt, is_said_of(rt.alloc(), *stop, said), true, said);
     }
+}
+
+/// A conjunction, and a cover in its place that has lost a column: `m` has to be `n`.
+const LOST: &str =
+    ".model f;.inputs a b;.outputs y;.names a b n;11 1;.names n y;0 1;.end;.model g;.inputs a b;.outputs y;.names a b m;1- 1;.names m y;0 1;.end;";
+
+/// How the report on it begins, and the line on the output.
+const LOST_REPORT: &str = "differs at y;a=1;b=0;first=1;second=0;";
+
+const LOST_OUTPUT: &str = "eqc: 'y' differs, in 364 simulated assignments, which may begin at:";
+
+/// The first place of it, with what mends it.
+const LOST_PLACE: &str =
+    "eqc: second, line 12: 'm' is 1, mends 364 of 364 if turned, and another cover of its columns may do so; cover 1-1 of 'a'=1 ('a') 'b'=0 ('b')";
+
+const LOST_MENDING: &str =
+    "eqc: 'n' of the other netlist has the values that mend it, in 512 simulated assignments";
+
+/// Whether a report is the same with `--locate`, and these lines are the first on standard error.
+fn is_located(
+    rt: &(impl AllocGlobal + Threads + Wait + Sync),
+    text: &str,
+    report: &str,
+    first: &[&str],
+) -> Result<bool, AllocError> {
+    let text = lines(rt.alloc(), text)?;
+    let plain = plain_status(rt, &text, "", report)?;
+    let located = written_by(rt, "eqc --locate", Feed::of_bytes(&text))?;
+    let said = joined(rt.alloc(), first, "")?;
+    let is_same = is_text(&located.out, report) && plain == Some(located.status);
+    Ok(is_same && located.err.as_slice().starts_with(said.as_bytes()))
+}
+
+#[test]
+fn differences_are_located(rt: HostRuntime) {
+    let first = [LOST_OUTPUT, LOST_PLACE, LOST_MENDING];
+    holds(&rt, is_located(&rt, LOST, LOST_REPORT, &first), "places");
 }

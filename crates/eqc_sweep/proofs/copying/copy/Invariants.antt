@@ -1,5 +1,5 @@
-use Rattle.eqc_sweep.proofs.CopyingLemmas.{IsCopying}
+use Rattle.eqc_sweep.proofs.CopyingLemmas.{IsEntering}
 use Rattle.eqc_sweep.proofs.copying.copy.Given as goal
 
-abbrev pub invariant-loop-k : goal.invariant-loop-k
-invariant-loop-k g l = IsCopying l.graph l.fn.sweep l.sweep l.table.items l.k
+abbrev pub invariant-turns : goal.invariant-turns
+invariant-turns o l = IsEntering l.graph l.fn.sweep l.sweep l.table.items

@@ -1,0 +1,35 @@
+-- What is told of the place of a difference.
+use Rattle.std.specs.Prelude.{◌≡◌, ℕ, ◌<◌, Bool, List, length, map, All, Option, IfSome}
+use Rattle.eqc_graph.specs.Graph.{differ}
+use Rattle.eqc_graph.specs.declared.node.Node.{Node}
+use Rattle.eqc_pair.specs.PairOf.{PairOf}
+use Rattle.eqc_build.specs.Steps.{StepsOf, steps_in, uses_of, value_at}
+use Rattle.eqc_gates.specs.Entering.{AreLiterals}
+use Rattle.eqc_place.specs.declared.place.Partner.{Partner}
+use Rattle.eqc_place.specs.declared.place.Column.{Column}
+use Rattle.eqc_place.specs.declared.place.Place.{Place}
+
+-- literals of steps in some graph
+pub record AreProved (p : PairOf) (literals : List (Option ℕ)) : Type 0 where
+  pub nodes : List Node
+  pub are : AreLiterals p nodes literals
+
+-- a step has the value of its partner, or the opposite one, under all values of the variables
+pub record IsPartner (p : PairOf) (step : ℕ) (q : Partner) : Type 0 where
+  pub value : (a : ℕ → Bool) → value_at p a step ≡ differ q.is_opposite (value_at p a q.step)
+
+-- a column has the value of its step, and its partner is one
+pub record IsColumn (p : PairOf) (a : ℕ → Bool) (c : Column) : Type 0 where
+  pub value : c.value ≡ value_at p a c.step
+  pub partner : IfSome c.partner (IsPartner p c.step)
+
+-- these are columns for steps
+pub record AreColumns (p : PairOf) (a : ℕ → Bool) (steps : List ℕ) (columns : List Column) : Type 0 where
+  pub same : map (λ (c : Column). c.step) columns ≡ steps
+  pub each : All (IsColumn p a) columns
+
+-- a place is a step with its value, and with all that it uses
+pub record IsPlace (g : StepsOf) (a : ℕ → Bool) (x : Place) : Type 0 where
+  pub within : x.step < steps_in g.pair
+  pub value : x.value ≡ value_at g.pair a x.step
+  pub columns : AreColumns g.pair a (uses_of g x.step) x.columns.items

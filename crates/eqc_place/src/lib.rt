@@ -1,0 +1,28 @@
+//! The place of a difference: signals of two netlists at which one of their outputs begins to differ.
+//!
+//! What is told of a place is said in `specs/Places.antt`. Nothing is promised of which signals are told: that is found by simulation.
+//! Read the modules in this order:
+//!
+//! - `locating`, the call; `place`, what it tells, and `partner`, which signals are proved equal
+//! - `told`, the values of all signals under one assignment, and `words`, those under many, of which nothing is believed
+//! - `trial`, in which order signals are told of one output: by `sensitised`, signals on ways from it back; by `turning`, what comes
+//!   of a signal with the opposite value, over its `users`; by `ranking`; and `mending`, signals that have the wanted values
+//! - `known`, signals that the other netlist has, and `depths`, how high they stand
+#![tactic(auto)]
+
+mod depths;
+mod known;
+mod locating;
+mod mending;
+mod partner;
+mod place;
+mod ranking;
+mod sensitised;
+mod told;
+mod trial;
+mod turning;
+mod users;
+mod words;
+
+pub use locating::Locator;
+pub use place::{Column, Mending, Partner, Place, Places};

@@ -1,0 +1,277 @@
+//! The call: where the outputs of a pair begin to differ.
+ghost use Rattle.std.specs.Prelude.{◌≡◌, ◌<◌, ◌≤◌, All, length, map, IfOk, IfSome};
+ghost use Rattle.eqc_build.specs.Steps.{steps_in, uses_of};
+ghost use Rattle.eqc_pair.specs.PairOf.{input_values};
+ghost use Rattle.eqc_place.specs.Places.{AreColumns, IsPlace};
+ghost use Rattle.eqc_place.specs.Values.{AreValues};
+
+use crate::depths::depths_of;
+use crate::known::Known;
+use crate::partner::Firsts;
+use crate::place::{Column, Place, Places};
+use crate::ranking::Suspect;
+use crate::told::{value_in, values_under};
+use crate::trial::Trial;
+use crate::users::Users;
+use eqc_build::Steps;
+use eqc_gates::{literals, needed_within};
+use eqc_pair::Pair;
+use eqc_sweep::{Effort, Sweep};
+use std::alloc::{AllocError, Global};
+use std::marker::Model;
+
+/// The most conflicts of a question, and the work of all for each conflict that is allowed, for each node, and for the graph as a whole.
+const QUESTION: u64 = 1_000;
+
+const WORK: u64 = 2_000;
+
+const EACH_NODE: u64 = 3_000;
+
+const WHOLE: u64 = 4_000_000;
+
+/// Where more characters of covers would enter than so many, for each instance of a model anew, nothing does, and no place is found.
+const CHARACTERS: u64 = 8_000_000;
+
+/// The steps of a pair, with what is proved of them. Contracts see the steps.
+#[derive(Drop)]
+pub struct Locator<'a> {
+    pub(crate) steps: Steps<'a>,
+    literals: Vec<Option<u32>>,
+    firsts: Firsts,
+    known: Known,
+    /// The steps that the chosen outputs need, and who uses each.
+    pub(crate) marks: Vec<bool>,
+    pub(crate) users: Users,
+    pub(crate) depths: Vec<u32>,
+    /// The steps of the chosen outputs.
+    pub(crate) outputs: Vec<[u32; 2]>,
+}
+
+impl<'a> Model for Locator<'a> {
+    ghost use Rattle.eqc_build.specs.Steps.{StepsOf};
+    ghost use Rattle.eqc_place.specs.Places.{AreProved};
+
+    ghost Value = { StepsOf };
+
+    ghost view = { λ a. a.steps };
+
+    ghost invariant = { λ a. AreProved a.steps.pair a.literals.items };
+}
+
+/// What questions may cost, where so many conflicts are allowed in all.
+fn effort_for(conflicts: u64) -> Effort {
+    if conflicts == 0 {
+        return Effort::none();
+    }
+    let work = conflicts.saturating_mul(WORK);
+    Effort::of(QUESTION.min(conflicts), work).within(EACH_NODE, WHOLE)
+}
+
+/// Marks for the outputs that are chosen. Fails where memory is refused.
+fn chosen_outputs(alloc: Global, pair: &Pair<'_>) -> Result<Vec<bool>, AllocError>
+    ensures { IfOk result (λ marks. length marks.items ≡ length pair.now.first.outputs) }
+{
+    let outputs = pair.first().outputs().len();
+    let mut marks = Vec::with_capacity(alloc, outputs)?;
+    for output in 0..outputs {
+        marks.push(pair.is_chosen(output))?;
+    }
+    Ok(marks)
+}
+
+/// The steps of the chosen outputs. Fails where memory is refused.
+fn roots_of(alloc: Global, steps: &Steps<'_>) -> Result<Vec<[u32; 2]>, AllocError> {
+    let pair = steps.pair();
+    let mut all = Vec::new(alloc);
+    for output in 0..pair.first().outputs().len() {
+        if pair.is_chosen(output) {
+            all.push(steps.roots(output))?;
+        }
+    }
+    Ok(all)
+}
+
+impl<'a> Locator<'a> {
+    /// What `of` makes of steps, in a graph that has none yet. It stands apart for its proof's sake, since the graph is let go in each exit.
+    /// Fails where memory is refused.
+    fn within(
+        alloc: Global,
+        steps: Steps<'a>,
+        outputs: &[bool],
+        sweep: &mut Sweep,
+    ) -> Result<Locator<'a>, AllocError>
+        requires { length outputs.now ≤ length steps.pair.first.outputs }
+        ensures { IfOk result (λ locator. locator ≡ steps.entry) }
+    {
+        let asked = needed_within(alloc, &steps, outputs, CHARACTERS)?;
+        let ignored = |_step: u32| {};
+        let literals = literals(alloc, &steps, &asked, sweep, &ignored)?;
+        let second = steps.pair().first().steps().len() as u32;
+        let end = second.saturating_add(steps.pair().second().steps().len() as u32);
+        let graph = sweep.graph();
+        let firsts = Firsts::of(alloc, &literals, graph.len(), second, end)?;
+        let known = Known::of(alloc, graph, &literals, second, end)?;
+        let chosen = chosen_outputs(alloc, steps.pair())?;
+        let marks = needed_within(alloc, &steps, &chosen, CHARACTERS)?;
+        let users = Users::of(alloc, &steps)?;
+        let depths = depths_of(alloc, &steps)?;
+        let roots = roots_of(alloc, &steps)?;
+        Ok(Locator {
+            steps,
+            literals,
+            firsts,
+            known,
+            marks,
+            users,
+            depths,
+            outputs: roots,
+        })
+    }
+
+    /// The steps of a pair, of which those that these outputs need enter a graph in which nodes that are found equal are one, within so
+    /// many conflicts. `outputs` marks outputs by their positions in the first netlist. It takes time and memory in proportion to the
+    /// rows of the steps' covers, for each instance of a model anew, and to the conflicts. Fails where memory is refused.
+    pub fn of(
+        alloc: Global,
+        pair: &'a Pair<'a>,
+        outputs: &[bool],
+        conflicts: u64,
+    ) -> Result<Locator<'a>, AllocError>
+        requires { length outputs.now ≤ length pair.now.first.outputs }
+        ensures { IfOk result (λ locator. locator.pair ≡ pair.now) }
+    {
+        let mut sweep = Sweep::new(alloc, effort_for(conflicts))?;
+        Locator::within(alloc, Steps::each(alloc, pair), outputs, &mut sweep)
+    }
+
+    /// Whether a step's node is one of the other netlist too, or stands below one.
+    pub(crate) fn is_known(&self, step: u32) -> bool {
+        let is_second = step >= self.firsts.second;
+        self.known.has(&self.literals, step, is_second)
+    }
+
+    /// Whether all that a step uses is known in the other netlist.
+    pub(crate) fn begins(&self, step: u32) -> bool {
+        let mut begins = true;
+        if step < self.steps.len() {
+            let uses = self.steps.uses(step);
+            for c in 0..uses.len() {
+                begins &= self.is_known(uses.get(c));
+            }
+        }
+        begins
+    }
+
+    /// Where the steps of the second netlist begin, and where they end.
+    pub(crate) fn second_steps(&self) -> (u32, u32) {
+        (self.firsts.second, self.firsts.end)
+    }
+
+    #[tactic(auto, using(crate::proofs::PlaceLaws::listing_begins, crate::proofs::PlaceLaws::listing_more, crate::proofs::PlaceLaws::listing_whole, crate::proofs::PlaceLaws::column_of))]
+    /// The columns of a step with their values, or none where one has none. Fails where memory is refused.
+    fn columns(
+        &self,
+        alloc: Global,
+        inputs: &[bool],
+        values: &[Option<bool>],
+        step: u32,
+    ) -> Result<Option<Vec<Column>>, AllocError>
+        requires step { step < steps_in self.now.pair }
+        requires values { AreValues self.now.pair (input_values self.now.pair inputs.now) values.now }
+        ensures { IfOk result (λ found. IfSome found (λ columns. AreColumns self.now.pair (input_values self.now.pair inputs.now) (uses_of self.now step) columns.items)) }
+    {
+        let _inputs = inputs;
+        let uses = self.steps.uses(step);
+        let mut columns = Vec::with_capacity(alloc, uses.len())?;
+        for c in 0..uses.len() {
+            let column = uses.get(c);
+            let Some(value) = value_in(values, column) else {
+                return Ok(None);
+            };
+            let partner = self.firsts.partner(&self.literals, column);
+            columns.push(Column {
+                step: column,
+                value,
+                partner,
+            })?;
+        }
+        Ok(Some(columns))
+    }
+
+    /// What is told of a step, without what is found by simulation, or none where a value is missing. Fails where memory is refused.
+    fn place(
+        &self,
+        alloc: Global,
+        inputs: &[bool],
+        values: &[Option<bool>],
+        suspect: &Suspect,
+    ) -> Result<Option<Place>, AllocError>
+        requires values { AreValues self.now.pair (input_values self.now.pair inputs.now) values.now }
+        ensures { IfOk result (λ found. IfSome found (IsPlace self.now (input_values self.now.pair inputs.now))) }
+    {
+        let step = suspect.step;
+        if step >= self.steps.len() {
+            return Ok(None);
+        }
+        let Some(value) = value_in(values, step) else {
+            return Ok(None);
+        };
+        let Some(columns) = self.columns(alloc, inputs, values, step)? else {
+            return Ok(None);
+        };
+        Ok(Some(Place {
+            step,
+            value,
+            columns,
+            mended: suspect.mended,
+            torn: suspect.torn,
+        }))
+    }
+
+    /// The places of these steps. Fails where memory is refused.
+    fn places(
+        &self,
+        alloc: Global,
+        inputs: &[bool],
+        suspects: &[Suspect],
+    ) -> Result<Vec<Place>, AllocError>
+        ensures { IfOk result (λ each. All (IsPlace self.now (input_values self.now.pair inputs.now)) each.items) }
+    {
+        let values = values_under(alloc, &self.steps, inputs)?;
+        let mut each = Vec::with_capacity(alloc, suspects.len())?;
+        for suspect in suspects {
+            if let Some(place) = self.place(alloc, inputs, &values, suspect)? {
+                each.push(place)?;
+            }
+        }
+        Ok(each)
+    }
+
+    /// The places at which an output begins to differ, by its position in the first netlist, where the first netlist's inputs have these
+    /// values, one for each; at most five in each netlist, first those of the second. What is told of a place is so under these values,
+    /// and what is a partner is one under all values; that it is a place, and which comes first, is found by simulation. Fails where
+    /// memory is refused.
+    pub fn locate(
+        &self,
+        alloc: Global,
+        output: usize,
+        inputs: &[bool],
+    ) -> Result<Places, AllocError>
+        requires { output < length self.now.pair.first.outputs }
+        ensures { IfOk result (λ found. All (IsPlace self.now (input_values self.now.pair inputs.now)) found.each.items) }
+    {
+        let mut trial = Trial::of(alloc, self, self.steps.roots(output), inputs)?;
+        let suspects = trial.ranked()?;
+        let each = self.places(alloc, inputs, &suspects)?;
+        let mut mendings = Vec::with_capacity(alloc, each.len())?;
+        for place in &each {
+            let mending = trial.mending(place.step)?;
+            mendings.push(mending)?;
+        }
+        Ok(Places {
+            each,
+            mendings,
+            differing: trial.differing(),
+        })
+    }
+}

@@ -1,0 +1,8 @@
+use Rattle.std.proofs.Common.{◌≤◌, length}
+use Rattle.eqc_telling.proofs.places.positions_of.Given as goal
+
+abbrev pub invariant-up : goal.invariant-up
+invariant-up l = l.at ≤ length l.flat.places
+
+abbrev pub decreases-up : goal.decreases-up
+decreases-up l = l.at
