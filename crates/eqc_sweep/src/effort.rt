@@ -45,9 +45,12 @@ impl Effort {
         }
     }
 
-    /// The same by so many threads, where nodes are copied. What is found doesn't depend on how many there are.
+    /// The same by so many threads, one at least, where nodes are copied. What is found doesn't depend on how many there are.
     pub fn by(self, workers: u32) -> Effort {
-        Effort { workers, ..self }
+        Effort {
+            workers: workers.max(1),
+            ..self
+        }
     }
 
     /// The same with no more work than so much for each node, and so much for the graph as a whole.

@@ -145,7 +145,7 @@ impl Account {
     }
 
     /// What may be spent on a graph of so many nodes yet.
-    fn left(&self, nodes: u32) -> u64 {
+    pub(crate) fn left(&self, nodes: u32) -> u64 {
         let effort = &self.effort;
         let room = effort.each_node.saturating_mul(u64::from(nodes));
         let room = room.saturating_add(effort.whole).min(effort.work);

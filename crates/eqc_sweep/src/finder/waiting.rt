@@ -130,7 +130,8 @@ impl Finder {
         })
     }
 
-    /// The next questions about nodes that wait, from a place on, and the place behind the last of these. Fails where memory is refused.
+    /// The next questions about nodes that wait, from a place on, and the place behind the last of these. There are no more once these
+    /// may spend all that is left. Fails where memory is refused.
     fn questions(
         &mut self,
         graph: &Graph,
@@ -139,11 +140,13 @@ impl Finder {
         ensures { IfOk result (λ some. All IsQuestion some.0.items) }
     {
         let mut some = Vec::new(self.alloc);
+        let mut room = self.account.left(graph.len());
         for place in from..self.waiting.len() {
-            if some.len() >= CHUNK {
+            if some.len() >= CHUNK || (room == 0 && !some.is_empty()) {
                 return Ok((some, place));
             }
             if let Some(question) = self.question(graph, place) {
+                room = room.saturating_sub(question.given.work);
                 some.push(question)?;
             }
         }
