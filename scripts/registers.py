@@ -12,6 +12,8 @@ OTHER_EDGES = {b"re": b"fe", b"fe": b"re", b"ah": b"al", b"al": b"ah"}
 MOST_OPEN = 8
 # The way into a cell of an FPGA library, at a register's end, and that into an instance without a name.
 CELL_PART = re.compile(rb"\d+:[^/]*\$\d+/[^/]*\Z")
+# How yosys and abc call what they put in: by cells and their ports, as `sum_SB_DFF_Q_D_SB_LUT4_O[2]`, or by a number.
+MADE_NAME = re.compile(rb"_[A-Z][A-Z\d_]*_[A-Z]+\d*(?:\[\d+\])*\Z|\A\$abc\$")
 NUMBERED_PART = re.compile(rb"(?:\A|[./])\d+:[^/]+/")
 
 
@@ -316,6 +318,9 @@ def hint(lost):
         return f"other bits of {listed(sorted(both))}: another code of states, as without `synth -nofsm`"
     if first and second:
         return "moved or coded otherwise, as by retiming (`abc -dff`, `retime`): compare before that step"
+    alone = first or second
+    if alone and all(MADE_NAME.search(it.name) for it in alone):
+        return "put in by a tool that moves registers, as by retiming (`-retime`): compare before that step"
     return None
 
 
