@@ -70,18 +70,18 @@ BeginsUnknown line word = (word ≡ first_of (words line)) × (kind_of word ≡ 
 abbrev pub IsBehindEnd : After → List ℕ → List ℕ → Type 0
 IsBehindEnd st line word = (word ≡ first_of (words line)) × (stands_in_model (kind_of word) ≡ true) × (st.open_model ≡ None)
 
--- a line is this row
+-- a line is this row, as it stands
 abbrev pub IsRow : List ℕ → List ℕ → Type 0
-IsRow line row = (kind_of_line line ≡ Row) × (row ≡ without_blanks line)
+IsRow line row = (kind_of_line line ≡ Row) × (row ≡ line)
 
 -- 6: a row follows no cover
 abbrev pub IsOutsideCover : After → List ℕ → List ℕ → Type 0
 IsOutsideCover st line row = IsRow line row × (is_in_cover st.open_model ≡ false)
 
--- 7: a row has another shape than the columns of its cover want, of which there are so many
+-- 7: a row has, without its blanks, another shape than the columns of its cover want, of which there are so many
 abbrev pub IsMisshapen : After → List ℕ → List ℕ → ℕ → Type 0
 IsMisshapen st line row columns =
-    IsRow line row × (columns ≡ length (last_cover (current st).covers).columns) × (has_row_shape columns row ≡ false)
+    IsRow line row × (columns ≡ length (last_cover (current st).covers).columns) × (has_row_shape columns (without_blanks row) ≡ false)
 
 -- 8: a row ends in one value, and the first row of its cover in another
 abbrev pub EndsOtherwise : After → List ℕ → ℕ → ℕ → Type 0

@@ -16,10 +16,10 @@ pub enum Finding {
     UnknownCommand(Name),
     /// 5: the first word of the line after `.end`.
     BehindEnd(Name),
-    /// 6: the row, without blanks.
+    /// 6: the row, as it stands in its line.
     RowOutsideCover(Name),
-    /// 7: the row, without blanks, and how many columns its cover has. It wants a place for each of them and one for the
-    /// output.
+    /// 7: the row, as it stands in its line, and how many columns its cover has. Beside blanks it wants a place for each of
+    /// them and one for the output.
     RowShape { row: Name, columns: usize },
     /// 8: the last character of the row, and that of the cover's first row.
     RowOutput { output: u8, first: u8 },

@@ -185,6 +185,13 @@ fn command_hint(command: &[u8]) -> &'static str {
     }
 }
 
+/// How many characters a row has that are no blanks.
+fn width(row: &[u8]) -> usize {
+    row.iter()
+        .filter(|byte| **byte != b' ' && **byte != b'\t')
+        .count()
+}
+
 /// What is said of a row at fault, and of a size and a byte.
 fn text_said(alloc: Global, finding: &TextFinding) -> Result<String, AllocError> {
     match finding {
@@ -195,9 +202,9 @@ fn text_said(alloc: Global, finding: &TextFinding) -> Result<String, AllocError>
             "the text has {bytes} bytes at least, and may have {limit} (2)"
         ),
         TextFinding::RowShape { row, columns } => format!(in alloc;
-            "the row '{}' has {} characters; its cover wants 0, 1 or - for each of {columns} columns, and 0 or 1 for the output (7)",
+            "the row '{}' has {} characters without its blanks; its cover wants 0, 1 or - for each of {columns} columns, and 0 or 1 for the output (7)",
             Shown(row.as_bytes()),
-            row.as_bytes().len()
+            width(row.as_bytes())
         ),
         TextFinding::RowOutput { output, first } => format!(in alloc;
             "the row ends in '{}', and the first row of its cover in '{}' (8)",

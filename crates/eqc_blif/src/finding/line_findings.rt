@@ -33,15 +33,6 @@ fn second_word(alloc: Global, line: &[u8]) -> Result<Name, AllocError>
     first_word(alloc, rest)
 }
 
-/// A line without its blanks. Fails where memory is refused.
-fn row_of(alloc: Global, line: &[u8]) -> Result<Name, AllocError>
-    ensures { IfOk result (λ row. row ≡ without_blanks line.now) }
-{
-    let mut row = SmallVec::new(alloc);
-    append_without_blanks(&mut row, line)?;
-    Name::new(alloc, row.as_slice())
-}
-
 /// The first word behind the model of `.subckt` that is no pair. Fails where memory is refused.
 fn no_pair(alloc: Global, line: &[u8]) -> Result<Name, AllocError>
     requires subckt { kind_of_line line.now ≡ Subckt }
@@ -60,7 +51,7 @@ fn row_shape(alloc: Global, reader: &Reader, line: &[u8]) -> Result<(Name, usize
     requires shape { has_row_shape (length (last_cover (current reader.now).covers).columns) (without_blanks line.now) ≡ false }
     ensures { IfOk result (λ found. IsMisshapen reader.now line.now found.0 found.1) }
 {
-    let row = row_of(alloc, line)?;
+    let row = Name::new(alloc, line)?;
     let columns = reader.last_cover().columns.len();
     Ok((row, columns))
 }
@@ -72,10 +63,11 @@ fn row_ends(alloc: Global, reader: &Reader, line: &[u8]) -> Result<(u8, u8), All
     requires differ { differs_from_first (last_cover (current reader.now).covers).rows (without_blanks line.now) ≡ true }
     ensures { IfOk result (λ found. EndsOtherwise reader.now line.now found.0 found.1) }
 {
-    let row = row_of(alloc, line)?;
+    let mut row = SmallVec::new(alloc);
+    append_without_blanks(&mut row, line)?;
     let rows = reader.last_cover().rows();
     let first = rows.get(0);
-    Ok((row_output(row.as_bytes()), row_output(first)))
+    Ok((row_output(row.as_slice()), row_output(first)))
 }
 
 /// The name that stands twice with the words of `.inputs` or `.outputs`. Fails where memory is refused.
@@ -114,7 +106,7 @@ pub(crate) fn line_finding(
         return Ok(Some(Finding::BehindEnd(first_word(alloc, line)?)));
     }
     if code == Rule::RowOutsideCover.code() {
-        return Ok(Some(Finding::RowOutsideCover(row_of(alloc, line)?)));
+        return Ok(Some(Finding::RowOutsideCover(Name::new(alloc, line)?)));
     }
     if code == Rule::RowShape.code() {
         let (row, columns) = row_shape(alloc, reader, line)?;

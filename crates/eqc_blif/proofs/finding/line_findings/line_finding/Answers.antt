@@ -45,7 +45,7 @@ returns-then-code-4 c =
     let line = c.args.line.now in
     let by = c.if-code-4.true ∙ c.code-4.ensures in
     let told = told_outside c.args.reader.now (kind_of_line line) (arguments line) (without_blanks line) (c.requires ∙ ap Some by) in
-    (sym by, ((told.0, c.in_ok-row_of.ensures), told.1))
+    (sym by, ((told.0, c.in_ok-new.ensures), told.1))
 
 pub returns-then-code-8 : goal.returns-then-code-8
 returns-then-code-8 c =
