@@ -12,4 +12,5 @@ pub mod Deciding
 pub mod Searching
 pub mod Choosing
 pub mod Slots
+pub mod Seeking
 pub mod Copying

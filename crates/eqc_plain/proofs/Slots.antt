@@ -1,15 +1,12 @@
 -- The places of numbers in a list in which each stands once, and to which one comes where it isn't there.
-use Rattle.std.proofs.Common.{◌≡◌, ◌≢◌, ℕ, ◌+◌, ◌<◌, ◌≤◌, ◌⊎◌, Bool, true, false, List, [], ◌∷◌, ◌++◌, length, get_or, Option, None, Some, position, nat_eq, refl, sym, ◌∙◌, ap, subst, arith, inl, inr, eqb-true, eq-eqb, not, true≢false, length-append, if◌then◌else◌, ◌||◌}
-use Rattle.std.proofs.lemmas.Bool.{cases_lt}
+use Rattle.std.proofs.Common.{◌≡◌, ℕ, ◌+◌, ◌<◌, ◌⊎◌, Bool, true, false, List, [], ◌∷◌, ◌++◌, length, get_or, Option, None, Some, position, nat_eq, refl, sym, ◌∙◌, ap, subst, arith, inl, inr, eqb-true, eq-eqb, true≢false, length-append, if◌then◌else◌, ◌||◌}
 use Rattle.std.proofs.lemmas.Grind.{get_or_default_zero}
 use Rattle.std.proofs.lemmas.List.{get_or_append_left, get_or-append-add}
 use Rattle.std.proofs.lemmas.List.Folds.{Any-from_list_any, list_any_at, list_any-append}
 use Rattle.std.proofs.lemmas.List.Quantifiers.{position-Some}
-use Rattle.std.proofs.lemmas.List.Sums.{fails_before_first, passes_at_first, prefix_len-le-length}
 use Rattle.std.specs.Prelude.{IfSome}
-use Rattle.std.specs.List.{list_any, position_or_len}
+use Rattle.std.specs.List.{list_any}
 use Rattle.indexmap.specs.IndexSet.{insert_key}
-use Rattle.eqc_plain.specs.Store.{IsSlotOf}
 use Rattle.eqc_plain.specs.Copying.{Has, Takes}
 
 -- where a number is found, it stands
@@ -67,40 +64,3 @@ module _ (old new : List ℕ) (w : ℕ) (is : new ≡ insert_key nat_eq old w) w
   -- what a set has after a number comes
   pub takes : Takes old new w
   takes = takes_by (list_any (nat_eq w) old) refl
-
-  absent_from : list_any (nat_eq w) old ≡ false → (j : ℕ) → j < length old → get_or old j 0 ≢ w
-  absent_from e j h at = true≢false (sym (list_any_at (nat_eq w) old j 0 h (rw at (nat_eq_self w))) ∙ e)
-
-  slot_by : (b : Bool) → list_any (nat_eq w) old ≡ b → IsSlotOf w old new (position_or_len (nat_eq w) old)
-  slot_by true e =
-      let p = place_of old w e in
-      let k : ℕ = position_or_len (nat_eq w) old in
-      let less : k < length old = elim (cases_lt p.0 k) [
-        | inl h ↦ absurd (true≢false (sym (rw p.2 (nat_eq_self w)) ∙ fails_before_first (nat_eq w) old p.0 0 h))
-        | inr h ↦ omega (arith, p.1)
-      ] in
-      rw (stay e) (record {
-        within = less;
-        word = sym (eqb-true w (get_or old k 0) (passes_at_first (nat_eq w) old 0 less));
-        found = λ h. refl;
-        added = λ h. absurd (omega (arith, less));
-        absent = λ h. absurd (omega (arith, less));
-      })
-  slot_by false e =
-      let k : ℕ = position_or_len (nat_eq w) old in
-      let past : k ≡ length old = end_by (cases_lt k (length old)) in
-      rw (more e) (record {
-        within = omega (arith, past, length-append old (w ∷ []));
-        word = rw past (last_is old w);
-        found = λ h. absurd (omega (arith, past));
-        added = λ h. refl;
-        absent = λ h. absent_from e;
-      })
-    where
-      end_by : (position_or_len (nat_eq w) old < length old) ⊎ (length old ≤ position_or_len (nat_eq w) old) → position_or_len (nat_eq w) old ≡ length old
-      end_by (inl h) = absurd (true≢false (sym (list_any_at (nat_eq w) old (position_or_len (nat_eq w) old) 0 h (passes_at_first (nat_eq w) old 0 h)) ∙ e))
-      end_by (inr h) = let le = prefix_len-le-length (λ x. not (nat_eq w x)) old in omega (arith, le)
-
-  -- the slot of a number, which comes last where it isn't there
-  pub slot_of : (k : ℕ) → k ≡ position_or_len (nat_eq w) old → IsSlotOf w old new k
-  slot_of k at = subst (IsSlotOf w old new) (sym at) (slot_by (list_any (nat_eq w) old) refl)

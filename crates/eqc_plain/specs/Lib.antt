@@ -12,3 +12,4 @@ pub mod Tasks
 pub mod Standing
 pub mod Searching
 pub mod Copying
+pub mod Seeking

@@ -77,14 +77,6 @@ pub record IsStore (variables limit : ℕ) (ws counts : List ℕ) : Type 0 where
   pub once : (i j : ℕ) → i < length ws → j < length ws → slice_index ws i ≡ slice_index ws j → i ≡ j
   pub constants : (k : ℕ) → k < 2 → slice_index counts k ≡ 0
 
--- k is the slot of the word w, which came last where no slot had it
-pub record IsSlotOf (w : ℕ) (old new : List ℕ) (k : ℕ) : Type 0 where
-  pub within : k < length new
-  pub word : slice_index new k ≡ w
-  pub found : k < length old → new ≡ old
-  pub added : length old ≤ k → new ≡ old ++ w ∷ []
-  pub absent : length old ≤ k → (j : ℕ) → j < length old → slice_index old j ≢ w
-
 -- x has the function of a node, and its root is no higher than the node
 pub record IsNode (variables : ℕ) (ws : List ℕ) (v low high x : ℕ) : Type 0 where
   pub within : x < length ws + 2

@@ -84,10 +84,11 @@ impl Plain {
             f_high,
             g_high,
         };
-        match self.tasks.push(task) {
-            Ok(()) => Ok((f_low, g_low)),
-            Err(_) => Err(Stop::Memory),
+        if self.tasks.len() == self.tasks.capacity() && self.tasks.reserve(1).is_err() {
+            return Err(Stop::Memory);
         }
+        self.tasks.push_reserved(task);
+        Ok((f_low, g_low))
     }
 
     /// The node over both results, which is kept for the operation.
@@ -140,10 +141,8 @@ impl Plain {
                         variable,
                         low: x,
                     };
-                    return match self.tasks.push(task) {
-                        Ok(()) => Ok(Turn::Next(f_high, g_high)),
-                        Err(_) => Err(Stop::Memory),
-                    };
+                    self.tasks.push_reserved(task);
+                    return Ok(Turn::Next(f_high, g_high));
                 }
                 Task::High {
                     f,

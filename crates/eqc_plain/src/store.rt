@@ -63,23 +63,37 @@ impl Store {
         if low == high {
             return Ok(low);
         }
-        let word = pack_node(variable, low, high);
-        if self.nodes.len() == self.limit as usize {
-            return match self.nodes.find(word) {
-                Some(slot) => Ok(slot as u32 + 2),
-                None => Err(Stop::NodeLimit),
-            };
+        match self.nodes.find(pack_node(variable, low, high)) {
+            Some(slot) => Ok(slot as u32 + 2),
+            None => self.new_node(variable, low, high),
         }
-        let Ok(slot) = self.nodes.find_or_add(word) else {
-            return Err(Stop::Memory);
-        };
-        if slot + 2 < self.counts.len() {
-            return Ok(slot as u32 + 2);
+    }
+
+    /// The number of the node with these children, where there is none yet.
+    fn new_node(&mut self, variable: u16, low: u32, high: u32) -> Result<u32, Stop>
+        requires low { low < length self.old.nodes + 2 }
+        requires high { high < length self.old.nodes + 2 }
+        requires above_low { variable < root self.old.variables (tree_at self.old.nodes low) }
+        requires above_high { variable < root self.old.variables (tree_at self.old.nodes high) }
+        requires differ { low ≢ high }
+        requires absent { (k : ℕ) → k < length self.old.nodes → slice_index self.old.nodes k ≢ node_word variable low high }
+        ensures store { Extends self.old self.new }
+        ensures ok { IfOk result (λ x. IsNode self.new.variables self.new.nodes variable low high x) }
+        ensures one { length self.new.nodes ≤ length self.old.nodes + 1 }
+        ensures still { OnErr result (self.new.nodes ≡ self.old.nodes) }
+        ensures full { result ≡ Err Stop.NodeLimit → length self.new.nodes ≡ self.new.limit }
+        ensures only { IfErr result (λ s. (s ≡ Stop.NodeLimit) ⊎ (s ≡ Stop.Memory)) }
+    {
+        if self.nodes.len() == self.limit as usize {
+            return Err(Stop::NodeLimit);
         }
         if self.counts.push(0).is_err() {
-            self.nodes.pop();
             return Err(Stop::Memory);
         }
+        let Ok(slot) = self.nodes.add(pack_node(variable, low, high)) else {
+            self.counts.pop();
+            return Err(Stop::Memory);
+        };
         Ok(slot as u32 + 2)
     }
 

@@ -6,14 +6,14 @@ use Rattle.eqc_plain.proofs.Meanings.{store_stays}
 use Rattle.eqc_plain.proofs.Tasks.{low_done, top_done, task_done, less_owed}
 use Rattle.eqc_plain.proofs.plain.Plain.resume.Goals as goal
 
-pub returns-in-Ok-clause-turn : goal.returns-in-Ok-clause-turn
-returns-in-Ok-clause-turn c =
+pub returns-in-Low-clause-turn : goal.returns-in-Low-clause-turn
+returns-in-Low-clause-turn c =
     let s = c.loop-task.self in
     let w = c.args.whole.now.value in
     let i = c.loop-task.invariant in
     let was : s.tasks.items ≡ c.pop.new.self.items ++ Low c.in-Low.f c.in-Low.g c.in-Low.variable c.in-Low.f_high c.in-Low.g_high ∷ [] = search rules in
-    let is : c.push.new.self.items ≡ c.pop.new.self.items ++ High c.in-Low.f c.in-Low.g c.in-Low.variable c.loop-task.x ∷ [] = search rules in
-    low_done (meaning_of s.store.variables s.store.nodes) c.args.op s.tasks.items c.pop.new.self.items c.push.new.self.items
+    let is : c.push_reserved.new.self.items ≡ c.pop.new.self.items ++ High c.in-Low.f c.in-Low.g c.in-Low.variable c.loop-task.x ∷ [] = search rules in
+    low_done (meaning_of s.store.variables s.store.nodes) c.args.op s.tasks.items c.pop.new.self.items c.push_reserved.new.self.items
     c.args.self.now.tasks.items w.0 w.1 c.in-Low.f c.in-Low.g c.in-Low.variable c.in-Low.f_high c.in-Low.g_high c.loop-task.x was is i.less
     i.leads
 
