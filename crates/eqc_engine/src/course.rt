@@ -8,17 +8,19 @@
 //! | 3 | short rounds of sweeping, and a short search that refutes after each | `Inside::of`, `sweep_more`, `ask_while_found` | outputs that are found equal |
 //! | 4 | a short search, where simulation saw an output differ | `by_search` | all outputs, or all up to the first that differs |
 //! | 5 | words of outputs that add up the same | `by_sums` | outputs whose words are shown equal |
-//! | 6 | 2 in a larger room, and one worker that takes dead nodes back | `in_room` | the outputs left, where they fit |
-//! | 7 | long rounds of sweeping, as long as they find nodes equal | `sweep_more` | the same as 3 |
-//! | 8 | short searches | `by_search` | the same as 4 |
-//! | 9 | diagrams by all workers | `in_room` | the outputs left, where they fit |
-//! | 10 | a longer search that refutes | `ask_outputs` | outputs that are found equal |
-//! | 11 | longer searches | `by_search` | the same as 4 |
-//! | 12 | diagrams by all workers once more, where 10 found some outputs equal | `in_room` | the outputs left, where they fit |
+//! | 6 | 2 in a larger room | `in_room` | the outputs left, where they fit |
+//! | 7 | rounds of sweeping that take no longer than 8, where there are few inputs | `sweep_more` | the same as 3 |
+//! | 8 | diagrams by one worker who takes dead nodes back, where there are few inputs or very many | `in_room` | the outputs left, where they fit |
+//! | 9 | long rounds of sweeping, as long as they find nodes equal | `sweep_more` | the same as 3 |
+//! | 10 | short searches | `by_search` | the same as 4 |
+//! | 11 | diagrams by all workers | `in_room` | the outputs left, where they fit |
+//! | 12 | a longer search that refutes | `ask_outputs` | outputs that are found equal |
+//! | 13 | longer searches | `by_search` | the same as 4 |
+//! | 14 | diagrams by all workers once more, where 12 found some outputs equal | `in_room` | the outputs left, where they fit |
 //!
 //! `known_by_structure` has 1, `decide_pair` begins with 2, `behind_first` with 3, and `by_sweeping` goes on from there:
-//! `by_short_rounds` has 3 and 4, `by_sums` 5, `by_long_rounds` 7 to 9, and `by_longer_searches` the others. With few nodes or without
-//! conflicts 9 follows 2, and nothing else does.
+//! `by_short_rounds` has 3 and 4, `by_sums` 5, `by_one` 7 and 8, `by_long_rounds` 9 to 11, and `by_longer_searches` the others. With
+//! few nodes or without conflicts 11 follows 2, and nothing else does.
 ghost use Rattle.std.specs.Prelude.{◌≡◌, None, length, IfOk, IfErr};
 ghost use Rattle.eqc_compare.specs.Alike.{IsKnown};
 ghost use Rattle.eqc_inside.specs.Inside.{KeepsMarks};
@@ -28,9 +30,12 @@ ghost use Rattle.eqc_report.specs.Options.{options_code};
 ghost use Rattle.eqc_report.specs.Seen.{IsLeftOf};
 ghost use Rattle.eqc_report.specs.Left.{AddsLeft, AddsNone};
 
-use crate::workers::{Comparison, check_by_team, check_in_first, check_in_large, has_large_room};
+use crate::workers::{
+    Comparison, check_by_one, check_by_team, check_in_first, check_in_large, goes_on_alone,
+    has_large_room, has_some_inputs,
+};
 use eqc_compare::{Alike, Progress, Stage, alike_or_nothing, known_outcome};
-use eqc_inside::{Conflicts, Inside, Rounds, Searched};
+use eqc_inside::{Conflicts, Inside, Rounds, Searched, Span};
 use eqc_report::{Options, Report, Undecided, found_report, note_seen};
 use eqc_tree::Stop;
 use std::sync::Wait;
@@ -58,6 +63,8 @@ enum Room {
     First,
     /// In a larger one, which is left in the same way. Where the first one was as large there is nothing to be had from it.
     Large,
+    /// In a forest of one worker, who takes dead nodes back, which is left as the turns of that are spent.
+    One,
     /// In the forest that the options ask for, by as many workers, which is left as the turns of one of them are spent.
     Whole,
 }
@@ -71,7 +78,7 @@ fn tell_room<R, P: Progress<R>>(comparison: &Comparison<'_, R, P>, room: Room) {
         ..
     } = *comparison;
     let stage = match room {
-        Room::First | Room::Large => Stage::FirstDiagrams,
+        Room::First | Room::Large | Room::One => Stage::FirstDiagrams,
         Room::Whole => Stage::AllDiagrams,
     };
     watch.stage(rt, stage);
@@ -108,6 +115,13 @@ fn in_room<R: Threads + Wait + Sync, P: Progress<R> + Sync>(
             }
             tell_room(comparison, room);
             check_in_large(comparison, alike)
+        }
+        Room::One => {
+            if !goes_on_alone(pair, options) {
+                return Err(Stop::NodeLimit);
+            }
+            tell_room(comparison, room);
+            check_by_one(comparison, alike)
         }
         Room::Whole => {
             let Ok(alike) = alike.clone() else {
@@ -184,7 +198,7 @@ fn few_conflicts<R, P>(comparison: &Comparison<'_, R, P>) -> Conflicts {
 
 /// Searches for differences of the outputs that are left, with so many conflicts in all. Those for which there is none become
 /// known: whether there are any.
-fn ask_outputs<R, P: Progress<R>>(
+fn ask_outputs<R: Threads + Sync, P: Progress<R>>(
     comparison: &Comparison<'_, R, P>,
     inside: &mut Inside<'_>,
     alike: &mut Alike,
@@ -195,14 +209,16 @@ fn ask_outputs<R, P: Progress<R>>(
     ensures known { IsKnown inside.new alike.new }
     ensures kept { KeepsMarks inside.old alike.old.equal.items alike.new.equal.items }
 {
-    let Comparison { rt, watch, .. } = *comparison;
+    let Comparison {
+        rt, alloc, watch, ..
+    } = *comparison;
     watch.stage(rt, Stage::Asking);
-    inside.ask_outputs(rt, alike, conflicts, watch)
+    inside.ask_outputs(rt, alloc, alike, conflicts, watch)
 }
 
 /// Asks about the outputs that a round of sweeping left, with few conflicts, and again as long as some are found equal: what was found
 /// equal below them often makes them easy.
-fn ask_while_found<R, P: Progress<R>>(
+fn ask_while_found<R: Threads + Sync, P: Progress<R>>(
     comparison: &Comparison<'_, R, P>,
     inside: &mut Inside<'_>,
     alike: &mut Alike,
@@ -325,6 +341,29 @@ fn by_sums<R: Threads + Wait + Sync, P: Progress<R> + Sync>(
     }
 }
 
+/// The report over what rounds of sweeping find equal that take no longer than diagrams of one worker, which becomes known, where there
+/// are few inputs; and by such diagrams.
+fn by_one<R: Threads + Wait + Sync, P: Progress<R> + Sync>(
+    comparison: &Comparison<'_, R, P>,
+    inside: &mut Inside<'_>,
+    alike: &mut Alike,
+    rounds: &mut Rounds,
+) -> Result<Report, Stop>
+    requires options { options_code comparison.now.options.now ≡ None }
+    requires inside { inside.old ≡ comparison.now.pair.now }
+    requires known { IsKnown comparison.now.pair.now alike.old }
+    ensures inside { inside.new ≡ inside.old }
+    ensures known { IsKnown comparison.now.pair.now alike.new }
+    ensures kept { KeepsMarks comparison.now.pair.now alike.old.equal.items alike.new.equal.items }
+    ensures report { IfOk result (λ report. report_of report ≡ pair_report comparison.now.options.now.every comparison.now.pair.now) }
+{
+    if has_some_inputs(comparison.pair) {
+        rounds.lengthen(Span::Medium);
+        sweep_more(comparison, inside, alike, rounds);
+    }
+    in_room(comparison, Room::One, alike)
+}
+
 /// The report over what long rounds of sweeping find equal, which becomes known: by short searches, and by diagrams of all workers.
 fn by_long_rounds<R: Threads + Wait + Sync, P: Progress<R> + Sync>(
     comparison: &Comparison<'_, R, P>,
@@ -343,7 +382,7 @@ fn by_long_rounds<R: Threads + Wait + Sync, P: Progress<R> + Sync>(
     ensures seen { IsLeftOf comparison.now.pair.now left.old → IsLeftOf comparison.now.pair.now left.new }
     ensures none { AddsNone left.old left.new }
 {
-    rounds.lengthen();
+    rounds.lengthen(Span::Long);
     sweep_more(comparison, inside, alike, rounds);
     match by_search(comparison, inside, alike, few_conflicts(comparison), left) {
         Err(Stop::NodeLimit) => in_room(comparison, Room::Whole, alike),
@@ -380,7 +419,7 @@ fn by_longer_searches<R: Threads + Wait + Sync, P: Progress<R> + Sync>(
 }
 
 /// The report over what sweeping finds equal, which becomes known: by short rounds, by words that add up the same, in a larger room, by
-/// long rounds, and by longer searches.
+/// one worker, by long rounds, and by longer searches.
 fn by_sweeping<R: Threads + Wait + Sync, P: Progress<R> + Sync>(
     comparison: &Comparison<'_, R, P>,
     inside: &mut Inside<'_>,
@@ -406,6 +445,10 @@ fn by_sweeping<R: Threads + Wait + Sync, P: Progress<R> + Sync>(
         report => return report,
     }
     match in_room(comparison, Room::Large, alike) {
+        Err(Stop::NodeLimit) => {}
+        report => return report,
+    }
+    match by_one(comparison, inside, alike, rounds) {
         Err(Stop::NodeLimit) => {}
         report => return report,
     }

@@ -155,7 +155,7 @@ fn first_nodes(pair: &Pair<'_>, options: &Options) -> u32
 }
 
 /// Whether there are so few inputs that diagrams which are looked for long are mostly found.
-fn has_some_inputs(pair: &Pair<'_>) -> bool {
+pub(crate) fn has_some_inputs(pair: &Pair<'_>) -> bool {
     pair.first().inputs().len() <= SOME_INPUTS
 }
 
@@ -173,22 +173,20 @@ fn has_many_inputs(pair: &Pair<'_>) -> bool {
     pair.first().inputs().len() >= MANY_INPUTS
 }
 
-/// Whether one worker goes on alone behind the larger room. Those of real flows whose diagrams don't fit mostly have inputs between.
-fn goes_on_alone(pair: &Pair<'_>) -> bool {
-    has_some_inputs(pair) || has_many_inputs(pair)
-}
-
-/// Whether more may fit than into a first room of so many nodes: on one thread, or where one worker goes on.
-fn may_be_larger(first: u32, pair: &Pair<'_>) -> bool {
-    first < FIRST_NODES || goes_on_alone(pair)
-}
-
 /// Whether there is a larger room than the first one was: not for who allows fewer nodes than is usual.
 pub(crate) fn has_large_room(pair: &Pair<'_>, options: &Options) -> bool
     requires { options_code options.now ≡ None }
     ensures { IsTrue result → 65536 ≤ options.now.nodes }
 {
-    options.nodes >= USUAL_NODES && may_be_larger(first_nodes(pair, options), pair)
+    options.nodes >= USUAL_NODES && first_nodes(pair, options) < FIRST_NODES
+}
+
+/// Whether one worker goes on alone behind that: not for who allows fewer nodes than is usual. Pairs of real flows whose diagrams don't
+/// fit mostly have neither few inputs nor very many.
+pub(crate) fn goes_on_alone(pair: &Pair<'_>, options: &Options) -> bool
+    ensures { IsTrue result → 65536 ≤ options.now.nodes }
+{
+    options.nodes >= USUAL_NODES && (has_some_inputs(pair) || has_many_inputs(pair))
 }
 
 /// The store of a room on one thread, with a variable for each input of a pair. It has no more nodes than this.
@@ -414,9 +412,8 @@ pub(crate) fn check_in_first<R, P: Progress<R>>(
     check_first(comparison, alike, first_nodes(pair, options))
 }
 
-/// The report by diagrams in the larger room, and by one worker alone behind it where there are few inputs or very many, where this is
-/// known of the pair, or why these stopped.
-pub(crate) fn check_in_large<R: Threads + Wait + Sync, P: Progress<R> + Sync>(
+/// The report by diagrams in the larger room, where this is known of the pair, or why it stopped.
+pub(crate) fn check_in_large<R, P: Progress<R>>(
     comparison: &Comparison<'_, R, P>,
     alike: &Alike,
 ) -> Result<Report, Stop>
@@ -425,20 +422,26 @@ pub(crate) fn check_in_large<R: Threads + Wait + Sync, P: Progress<R> + Sync>(
     requires known { IsKnown comparison.now.pair.now alike.now }
     ensures report { IfOk result (λ report. report_of report ≡ pair_report comparison.now.options.now.every comparison.now.pair.now) }
 {
-    let Comparison { pair, options, .. } = *comparison;
-    if first_nodes(pair, options) < FIRST_NODES {
-        let Ok(first) = alike.clone() else {
-            return Err(Stop::Memory);
-        };
-        match check_first(comparison, first, FIRST_NODES) {
-            Err(Stop::NodeLimit) if goes_on_alone(pair) => {}
-            report => return report,
-        }
-    }
+    let Ok(alike) = alike.clone() else {
+        return Err(Stop::Memory);
+    };
+    check_first(comparison, alike, FIRST_NODES)
+}
+
+/// The report by diagrams of one worker alone, who takes dead nodes back, where this is known of the pair, or why it stopped.
+pub(crate) fn check_by_one<R: Threads + Wait + Sync, P: Progress<R> + Sync>(
+    comparison: &Comparison<'_, R, P>,
+    alike: &Alike,
+) -> Result<Report, Stop>
+    requires options { options_code comparison.now.options.now ≡ None }
+    requires usual { 65536 ≤ comparison.now.options.now.nodes }
+    requires known { IsKnown comparison.now.pair.now alike.now }
+    ensures report { IfOk result (λ report. report_of report ≡ pair_report comparison.now.options.now.every comparison.now.pair.now) }
+{
     let Ok(again) = alike.clone() else {
         return Err(Stop::Memory);
     };
-    check_alone(comparison, again, alone_nodes(pair))
+    check_alone(comparison, again, alone_nodes(comparison.pair))
 }
 
 /// Compares a pair by as many workers as the options say, each in a thread of its own: they share one forest of `nodes` nodes

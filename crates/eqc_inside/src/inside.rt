@@ -8,7 +8,7 @@ ghost use Rattle.eqc_compare.specs.Comparing.{difference_at};
 ghost use Rattle.eqc_inside.specs.Inside.{HaveOneLiteral, KeepsMarks, TellEqual, literal_of};
 
 use eqc_build::Steps;
-use eqc_compare::{Alike, Progress, is_marked};
+use eqc_compare::{Alike, is_marked};
 use eqc_pair::Pair;
 use eqc_sweep::{Comparison, Effort, Sweep};
 use std::alloc::{AllocError, Global};
@@ -171,7 +171,7 @@ impl<'a> Inside<'a> {
     }
 
     /// Whether an output is found equal within so many conflicts, which are counted down. It may be equal without.
-    fn is_equal(&mut self, output: usize, conflicts: &mut u64) -> bool
+    pub(crate) fn is_equal(&mut self, output: usize, conflicts: &mut u64) -> bool
         requires { output < length self.old.first.outputs }
         ensures pair { self.new ≡ self.old }
         ensures equal { IsTrue result → difference_at self.old output ≡ None }
@@ -184,38 +184,5 @@ impl<'a> Inside<'a> {
         }
         // Where memory is refused nothing is known.
         matches!(self.sweep.equal(x, y, conflicts), Ok(Comparison::Equal))
-    }
-
-    /// Searches for differences of the chosen outputs that are not marked, with so many conflicts in all, and marks those for which
-    /// there is none. Whether there are any: the others may be equal too. The watch is told of each output.
-    pub fn ask_outputs<R, P: Progress<R>>(
-        &mut self,
-        rt: &R,
-        alike: &mut Alike,
-        conflicts: u64,
-        watch: &P,
-    ) -> bool
-        requires { IsKnown self.old alike.old }
-        ensures pair { self.new ≡ self.old }
-        ensures known { IsKnown self.new alike.new }
-        ensures kept { KeepsMarks self.old alike.old.equal.items alike.new.equal.items }
-    {
-        let mut left = conflicts;
-        let mut found = false;
-        let outputs = self.steps.pair().first().outputs().len();
-        for output in 0..outputs {
-            watch.step(rt, output, outputs);
-            if output >= alike.equal.len() || alike.equal[output] {
-                continue;
-            }
-            if !self.steps.pair().is_chosen(output) {
-                continue;
-            }
-            if self.is_equal(output, &mut left) {
-                alike.equal[output] = true;
-                found = true;
-            }
-        }
-        found
     }
 }

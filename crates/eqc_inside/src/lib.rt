@@ -13,9 +13,10 @@ mod adding;
 mod asking;
 mod entering;
 mod inside;
+mod outputs;
 mod rounds;
 mod searching;
 
 pub use inside::Inside;
-pub use rounds::Rounds;
+pub use rounds::{Rounds, Span};
 pub use searching::{Conflicts, Searched};

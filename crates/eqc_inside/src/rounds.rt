@@ -36,6 +36,11 @@ const SHORT_NODE: u64 = 3_000;
 
 const SHORT_WHOLE: u64 = 4_000_000;
 
+/// Of rounds between: a second's, or two where there are many nodes.
+const MEDIUM_NODE: u64 = 20_000;
+
+const MEDIUM_WHOLE: u64 = 20_000_000;
+
 /// Of the others: in proportion to the graph, where it is small.
 const LONG_NODE: u64 = 100_000;
 
@@ -44,6 +49,17 @@ const LONG_WHOLE: u64 = 100_000_000;
 /// A level comes once more after a round of it that found a node equal for each so many questions that were given up.
 const WORTHWHILE: u64 = 8;
 
+/// How much a round may cost.
+#[derive(Clone, Copy, PartialEq, Eq, Debug)]
+pub enum Span {
+    /// As much as it takes to see whether larger diagrams do.
+    Short,
+    /// As much as such diagrams.
+    Medium,
+    /// All that there is.
+    Long,
+}
+
 /// How far the rounds of a sweep are, and what is left for further ones.
 #[derive(Clone, Copy, Debug)]
 pub struct Rounds {
@@ -51,7 +67,7 @@ pub struct Rounds {
     workers: u32,
     level: usize,
     left: u64,
-    is_short: bool,
+    span: Span,
     /// Whether questions were left open in the last round, and whether there are no more such rounds.
     is_open: bool,
     is_over: bool,
@@ -73,7 +89,7 @@ impl Rounds {
             workers,
             level: usize::from(steps < MANY_STEPS),
             left: conflicts.saturating_mul(WORK),
-            is_short: true,
+            span: Span::Short,
             is_open: true,
             is_over: false,
         }
@@ -98,20 +114,20 @@ impl Rounds {
         let all = self.conflicts.saturating_mul(WORK);
         let work = (all / 100).saturating_mul(part).min(self.left);
         let effort = Effort::of(question.min(self.conflicts), work);
-        let (node, whole) = if self.is_short {
-            (SHORT_NODE, SHORT_WHOLE)
-        } else {
-            (LONG_NODE, LONG_WHOLE)
+        let (node, whole) = match self.span {
+            Span::Short => (SHORT_NODE, SHORT_WHOLE),
+            Span::Medium => (MEDIUM_NODE, MEDIUM_WHOLE),
+            Span::Long => (LONG_NODE, LONG_WHOLE),
         };
         effort
             .within(self.in_proportion(node), self.in_proportion(whole))
             .by(self.workers)
     }
 
-    /// From now on rounds may cost all that there is. Where the last one gave no question up there is none.
-    pub fn lengthen(&mut self) {
+    /// From now on rounds may cost so much. Where the last one gave no question up there is none.
+    pub fn lengthen(&mut self, span: Span) {
         self.is_over = !self.is_open;
-        self.is_short = false;
+        self.span = span;
     }
 
     /// Takes what a round spent. There is none behind it where it gave no question up; where it found little, questions may have more
@@ -119,7 +135,7 @@ impl Rounds {
     pub fn count(&mut self, round: Tally) {
         self.left = self.left.saturating_sub(round.work);
         self.is_open = round.open > 0 || round.is_cut;
-        if self.is_short {
+        if self.span == Span::Short {
             self.is_over = !self.is_open
                 || round.is_cut
                 || self.level.saturating_add(1) >= SHORT_LEVELS;
@@ -133,7 +149,7 @@ impl Rounds {
         } else if round.found == 0 {
             self.is_over = true;
         }
-        self.is_over |= !self.is_open;
+        self.is_over |= !self.is_open || (self.span == Span::Medium && round.is_cut);
     }
 }
 

@@ -4,7 +4,7 @@ ghost use Rattle.eqc_graph.specs.Graph.{IsWithin, Extends};
 
 use crate::ends::same;
 use eqc_graph::negated;
-use eqc_sweep::{Comparison, Effort, Sweep, below, copied, copy, no_copies};
+use eqc_sweep::{Comparison, Effort, Sweep, Twins, below, copied, copy, no_copies};
 use std::alloc::{AllocError, Global};
 use std::process::Abort;
 use std::thread::Threads;
@@ -106,6 +106,50 @@ fn parities_are_told_apart_or_equal(rt: HostRuntime) -> Result<(), AllocError> {
         let mut sweep = Sweep::new(rt.alloc(), effort(*asks))?;
         let tried = parities(&mut sweep, first, second, *conflicts);
         same(&rt, tried, Ok((*one, *found)), case);
+    }
+    Ok(())
+}
+
+/// Three parities, of which the second has another variable less: by how many threads each is asked about beside that of all, with how
+/// many conflicts, and which are found equal.
+#[rattlefmt::skip]
+static TWINS: &[(&str, u32, u64, &[usize])] = &[
+    ("one thread", 1, 10_000, &[0, 2]),
+    ("four threads", 4, 10_000, &[0, 2]),
+    ("without a conflict", 4, 0, &[]),
+];
+
+/// The places of the parities that are found equal to that of all variables.
+fn equal_twins<R: Threads + Sync>(
+    rt: &R,
+    alloc: Global,
+    threads: u32,
+    conflicts: u64,
+) -> Result<Vec<usize>, AllocError> {
+    let mut sweep = Sweep::new(alloc, Effort::none().by(threads))?;
+    let mut twins = Vec::new(alloc);
+    for (place, second) in [BACK, WITHOUT_ONE, BACK].iter().enumerate() {
+        let x = parity(&mut sweep, FORTH)?;
+        let y = parity(&mut sweep, second)?;
+        twins.push(Twins {
+            place,
+            x,
+            y,
+            used: 0,
+        })?;
+    }
+    let mut places = Vec::new(alloc);
+    for found in sweep.equal_among(rt, &twins, conflicts)? {
+        places.push(found.place)?;
+    }
+    Ok(places)
+}
+
+#[test]
+fn twins_are_found_equal_side_by_side(rt: HostRuntime) -> Result<(), AllocError> {
+    for (case, threads, conflicts, places) in TWINS {
+        let found = equal_twins(&rt, rt.alloc(), *threads, *conflicts)?;
+        same(&rt, found.as_slice(), *places, case);
     }
     Ok(())
 }

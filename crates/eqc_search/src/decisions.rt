@@ -1,77 +1,79 @@
 //! The nodes that may be decided: the one that was last in a conflict first, then the highest.
+use crate::heights::Heights;
 use crate::reads::{NONE, lengthen, read, write};
 use std::alloc::{AllocError, Global};
 
-/// A node that may be decided, with what its turn depends on.
+/// A node among those that were in a conflict, which stand in the order in which they last were.
 #[derive(Clone, Copy)]
-struct Entry {
+struct Link {
+    /// When it was last in a conflict, or 0 where it wasn't.
     stamp: u32,
-    height: u32,
-    node: u32,
+    /// The one before it, and the one behind it.
+    older: u32,
+    newer: u32,
+    /// Whether it may be decided.
+    is_open: bool,
 }
 
-const NO_ENTRY: Entry = Entry {
+const UNLINKED: Link = Link {
     stamp: 0,
-    height: 0,
-    node: NONE,
+    older: NONE,
+    newer: NONE,
+    is_open: false,
 };
 
-impl Entry {
-    /// Whether its turn is before the other's.
-    #[inline(always)]
-    fn is_before(self, other: Entry) -> bool {
-        if self.stamp != other.stamp {
-            return self.stamp > other.stamp;
-        }
-        if self.height != other.height {
-            return self.height > other.height;
-        }
-        self.node > other.node
-    }
-}
+/// What is read of a node for which there is no room: it is never entered.
+const ENTERED: Link = Link {
+    is_open: true,
+    ..UNLINKED
+};
 
-/// A heap of nodes.
+/// The nodes that may be decided: those that were in a conflict in a row, the others by their heights.
 #[derive(Drop)]
 pub(crate) struct Decisions {
-    /// In a row with room for each node.
-    heap: Vec<Entry>,
-    size: u32,
-    /// By node: its place in the heap, if it is there; when it was last in a conflict; the value that it last had, and the one that it
-    /// has at the beginning of a question.
-    places: Vec<u32>,
-    stamps: Vec<u32>,
+    /// Those that were in none. One that was in a conflict since it came here counts no more.
+    heights: Heights,
+    /// By node: its place in the row; the value that it last had, and the one that it has at the beginning of a question.
+    links: Vec<Link>,
     phases: Vec<bool>,
     first_phases: Vec<bool>,
+    /// The last of the row, and one behind which none may be decided.
+    newest: u32,
+    next: u32,
     clock: u32,
 }
 
 impl Decisions {
     pub(crate) fn new(alloc: Global) -> Decisions {
         Decisions {
-            heap: Vec::new(alloc),
-            size: 0,
-            places: Vec::new(alloc),
-            stamps: Vec::new(alloc),
+            heights: Heights::new(alloc),
+            links: Vec::new(alloc),
             phases: Vec::new(alloc),
             first_phases: Vec::new(alloc),
+            newest: NONE,
+            next: NONE,
             clock: 0,
         }
     }
 
     /// Makes room for so many nodes.
     pub(crate) fn grow(&mut self, nodes: u32) -> Result<(), AllocError> {
-        lengthen(&mut self.heap, nodes, NO_ENTRY)?;
-        lengthen(&mut self.places, nodes, NONE)?;
-        lengthen(&mut self.stamps, nodes, 0)?;
+        self.heights.grow(nodes)?;
+        lengthen(&mut self.links, nodes, UNLINKED)?;
         lengthen(&mut self.first_phases, nodes, false)?;
         lengthen(&mut self.phases, nodes, false)
     }
 
-    /// Forgets what questions left of a node.
-    pub(crate) fn forget(&mut self, node: u32) {
-        let first = read(&self.first_phases, node, false);
-        self.set_phase(node, first);
-        write(&mut self.stamps, node, 0);
+    /// Forgets what questions left of the nodes that they looked at.
+    pub(crate) fn forget(&mut self, nodes: &[u32]) {
+        for node in nodes {
+            let first = read(&self.first_phases, *node, false);
+            self.set_phase(*node, first);
+            write(&mut self.links, *node, UNLINKED);
+        }
+        self.newest = NONE;
+        self.next = NONE;
+        self.clock = 0;
     }
 
     pub(crate) fn phase(&self, node: u32) -> bool {
@@ -91,112 +93,140 @@ impl Decisions {
         Ok(())
     }
 
-    fn put(&mut self, at: u32, entry: Entry) {
-        write(&mut self.heap, at, entry);
-        write(&mut self.places, entry.node, at);
-    }
-
-    fn entry(&self, at: u32) -> Entry {
-        read(&self.heap, at, NO_ENTRY)
-    }
-
-    /// Puts an entry at a place or above, where it belongs.
-    fn lift(&mut self, from: u32, entry: Entry) {
-        let mut at = from;
-        for _ in 0..u32::BITS {
-            if at == 0 {
-                break;
-            }
-            let above = (at - 1) / 2;
-            let other = self.entry(above);
-            if !entry.is_before(other) {
-                break;
-            }
-            self.put(at, other);
-            at = above;
-        }
-        self.put(at, entry);
-    }
-
-    /// Puts an entry at the top or below, where it belongs.
-    fn sink(&mut self, entry: Entry) {
-        let mut at: u32 = 0;
-        for _ in 0..u32::BITS {
-            let mut below = at.wrapping_mul(2).wrapping_add(1);
-            if below >= self.size {
-                break;
-            }
-            let right = below.wrapping_add(1);
-            if right < self.size && self.entry(right).is_before(self.entry(below)) {
-                below = right;
-            }
-            let other = self.entry(below);
-            if !other.is_before(entry) {
-                break;
-            }
-            self.put(at, other);
-            at = below;
-        }
-        self.put(at, entry);
+    fn link(&self, node: u32) -> Link {
+        read(&self.links, node, ENTERED)
     }
 
     /// Lets a node be decided.
     #[inline]
     pub(crate) fn insert(&mut self, node: u32, height: u32) {
-        if node == 0 || read(&self.places, node, 0) != NONE {
+        let link = self.link(node);
+        if node == 0 || link.is_open {
             return;
         }
-        let stamp = read(&self.stamps, node, 0);
-        let at = self.size;
-        self.size = at.wrapping_add(1);
-        self.lift(
-            at,
-            Entry {
-                stamp,
-                height,
-                node,
-            },
-        );
+        self.set_open(node, true);
+        if link.stamp == 0 {
+            self.heights.insert(node, height);
+        } else if self.next == NONE || self.link(self.next).stamp < link.stamp {
+            self.next = node;
+        }
+    }
+
+    fn set_open(&mut self, node: u32, is_open: bool) {
+        let link = self.link(node);
+        write(&mut self.links, node, Link { is_open, ..link });
     }
 
     /// The node whose turn it is, which is taken out.
     pub(crate) fn pop(&mut self) -> Option<u32> {
-        if self.size == 0 {
-            return None;
+        for _ in 0..self.links.len() {
+            let node = self.next;
+            if node == NONE {
+                break;
+            }
+            let link = self.link(node);
+            self.next = link.older;
+            if link.is_open {
+                self.set_open(node, false);
+                return Some(node);
+            }
         }
-        let first = self.entry(0);
-        self.size = self.size.saturating_sub(1);
-        let last = self.entry(self.size);
-        if self.size > 0 {
-            self.sink(last);
+        self.pop_highest()
+    }
+
+    /// The highest node that was in no conflict, which is taken out.
+    fn pop_highest(&mut self) -> Option<u32> {
+        for _ in 0..u32::MAX {
+            let node = self.heights.pop()?;
+            if self.link(node).stamp == 0 {
+                self.set_open(node, false);
+                return Some(node);
+            }
         }
-        write(&mut self.places, first.node, NONE);
-        Some(first.node)
+        None
+    }
+
+    /// Arranges the nodes of the window, which have these heights, so that the next one is found sooner: that pays in a long search.
+    pub(crate) fn arrange(&mut self, nodes: &[u32], heights: &[u32]) -> Result<(), AllocError> {
+        self.heights.arrange(nodes, heights)
+    }
+
+    /// Whether the nodes of the window are arranged.
+    pub(crate) fn is_arranged(&self) -> bool {
+        self.heights.is_arranged()
+    }
+
+    /// Takes a node out of the row, if it is there.
+    fn unlink(&mut self, node: u32) {
+        let Link {
+            older,
+            newer,
+            stamp,
+            ..
+        } = self.link(node);
+        if stamp == 0 {
+            return;
+        }
+        if self.next == node {
+            self.next = older;
+        }
+        if newer == NONE {
+            self.newest = older;
+        } else {
+            let link = self.link(newer);
+            write(&mut self.links, newer, Link { older, ..link });
+        }
+        let link = self.link(older);
+        write(&mut self.links, older, Link { newer, ..link });
     }
 
     /// Notes that a node is in a conflict.
     pub(crate) fn bump(&mut self, node: u32) {
+        self.unlink(node);
         self.clock = self.clock.wrapping_add(1);
-        write(&mut self.stamps, node, self.clock);
-        let at = read(&self.places, node, NONE);
-        if at != NONE {
-            let mut entry = self.entry(at);
-            entry.stamp = self.clock;
-            self.lift(at, entry);
+        let older = self.newest;
+        let before = self.link(older);
+        write(
+            &mut self.links,
+            older,
+            Link {
+                newer: node,
+                ..before
+            },
+        );
+        let is_open = self.link(node).is_open;
+        write(
+            &mut self.links,
+            node,
+            Link {
+                stamp: self.clock,
+                older,
+                newer: NONE,
+                is_open,
+            },
+        );
+        self.newest = node;
+        if is_open {
+            self.next = node;
         }
-    }
-
-    /// How many nodes may be decided.
-    pub(crate) fn len(&self) -> u32 {
-        self.size
     }
 
     /// Takes all out.
     pub(crate) fn clear(&mut self) {
-        for at in 0..self.size {
-            let entry = self.entry(at);
-            write(&mut self.places, entry.node, NONE);
+        for _ in 0..self.links.len() {
+            let Some(node) = self.heights.pop() else {
+                break;
+            };
+            self.set_open(node, false);
         }
-        self.size = 0;
+        self.heights.clear();
+        for _ in 0..self.links.len() {
+            if self.next == NONE {
+                break;
+            }
+            self.set_open(self.next, false);
+            self.next = self.link(self.next).older;
+        }
+        self.next = NONE;
     }
 }

@@ -96,7 +96,16 @@ impl Engine {
         let more = self.window.gates().saturating_sub(before);
         self.visits = self.visits.wrapping_add(u64::from(more) * TAKEN_IN);
         self.count_work(more, WORK_TAKEN_IN);
+        if self.decisions.is_arranged() {
+            self.arrange()?;
+        }
         Ok(())
+    }
+
+    /// Lets the order of decisions be laid out for the window as it is.
+    fn arrange(&mut self) -> Result<(), AllocError> {
+        self.decisions
+            .arrange(self.window.nodes(), self.window.heights())
     }
 
     /// Begins a question. Gives an assumption that is false because of another one or by itself, if there is one.
@@ -144,7 +153,7 @@ impl Engine {
 
     /// The node to be decided next, if there is one.
     fn next_decision(&mut self) -> Option<u32> {
-        for _ in 0..self.decisions.len() {
+        for _ in 0..u32::MAX {
             let node = self.decisions.pop()?;
             if self.values.value(literal_of(node, true)) == Value::Free {
                 return Some(node);
@@ -156,6 +165,9 @@ impl Engine {
     /// Takes back all decisions, and drops learned clauses if there are too many.
     fn restart(&mut self) -> Result<(), AllocError> {
         self.back_to(0);
+        if !self.decisions.is_arranged() {
+            self.arrange()?;
+        }
         if self.learned.len() > self.restarts.limit() {
             self.learned.reduce(&mut self.values)?;
             self.values.propagate_anew();
@@ -222,9 +234,7 @@ impl Engine {
     pub(crate) fn forget(&mut self) {
         self.learned.clear();
         self.restarts = Restarts::new();
-        for node in self.window.nodes() {
-            self.decisions.forget(*node);
-        }
+        self.decisions.forget(self.window.nodes());
         self.window.clear();
         self.aim = FIRST_WINDOW;
     }

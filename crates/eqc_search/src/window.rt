@@ -91,6 +91,11 @@ impl Window {
         Ok(())
     }
 
+    /// By node.
+    pub(crate) fn heights(&self) -> &[u32] {
+        self.heights.as_slice()
+    }
+
     pub(crate) fn height(&self, node: u32) -> u32 {
         read(&self.heights, node, 0)
     }

@@ -11,6 +11,7 @@ pub(crate) mod counterexamples;
 pub(crate) mod patterns;
 pub(crate) mod random;
 pub(crate) mod team;
+pub(crate) mod twins;
 pub(crate) mod waiting;
 pub(crate) mod words;
 

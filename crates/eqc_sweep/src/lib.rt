@@ -8,7 +8,7 @@
 //!   gate's operands, and `relations`, what numbers of literals tell; `reduced`, what a rule gives
 //! - `finder`, older nodes that a new one equals; in it `patterns` and `counterexamples`, simulation, with `words` and
 //!   `random`; `classes`, nodes by their signatures; `account`, what may be spent; `comparison`, what is found of two literals;
-//!   `waiting` and `team`, nodes that are asked about side by side
+//!   `waiting` and `team`, nodes that are asked about side by side, and `twins`, pairs of literals that are
 //! - `copying`, the nodes of a graph in another one; in it `ready`, which of them may enter
 //! - `table`, structural hashing, by the `order` of a gate's operands under which it is looked up
 #![tactic(auto)]
@@ -24,4 +24,5 @@ mod table;
 pub use copying::{below, copied, copy, no_copies};
 pub use effort::{Effort, Tally};
 pub use finder::comparison::Comparison;
+pub use finder::twins::Twins;
 pub use sweep::Sweep;

