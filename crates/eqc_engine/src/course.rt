@@ -210,7 +210,10 @@ fn ask_outputs<R: Threads + Sync, P: Progress<R>>(
     ensures kept { KeepsMarks inside.old alike.old.equal.items alike.new.equal.items }
 {
     let Comparison {
-        rt, alloc, watch, ..
+        rt,
+        alloc,
+        watch,
+        ..
     } = *comparison;
     watch.stage(rt, Stage::Asking);
     inside.ask_outputs(rt, alloc, alike, conflicts, watch)

@@ -85,7 +85,9 @@ impl Choice {
 
     /// Counts terms that are looked at.
     fn look(&mut self, terms: usize) {
-        self.looks = self.looks.saturating_add(terms.min(u32::MAX as usize) as u64);
+        self.looks = self
+            .looks
+            .saturating_add(terms.min(u32::MAX as usize) as u64);
     }
 
     fn has(&self, node: u32, mark: u8) -> bool {

@@ -223,12 +223,7 @@ impl Sums {
 
     #[tactic(auto, using(crate::proofs::GateLemmas::extends_both))]
     /// Whether two words are shown equal where so many inputs are few, and it is asked for many carries or not.
-    fn attempt(
-        &mut self,
-        ps: &[u32],
-        qs: &[u32],
-        kind: (usize, bool),
-    ) -> Result<bool, AllocError>
+    fn attempt(&mut self, ps: &[u32], qs: &[u32], kind: (usize, bool)) -> Result<bool, AllocError>
         ensures extends { Extends self.old.reduction.sweep self.new.reduction.sweep }
         ensures equal { IfOk result (λ is. IsTrue is → AreEqualWords self.new.reduction.sweep ps.now qs.now) }
     {

@@ -86,8 +86,18 @@ fn products_are_shown_equal(rt: HostRuntime) -> Result<(), AllocError> {
 
 #[test]
 fn few_conflicts_are_few_steps(rt: HostRuntime) -> Result<(), AllocError> {
-    same(&rt, compared_within(rt.alloc(), 200)?, (false, false), "200 conflicts");
-    same(&rt, compared_within(rt.alloc(), USUAL)?, (true, false), "as many as by default");
+    same(
+        &rt,
+        compared_within(rt.alloc(), 200)?,
+        (false, false),
+        "200 conflicts",
+    );
+    same(
+        &rt,
+        compared_within(rt.alloc(), USUAL)?,
+        (true, false),
+        "as many as by default",
+    );
     Ok(())
 }
 
