@@ -298,6 +298,11 @@ def have_names_of_cells(registers, others):
     return bool(made) and all(any(name.startswith(base) for base in bases) for name in made[:SHOWN_NAMES])
 
 
+def have_names_of_ports(registers):
+    """Whether all registers have names that yosys makes of ports of cells beside them, as where the design's were taken away."""
+    return all(MADE_NAME.search(it.name) and b"$" not in it.name for it in registers)
+
+
 def have_numbers_of_instances(registers):
     """Whether registers have numbers of instances in the ways to them, which other files number otherwise or not at all."""
     return any(NUMBERED_PART.search(CELL_PART.sub(b"", it.name)) for it in registers)
@@ -317,7 +322,10 @@ def hint(lost):
     if both:
         return f"other bits of {listed(sorted(both))}: another code of states, as without `synth -nofsm`"
     if first and second:
-        return "moved or coded otherwise, as by retiming (`abc -dff`, `retime`): compare before that step"
+        told = "moved or coded otherwise, as by retiming (`abc -dff`, `retime`): compare before that step"
+        if have_names_of_ports(first) or have_names_of_ports(second):
+            told += "; or without the design's names, as `opt_clean -purge` leaves them: write with plain `opt_clean`"
+        return told
     alone = first or second
     if alone and all(MADE_NAME.search(it.name) for it in alone):
         return "put in by a tool that moves registers, as by retiming (`-retime`): compare before that step"
