@@ -3,7 +3,7 @@
 use eqc_blif::Library;
 use eqc_pair::{Finding, Pair, Side};
 use eqc_place::Places;
-use eqc_report::Undecided;
+use eqc_report::{Differences, Undecided};
 use eqc_tree::Stop;
 use std::io;
 
@@ -15,12 +15,17 @@ pub struct Netlist<'a> {
     pub model: usize,
 }
 
-/// The places at which an output of a pair begins to differ.
+/// The places at which an output of a pair begins to differ, and the other outputs that may begin to differ at one of them.
 #[derive(Clone, Copy)]
 pub struct Located<'a> {
     pub output: &'a [u8],
     pub pair: &'a Pair<'a>,
     pub places: &'a Places,
+    /// That place by its position among them.
+    pub shared: usize,
+    /// The others by their positions among the differences.
+    pub others: &'a [usize],
+    pub differences: &'a Differences,
     pub first: Netlist<'a>,
     pub second: Netlist<'a>,
 }
@@ -60,8 +65,11 @@ pub trait Diagnostics {
     /// Whether it is to be told where differences begin.
     fn wants_places(&self) -> bool;
 
-    /// Where one of the differences begins that the report tells.
+    /// Where some of the differences begin that the report tells: first those that most outputs share.
     fn places(&mut self, located: &Located<'_>);
+
+    /// For so many of the differences no place was looked for.
+    fn unplaced(&mut self, count: usize);
 
     /// Memory was refused, and not all differences were told of.
     fn unlocated(&mut self);
@@ -97,6 +105,8 @@ impl Diagnostics for NoDiagnostics {
     }
 
     fn places(&mut self, _located: &Located<'_>) {}
+
+    fn unplaced(&mut self, _count: usize) {}
 
     fn unlocated(&mut self) {}
 }

@@ -6,9 +6,12 @@ use crate::diagnostics::{Diagnostics, Located, Netlist};
 use crate::given::{Case, bytes_of};
 use eqc_flat::{Flat, flatten_within};
 use eqc_pair::{Pair, pair_choosing};
-use eqc_place::Locator;
-use eqc_report::{Difference, Differences};
+use eqc_place::{Lanes, Locator, Places};
+use eqc_report::Differences;
 use std::alloc::{AllocError, Global};
+
+/// For so many groups of outputs places are looked for at most.
+const MOST_GROUPS: usize = 10;
 
 /// What is told of, and by what.
 #[derive(Drop)]
@@ -20,12 +23,21 @@ struct Task<'x> {
     second: Netlist<'x>,
 }
 
-/// The position of an output of this name, if there is one.
-fn position_of(pair: &Pair<'_>, name: &[u8]) -> Option<usize>
+/// Differences that may begin at one place: the first of them with its places, the place that most of the others share, and these.
+#[derive(Drop)]
+struct Group {
+    leader: usize,
+    places: Places,
+    shared: usize,
+    others: Vec<usize>,
+}
+
+/// The position of an output of this name, from one on, if there is one.
+fn position_from(pair: &Pair<'_>, from: usize, name: &[u8]) -> Option<usize>
     ensures { IfSome result (λ position. position < length pair.now.first.outputs) }
 {
     let outputs = pair.first().outputs();
-    for k in 0..outputs.len() {
+    for k in from..outputs.len() {
         if outputs[k].as_bytes() == name {
             return Some(k);
         }
@@ -33,57 +45,235 @@ fn position_of(pair: &Pair<'_>, name: &[u8]) -> Option<usize>
     None
 }
 
-/// Marks the outputs that differ. Fails where memory is refused.
-fn marked(
+/// The positions of the outputs that differ, which a report has in their order. Fails where memory is refused.
+fn positions_of(
     alloc: Global,
     pair: &Pair<'_>,
     differences: &Differences,
-) -> Result<Vec<bool>, AllocError>
+) -> Result<Vec<usize>, AllocError> {
+    let mut positions = Vec::with_capacity(alloc, differences.each.len())?;
+    let mut from = 0usize;
+    for difference in &differences.each {
+        if let Some(position) = position_from(pair, from, difference.name.as_bytes()) {
+            positions.push(position)?;
+            from = position.saturating_add(1);
+        }
+    }
+    Ok(positions)
+}
+
+/// Marks the outputs that differ. Fails where memory is refused.
+fn marked(alloc: Global, pair: &Pair<'_>, positions: &[usize]) -> Result<Vec<bool>, AllocError>
     ensures { IfOk result (λ marks. length marks.items ≡ length pair.now.first.outputs) }
 {
     let mut marks = vec![in alloc; false; pair.first().outputs().len()]?;
-    for difference in &differences.each {
-        if let Some(position) = position_of(pair, difference.name.as_bytes()) {
-            marks[position] = true;
+    for position in positions {
+        if *position < marks.len() {
+            marks[*position] = true;
         }
     }
     Ok(marks)
 }
 
+/// The first of the longest of these lists, by its position; 0 where all are empty.
+fn longest(lists: &[Vec<usize>]) -> usize {
+    let mut found = 0usize;
+    let mut most = 0usize;
+    for (k, list) in lists.iter().enumerate() {
+        if list.len() > most {
+            found = k;
+            most = list.len();
+        }
+    }
+    found
+}
+
+/// Takes the group with the most outputs, the first of them.
+fn take_largest(groups: &mut Vec<Group>) -> Option<Group> {
+    let mut found = 0usize;
+    let mut most = 0usize;
+    for (k, group) in groups.iter().enumerate() {
+        if group.others.len() > most {
+            found = k;
+            most = group.others.len();
+        }
+    }
+    if found >= groups.len() {
+        return None;
+    }
+    Some(groups.remove(found))
+}
+
+/// Outputs that are simulated together, by their positions among the differences.
+#[derive(Drop)]
+struct Batch {
+    lanes: Lanes,
+    members: Vec<usize>,
+}
+
 impl<'x> Task<'x> {
-    /// Tells of the places of one difference.
-    fn tell_one<T: Diagnostics>(
+    /// Adds to the list of each place those of a batch that it mends. Fails where memory is refused.
+    fn list_mended(
         &self,
-        pair: &Pair<'_>,
         locator: &Locator<'_>,
-        difference: &Difference,
-        told: &mut T,
-    ) -> Result<(), AllocError>
-        requires { locator.now.pair ≡ pair.now }
-    {
-        let Some(output) = position_of(pair, difference.name.as_bytes()) else {
-            return Ok(());
-        };
-        let places = locator.locate(self.alloc, output, &difference.values)?;
-        told.places(&Located {
-            output: difference.name.as_bytes(),
-            pair,
-            places: &places,
-            first: self.first,
-            second: self.second,
-        });
+        places: &Places,
+        batch: &Batch,
+        lists: &mut Vec<Vec<usize>>,
+    ) -> Result<(), AllocError> {
+        let mended = batch.lanes.mended(self.alloc, locator, places)?;
+        for (place, bits) in mended.iter().enumerate() {
+            for (lane, member) in batch.members.iter().enumerate() {
+                if place < lists.len() && (*bits >> (lane % 64)) & 1 != 0 {
+                    lists[place].push(*member)?;
+                }
+            }
+        }
         Ok(())
     }
 
-    /// Tells of the places of all differences of a pair.
+    /// For each place the differences among those that are left which it mends. Fails where memory is refused.
+    fn lists_of(
+        &self,
+        pair: &Pair<'_>,
+        locator: &Locator<'_>,
+        places: &Places,
+        positions: &[usize],
+        is_left: &[bool],
+    ) -> Result<Vec<Vec<usize>>, AllocError>
+        requires { locator.now.pair ≡ pair.now }
+    {
+        let alloc = self.alloc;
+        let mut lists = Vec::with_capacity(alloc, places.each.len())?;
+        for _ in 0..places.each.len() {
+            lists.push(Vec::new(alloc))?;
+        }
+        let mut from = 0usize;
+        for _ in 0..positions.len() {
+            let (batch, next) = self.batch(pair, locator, positions, is_left, from)?;
+            if batch.members.is_empty() {
+                break;
+            }
+            self.list_mended(locator, places, &batch, &mut lists)?;
+            from = next;
+        }
+        Ok(lists)
+    }
+
+    /// The next differences that are left, from one on, as many as are simulated together, and where the next ones begin. Fails where
+    /// memory is refused.
+    fn batch(
+        &self,
+        pair: &Pair<'_>,
+        locator: &Locator<'_>,
+        positions: &[usize],
+        is_left: &[bool],
+        from: usize,
+    ) -> Result<(Batch, usize), AllocError>
+        requires { locator.now.pair ≡ pair.now }
+    {
+        let mut lanes = Lanes::new(self.alloc);
+        let mut members = Vec::new(self.alloc);
+        let each = &self.differences.each;
+        for k in from..positions.len().min(each.len()) {
+            let output = positions[k];
+            let is_output = output < pair.first().outputs().len();
+            if is_output && is_left.get(k).copied().unwrap_or(false) {
+                if !lanes.add(locator, output, &each[k].values)? {
+                    return Ok((Batch { lanes, members }, k));
+                }
+                members.push(k)?;
+            }
+        }
+        Ok((Batch { lanes, members }, positions.len()))
+    }
+
+    /// The group of a difference and of others that are left. Fails where memory is refused.
+    fn group(
+        &self,
+        pair: &Pair<'_>,
+        locator: &Locator<'_>,
+        positions: &[usize],
+        leader: usize,
+        is_left: &mut Vec<bool>,
+    ) -> Result<Option<Group>, AllocError>
+        requires { locator.now.pair ≡ pair.now }
+    {
+        let Some(difference) = self.differences.each.get(leader) else {
+            return Ok(None);
+        };
+        let output = positions.get(leader).copied().unwrap_or(usize::MAX);
+        if output >= pair.first().outputs().len() {
+            return Ok(None);
+        }
+        let places = locator.locate(self.alloc, output, &difference.values)?;
+        let mut lists = self.lists_of(pair, locator, &places, positions, is_left)?;
+        let shared = longest(&lists);
+        let others = if shared < lists.len() {
+            lists.swap_remove(shared)
+        } else {
+            Vec::new(self.alloc)
+        };
+        for k in &others {
+            if *k < is_left.len() {
+                is_left[*k] = false;
+            }
+        }
+        Ok(Some(Group {
+            leader,
+            places,
+            shared,
+            others,
+        }))
+    }
+
+    /// Tells of the places of all differences of a pair, those first that most outputs share.
     fn tell_pair<T: Diagnostics>(&self, pair: &Pair<'_>, told: &mut T) -> Result<(), AllocError> {
-        let marks = marked(self.alloc, pair, self.differences)?;
+        let positions = positions_of(self.alloc, pair, self.differences)?;
+        let marks = marked(self.alloc, pair, &positions)?;
         let conflicts = u64::from(self.case.options.conflicts);
         let locator = Locator::of(self.alloc, pair, &marks, conflicts)?;
-        for difference in &self.differences.each {
-            self.tell_one(pair, &locator, difference, told)?;
+        let mut is_left = vec![in self.alloc; true; positions.len()]?;
+        let mut groups = Vec::new(self.alloc);
+        for k in 0..positions.len() {
+            if k < is_left.len() && is_left[k] && groups.len() < MOST_GROUPS {
+                is_left[k] = false;
+                if let Some(group) = self.group(pair, &locator, &positions, k, &mut is_left)? {
+                    groups.push(group)?;
+                }
+            }
+        }
+        self.tell_groups(pair, &mut groups, told);
+        let left = is_left.iter().filter(|left| **left).count();
+        if left > 0 {
+            told.unplaced(left);
         }
         Ok(())
+    }
+
+    /// Tells of a group.
+    fn tell_group<T: Diagnostics>(&self, pair: &Pair<'_>, group: Group, told: &mut T) {
+        let Some(difference) = self.differences.each.get(group.leader) else {
+            return;
+        };
+        told.places(&Located {
+            output: difference.name.as_bytes(),
+            pair,
+            places: &group.places,
+            shared: group.shared,
+            others: &group.others,
+            differences: self.differences,
+            first: self.first,
+            second: self.second,
+        });
+    }
+
+    /// Tells of groups.
+    fn tell_groups<T: Diagnostics>(&self, pair: &Pair<'_>, groups: &mut Vec<Group>, told: &mut T) {
+        for _ in 0..groups.len() {
+            if let Some(group) = take_largest(groups) {
+                self.tell_group(pair, group, told);
+            }
+        }
     }
 
     /// The same under the assumption of a text.

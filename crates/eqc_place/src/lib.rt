@@ -4,14 +4,17 @@
 //! Read the modules in this order:
 //!
 //! - `locating`, the call; `place`, what it tells, and `partner`, which signals are proved equal
-//! - `told`, the values of all signals under one assignment, and `words`, those under many, of which nothing is believed
+//! - `told`, the values of all signals under one assignment, and `words`, those under many, of which nothing is believed, by `covers`
 //! - `trial`, in which order signals are told of one output: by `sensitised`, signals on ways from it back; by `turning`, what comes
 //!   of a signal with the opposite value, over its `users`; by `ranking`; and `mending`, signals that have the wanted values
+//! - `lanes`, which of many outputs may begin to differ at one place
 //! - `known`, signals that the other netlist has, and `depths`, how high they stand
 #![tactic(auto)]
 
+mod covers;
 mod depths;
 mod known;
+mod lanes;
 mod locating;
 mod mending;
 mod partner;
@@ -24,5 +27,6 @@ mod turning;
 mod users;
 mod words;
 
+pub use lanes::Lanes;
 pub use locating::Locator;
 pub use place::{Column, Mending, Partner, Place, Places};

@@ -5,6 +5,7 @@ ghost use Rattle.eqc_pair.specs.PairOf.{input_values};
 ghost use Rattle.eqc_place.specs.Places.{AreColumns, IsPlace};
 ghost use Rattle.eqc_place.specs.Values.{AreValues};
 
+use crate::covers::Covers;
 use crate::depths::depths_of;
 use crate::known::Known;
 use crate::partner::Firsts;
@@ -41,6 +42,7 @@ pub struct Locator<'a> {
     known: Known,
     /// The steps that the chosen outputs need, and who uses each.
     pub(crate) marks: Vec<bool>,
+    pub(crate) covers: Covers,
     pub(crate) users: Users,
     pub(crate) depths: Vec<u32>,
     /// The steps of the chosen outputs.
@@ -113,7 +115,8 @@ impl<'a> Locator<'a> {
         let known = Known::of(alloc, graph, &literals, second, end)?;
         let chosen = chosen_outputs(alloc, steps.pair())?;
         let marks = needed_within(alloc, &steps, &chosen, CHARACTERS)?;
-        let users = Users::of(alloc, &steps)?;
+        let covers = Covers::of(alloc, &steps, &marks)?;
+        let users = Users::of(alloc, &steps, &marks)?;
         let depths = depths_of(alloc, &steps)?;
         let roots = roots_of(alloc, &steps)?;
         Ok(Locator {
@@ -122,6 +125,7 @@ impl<'a> Locator<'a> {
             firsts,
             known,
             marks,
+            covers,
             users,
             depths,
             outputs: roots,

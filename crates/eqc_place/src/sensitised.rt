@@ -1,6 +1,7 @@
 //! Signals on ways from an output back along which each alone turns the next one, under the assignment of a difference.
 
-use crate::words::{step_word, word_at};
+use crate::covers::Covers;
+use crate::words::word_at;
 use eqc_build::{StepDriver, Steps};
 use std::alloc::{AllocError, Global};
 
@@ -8,7 +9,13 @@ use std::alloc::{AllocError, Global};
 const MOST_COLUMNS: usize = 64;
 
 /// Marks the steps that a step uses, and that alone turn it.
-fn mark_turning(steps: &Steps<'_>, words: &[u64], step: u32, found: &mut Vec<bool>) {
+fn mark_turning(
+    steps: &Steps<'_>,
+    covers: &Covers,
+    words: &[u64],
+    step: u32,
+    found: &mut Vec<bool>,
+) {
     if step >= steps.len() {
         return;
     }
@@ -26,7 +33,7 @@ fn mark_turning(steps: &Steps<'_>, words: &[u64], step: u32, found: &mut Vec<boo
             found[column] = true;
             continue;
         }
-        let turned = step_word(steps, &[], words, step, column as u32);
+        let turned = covers.word(&[], words, step, column as u32);
         found[column] = (turned ^ word) & 1 != 0;
     }
 }
@@ -35,6 +42,7 @@ fn mark_turning(steps: &Steps<'_>, words: &[u64], step: u32, found: &mut Vec<boo
 pub(crate) fn sensitised(
     alloc: Global,
     steps: &Steps<'_>,
+    covers: &Covers,
     words: &[u64],
     roots: [u32; 2],
 ) -> Result<Vec<bool>, AllocError> {
@@ -48,7 +56,7 @@ pub(crate) fn sensitised(
     for back in 0..count {
         let step = count - 1 - back;
         if found.get(step as usize).copied().unwrap_or(false) {
-            mark_turning(steps, words, step, &mut found);
+            mark_turning(steps, covers, words, step, &mut found);
         }
     }
     Ok(found)

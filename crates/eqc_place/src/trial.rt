@@ -10,8 +10,13 @@ use crate::words::{ROUNDS, words_under};
 use eqc_build::StepDriver;
 use std::alloc::{AllocError, Global};
 
-/// So many characters of covers are gone through at most to turn the steps of a kind, and as many for all that are looked at in all rounds.
-const WORK: u64 = 8_000_000;
+/// All covers are gone through so many times at most to turn the steps of a kind, and as many for all that are looked at in all rounds.
+const PASSES: u64 = 16;
+
+/// In a small pair so many literals may be gone through for this all the same, and in a large one no more.
+const LEAST_WORK: u64 = 500_000;
+
+const MOST_WORK: u64 = 16_000_000;
 
 /// An output by its two steps, with the words under which it is looked at.
 #[derive(Drop)]
@@ -31,10 +36,10 @@ struct Kind {
 }
 
 /// What is looked at for an output of these steps.
-fn scene<'x>(locator: &'x Locator<'_>, roots: [u32; 2]) -> Scene<'x> {
+pub(crate) fn scene<'x>(locator: &'x Locator<'_>, roots: [u32; 2]) -> Scene<'x> {
     Scene {
         steps: &locator.steps,
-        marks: &locator.marks,
+        covers: &locator.covers,
         users: &locator.users,
         outputs: &locator.outputs,
         roots,
@@ -50,7 +55,7 @@ impl<'x, 'a> Trial<'x, 'a> {
         inputs: &[bool],
     ) -> Result<Trial<'x, 'a>, AllocError> {
         let mut rounds = Vec::with_capacity(alloc, ROUNDS)?;
-        for words in words_under(alloc, &locator.steps, &locator.marks, inputs)? {
+        for words in words_under(alloc, &locator.steps, &locator.covers, inputs)? {
             let round = Turning::of(alloc, scene(locator, roots), words)?;
             rounds.push(round)?;
         }
@@ -71,13 +76,21 @@ impl<'x, 'a> Trial<'x, 'a> {
         all
     }
 
-    /// How many characters of covers were gone through, about.
+    /// How many literals of covers were gone through, about.
     fn work(&self) -> u64 {
         let mut all = 0u64;
         for round in &self.rounds {
             all = all.saturating_add(round.work);
         }
         all
+    }
+
+    /// How many literals may have been gone through when the next kind is done.
+    fn limit(&self) -> u64 {
+        let locator = self.locator;
+        let passes = locator.covers.whole().saturating_mul(PASSES);
+        let work = passes.max(LEAST_WORK).min(MOST_WORK);
+        self.work().saturating_add(work)
     }
 
     /// What comes of turning a step, in the first rounds, at most so many. Fails where memory is refused.
@@ -142,7 +155,7 @@ impl<'x, 'a> Trial<'x, 'a> {
         kind: Kind,
         ranked: &mut Vec<Suspect>,
     ) -> Result<(), AllocError> {
-        let limit = self.work().saturating_add(WORK);
+        let limit = self.limit();
         for step in kind.begin..kind.end {
             let is_found = found.get(step as usize).copied().unwrap_or(false);
             if is_found && self.is_cover(step) && self.locator.is_known(step) == kind.is_known {
@@ -165,6 +178,7 @@ impl<'x, 'a> Trial<'x, 'a> {
         let found = sensitised(
             self.alloc,
             &locator.steps,
+            &locator.covers,
             &self.rounds[0].words,
             self.roots,
         )?;
@@ -190,7 +204,7 @@ impl<'x, 'a> Trial<'x, 'a> {
     ) -> Result<Vec<Suspect>, AllocError> {
         let (second, _) = self.locator.second_steps();
         let mut ranked = Vec::new(self.alloc);
-        let limit = self.work().saturating_add(WORK);
+        let limit = self.limit();
         for suspect in first {
             if (suspect.step >= second) != is_second || self.work() > limit {
                 continue;

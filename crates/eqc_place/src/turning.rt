@@ -1,11 +1,10 @@
 //! What comes of the outputs where one step has the opposite value.
-ghost use Rattle.std.specs.Prelude.{◌<◌};
-ghost use Rattle.eqc_build.specs.Steps.{steps_in};
 
+use crate::covers::Covers;
 use crate::partner::NONE;
-use crate::users::Users;
-use crate::words::{step_word, word_at};
-use eqc_build::{StepDriver, Steps};
+use crate::users::{Pending, Users};
+use crate::words::word_at;
+use eqc_build::Steps;
 use std::alloc::{AllocError, Global};
 
 /// The assignments of a round that tell of a step: those under which the output differs and wouldn't with the opposite value, and those
@@ -18,11 +17,11 @@ pub(crate) struct Turned {
     pub(crate) whole: u64,
 }
 
-/// What is looked at: the steps of a pair, those that are marked and those that use each one, and the output's two steps.
+/// What is looked at: the steps of a pair, the covers of those that are marked and those that use each one, and the output's two steps.
 #[derive(Clone, Copy)]
 pub(crate) struct Scene<'x> {
     pub(crate) steps: &'x Steps<'x>,
-    pub(crate) marks: &'x [bool],
+    pub(crate) covers: &'x Covers,
     pub(crate) users: &'x Users,
     /// The steps of the chosen outputs.
     pub(crate) outputs: &'x [[u32; 2]],
@@ -37,28 +36,13 @@ pub(crate) struct Turning {
     /// The steps whose words are others than before.
     changed: Vec<u32>,
     /// Those that use one of them.
-    pending: Vec<bool>,
+    pending: Pending,
     /// Assignments that are allowed and under which the output differs, and those under which some output does.
     pub(crate) differing: u64,
     some: u64,
     allowed: u64,
-    /// How many characters of covers were gone through, about.
+    /// How many literals of covers were gone through, about.
     pub(crate) work: u64,
-}
-
-/// So many steps are passed in the time of a character.
-const PASSED: u64 = 8;
-
-/// About how many characters the cover of a step has.
-fn characters(steps: &Steps<'_>, step: u32) -> u64
-    requires { step < steps_in steps.now.pair }
-{
-    match steps.driver(step) {
-        StepDriver::Cover { columns, rows, .. } => {
-            (columns.len() as u64).saturating_mul(rows.len() as u64)
-        }
-        _ => 1,
-    }
 }
 
 /// Assignments under which an output of these steps differs.
@@ -92,7 +76,7 @@ impl Turning {
     ) -> Result<Turning, AllocError> {
         let mut turned = Vec::with_capacity(alloc, words.len())?;
         turned.extend_from_slice(&words)?;
-        let pending = vec![in alloc; false; words.len()]?;
+        let pending = Pending::of(alloc, scene.steps.len())?;
         let allowed = allowed(scene.steps, &words);
         let differing = apart(&words, scene.roots) & allowed;
         let some = some_apart(&words, scene.outputs) & allowed;
@@ -119,33 +103,19 @@ impl Turning {
         Ok(())
     }
 
-    /// Whether a step uses one that has changed, which is so no longer.
-    fn take_pending(&mut self, step: u32) -> bool {
-        let at = step as usize;
-        if at < self.pending.len() && self.pending[at] {
-            self.pending[at] = false;
-            return true;
-        }
-        false
-    }
-
-    /// Turns a step, and gives the marked steps above it the words that they have then. Fails where memory is refused.
+    /// Turns a step, and gives the steps above it the words that they have then. Fails where memory is refused.
     fn turn(&mut self, scene: Scene<'_>, step: u32) -> Result<(), AllocError> {
         let word = !word_at(&self.words, step);
         self.change(scene.users, step, word)?;
-        let passed = u64::from(scene.steps.len()) / PASSED;
-        self.work = self
-            .work
-            .saturating_add(passed.saturating_add(scene.outputs.len() as u64));
-        for above in step.saturating_add(1)..scene.steps.len() {
-            if !self.take_pending(above) {
-                continue;
-            }
-            if scene.marks.get(above as usize).copied().unwrap_or(false) {
-                self.work = self.work.saturating_add(characters(scene.steps, above));
-                let word = step_word(scene.steps, &[], &self.turned, above, NONE);
-                self.change(scene.users, above, word)?;
-            }
+        self.work = self.work.saturating_add(scene.outputs.len() as u64);
+        // The users of a step come behind it, so that each step is taken once at most.
+        for _ in 0..scene.steps.len() {
+            let Some(above) = self.pending.take() else {
+                break;
+            };
+            self.work = self.work.saturating_add(scene.covers.size(above));
+            let word = scene.covers.word(&[], &self.turned, above, NONE);
+            self.change(scene.users, above, word)?;
         }
         Ok(())
     }
@@ -172,5 +142,23 @@ impl Turning {
             broken: self.allowed & !self.some & (after | others),
             whole: self.differing & !others,
         })
+    }
+
+    /// Which of these outputs differ, each in the bit of its number, and wouldn't with the opposite value of a step. Fails where memory is
+    /// refused.
+    pub(crate) fn mended_each(
+        &mut self,
+        scene: Scene<'_>,
+        step: u32,
+        each: &[[u32; 2]],
+    ) -> Result<u64, AllocError> {
+        self.turn(scene, step)?;
+        let mut mended = 0u64;
+        for (k, roots) in each.iter().enumerate() {
+            let differs = apart(&self.words, *roots) & !apart(&self.turned, *roots);
+            mended |= differs & (1 << (k % 64));
+        }
+        self.turn_back();
+        Ok(mended)
     }
 }

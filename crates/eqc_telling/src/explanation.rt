@@ -3,7 +3,7 @@
 //! A path of an instance is read from the main model down: `2:adder/1:cell` is, in the second `.subckt` of the main model, an
 //! `adder`, its first one, a `cell`.
 
-use crate::places::{mending_said, output_said, place_said};
+use crate::places::{mending_said, output_said, place_said, sharing_said, unplaced_said};
 use crate::warning::{first_source, second_source};
 use eqc_blif::{Finding as TextFinding, Library};
 use eqc_case::{Diagnostics, Located};
@@ -610,7 +610,7 @@ impl<'a> Explanation<'a> {
         }
     }
 
-    /// Tells of the places of a difference.
+    /// Tells of the places of a difference, and of the others that may begin at one of them.
     fn tell_places(&mut self, located: &Located<'_>) -> Result<(), AllocError> {
         self.put(output_said(self.alloc, located))?;
         let places = located.places;
@@ -620,7 +620,12 @@ impl<'a> Explanation<'a> {
                 self.put(mending_said(self.alloc, located, mending))?;
             }
         }
-        Ok(())
+        match places.each.get(located.shared) {
+            Some(place) if !located.others.is_empty() => {
+                self.put(sharing_said(self.alloc, located, place))
+            }
+            _ => Ok(()),
+        }
     }
 
     /// Tells of a file that can't be opened or read, or of a report that can't be written, and the system's reason.
@@ -690,6 +695,10 @@ impl<'a> Diagnostics for Explanation<'a> {
 
     fn places(&mut self, located: &Located<'_>) {
         let _ = self.tell_places(located);
+    }
+
+    fn unplaced(&mut self, count: usize) {
+        let _ = self.put(unplaced_said(self.alloc, count));
     }
 
     fn unlocated(&mut self) {

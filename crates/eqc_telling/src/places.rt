@@ -100,19 +100,26 @@ fn path_of(
 }
 
 impl<'a> Signal<'a> {
-    /// Its name, and the line of the cover that drives it, if it is found. Fails where memory is refused.
-    fn named(&self, alloc: Global) -> Result<(String, Option<u32>), AllocError>
+    /// Its name, and the number of the model that it stands in. Fails where memory is refused.
+    fn named(&self, alloc: Global) -> Result<(String, usize), AllocError>
         requires { self.now.number < length self.now.flat.now.drivers }
     {
         let (instance, name) = self.flat.signal(self.number);
         let positions = positions_of(alloc, self.flat, instance)?;
         let (model, path) = path_of(alloc, self.netlist, &positions)?;
         let said = format!(in alloc; "'{}'{path}", Shown(name))?;
+        Ok((said, model))
+    }
+
+    /// The line of the cover that drives it, where it stands in a model of this number, if it is found.
+    fn line(&self, model: usize) -> Option<u32>
+        requires { self.now.number < length self.now.flat.now.drivers }
+    {
         if model >= self.netlist.library.models() {
-            return Ok((said, None));
+            return None;
         }
-        let line = line_of_cover(self.netlist.text, self.netlist.library.name(model), name);
-        Ok((said, line))
+        let (_, name) = self.flat.signal(self.number);
+        line_of_cover(self.netlist.text, self.netlist.library.name(model), name)
     }
 
     /// Which netlist it is of.
@@ -148,6 +155,16 @@ fn column_said(
     format!(in alloc; " {name}={value} ({not}{other})")
 }
 
+/// A row as a text has it, with a blank before its output. Fails where memory is refused.
+fn row_said(alloc: Global, row: &[u8]) -> Result<String, AllocError> {
+    match row.split_last() {
+        Some((output, columns)) if !columns.is_empty() => {
+            format!(in alloc; "{} {}", Shown(columns), Shown(&[*output]))
+        }
+        _ => format!(in alloc; "{}", Shown(row)),
+    }
+}
+
 /// The rows of the cover of a signal. Fails where memory is refused.
 fn rows_said(alloc: Global, signal: &Signal<'_>) -> Result<String, AllocError>
     requires { signal.now.number < length signal.now.flat.now.drivers }
@@ -160,7 +177,8 @@ fn rows_said(alloc: Global, signal: &Signal<'_>) -> Result<String, AllocError>
     let rows = signal.flat.rows(rows);
     for k in 0..rows.len().min(LISTED) {
         let cut = if k == 0 { "" } else { ", " };
-        let row = format!(in alloc; "{cut}{}", Shown(rows.get(k)))?;
+        let row = row_said(alloc, rows.get(k))?;
+        said.push_str(cut)?;
         said.push_str(&row)?;
     }
     if rows.len() > LISTED {
@@ -192,10 +210,10 @@ pub(crate) fn place_said(
     let Some(signal) = signal_of(located, place.step) else {
         return Ok(String::new(alloc));
     };
-    let (name, line) = signal.named(alloc)?;
+    let (name, model) = signal.named(alloc)?;
     let side = signal.side();
     let value = u8::from(place.value);
-    let mut said = match line {
+    let mut said = match signal.line(model) {
         Some(line) => format!(in alloc; "{side}, line {line}: {name} is {value}"),
         None => format!(in alloc; "{side}: {name} is {value}"),
     }?;
@@ -227,4 +245,32 @@ pub(crate) fn output_said(alloc: Global, located: &Located<'_>) -> Result<String
         "'{output}' differs, in {} simulated assignments, which may begin at:",
         located.places.differing
     )
+}
+
+/// The line on the other outputs that may begin to differ at a place. Fails where memory is refused.
+pub(crate) fn sharing_said(
+    alloc: Global,
+    located: &Located<'_>,
+    place: &Place,
+) -> Result<String, AllocError> {
+    let count = located.others.len();
+    let name = name_of(alloc, located, place.step)?;
+    let what = if count == 1 { "output" } else { "outputs" };
+    let mut said = format!(in alloc; "{count} more {what} may begin to differ at {name}:")?;
+    for other in located.others.iter().take(LISTED) {
+        if let Some(difference) = located.differences.each.get(*other) {
+            let output = format!(in alloc; " '{}'", Shown(difference.name.as_bytes()))?;
+            said.push_str(&output)?;
+        }
+    }
+    if count > LISTED {
+        said.push_str(" ..")?;
+    }
+    Ok(said)
+}
+
+/// The line on differences for which no place was looked for. Fails where memory is refused.
+pub(crate) fn unplaced_said(alloc: Global, count: usize) -> Result<String, AllocError> {
+    let what = if count == 1 { "output" } else { "outputs" };
+    format!(in alloc; "{count} more {what} may begin to differ elsewhere, which was not looked for")
 }

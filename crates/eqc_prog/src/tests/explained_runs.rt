@@ -345,28 +345,55 @@ const LOST_OUTPUT: &str = "eqc: 'y' differs, in 364 simulated assignments, which
 
 /// The first place of it, with what mends it.
 const LOST_PLACE: &str =
-    "eqc: second, line 12: 'm' is 1, mends 364 of 364 if turned, and another cover of its columns may do so; cover 1-1 of 'a'=1 ('a') 'b'=0 ('b')";
+    "eqc: second, line 12: 'm' is 1, mends 364 of 364 if turned, and another cover of its columns may do so; cover 1- 1 of 'a'=1 ('a') 'b'=0 ('b')";
 
 const LOST_MENDING: &str =
     "eqc: 'n' of the other netlist has the values that mend it, in 512 simulated assignments";
 
-/// Whether a report is the same with `--locate`, and these lines are the first on standard error.
+/// The same with a second output behind the cover.
+const LOST_TWICE: &str =
+    ".model f;.inputs a b;.outputs y z;.names a b n;11 1;.names n y;0 1;.names n b z;10 1;01 1;.end;.model g;.inputs a b;.outputs y z;.names a b m;1- 1;.names m y;0 1;.names m b z;10 1;01 1;.end;";
+
+const LOST_TWICE_REPORT: &str =
+    "differs at y;a=1;b=0;first=1;second=0;differs at z;a=1;b=0;first=0;second=1;";
+
+/// What is said of the second output.
+const LOST_SHARED: &str = "eqc: 1 more output may begin to differ at 'm': 'z'";
+
+/// Whether a report is the same with `--locate` behind options, and standard error begins and ends with these lines.
 fn is_located(
     rt: &(impl AllocGlobal + Threads + Wait + Sync),
     text: &str,
-    report: &str,
+    told: (&str, &str),
     first: &[&str],
+    last: &[&str],
 ) -> Result<bool, AllocError> {
+    let (options, report) = told;
     let text = lines(rt.alloc(), text)?;
-    let plain = plain_status(rt, &text, "", report)?;
-    let located = written_by(rt, "eqc --locate", Feed::of_bytes(&text))?;
+    let plain = plain_status(rt, &text, options, report)?;
+    let line = format!(in rt.alloc(); "eqc {options} --locate")?;
+    let located = written_by(rt, &line, Feed::of_bytes(&text))?;
     let said = joined(rt.alloc(), first, "")?;
+    let end = joined(rt.alloc(), last, "")?;
     let is_same = is_text(&located.out, report) && plain == Some(located.status);
-    Ok(is_same && located.err.as_slice().starts_with(said.as_bytes()))
+    let told = located.err.as_slice();
+    Ok(is_same && told.starts_with(said.as_bytes()) && told.ends_with(end.as_bytes()))
 }
 
 #[test]
 fn differences_are_located(rt: HostRuntime) {
     let first = [LOST_OUTPUT, LOST_PLACE, LOST_MENDING];
-    holds(&rt, is_located(&rt, LOST, LOST_REPORT, &first), "places");
+    holds(
+        &rt,
+        is_located(&rt, LOST, ("", LOST_REPORT), &first, &[]),
+        "places",
+    );
+}
+
+#[test]
+fn outputs_are_grouped_by_place(rt: HostRuntime) {
+    let told = ("--all", LOST_TWICE_REPORT);
+    let first = [LOST_OUTPUT];
+    let located = is_located(&rt, LOST_TWICE, told, &first, &[LOST_SHARED]);
+    holds(&rt, located, "two outputs");
 }

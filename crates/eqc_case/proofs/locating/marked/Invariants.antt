@@ -1,5 +1,5 @@
 use Rattle.std.proofs.Common.{◌≡◌, length}
 use Rattle.eqc_case.proofs.locating.marked.Given as goal
 
-abbrev pub invariant-loop-difference : goal.invariant-loop-difference
-invariant-loop-difference l = length l.marks.items ≡ length l.pair.first.outputs
+abbrev pub invariant-loop-position : goal.invariant-loop-position
+invariant-loop-position l = length l.marks.items ≡ length l.pair.first.outputs
