@@ -27,13 +27,10 @@ use std::alloc::{AllocError, Global};
 /// The most conflicts of a question of the sweep under the sums.
 const CHEAP: u64 = 30;
 
-/// The work of all questions, that of the sweep among them: so much for each node of the graph, and for the graph as a whole, with so many
-/// conflicts.
-const EACH_NODE: u64 = 20_000;
+/// The work of the questions in each attempt to show a word: so much for each node of the graph, and for the graph as a whole.
+const EACH_NODE: u64 = 10_000;
 
-const WHOLE: u64 = 120_000_000;
-
-const USUAL: u64 = 100_000;
+const WHOLE: u64 = 60_000_000;
 
 /// So many words that aren't shown equal end it.
 const MOST_FAILED: u32 = 3;
@@ -42,7 +39,6 @@ const MOST_FAILED: u32 = 3;
 fn limits_in(nodes: u32, conflicts: u64) -> Limits {
     let limits = Limits::of(conflicts);
     let work = u64::from(nodes) * EACH_NODE + WHOLE;
-    let work = work.saturating_mul(conflicts) / USUAL;
     Limits {
         work: limits.work.min(work),
         ..limits
@@ -144,7 +140,7 @@ fn show_word(
     ensures kept { KeepsMarks task.now.steps.now.pair alike.old.equal.items alike.new.equal.items }
 {
     let Literals { firsts, seconds } = literals_of(task.alloc, task.steps, literals, word)?;
-    let is_shown = sums.show(&firsts, &seconds)?;
+    let is_shown = sums.show(&firsts, &seconds, task.limits)?;
     if is_shown {
         mark_first(alike, word, firsts.len());
     }
@@ -167,7 +163,7 @@ fn show_words<R, P: Progress<R>>(
     ensures known { IsKnown task.now.steps.now.pair alike.new }
     ensures kept { KeepsMarks task.now.steps.now.pair alike.old.equal.items alike.new.equal.items }
 {
-    sums.find_adders()?;
+    sums.find_adders(task.limits)?;
     let mut failed = 0u32;
     let words = task.words;
     for k in 0..words.len() {
@@ -204,11 +200,11 @@ fn add_words<R, P: Progress<R>>(
         ..
     } = *task;
     watch.stage(rt, Stage::Sweeping);
-    let effort = Effort::of(CHEAP, limits.work / 2);
+    let effort = Effort::of(CHEAP, limits.work);
     let mut sweep = Sweep::new(alloc, effort)?;
     let literals = entered(rt, alloc, steps, marks, &mut sweep, watch)?;
     watch.stage(rt, Stage::Adding);
-    let mut sums = Sums::new(alloc, sweep, limits);
+    let mut sums = Sums::new(alloc, sweep);
     show_words(rt, task, &literals, &mut sums, alike, watch)
 }
 

@@ -23,18 +23,14 @@ const STUCK: u8 = 8;
 /// Another conjunction was taken for a node.
 const TURNED: u8 = 16;
 
-/// How often a node is taken for a sum, and for a product of one: where nodes were found equal, products may lead to one another.
+/// How often a node is taken for a sum.
 const OFTEN: u8 = 8;
-
-const OFTEN_PRODUCT: u8 = 2;
 
 /// How many rules there are.
 const RULES: u32 = 16;
 
-/// The rules for sums, and for products of sums.
+/// The rule for sums.
 const SUM: u32 = 1;
-
-const PRODUCT: u32 = 2;
 
 /// The rule that asks whether nodes are equal, and the last one before sums are allowed again.
 const ALIKE: u32 = 7;
@@ -58,8 +54,6 @@ pub(crate) struct Choice {
     asked: Vec<(u32, u32)>,
     /// Whether carries of sums that are used aren't taken for carries any more.
     are_sums_used: bool,
-    /// How many terms were looked at.
-    looks: u64,
 }
 
 impl Choice {
@@ -72,22 +66,7 @@ impl Choice {
             last: (0, 0),
             asked: Vec::new(alloc),
             are_sums_used: false,
-            looks: 0,
         }
-    }
-
-    /// How many terms were looked at since this was asked.
-    pub(crate) fn take_looks(&mut self) -> u64 {
-        let looks = self.looks;
-        self.looks = 0;
-        looks
-    }
-
-    /// Counts terms that are looked at.
-    fn look(&mut self, terms: usize) {
-        self.looks = self
-            .looks
-            .saturating_add(terms.min(u32::MAX as usize) as u64);
     }
 
     fn has(&self, node: u32, mark: u8) -> bool {
@@ -199,7 +178,6 @@ impl Choice {
         lowest: u32,
     ) -> Option<Move> {
         for back in 0..self.terms.len() {
-            self.look(1);
             if let Some(node) = self.node(back) {
                 let place = Place {
                     form: reduction.form(),
@@ -221,6 +199,7 @@ impl Choice {
         if self.turns >= TURNS {
             return false;
         }
+        self.turns += 1;
         let mut some = false;
         for marks in self.marks.iter_mut() {
             if *marks & NO_SUM != 0 {
@@ -229,9 +208,6 @@ impl Choice {
             }
         }
         self.are_sums_used = true;
-        if some {
-            self.turns += 1;
-        }
         some
     }
 
@@ -241,13 +217,6 @@ impl Choice {
             return None;
         }
         let step = self.by_one(sweep, rule, place)?;
-        if rule == PRODUCT {
-            let times = self.times.get_mut(place.node as usize)?;
-            if *times >= OFTEN_PRODUCT {
-                return None;
-            }
-            *times = times.wrapping_add(1);
-        }
         if rule != ALIKE {
             self.last = (place.node, place.factor);
         }
@@ -259,7 +228,7 @@ impl Choice {
         match rule {
             0 => place.relation(),
             SUM => self.sum(place),
-            PRODUCT => self.product(place),
+            2 => self.product(place),
             3 => place.complement(),
             4 => self.carry(place),
             5 => place.small(false),
@@ -372,8 +341,6 @@ impl Choice {
         if self.has(node, ASKED) || !place.is_gate() {
             return None;
         }
-        let asked = self.asked.len();
-        self.look(asked);
         let Some(other) = self.like(sweep, node) else {
             self.mark(node, ASKED);
             return None;

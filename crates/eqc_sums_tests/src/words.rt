@@ -6,9 +6,6 @@ use eqc_sums::{Limits, Sums, has_adders, words_of};
 use eqc_sweep::{Effort, Sweep};
 use std::alloc::{AllocError, Global};
 
-/// As many conflicts as a run has by default.
-const USUAL: u64 = 100_000;
-
 /// Two products in one graph.
 fn products(
     alloc: Global,
@@ -25,19 +22,14 @@ fn products(
 
 /// Whether two words are shown equal, and whether they are one anyway.
 fn shown(sums: &mut Sums, p: &[u32], q: &[u32]) -> Result<(bool, bool), AllocError> {
-    sums.find_adders()?;
-    Ok((sums.show(p, q)?, p == q))
+    let limits = Limits::of(100_000);
+    sums.find_adders(limits)?;
+    Ok((sums.show(p, q, limits)?, p == q))
 }
 
-/// The same in a graph, with so many conflicts. It stands apart for its proof's sake: what is known of adders is let go in one exit.
-fn shown_in(
-    alloc: Global,
-    sweep: Sweep,
-    p: &[u32],
-    q: &[u32],
-    conflicts: u64,
-) -> Result<(bool, bool), AllocError> {
-    let mut sums = Sums::new(alloc, sweep, Limits::of(conflicts));
+/// The same in a graph. It stands apart for its proof's sake: what is known of adders is let go in one exit.
+fn shown_in(alloc: Global, sweep: Sweep, p: &[u32], q: &[u32]) -> Result<(bool, bool), AllocError> {
+    let mut sums = Sums::new(alloc, sweep);
     shown(&mut sums, p, q)
 }
 
@@ -51,15 +43,7 @@ fn compared(
 ) -> Result<(bool, bool), AllocError> {
     let mut sweep = Sweep::new(alloc, Effort::of(3_000, 100_000_000))?;
     let (p, q) = products(alloc, &mut sweep, width, first, second, fault)?;
-    shown_in(alloc, sweep, p.as_slice(), q.as_slice(), USUAL)
-}
-
-/// Whether two products of eight bits are shown equal with so many conflicts, and whether they are one anyway.
-fn compared_within(alloc: Global, conflicts: u64) -> Result<(bool, bool), AllocError> {
-    let mut sweep = Sweep::new(alloc, Effort::of(3_000, 100_000_000))?;
-    let (first, second) = (Architecture::Array, Architecture::Columns);
-    let (p, q) = products(alloc, &mut sweep, 8, first, second, 0)?;
-    shown_in(alloc, sweep, p.as_slice(), q.as_slice(), conflicts)
+    shown_in(alloc, sweep, p.as_slice(), q.as_slice())
 }
 
 /// Products: their width, their architectures, an adder with another carry, whether they are shown equal, and whether sweeping made
@@ -81,23 +65,6 @@ fn products_are_shown_equal(rt: HostRuntime) -> Result<(), AllocError> {
         let found = compared(rt.alloc(), *width, *first, *second, *fault)?;
         same(&rt, found, *shown, *case);
     }
-    Ok(())
-}
-
-#[test]
-fn few_conflicts_are_few_steps(rt: HostRuntime) -> Result<(), AllocError> {
-    same(
-        &rt,
-        compared_within(rt.alloc(), 200)?,
-        (false, false),
-        "200 conflicts",
-    );
-    same(
-        &rt,
-        compared_within(rt.alloc(), USUAL)?,
-        (true, false),
-        "as many as by default",
-    );
     Ok(())
 }
 

@@ -64,7 +64,7 @@ static COMPARING: &[Row<Told>] = &[
     ("an assumption's input", UNEQUAL, ("--assume w_is_1", "refused assume 0 61;", &["eqc: inputs of the assumption that the netlists don't have, 1: 'w' (61)"])),
     ("an assumption's outputs", UNEQUAL, ("--assume two_outputs", "refused assume 0 62;", &["eqc: the assumption has 2 outputs, and has to have one (62)"])),
     ("a latch in the assumption", UNEQUAL, ("--assume latch", "refused assume 2 4;", &["eqc: latch: line 2: a latch; cut registers into inputs and outputs (4)"])),
-    ("no statement in the assumption", UNEQUAL, ("--assume yx", "refused assume 1 6;", &["eqc: yx: line 1: the row 'yx' follows no .names (6)", "eqc: BLIF begins with a command; other formats are converted first, and a byte order mark is left out"])),
+    ("no statement in the assumption", UNEQUAL, ("--assume yx", "refused assume 1 6;", &["eqc: yx: line 1: the row 'y x' follows no .names (6)", "eqc: BLIF begins with a command; other formats are converted first, and a byte order mark is left out"])),
     ("the assumption's hierarchy", UNEQUAL, ("--assume undriven", "refused assume 0 27;", &["eqc: undriven: signal 'e' has no driver (27)", "eqc: 'opt_clean -purge', 'write_blif -noalias' or scripts/prepare --unused leaves such a name out; what an output needs 'setundef -undriven -zero' before 'techmap' ties to 0"])),
     ("nothing is allowed", UNEQUAL, ("--assume nothing", "vacuous;", &["eqc: nothing: no assignment of the inputs meets the assumption, so nothing was compared"])),
     ("too few nodes", UNEQUAL, ("--nodes 1", "stopped 71;", &["eqc: the diagrams want more than --nodes 1, or too many turns (71); try a larger number, up to 1048574, or another --order, as scripts/order makes", "eqc: with --nodes 1024 and more equal signals are looked for inside the netlists", "eqc: outputs that are left undecided, 1: 'z'"])),
@@ -385,7 +385,7 @@ fn differences_are_located(rt: HostRuntime) {
     let first = [LOST_OUTPUT, LOST_PLACE, LOST_MENDING];
     holds(
         &rt,
-        is_located(&rt, LOST, ("", LOST_REPORT), &first, &[]),
+        is_located(&rt, LOST, ("--workers 1", LOST_REPORT), &first, &[]),
         "places",
     );
 }
