@@ -106,12 +106,15 @@ impl<'a> Inside<'a> {
         })
     }
 
-    /// The next outputs that are asked about, from one on, and the output behind the last of these. Fails where memory is refused.
-    fn next_twins(
+    /// The next outputs that are asked about, from one on, and the output behind the last of these. The watch is told of each that is
+    /// looked at. Fails where memory is refused.
+    fn next_twins<R, P: Progress<R>>(
         &mut self,
+        rt: &R,
         alloc: Global,
         alike: &Alike,
         from: usize,
+        watch: &P,
     ) -> Result<(Vec<Twins>, usize), AllocError>
         ensures { self.new ≡ self.old }
     {
@@ -121,6 +124,7 @@ impl<'a> Inside<'a> {
             if some.len() >= SIDE_BY_SIDE {
                 return Ok((some, output));
             }
+            watch.step(rt, output, outputs);
             if let Some(twins) = self.open_twins(alike, output)
                 && twins.x != NONE
                 && twins.y != NONE
@@ -199,7 +203,7 @@ impl<'a> Inside<'a> {
 
     /// Searches for differences of the chosen outputs that are not marked, with so many conflicts in all, and marks those for which
     /// there is none. Whether there are any: the others may be equal too. Several are asked about side by side by the threads of the last round; what is found
-    /// doesn't depend on how many there are. The watch is told how many outputs were asked about.
+    /// doesn't depend on how many there are. The watch is told of each output.
     pub fn ask_outputs<R: Threads + Sync, P: Progress<R>>(
         &mut self,
         rt: &R,
@@ -218,9 +222,8 @@ impl<'a> Inside<'a> {
         let mut from = 0;
         let outputs = self.steps.pair().first().outputs().len();
         'turns: for _ in 0..outputs {
-            watch.step(rt, from, outputs);
             // Where memory is refused nothing more is known.
-            let Ok((some, next)) = self.next_twins(alloc, alike, from) else {
+            let Ok((some, next)) = self.next_twins(rt, alloc, alike, from, watch) else {
                 return found;
             };
             if some.is_empty() {

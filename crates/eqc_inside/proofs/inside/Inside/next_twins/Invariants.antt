@@ -2,4 +2,4 @@ use Rattle.std.proofs.Common.{◌≡◌}
 use Rattle.eqc_inside.proofs.inside.Inside.next_twins.Given as goal
 
 abbrev pub invariant-loop-output : goal.invariant-loop-output
-invariant-loop-output l = l.self ≡ l.initial.self
+invariant-loop-output g l = l.self ≡ l.initial.self
