@@ -202,8 +202,8 @@ impl<'a> Inside<'a> {
     }
 
     /// Searches for differences of the chosen outputs that are not marked, with so many conflicts in all, and marks those for which
-    /// there is none. Whether there are any: the others may be equal too. Several are asked about side by side by the threads of the last round; what is found
-    /// doesn't depend on how many there are. The watch is told of each output.
+    /// there is none. Whether there are any: the others may be equal too. Several are asked about side by side by the threads of the
+    /// last round; what is found doesn't depend on how many there are. The watch is told of each output.
     pub fn ask_outputs<R: Threads + Sync, P: Progress<R>>(
         &mut self,
         rt: &R,
