@@ -214,7 +214,7 @@ impl Decisions {
     /// Takes all out.
     pub(crate) fn clear(&mut self) {
         for _ in 0..self.links.len() {
-            let Some(node) = self.heights.pop() else {
+            let Some(node) = self.heights.take_any() else {
                 break;
             };
             self.set_open(node, false);

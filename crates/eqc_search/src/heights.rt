@@ -164,6 +164,18 @@ impl Heights {
         Some(node)
     }
 
+    /// One of the nodes, the one that is taken out soonest.
+    pub(crate) fn take_any(&mut self) -> Option<u32> {
+        if self.is_arranged {
+            return self.take();
+        }
+        if self.size == 0 {
+            return None;
+        }
+        self.size = self.size.saturating_sub(1);
+        Some(node_in(self.ranked_at(self.size)))
+    }
+
     /// Arranges the nodes that may come, which have these heights: that pays in a long search. Those that are here stay.
     pub(crate) fn arrange(&mut self, nodes: &[u32], heights: &[u32]) -> Result<(), AllocError> {
         for _ in 0..self.order.len() {
