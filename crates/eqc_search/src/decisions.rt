@@ -1,6 +1,7 @@
 //! The nodes that may be decided: the one that was last in a conflict first, then the highest.
 use crate::heights::Heights;
 use crate::reads::{NONE, lengthen, read, write};
+use crate::window::Window;
 use std::alloc::{AllocError, Global};
 
 /// A node among those that were in a conflict, which stand in the order in which they last were.
@@ -146,9 +147,9 @@ impl Decisions {
         None
     }
 
-    /// Arranges the nodes of the window, which have these heights, so that the next one is found sooner: that pays in a long search.
-    pub(crate) fn arrange(&mut self, nodes: &[u32], heights: &[u32]) -> Result<(), AllocError> {
-        self.heights.arrange(nodes, heights)
+    /// Arranges the nodes of the window, so that the next one is found sooner: that pays in a long search.
+    pub(crate) fn arrange(&mut self, window: &Window) -> Result<(), AllocError> {
+        self.heights.arrange(window)
     }
 
     /// Whether the nodes of the window are arranged.

@@ -104,8 +104,7 @@ impl Engine {
 
     /// Lets the order of decisions be laid out for the window as it is.
     fn arrange(&mut self) -> Result<(), AllocError> {
-        self.decisions
-            .arrange(self.window.nodes(), self.window.heights())
+        self.decisions.arrange(&self.window)
     }
 
     /// Begins a question. Gives an assumption that is false because of another one or by itself, if there is one.

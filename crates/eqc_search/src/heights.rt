@@ -1,13 +1,14 @@
 //! Nodes that may be decided, of which the highest is next: in a heap at first, and in a long search as bits of a row in their order.
 use crate::reads::{lengthen, number, read, write};
+use crate::window::Window;
 use std::alloc::{AllocError, Global};
 
 /// A node of a height as one number: that of the higher node is greater, and of two of one height that of the later one.
-fn ranked(height: u32, node: u32) -> u64 {
+pub(crate) fn ranked(height: u32, node: u32) -> u64 {
     u64::from(height) << 32 | u64::from(node)
 }
 
-fn node_in(ranked: u64) -> u32 {
+pub(crate) fn node_in(ranked: u64) -> u32 {
     (ranked & 0xFFFF_FFFF) as u32
 }
 
@@ -176,8 +177,8 @@ impl Heights {
         Some(node_in(self.ranked_at(self.size)))
     }
 
-    /// Arranges the nodes that may come, which have these heights: that pays in a long search. Those that are here stay.
-    pub(crate) fn arrange(&mut self, nodes: &[u32], heights: &[u32]) -> Result<(), AllocError> {
+    /// Arranges the nodes that may come, which are those of the window: that pays in a long search. Those that are here stay.
+    pub(crate) fn arrange(&mut self, window: &Window) -> Result<(), AllocError> {
         for _ in 0..self.order.len() {
             let Some(node) = self.take() else {
                 break;
@@ -186,8 +187,8 @@ impl Heights {
             self.size = self.size.wrapping_add(1);
         }
         self.order.clear();
-        for node in nodes {
-            self.order.push(ranked(read(heights, *node, 0), *node))?;
+        for node in window.nodes() {
+            self.order.push(ranked(window.height(*node), *node))?;
         }
         self.order.sort_unstable();
         for place in 0..self.order.len() {

@@ -1,4 +1,5 @@
 //! The gates that a search looks at: the highest below the question.
+use crate::heights::{node_in, ranked};
 use crate::reads::{NONE, lengthen, node_at, number, read, write};
 use eqc_graph::{Graph, Node, node_of};
 use std::alloc::{AllocError, Global};
@@ -36,34 +37,39 @@ const NO_FANOUT: Fanout = Fanout {
     next: NONE,
 };
 
-/// A gate that may come in, the highest first.
-#[derive(Clone, Copy, PartialEq, Eq, PartialOrd, Ord)]
-struct Candidate {
+/// What is known of a node. It lies together, since a node is met seldom, and far from the others.
+#[derive(Clone, Copy)]
+struct Seat {
+    /// The gates on the longest way down to an input.
     height: u32,
-    node: u32,
+    /// The first gate of the window that has the node as an operand.
+    head: u32,
+    part: Part,
 }
+
+const NO_SEAT: Seat = Seat {
+    height: 0,
+    head: NONE,
+    part: Part::Outside,
+};
 
 /// The window of a question.
 #[derive(Drop)]
 pub(crate) struct Window {
-    /// By node: the gates on the longest way down to an input, for as many nodes as were looked at.
-    heights: Vec<u32>,
-    /// By node.
-    parts: Vec<Part>,
-    heads: Vec<u32>,
+    /// By node, for as many as were looked at.
+    seats: Vec<Seat>,
     /// What is in the window, in the order in which it came.
     nodes: Vec<u32>,
     fanouts: Vec<Fanout>,
-    frontier: BinaryHeap<Candidate>,
+    /// The gates that may come in, the highest first.
+    frontier: BinaryHeap<u64>,
     gates: u32,
 }
 
 impl Window {
     pub(crate) fn new(alloc: Global) -> Window {
         Window {
-            heights: Vec::new(alloc),
-            parts: Vec::new(alloc),
-            heads: Vec::new(alloc),
+            seats: Vec::new(alloc),
             nodes: Vec::new(alloc),
             fanouts: Vec::new(alloc),
             frontier: BinaryHeap::new(alloc),
@@ -74,10 +80,8 @@ impl Window {
     /// Makes room for the nodes of a graph. The last node of the graph before may be another one since.
     pub(crate) fn grow(&mut self, graph: &Graph) -> Result<(), AllocError> {
         let nodes = graph.len();
-        let known = number(self.heights.len());
-        lengthen(&mut self.heights, nodes, 0)?;
-        lengthen(&mut self.parts, nodes, Part::Outside)?;
-        lengthen(&mut self.heads, nodes, NONE)?;
+        let known = number(self.seats.len());
+        lengthen(&mut self.seats, nodes, NO_SEAT)?;
         for node in known.saturating_sub(1)..nodes {
             let height = match node_at(graph, node) {
                 Node::And(a, b) | Node::Xor(a, b) => {
@@ -86,30 +90,32 @@ impl Window {
                 }
                 Node::Constant | Node::Input(_) => 0,
             };
-            write(&mut self.heights, node, height);
+            let seat = self.seat(node);
+            write(&mut self.seats, node, Seat { height, ..seat });
         }
         Ok(())
     }
 
-    /// By node.
-    pub(crate) fn heights(&self) -> &[u32] {
-        self.heights.as_slice()
+    #[inline(always)]
+    fn seat(&self, node: u32) -> Seat {
+        read(&self.seats, node, NO_SEAT)
     }
 
+    #[inline(always)]
     pub(crate) fn height(&self, node: u32) -> u32 {
-        read(&self.heights, node, 0)
+        self.seat(node).height
     }
 
     /// Whether the node is a gate that is propagated.
     #[inline(always)]
     pub(crate) fn is_gate(&self, node: u32) -> bool {
-        read(&self.parts, node, Part::Outside) == Part::Gate
+        self.seat(node).part == Part::Gate
     }
 
     /// The first gate that has the node as an operand.
     #[inline(always)]
     pub(crate) fn first_fanout(&self, node: u32) -> u32 {
-        read(&self.heads, node, NONE)
+        self.seat(node).head
     }
 
     #[inline(always)]
@@ -129,15 +135,16 @@ impl Window {
 
     /// Lets a node be at the window's edge, if it isn't in it.
     pub(crate) fn enter(&mut self, graph: &Graph, node: u32) -> Result<(), AllocError> {
-        if node == 0 || read(&self.parts, node, Part::Gate) != Part::Outside {
+        let seat = self.seat(node);
+        if node == 0 || seat.part != Part::Outside {
             return Ok(());
         }
         self.nodes.push(node)?;
-        write(&mut self.parts, node, Part::Edge);
+        let part = Part::Edge;
+        write(&mut self.seats, node, Seat { part, ..seat });
         match node_at(graph, node) {
             Node::And(_, _) | Node::Xor(_, _) => {
-                let height = self.height(node);
-                self.frontier.push(Candidate { height, node })?;
+                self.frontier.push(ranked(seat.height, node))?;
             }
             Node::Constant | Node::Input(_) => {}
         }
@@ -148,9 +155,10 @@ impl Window {
     fn link(&mut self, fanout: Fanout) -> Result<(), AllocError> {
         let node = node_of(fanout.own);
         let at = number(self.fanouts.len());
-        let next = read(&self.heads, node, NONE);
+        let seat = self.seat(node);
+        let next = seat.head;
         self.fanouts.push(Fanout { next, ..fanout })?;
-        write(&mut self.heads, node, at);
+        write(&mut self.seats, node, Seat { head: at, ..seat });
         Ok(())
     }
 
@@ -180,7 +188,9 @@ impl Window {
             other: a,
             ..first
         })?;
-        write(&mut self.parts, gate, Part::Gate);
+        let part = Part::Gate;
+        let seat = self.seat(gate);
+        write(&mut self.seats, gate, Seat { part, ..seat });
         self.gates = self.gates.saturating_add(1);
         Ok(())
     }
@@ -191,7 +201,7 @@ impl Window {
             let Some(candidate) = self.frontier.pop() else {
                 return Ok(());
             };
-            let gate = candidate.node;
+            let gate = node_in(candidate);
             match node_at(graph, gate) {
                 Node::And(a, b) => self.take_in(graph, gate, a, b, false)?,
                 Node::Xor(a, b) => self.take_in(graph, gate, a, b, true)?,
@@ -215,8 +225,8 @@ impl Window {
     pub(crate) fn clear(&mut self) {
         for at in 0..self.nodes.len() {
             let node = read(&self.nodes, number(at), 0);
-            write(&mut self.parts, node, Part::Outside);
-            write(&mut self.heads, node, NONE);
+            let height = self.height(node);
+            write(&mut self.seats, node, Seat { height, ..NO_SEAT });
         }
         self.nodes.clear();
         self.fanouts.clear();

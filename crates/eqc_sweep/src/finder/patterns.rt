@@ -4,9 +4,11 @@ pub(crate) mod carry;
 pub(crate) mod fixed;
 pub(crate) mod uneven;
 
-use crate::finder::patterns::fixed::{FIXED, input_word};
+use crate::finder::patterns::fixed::{FIXED, draws, input_word};
 use crate::finder::random::Random;
-use crate::finder::words::{share_of, word_at, word_by, word_of};
+use crate::finder::words::{
+    TOGETHER, Words, share_of, shares_of, word_at, word_by, words_at, words_by, words_of,
+};
 use eqc_graph::{Graph, Node};
 use std::alloc::{AllocError, Global};
 
@@ -18,12 +20,18 @@ const MOST_IN_SMALL: usize = FIXED + 128;
 
 const SMALL: u32 = 65_536;
 
-/// The words of all nodes, row by row, and the signatures.
+/// The words of all nodes, and the signatures.
 #[derive(Drop)]
 pub(crate) struct Patterns {
-    rows: Vec<Vec<u64>>,
+    alloc: Global,
+    /// The words of nodes in the first rows, those in the next ones, and so on: those of a node lie together, since a new node needs
+    /// those of its operands in all rows.
+    blocks: Vec<Vec<Words>>,
+    rows: usize,
     /// The words of inputs, in their order, in the first rows: of those of another graph.
     kept: Vec<Vec<u64>>,
+    /// By node.
+    phases: Vec<bool>,
     signatures: Vec<u64>,
     random: Random,
     /// How many inputs there are.
@@ -32,26 +40,29 @@ pub(crate) struct Patterns {
     oldest: usize,
 }
 
-/// The word that an input of this number has in a row: of those that were kept, or a new one.
-fn kept_or_new(kept: &[Vec<u64>], random: &mut Random, input: u32, row: usize) -> u64 {
-    if let Some(words) = kept.get(row)
-        && let Some(word) = words.get(input as usize)
-    {
-        return *word;
+/// The word that an input of this number has in a row, if it was kept.
+fn kept_at(kept: &[Vec<u64>], input: u32, row: usize) -> Option<u64> {
+    kept.get(row)?.get(input as usize).copied()
+}
+
+/// So many blocks without nodes.
+fn empty_blocks(alloc: Global, rows: usize) -> Result<Vec<Vec<Words>>, AllocError> {
+    let mut blocks = Vec::new(alloc);
+    for _ in 0..rows.div_ceil(TOGETHER) {
+        blocks.push(Vec::new(alloc))?;
     }
-    input_word(random, input, row)
+    Ok(blocks)
 }
 
 impl Patterns {
     /// The rows that are there before counterexamples, without nodes.
     pub(crate) fn new(alloc: Global) -> Result<Patterns, AllocError> {
-        let mut rows = Vec::new(alloc);
-        for _ in 0..FIXED {
-            rows.push(Vec::new(alloc))?;
-        }
         Ok(Patterns {
-            rows,
+            alloc,
+            blocks: empty_blocks(alloc, FIXED)?,
+            rows: FIXED,
             kept: Vec::new(alloc),
+            phases: Vec::new(alloc),
             signatures: Vec::new(alloc),
             random: Random::new(),
             inputs: 0,
@@ -65,29 +76,25 @@ impl Patterns {
         alloc: Global,
         inputs: &[(u32, u32)],
     ) -> Result<Patterns, AllocError> {
-        let mut kept = Vec::with_capacity(alloc, self.rows.len())?;
-        let mut rows = Vec::with_capacity(alloc, self.rows.len())?;
-        for row in &self.rows {
+        let mut kept = Vec::with_capacity(alloc, self.rows)?;
+        for row in 0..self.rows {
             let mut words = Vec::with_capacity(alloc, inputs.len())?;
             for (k, _) in inputs {
-                words.push(word_at(row.as_slice(), *k))?;
+                words.push(self.word(row, *k))?;
             }
             kept.push(words)?;
-            rows.push(Vec::new(alloc))?;
         }
         Ok(Patterns {
-            rows,
+            alloc,
+            blocks: empty_blocks(alloc, self.rows)?,
+            rows: self.rows,
             kept,
+            phases: Vec::new(alloc),
             signatures: Vec::new(alloc),
             random: Random::new(),
             inputs: 0,
             oldest: self.oldest,
         })
-    }
-
-    /// How many rows there are.
-    pub(crate) fn rows(&self) -> usize {
-        self.rows.len()
     }
 
     /// The signatures, by nodes.
@@ -100,28 +107,35 @@ impl Patterns {
         word_at(self.signatures.as_slice(), k)
     }
 
-    /// What makes the first value of a node false: nothing, or the complement.
-    fn flip(&self, k: usize) -> u64 {
-        match self.rows.get(0) {
-            None => 0,
-            Some(row) => match row.get(k) {
-                None => 0,
-                Some(word) => if *word % 2 == 1 { u64::MAX } else { 0 },
-            },
-        }
-    }
-
     /// The first simulated value of a node.
     pub(crate) fn phase(&self, k: u32) -> bool {
-        self.flip(k as usize) != 0
+        self.phases.get(k as usize).copied().unwrap_or(false)
+    }
+
+    /// What makes the first value of a node false: nothing, or the complement.
+    fn flip(&self, k: u32) -> u64 {
+        if self.phase(k) { u64::MAX } else { 0 }
+    }
+
+    /// The word of a node in a row.
+    fn word(&self, row: usize, k: u32) -> u64 {
+        match self.blocks.get(row / TOGETHER) {
+            None => 0,
+            Some(block) => words_at(block.as_slice(), k)[row % TOGETHER],
+        }
     }
 
     /// The pattern under which two literals differ: the row, and the place in its words.
     pub(crate) fn difference(&self, x: u32, y: u32) -> Option<(usize, u32)> {
-        for (at, row) in self.rows.iter().enumerate() {
-            let word = word_of(row.as_slice(), x) ^ word_of(row.as_slice(), y);
-            if word != 0 {
-                return Some((at, word.trailing_zeros()));
+        for (at, block) in self.blocks.iter().enumerate() {
+            let of_x = words_of(block.as_slice(), x);
+            let of_y = words_of(block.as_slice(), y);
+            for lane in 0..TOGETHER {
+                let word = of_x[lane] ^ of_y[lane];
+                let row = at.wrapping_mul(TOGETHER).wrapping_add(lane);
+                if word != 0 && row < self.rows {
+                    return Some((row, word.trailing_zeros()));
+                }
             }
         }
         None
@@ -129,29 +143,51 @@ impl Patterns {
 
     /// The value of a node in a pattern.
     pub(crate) fn value(&self, row: usize, place: u32, k: u32) -> bool {
-        match self.rows.get(row) {
-            None => false,
-            Some(words) => (word_at(words.as_slice(), k) >> (place % 64)) % 2 == 1,
+        (self.word(row, k) >> (place % 64)) % 2 == 1
+    }
+
+    /// The words of a node in the rows of a block, if it is an input. A gate draws as many random words as an input, so what inputs
+    /// have doesn't depend on the gates before them.
+    fn drawn(&mut self, node: Node, block: usize) -> Words {
+        let mut words = [0; TOGETHER];
+        for lane in 0..TOGETHER {
+            let row = block.wrapping_mul(TOGETHER).wrapping_add(lane);
+            if row >= self.rows {
+                break;
+            }
+            let kept = kept_at(self.kept.as_slice(), self.inputs, row);
+            words[lane] = match (kept, node) {
+                (Some(word), _) => word,
+                (None, Node::Input(_)) => input_word(&mut self.random, self.inputs, row),
+                (None, _) => {
+                    for _ in 0..draws(row) {
+                        self.random.next();
+                    }
+                    0
+                }
+            };
         }
+        words
     }
 
     /// Simulates a new node.
     pub(crate) fn push(&mut self, node: Node) -> Result<(), AllocError> {
         let mut signature: u64 = 0;
-        let mut flip: u64 = 0;
-        for at in 0..self.rows.len() {
-            let input = kept_or_new(&self.kept, &mut self.random, self.inputs, at);
-            if at >= self.rows.len() {
+        let mut is_flipped = false;
+        for at in 0..self.blocks.len() {
+            let drawn = self.drawn(node, at);
+            if at >= self.blocks.len() {
                 break;
             }
-            let row = &mut self.rows[at];
-            let word = word_by(row.as_slice(), node, input);
-            row.push(word)?;
-            if at == 0 && word % 2 == 1 {
-                flip = u64::MAX;
+            let block = &mut self.blocks[at];
+            let words = words_by(block.as_slice(), node, drawn);
+            block.push(words)?;
+            if at == 0 {
+                is_flipped = words[0] % 2 == 1;
             }
-            signature = signature.wrapping_add(share_of(at, word ^ flip));
+            signature = signature.wrapping_add(shares_of(at, self.rows, words, is_flipped));
         }
+        self.phases.push(is_flipped)?;
         self.signatures.push(signature)?;
         if let Node::Input(_) = node {
             self.inputs = self.inputs.wrapping_add(1);
@@ -161,9 +197,10 @@ impl Patterns {
 
     /// Takes the last node back.
     pub(crate) fn pop(&mut self) {
-        for at in 0..self.rows.len() {
-            self.rows[at].pop();
+        for at in 0..self.blocks.len() {
+            self.blocks[at].pop();
         }
+        self.phases.pop();
         self.signatures.pop();
     }
 
@@ -213,61 +250,67 @@ impl Patterns {
         } else {
             MOST
         };
-        if self.rows.len() < most {
-            let at = self.rows.len();
-            self.rows.push(row)?;
-            self.count(at);
+        if self.rows < most {
+            let at = self.rows;
+            self.rows = at.wrapping_add(1);
+            self.make_room(at)?;
+            self.put(at, row.as_slice());
             return Ok(());
         }
         let at = self.oldest;
         let next = at.wrapping_add(1);
-        self.oldest = if next < self.rows.len() { next } else { FIXED };
+        self.oldest = if next < self.rows { next } else { FIXED };
         self.discount(at);
-        if at < self.rows.len() {
-            self.rows[at] = row;
+        self.put(at, row.as_slice());
+        Ok(())
+    }
+
+    /// Makes the block of a row, if it isn't there.
+    fn make_room(&mut self, at: usize) -> Result<(), AllocError> {
+        if at / TOGETHER < self.blocks.len() {
+            return Ok(());
         }
-        self.count(at);
+        let mut block = Vec::with_capacity(self.alloc, self.signatures.len())?;
+        block.resize(self.signatures.len(), [0; TOGETHER])?;
+        self.blocks.push(block)?;
         Ok(())
     }
 
     /// Forgets the rows that a graph of as many nodes has no room for, and answers whether there were some: nodes have other signatures
     /// then.
     pub(crate) fn shorten(&mut self) -> bool {
-        if self.signatures.len() < SMALL as usize || self.rows.len() <= MOST {
+        if self.signatures.len() < SMALL as usize || self.rows <= MOST {
             return false;
         }
-        for at in MOST..self.rows.len() {
+        for at in MOST..self.rows {
             self.discount(at);
         }
-        self.rows.truncate(MOST);
+        self.rows = MOST;
+        self.blocks.truncate(MOST.div_ceil(TOGETHER));
         self.oldest = FIXED;
         true
     }
 
-    /// Adds a row to the signatures.
-    fn count(&mut self, at: usize) {
-        for k in 0..self.signatures.len() {
-            let word = self.share(at, k);
-            self.signatures[k] = self.signatures[k].wrapping_add(word);
+    /// Puts a row in its place, and adds it to the signatures.
+    fn put(&mut self, at: usize, row: &[u64]) {
+        let place = at / TOGETHER;
+        if place >= self.blocks.len() {
+            return;
+        }
+        let count = self.signatures.len().min(self.blocks[place].len());
+        for k in 0..count.min(row.len()) {
+            let word = row[k];
+            let flip = self.flip(k as u32);
+            self.blocks[place][k][at % TOGETHER] = word;
+            self.signatures[k] = self.signatures[k].wrapping_add(share_of(at, word ^ flip));
         }
     }
 
     /// Takes a row out of the signatures.
     fn discount(&mut self, at: usize) {
         for k in 0..self.signatures.len() {
-            let word = self.share(at, k);
-            self.signatures[k] = self.signatures[k].wrapping_sub(word);
-        }
-    }
-
-    /// What a row adds to the signature of a node.
-    fn share(&self, at: usize, k: usize) -> u64 {
-        match self.rows.get(at) {
-            None => 0,
-            Some(row) => match row.get(k) {
-                None => 0,
-                Some(word) => share_of(at, *word ^ self.flip(k)),
-            },
+            let share = share_of(at, self.word(at, k as u32) ^ self.flip(k as u32));
+            self.signatures[k] = self.signatures[k].wrapping_sub(share);
         }
     }
 }

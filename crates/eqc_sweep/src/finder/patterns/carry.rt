@@ -1,23 +1,27 @@
 //! The signature of the carry of three literals.
 
 use crate::finder::patterns::Patterns;
-use crate::finder::words::{share_of, word_of};
+use crate::finder::words::{TOGETHER, shares_of, words_of};
 
 impl Patterns {
     /// The signature that the carry of three literals has, and its first simulated value.
     pub(crate) fn carry(&self, x: u32, y: u32, z: u32) -> (u64, bool) {
         let mut signature: u64 = 0;
-        let mut flip: u64 = 0;
-        for (at, row) in self.rows.iter().enumerate() {
-            let p = word_of(row.as_slice(), x);
-            let q = word_of(row.as_slice(), y);
-            let r = word_of(row.as_slice(), z);
-            let word = p & q | r & (p | q);
-            if at == 0 && word % 2 == 1 {
-                flip = u64::MAX;
+        let mut is_flipped = false;
+        for (at, block) in self.blocks.iter().enumerate() {
+            let of_x = words_of(block.as_slice(), x);
+            let of_y = words_of(block.as_slice(), y);
+            let of_z = words_of(block.as_slice(), z);
+            let mut words = [0; TOGETHER];
+            for lane in 0..TOGETHER {
+                let either = of_x[lane] | of_y[lane];
+                words[lane] = of_x[lane] & of_y[lane] | of_z[lane] & either;
             }
-            signature = signature.wrapping_add(share_of(at, word ^ flip));
+            if at == 0 {
+                is_flipped = words[0] % 2 == 1;
+            }
+            signature = signature.wrapping_add(shares_of(at, self.rows, words, is_flipped));
         }
-        (signature, flip != 0)
+        (signature, is_flipped)
     }
 }

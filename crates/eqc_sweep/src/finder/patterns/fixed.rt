@@ -99,3 +99,13 @@ pub(crate) fn input_word(random: &mut Random, input: u32, row: usize) -> u64 {
         interval_word(random, input, row)
     }
 }
+
+/// How many random words are drawn for the word of an input in a row.
+pub(crate) fn draws(row: usize) -> u32 {
+    match row {
+        3 | 5 => 2,
+        4 | 6 => 4,
+        _ if row >= RANDOM && row < FIRST_INTERVAL => 0,
+        _ => 1,
+    }
+}
