@@ -1,13 +1,17 @@
 #!/usr/bin/env python3
 """Runs small pairs over and over with workers and forks drawn at random, each run under a time limit of its own.
 
-usage: schedules.py [--eqc PROGRAM] [--runs N] [--limit SECONDS] [--seed N] [--pairs DIR]
+usage: schedules.py [--eqc PROGRAM] [--runs N] [--limit SECONDS] [--seed N] [--pairs DIR] [--stops]
 
 The pairs are adders, parities, a multiplier and a difference that it makes, or each NAME.a.blif with NAME.b.blif of a
 folder. Workers are drawn from 2 to 64, forks from 0 to 16, cells from 1 to 65536. A run must write what one worker without
 forks writes, or `stopped 71` where its nodes are drawn so that they may not do. It ends with the numbers of runs, of those
 that stopped so, and of those that wrote something else or did not end; its status is 1 if there is any of the last two.
 Without `--eqc` it takes the program that `./eqc` has built.
+
+With `--stops` it looks at pairs that stop half-way: low halves of products by rows and by columns, with so few conflicts that some
+outputs are found equal and others aren't. By 1, 2, 3, 4 and 16 workers, N runs each (100), all that a run writes has to be the same, what
+it explains of outputs that are left too. So it is with the pairs of a folder that stop.
 """
 import argparse
 import random
@@ -16,9 +20,14 @@ import sys
 import tempfile
 from pathlib import Path
 
-from forks import AND, OR, PROGRAM, XOR, Netlist, multiplier
+from forks import AND, OR, PROGRAM, XOR, Netlist, multiplier, partial
 
 FULL = b"stopped 71\n"
+
+# With so many conflicts the products stop half-way, where they do.
+CONFLICTS = [60, 200, 600, 2000, 6000]
+
+TEAMS = [1, 2, 3, 4, 16]
 
 
 def text(inputs, outputs, build):
@@ -80,6 +89,70 @@ def ran(eqc, pair, options, limit):
         return None
 
 
+def all_columns(netlist, bits):
+    columns = partial(netlist, bits)
+    for k, column in enumerate(columns):
+        while len(column) > 1:
+            three = column[:3]
+            del column[:3]
+            total, carry = (netlist.sum_of_three if len(three) == 3 else netlist.sum_of)(*three)
+            column.append(total)
+            if k + 1 < bits:
+                columns[k + 1].append(carry)
+    return [column[0] for column in columns]
+
+
+def all_rows(netlist, bits):
+    total = [netlist.cover(["a0", f"b{j}"], AND) for j in range(bits)]
+    for i in range(1, bits):
+        carry = None
+        for k in range(i, bits):
+            product = netlist.cover([f"a{i}", f"b{k - i}"], AND)
+            added = [total[k], product] + ([] if carry is None else [carry])
+            total[k], carry = (netlist.sum_of if carry is None else netlist.sum_of_three)(*added)
+    return total
+
+
+def make_products(folder):
+    for bits in (8, 10):
+        inputs = [name for k in range(bits) for name in (f"a{k}", f"b{k}")]
+        # Names without a common word, so that the search for sums doesn't show them.
+        outputs = [f"z{chr(97 + k)}" for k in range(bits)]
+        for side, build in (("a", all_rows), ("b", all_columns)):
+            said = text(inputs, outputs, lambda it, build=build, bits=bits: build(it, bits))
+            (folder / f"product{bits}.{side}.blif").write_text(said)
+
+
+def explained(eqc, pair, options, limit):
+    words = [str(eqc), "--explain", *(str(it) for it in options), f"{pair}.a.blif", f"{pair}.b.blif"]
+    try:
+        done = subprocess.run(words, stdout=subprocess.PIPE, stderr=subprocess.PIPE, timeout=limit, check=False)
+    except subprocess.TimeoutExpired:
+        return None
+    return done.returncode, done.stdout, done.stderr
+
+
+def run_stops(folder, options):
+    """Compares what runs that stop half-way write, by several numbers of workers."""
+    pairs = sorted(str(it)[: -len(".a.blif")] for it in folder.glob("*.a.blif"))
+    stops = other = 0
+    for pair in pairs:
+        for conflicts in CONFLICTS:
+            words = ["--nodes", 1024, "--conflicts", conflicts]
+            right = explained(options.eqc, pair, [*words, "--workers", 1], options.limit)
+            if right is None or right[1] != FULL:
+                continue
+            stops += 1
+            print(f"{Path(pair).name} --conflicts {conflicts}: {right[2].decode().strip()[:100]}", flush=True)
+            for workers in TEAMS:
+                for _ in range(options.runs):
+                    if explained(options.eqc, pair, [*words, "--workers", workers], options.limit) != right:
+                        other += 1
+                        print(f"  by {workers} workers: another text", flush=True)
+    print(f"{stops} stops, {options.runs} runs by each of {len(TEAMS)} numbers of workers, {other} that wrote something else")
+    return other > 0 or stops == 0
+
+
 def drawn(rng, small):
     nodes = rng.choice([small, rng.randint(1, 3000), 65536])
     cells = 1 << rng.randint(0, 16)
@@ -112,16 +185,20 @@ def run_all(folder, options):
 def main():
     asked = argparse.ArgumentParser(description=__doc__, formatter_class=argparse.RawDescriptionHelpFormatter)
     asked.add_argument("--eqc", type=Path, default=PROGRAM)
-    asked.add_argument("--runs", type=int, default=10000)
+    asked.add_argument("--runs", type=int)
     asked.add_argument("--limit", type=float, default=20)
     asked.add_argument("--seed", type=int, default=1)
     asked.add_argument("--pairs", type=Path)
+    asked.add_argument("--stops", action="store_true")
     options = asked.parse_args()
+    fill, run = (make_products, run_stops) if options.stops else (make, run_all)
+    if options.runs is None:
+        options.runs = 100 if options.stops else 10000
     if options.pairs:
-        return run_all(options.pairs, options)
+        return run(options.pairs, options)
     with tempfile.TemporaryDirectory() as folder:
-        make(Path(folder))
-        return run_all(Path(folder), options)
+        fill(Path(folder))
+        return run(Path(folder), options)
 
 
 if __name__ == "__main__":
