@@ -1,14 +1,15 @@
-//! Which report a case gets: the refusal by the first check that fails, or the comparison of two models. The functions stand in
-//! the order of the checks, and each hands on what it made, which the next one borrows:
+//! Which report a case gets: the refusal by the first check that fails, or the comparison of two models. It is one course, in which
+//! each stage calls the next one and lends it what it made, since a proof of all of them at once takes many times longer:
 //!
-//! | | What | Call | In |
+//! | | Stage | Its checks | In |
 //! |---|---|---|---|
-//! | 1 | the first text and the choice of its model | `read` | `decide` |
-//! | 2 | the second model, of the same text or of another | `choose`, `read` | `on_one`, `on_two` |
-//! | 3 | the hierarchies | `flatten_two`, `flatten_within` | `on_both`, `on_models` and `on_second` |
-//! | 4 | the pair, the names of outputs, the order text | `pair_choosing` | `on_flats` |
-//! | 5 | the assumption's text and model, its hierarchy, what is asked of it | `read`, `flatten_within`, `Pair::assuming` | `on_assumption`, `on_main`, `on_assumed` |
-//! | 6 | the comparison | `known_by_structure`, `decide_pair` | `on_pair` |
+//! | 1 | read the first text, and choose its model | `read` | `decide` |
+//! | 2 | choose the second model in the same text, or read that of another | `choose`, `read` | `choose_second`, `read_second` |
+//! | 3 | flatten the hierarchies | `flatten_two`, `flatten_within` | `flatten_both`, `flatten_first` and `flatten_second` |
+//! | 4 | match the flat netlists: the pair, the names of outputs, the order text | `pair_choosing` | `match_flats` |
+//! | 5 | take the assumption: its text and model, its hierarchy, what is asked of it | `read`, `flatten_within`, `Pair::assuming` | `read_assumption`, `flatten_assumption`, `match_assumption` |
+//! | 6 | decide | `known_by_structure`, `decide_pair` | `compare` |
+//! | 7 | tell: the report with its warnings, or the refusal | `warnings_in_one`, `warnings_in_two` | `with_warnings`, `told_refusal` |
 ghost use Rattle.std.specs.Prelude.{◌≡◌, ◌≢◌, ◌⊎◌, ◌<◌, length, None, Some, IfOk, IfErr, Ok, Err, MatchResult};
 ghost use Rattle.std.specs.Option.{option_copied};
 ghost use Rattle.eqc_blif.specs.Reading.{outcome};
@@ -69,14 +70,14 @@ pub(crate) fn decide<R: Threads + Wait + Sync, P: Progress<R> + Sync>(
         Err(refusal) => return told_refusal(Side::First, refusal),
     };
     match &case.second {
-        None => decision.on_one(&first, left),
-        Some(second) => decision.on_two(&first, second, left),
+        None => decision.choose_second(&first, left),
+        Some(second) => decision.read_second(&first, second, left),
     }
 }
 
 impl<'x, R: Threads + Wait + Sync, P: Progress<R> + Sync> Decision<'x, R, P> {
     /// The report behind the choice of the second model in a single text.
-    fn on_one(&self, first: &Main, left: &mut Undecided) -> Result<Told, Stop>
+    fn choose_second(&self, first: &Main, left: &mut Undecided) -> Result<Told, Stop>
         requires options { options_code self.now.case.now.options ≡ None }
         requires m { first.now.model < length first.now.library }
         requires first { first_found self.now.case.now.options.bytes (given_of self.now.case.now).texts ≡ Ok (first.now.library, first.now.model) }
@@ -88,7 +89,7 @@ impl<'x, R: Threads + Wait + Sync, P: Progress<R> + Sync> Decision<'x, R, P> {
         let Main { library, model } = first;
         match choose(self.alloc, library, case.names.second, 1) {
             Ok(other) => with_warnings(
-                self.on_both(library, *model, other, left),
+                self.flatten_both(library, *model, other, left),
                 warnings_in_one(self.alloc, library, *model, other),
             ),
             Err(refusal) => told_refusal(Side::Second, refusal),
@@ -96,7 +97,7 @@ impl<'x, R: Threads + Wait + Sync, P: Progress<R> + Sync> Decision<'x, R, P> {
     }
 
     /// The report behind the reading of the second text and the choice of its model.
-    fn on_two(&self, first: &Main, second: &[u8], left: &mut Undecided) -> Result<Told, Stop>
+    fn read_second(&self, first: &Main, second: &[u8], left: &mut Undecided) -> Result<Told, Stop>
         requires options { options_code self.now.case.now.options ≡ None }
         requires m { first.now.model < length first.now.library }
         requires first { first_found self.now.case.now.options.bytes (given_of self.now.case.now).texts ≡ Ok (first.now.library, first.now.model) }
@@ -111,7 +112,7 @@ impl<'x, R: Threads + Wait + Sync, P: Progress<R> + Sync> Decision<'x, R, P> {
                     (&second.library, second.model),
                 );
                 with_warnings(
-                    self.on_models(f, g, left),
+                    self.flatten_first(f, g, left),
                     warnings_in_two(self.alloc, f, g),
                 )
             }
@@ -120,7 +121,7 @@ impl<'x, R: Threads + Wait + Sync, P: Progress<R> + Sync> Decision<'x, R, P> {
     }
 
     /// The report behind the flattening of two models of one text.
-    fn on_both(
+    fn flatten_both(
         &self,
         library: &Library,
         m: usize,
@@ -137,7 +138,7 @@ impl<'x, R: Threads + Wait + Sync, P: Progress<R> + Sync> Decision<'x, R, P> {
             Ok((f, g)) => {
                 recall_laws(&f);
                 recall_laws(&g);
-                self.on_flats(&f, &g, left)
+                self.match_flats(&f, &g, left)
             }
             Err(FaultOfTwo::First(Fault { code })) => {
                 refused(Side::First, Refusal { line: 0, code })
@@ -149,7 +150,7 @@ impl<'x, R: Threads + Wait + Sync, P: Progress<R> + Sync> Decision<'x, R, P> {
     }
 
     /// The report behind the flattening of the first model of two texts.
-    fn on_models(
+    fn flatten_first(
         &self,
         first: (&Library, usize),
         second: (&Library, usize),
@@ -162,14 +163,14 @@ impl<'x, R: Threads + Wait + Sync, P: Progress<R> + Sync> Decision<'x, R, P> {
         ensures stop { IfErr result (MayStop (models_answer (first.entry.0.now, first.entry.1) (second.entry.0.now, second.entry.1) (given_of self.now.case.now))) }
     {
         match flatten_within(self.alloc, first.0, first.1, self.limit()) {
-            Ok(f) => self.on_second(&f, second, left),
+            Ok(f) => self.flatten_second(&f, second, left),
             Err(Fault { code }) => refused(Side::First, Refusal { line: 0, code }),
         }
     }
 
     /// The report behind the flattening of the second model, whatever model the first flat netlist is of. It stands apart for its
     /// proof's sake: with two flat netlists in one function, each with an exit where there is none, that takes many times longer.
-    fn on_second(
+    fn flatten_second(
         &self,
         first: &Flat<'_>,
         second: (&Library, usize),
@@ -184,14 +185,14 @@ impl<'x, R: Threads + Wait + Sync, P: Progress<R> + Sync> Decision<'x, R, P> {
         match flatten_within(self.alloc, second.0, second.1, self.limit()) {
             Ok(g) => {
                 recall_laws(&g);
-                self.on_flats(first, &g, left)
+                self.match_flats(first, &g, left)
             }
             Err(Fault { code }) => refused(Side::Second, Refusal { line: 0, code }),
         }
     }
 
     /// The report behind the checks of the pair, of the names of outputs and of the order text.
-    fn on_flats(
+    fn match_flats(
         &self,
         first: &Flat<'_>,
         second: &Flat<'_>,
@@ -205,15 +206,15 @@ impl<'x, R: Threads + Wait + Sync, P: Progress<R> + Sync> Decision<'x, R, P> {
         let order = bytes_of(&case.order);
         match pair_choosing(self.alloc, first, second, case.outputs.names, order) {
             Ok(pair) => match &case.assume {
-                None => self.on_pair(&pair, left),
-                Some(text) => self.on_assumption(pair, text, left),
+                None => self.compare(&pair, left),
+                Some(text) => self.read_assumption(pair, text, left),
             },
             Err(Refused { side, line, code }) => refused(side, Refusal { line, code }),
         }
     }
 
     /// The report behind the reading of the assumption and the choice of its first model.
-    fn on_assumption(
+    fn read_assumption(
         &self,
         pair: Pair<'_>,
         text: &[u8],
@@ -225,13 +226,13 @@ impl<'x, R: Threads + Wait + Sync, P: Progress<R> + Sync> Decision<'x, R, P> {
         ensures stop { IfErr result (MayStop (assumption_answer (given_of self.now.case.now) (netlist_of pair.entry.first) (netlist_of pair.entry.second) (assumption_found self.now.case.now.options.bytes text.now))) }
     {
         match self.read(text, None) {
-            Ok(main) => self.on_main(pair, &main, left),
+            Ok(main) => self.flatten_assumption(pair, &main, left),
             Err(refusal) => refused(Side::Assume, refusal),
         }
     }
 
     /// The report behind the flattening of the assumption's model.
-    fn on_main(
+    fn flatten_assumption(
         &self,
         pair: Pair<'_>,
         assumption: &Main,
@@ -247,14 +248,14 @@ impl<'x, R: Threads + Wait + Sync, P: Progress<R> + Sync> Decision<'x, R, P> {
         match flatten_within(self.alloc, library, *model, self.limit()) {
             Ok(assumed) => {
                 recall_laws(&assumed);
-                self.on_assumed(pair, &assumed, left)
+                self.match_assumption(pair, &assumed, left)
             }
             Err(Fault { code }) => refused(Side::Assume, Refusal { line: 0, code }),
         }
     }
 
     /// The report behind what is asked of an assumption, whatever model it is of.
-    fn on_assumed(
+    fn match_assumption(
         &self,
         pair: Pair<'_>,
         assumed: &Flat<'_>,
@@ -266,7 +267,7 @@ impl<'x, R: Threads + Wait + Sync, P: Progress<R> + Sync> Decision<'x, R, P> {
         ensures stop { IfErr result (MayStop (flat_assumed (given_of self.now.case.now) pair.entry.first pair.entry.second assumed.now)) }
     {
         match pair.assuming(self.alloc, assumed) {
-            Ok(pair) => self.on_pair(&pair, left),
+            Ok(pair) => self.compare(&pair, left),
             Err(refusal) => {
                 let Refused { side, line, code } = refusal;
                 refused(side, Refusal { line, code })
@@ -295,7 +296,7 @@ impl<'x, R: Threads + Wait + Sync, P: Progress<R> + Sync> Decision<'x, R, P> {
     }
 
     /// The report on a pair, behind all checks.
-    fn on_pair(&self, pair: &Pair<'_>, left: &mut Undecided) -> Result<Report, Stop>
+    fn compare(&self, pair: &Pair<'_>, left: &mut Undecided) -> Result<Report, Stop>
         requires { options_code self.now.case.now.options ≡ None }
         ensures { IfOk result (λ report. report_of report ≡ pair_report self.now.case.now.options.every pair.now) }
     {

@@ -488,9 +488,9 @@ fn behind_first<R: Threads + Wait + Sync, P: Progress<R> + Sync>(
         return in_room(comparison, Room::Whole, alike);
     }
     watch.stage(rt, Stage::Sweeping);
-    let mut rounds = Rounds::of(pair, u64::from(options.conflicts), options.workers);
-    let every = options.every;
-    match Inside::of(rt, alloc, pair, alike, every, &rounds, watch) {
+    let conflicts = u64::from(options.conflicts);
+    let mut rounds = Rounds::of(pair, conflicts, options.workers, options.every);
+    match Inside::of(rt, alloc, pair, alike, &rounds, watch) {
         Ok(inside) => {
             let mut inside = inside;
             by_sweeping(comparison, &mut inside, alike, &mut rounds, left)

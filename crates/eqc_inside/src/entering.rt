@@ -210,17 +210,17 @@ impl<'a> Inside<'a> {
     }
 
     /// Enters the steps of a pair that its chosen outputs need which are not marked, where this is known of it, and sweeps them in a first
-    /// round: a step that is chosen in place of others is entered for them. Unless `every` output that differs is looked for, those behind
+    /// round: a step that is chosen in place of others is entered for them. Unless every output that differs is looked for, those behind
     /// the first that is seen to differ aren't needed. It takes time and memory in proportion to the steps and to the rows of their
     /// covers, for each instance of a model anew, or once for all instances where a cover has at most six columns; where these are very
-    /// many nothing is entered, and nothing is found of any output. What the first round may cost, and all searches, is told by `rounds`.
+    /// many nothing is entered, and nothing is found of any output. Which outputs are looked for, and what the first round and all searches
+    /// may cost, is told by `rounds`.
     /// The watch is told of each node that is swept. Fails where memory is refused.
     pub fn of<R: Threads + Sync, P: Progress<R>>(
         rt: &R,
         alloc: Global,
         pair: &'a Pair<'a>,
         alike: &Alike,
-        every: bool,
         rounds: &Rounds,
         watch: &P,
     ) -> Result<Inside<'a>, AllocError>
@@ -228,7 +228,7 @@ impl<'a> Inside<'a> {
         ensures { IfOk result (λ inside. inside ≡ pair.now) }
     {
         let steps = Steps::of(alloc, pair, alike.chosen.clone()?);
-        let wanted = entering(alloc, &steps, &alike.equal, every)?;
+        let wanted = entering(alloc, &steps, &alike.equal, rounds.every)?;
         let mut inside = Inside::unswept(alloc, steps, &wanted.marks)?;
         inside.sweep_again(rt, alloc, alike, rounds.effort(), watch)?;
         inside.allow_searches(rounds, wanted.work);

@@ -25,7 +25,6 @@ fn is_shown(steps: &Steps<'_>, sweep: &Sweep, literals: &[Option<u32>], twins: T
     requires equal { IsTwin sweep.now twins }
     ensures { IsTrue result → difference_at steps.now.pair twins.place ≡ None }
 {
-    let _ = sweep.graph();
     let roots = steps.roots(twins.place);
     let x = literal_of(literals, roots[0]);
     let y = literal_of(literals, roots[1]);

@@ -50,7 +50,7 @@ const LONG_WHOLE: u64 = 100_000_000;
 const WORTHWHILE: u64 = 8;
 
 /// How much a round may cost.
-#[derive(Clone, Copy, PartialEq, Eq, Debug)]
+#[derive(Clone, Copy, PartialEq)]
 pub enum Span {
     /// As much as it takes to see whether larger diagrams do.
     Short,
@@ -61,10 +61,12 @@ pub enum Span {
 }
 
 /// How far the rounds of a sweep are, and what is left for further ones.
-#[derive(Clone, Copy, Debug)]
+#[derive(Clone, Copy)]
 pub struct Rounds {
     conflicts: u64,
     workers: u32,
+    /// Whether every output that differs is looked for, or the first alone.
+    pub(crate) every: bool,
     level: usize,
     left: u64,
     span: Span,
@@ -77,8 +79,9 @@ pub struct Rounds {
 const USUAL: u64 = 100_000;
 
 impl Rounds {
-    /// Before the first round over two netlists, with what so many conflicts are worth for all of them, by so many workers.
-    pub fn of(pair: &Pair<'_>, conflicts: u64, workers: u32) -> Rounds {
+    /// Before the first round over two netlists, with what so many conflicts are worth for all of them, by so many workers. With `every`
+    /// each output that differs is looked for, else the first alone.
+    pub fn of(pair: &Pair<'_>, conflicts: u64, workers: u32, every: bool) -> Rounds {
         let steps = pair
             .first()
             .steps()
@@ -87,6 +90,7 @@ impl Rounds {
         Rounds {
             conflicts,
             workers,
+            every,
             level: usize::from(steps < MANY_STEPS),
             left: conflicts.saturating_mul(WORK),
             span: Span::Short,

@@ -3,7 +3,7 @@ use Rattle.eqc_compare.specs.Comparing.{netlist_of}
 use Rattle.eqc_case.specs.Answer.{assumption_found, assumption_answer}
 use Rattle.eqc_case.specs.Sources.{given_of}
 use Rattle.eqc_case.proofs.ReportsLaws.{reported, stop_alike, assumption_fault}
-use Rattle.eqc_check.proofs.decide.Decision.on_assumption.Goals as goal
+use Rattle.eqc_check.proofs.decide.Decision.read_assumption.Goals as goal
 
 pub returns-in-Err-clause-report : goal.returns-in-Err-clause-report
 returns-in-Err-clause-report g c =
@@ -12,10 +12,10 @@ returns-in-Err-clause-report g c =
 
 pub returns-in-Ok-clause-report : goal.returns-in-Ok-clause-report
 returns-in-Ok-clause-report g c =
-    reported c.on_main.result _ _ c.on_main.ensures.report
+    reported c.flatten_assumption.result _ _ c.flatten_assumption.ensures.report
     (ap (assumption_answer (given_of c.args.self.now.case.now) (netlist_of c.args.pair.first) (netlist_of c.args.pair.second)) (sym c.in-Ok.ensures.chosen))
 
 pub returns-in-Ok-clause-stop : goal.returns-in-Ok-clause-stop
 returns-in-Ok-clause-stop g c =
-    stop_alike c.on_main.result _ _ c.on_main.ensures.stop
+    stop_alike c.flatten_assumption.result _ _ c.flatten_assumption.ensures.stop
     (ap (assumption_answer (given_of c.args.self.now.case.now) (netlist_of c.args.pair.first) (netlist_of c.args.pair.second)) (sym c.in-Ok.ensures.chosen))

@@ -3,7 +3,7 @@ use Rattle.eqc_pair.specs.PairOf.{PairOf}
 use Rattle.eqc_report.specs.declared.options.Options.{Options}
 use Rattle.eqc_report.specs.PairReport.{pair_report}
 use Rattle.eqc_case.proofs.ReportsLaws.{reported}
-use Rattle.eqc_check.proofs.decide.Decision.on_pair.Goals as goal
+use Rattle.eqc_check.proofs.decide.Decision.compare.Goals as goal
 
 pub returns : goal.returns
 returns g c =

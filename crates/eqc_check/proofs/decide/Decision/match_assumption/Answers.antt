@@ -5,15 +5,15 @@ use Rattle.eqc_report.specs.ReportView.{report_of}
 use Rattle.eqc_compare.specs.Comparing.{netlist_of}
 use Rattle.eqc_case.specs.Sources.{given_of}
 use Rattle.eqc_case.proofs.ReportsLaws.{reported, stop_alike, pair_compared, compared_stop, assumption_taken}
-use Rattle.eqc_check.proofs.decide.Decision.on_assumed.Goals as goal
+use Rattle.eqc_check.proofs.decide.Decision.match_assumption.Goals as goal
 
 pub returns-in-Ok-clause-report : goal.returns-in-Ok-clause-report
 returns-in-Ok-clause-report g c =
     let given = given_of c.args.self.now.case.now in
     let p = c.in-Ok.pair in
     let is = c.in-Ok.ensures.pair in
-    let compares : IfOk c.on_pair.result (λ report. report_of report ≡ pair_report given.options.every c.in-Ok.pair) = c.on_pair.ensures in
-    reported c.on_pair.result _ _ compares
+    let compares : IfOk c.compare.result (λ report. report_of report ≡ pair_report given.options.every c.in-Ok.pair) = c.compare.ensures in
+    reported c.compare.result _ _ compares
     (pair_compared given p c.args.pair.first c.args.pair.second (Some c.args.assumed.now) (ap (λ (x : PairOf). x.first) is)
     (ap (λ (x : PairOf). x.second) is) (ap (λ (x : PairOf). x.assumes) is) (ap (λ (x : PairOf). x.chosen) is ∙ c.requires.outputs)
     ∙ assumption_taken given c.args.pair.first c.args.pair.second c.args.assumed.now c.in-Ok.ensures.taken)
@@ -21,5 +21,5 @@ returns-in-Ok-clause-report g c =
 pub returns-in-Ok-clause-stop : goal.returns-in-Ok-clause-stop
 returns-in-Ok-clause-stop g c =
     let given = given_of c.args.self.now.case.now in
-    stop_alike c.on_pair.result _ _ (compared_stop given (netlist_of c.args.pair.first) (netlist_of c.args.pair.second) (Some (netlist_of c.args.assumed.now)) c.on_pair.result)
+    stop_alike c.compare.result _ _ (compared_stop given (netlist_of c.args.pair.first) (netlist_of c.args.pair.second) (Some (netlist_of c.args.assumed.now)) c.compare.result)
     (assumption_taken given c.args.pair.first c.args.pair.second c.args.assumed.now c.in-Ok.ensures.taken)

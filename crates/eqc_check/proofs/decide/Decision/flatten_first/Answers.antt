@@ -1,13 +1,13 @@
 use Rattle.eqc_pair.specs.declared.refused.Side.TheVariants as side
 use Rattle.eqc_case.specs.Sources.{given_of}
 use Rattle.eqc_case.proofs.ReportsLaws.{first_fault, refused_stop}
-use Rattle.eqc_check.proofs.decide.Decision.on_models.Goals as goal
+use Rattle.eqc_check.proofs.decide.Decision.flatten_first.Goals as goal
 
 pub returns-in-Ok-clause-report : goal.returns-in-Ok-clause-report
-returns-in-Ok-clause-report g c = c.on_second.ensures.report (c.args.first.0.now, c.args.first.1) (rw c.limit.ensures at c.in-Ok.ensures.accepted) c.in-Ok.ensures.flat
+returns-in-Ok-clause-report g c = c.flatten_second.ensures.report (c.args.first.0.now, c.args.first.1) (rw c.limit.ensures at c.in-Ok.ensures.accepted) c.in-Ok.ensures.flat
 
 pub returns-in-Ok-clause-stop : goal.returns-in-Ok-clause-stop
-returns-in-Ok-clause-stop g c = c.on_second.ensures.stop (c.args.first.0.now, c.args.first.1) (rw c.limit.ensures at c.in-Ok.ensures.accepted) c.in-Ok.ensures.flat
+returns-in-Ok-clause-stop g c = c.flatten_second.ensures.stop (c.args.first.0.now, c.args.first.1) (rw c.limit.ensures at c.in-Ok.ensures.accepted) c.in-Ok.ensures.flat
 
 pub returns-in-Err-clause-report : goal.returns-in-Err-clause-report
 returns-in-Err-clause-report g c =

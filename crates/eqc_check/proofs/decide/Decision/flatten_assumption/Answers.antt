@@ -4,18 +4,18 @@ use Rattle.eqc_compare.specs.Comparing.{netlist_of}
 use Rattle.eqc_case.specs.Answer.{MainOf}
 use Rattle.eqc_case.specs.Sources.{given_of}
 use Rattle.eqc_case.proofs.ReportsLaws.{reported, stop_alike, assumption_hierarchy, flat_assumption, refused_stop}
-use Rattle.eqc_check.proofs.decide.Decision.on_main.Goals as goal
+use Rattle.eqc_check.proofs.decide.Decision.flatten_assumption.Goals as goal
 
 pub returns-in-Ok-clause-report : goal.returns-in-Ok-clause-report
 returns-in-Ok-clause-report g c =
     let k : MainOf = (c.args.assumption.now.library, c.args.assumption.now.model) in
-    reported c.on_assumed.result _ _ c.on_assumed.ensures.report
+    reported c.match_assumption.result _ _ c.match_assumption.ensures.report
     (flat_assumption (given_of c.args.self.now.case.now) c.args.pair.first c.args.pair.second c.in-Ok.assumed k (Ok k) refl (rw c.limit.ensures at c.in-Ok.ensures.accepted) c.recall_laws.ensures.lawful c.in-Ok.ensures.flat)
 
 pub returns-in-Ok-clause-stop : goal.returns-in-Ok-clause-stop
 returns-in-Ok-clause-stop g c =
     let k : MainOf = (c.args.assumption.now.library, c.args.assumption.now.model) in
-    stop_alike c.on_assumed.result _ _ c.on_assumed.ensures.stop
+    stop_alike c.match_assumption.result _ _ c.match_assumption.ensures.stop
     (flat_assumption (given_of c.args.self.now.case.now) c.args.pair.first c.args.pair.second c.in-Ok.assumed k (Ok k) refl (rw c.limit.ensures at c.in-Ok.ensures.accepted) c.recall_laws.ensures.lawful c.in-Ok.ensures.flat)
 
 pub returns-in-Err-clause-report : goal.returns-in-Err-clause-report

@@ -1,7 +1,7 @@
 use Rattle.eqc_pair.specs.declared.refused.Side.TheVariants as side
 use Rattle.eqc_case.specs.Sources.{given_of}
 use Rattle.eqc_case.proofs.ReportsLaws.{reported, stop_alike, flat_models, second_fault, refused_stop}
-use Rattle.eqc_check.proofs.decide.Decision.on_second.Goals as goal
+use Rattle.eqc_check.proofs.decide.Decision.flatten_second.Goals as goal
 
 pub returns-in-Err-clause-report : goal.returns-in-Err-clause-report
 returns-in-Err-clause-report g c m accepted flat =
@@ -12,12 +12,12 @@ returns-in-Err-clause-stop g c m accepted flat = refused_stop side.Second (recor
 
 pub returns-in-Ok-clause-report : goal.returns-in-Ok-clause-report
 returns-in-Ok-clause-report g c m accepted flat =
-    reported c.on_flats.result _ _ c.on_flats.ensures.report
+    reported c.match_flats.result _ _ c.match_flats.ensures.report
     (flat_models c.args.first.now c.in-Ok.g m (c.args.second.0.now, c.args.second.1) (given_of c.args.self.now.case.now)
     c.recall_laws.ensures.lawful c.recall_laws-in-Ok.ensures.lawful accepted (rw c.limit.ensures at c.in-Ok.ensures.accepted) flat c.in-Ok.ensures.flat)
 
 pub returns-in-Ok-clause-stop : goal.returns-in-Ok-clause-stop
 returns-in-Ok-clause-stop g c m accepted flat =
-    stop_alike c.on_flats.result _ _ c.on_flats.ensures.stop
+    stop_alike c.match_flats.result _ _ c.match_flats.ensures.stop
     (flat_models c.args.first.now c.in-Ok.g m (c.args.second.0.now, c.args.second.1) (given_of c.args.self.now.case.now)
     c.recall_laws.ensures.lawful c.recall_laws-in-Ok.ensures.lawful accepted (rw c.limit.ensures at c.in-Ok.ensures.accepted) flat c.in-Ok.ensures.flat)

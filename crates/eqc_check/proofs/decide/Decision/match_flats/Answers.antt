@@ -8,7 +8,7 @@ use Rattle.eqc_case.specs.declared.given.Case.{Case}
 use Rattle.eqc_case.specs.Answer.{compared, assumption_found, assumption_answer, assumed_answer}
 use Rattle.eqc_case.specs.Sources.{items_of, given_of}
 use Rattle.eqc_case.proofs.ReportsLaws.{reported, stop_alike, pair_compared, compared_stop, behind_pair, refused_stop}
-use Rattle.eqc_check.proofs.decide.Decision.on_flats.Goals as goal
+use Rattle.eqc_check.proofs.decide.Decision.match_flats.Goals as goal
 
 pub returns-in-None-clause-report : goal.returns-in-None-clause-report
 returns-in-None-clause-report g c =
@@ -22,8 +22,8 @@ returns-in-None-clause-report g c =
     let taken : pair_refusal f k given.outputs given.order ≡ None = sym (ap₂ (pair_refusal f k) outputs order) ∙ c.in-Ok.ensures.taken in
     let unasked : assumed_answer given (netlist_of f) (netlist_of k) given.assume ≡ compared given (netlist_of f) (netlist_of k) None =
     ap (λ a. assumed_answer given (netlist_of f) (netlist_of k) (items_of a)) (sym asks ∙ c.in-None.is) in
-    let compares : IfOk c.on_pair.result (λ report. report_of report ≡ pair_report given.options.every c.in-Ok.pair) = c.on_pair.ensures in
-    reported c.on_pair.result _ _ compares
+    let compares : IfOk c.compare.result (λ report. report_of report ≡ pair_report given.options.every c.in-Ok.pair) = c.compare.ensures in
+    reported c.compare.result _ _ compares
     (pair_compared given c.in-Ok.pair f k None c.in-Ok.ensures.netlists.0 c.in-Ok.ensures.netlists.1 c.in-Ok.ensures.chosen.0 (c.in-Ok.ensures.chosen.1 ∙ outputs)
     ∙ (sym unasked ∙ behind_pair f k given taken))
 
@@ -39,7 +39,7 @@ returns-in-None-clause-stop g c =
     let taken : pair_refusal f k given.outputs given.order ≡ None = sym (ap₂ (pair_refusal f k) outputs order) ∙ c.in-Ok.ensures.taken in
     let unasked : assumed_answer given (netlist_of f) (netlist_of k) given.assume ≡ compared given (netlist_of f) (netlist_of k) None =
     ap (λ a. assumed_answer given (netlist_of f) (netlist_of k) (items_of a)) (sym asks ∙ c.in-None.is) in
-    stop_alike c.on_pair.result _ _ (compared_stop given (netlist_of f) (netlist_of k) None c.on_pair.result) (sym unasked ∙ behind_pair f k given taken)
+    stop_alike c.compare.result _ _ (compared_stop given (netlist_of f) (netlist_of k) None c.compare.result) (sym unasked ∙ behind_pair f k given taken)
 
 pub returns-in-Some-clause-stop : goal.returns-in-Some-clause-stop
 returns-in-Some-clause-stop g c =
@@ -54,7 +54,7 @@ returns-in-Some-clause-stop g c =
     let text = c.in-Some.text.items in
     let asked : assumed_answer given (netlist_of f) (netlist_of k) given.assume ≡ assumption_answer given (netlist_of f) (netlist_of k) (assumption_found given.options.bytes text) =
     ap (λ a. assumed_answer given (netlist_of f) (netlist_of k) (items_of a)) (sym asks ∙ c.in-Some.is) in
-    stop_alike c.on_assumption.result _ _ c.on_assumption.ensures.stop
+    stop_alike c.read_assumption.result _ _ c.read_assumption.ensures.stop
     (ap₂ (λ (x y : FlatOf). assumption_answer given (netlist_of x) (netlist_of y) (assumption_found given.options.bytes c.deref.result.now)) c.in-Ok.ensures.netlists.0 c.in-Ok.ensures.netlists.1
     ∙ (ap (λ t. assumption_answer given (netlist_of f) (netlist_of k) (assumption_found given.options.bytes t)) c.deref.ensures.value ∙ (sym asked ∙ behind_pair f k given taken)))
 

@@ -4,7 +4,7 @@ use Rattle.eqc_case.specs.declared.given.Case.{Case}
 use Rattle.eqc_case.specs.Sources.{items_of, given_of}
 use Rattle.eqc_case.specs.Warning.{warnings_in_one, warnings_on}
 use Rattle.eqc_case.proofs.TellingLaws.{models_tell, one_warned, second_of_one}
-use Rattle.eqc_check.proofs.decide.Decision.on_one.Goals as goal
+use Rattle.eqc_check.proofs.decide.Decision.choose_second.Goals as goal
 
 pub returns-in-Ok : goal.returns-in-Ok
 returns-in-Ok g c =
@@ -20,5 +20,5 @@ returns-in-Ok g c =
     let texts : one_text case.names case.first.items ≡ given.texts = sym (ap (λ s. read_texts case.names case.first.items (items_of s)) c.requires.one) in
     let warned : warnings_in_one m n ≡ warnings_on limit given.texts =
     one_warned limit case.names case.first.items m n (ap (first_found limit) texts ∙ c.requires.first) (ap (second_found limit) texts ∙ second) ∙ ap (warnings_on limit) texts in
-    models_tell given m n (warnings_in_one m n) c.on_both.result c.warnings_in_one.result c.with_warnings.result c.requires.first second warned
-    c.on_both.ensures.report c.on_both.ensures.stop c.warnings_in_one.ensures c.with_warnings.ensures
+    models_tell given m n (warnings_in_one m n) c.flatten_both.result c.warnings_in_one.result c.with_warnings.result c.requires.first second warned
+    c.flatten_both.ensures.report c.flatten_both.ensures.stop c.warnings_in_one.ensures c.with_warnings.ensures

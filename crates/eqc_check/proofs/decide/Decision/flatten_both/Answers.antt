@@ -2,13 +2,13 @@ use Rattle.eqc_pair.specs.declared.refused.Side.TheVariants as side
 use Rattle.eqc_case.specs.Answer.{MainOf}
 use Rattle.eqc_case.specs.Sources.{given_of}
 use Rattle.eqc_case.proofs.ReportsLaws.{reported, stop_alike, flat_models, first_fault, second_fault, refused_stop}
-use Rattle.eqc_check.proofs.decide.Decision.on_both.Goals as goal
+use Rattle.eqc_check.proofs.decide.Decision.flatten_both.Goals as goal
 
 pub returns-in-Ok-clause-report : goal.returns-in-Ok-clause-report
 returns-in-Ok-clause-report g c =
     let m : MainOf = (c.args.library.now, c.args.m) in
     let n : MainOf = (c.args.library.now, c.args.n) in
-    reported c.on_flats.result _ _ c.on_flats.ensures.report
+    reported c.match_flats.result _ _ c.match_flats.ensures.report
     (flat_models c.in-Ok.f c.in-Ok.g m n (given_of c.args.self.now.case.now)
     c.recall_laws.ensures.lawful c.recall_laws-in-Ok.ensures.lawful (rw c.limit.ensures at c.in-Ok.ensures.first.0) (rw c.limit.ensures at c.in-Ok.ensures.second.0) c.in-Ok.ensures.first.1 c.in-Ok.ensures.second.1)
 
@@ -16,7 +16,7 @@ pub returns-in-Ok-clause-stop : goal.returns-in-Ok-clause-stop
 returns-in-Ok-clause-stop g c =
     let m : MainOf = (c.args.library.now, c.args.m) in
     let n : MainOf = (c.args.library.now, c.args.n) in
-    stop_alike c.on_flats.result _ _ c.on_flats.ensures.stop
+    stop_alike c.match_flats.result _ _ c.match_flats.ensures.stop
     (flat_models c.in-Ok.f c.in-Ok.g m n (given_of c.args.self.now.case.now)
     c.recall_laws.ensures.lawful c.recall_laws-in-Ok.ensures.lawful (rw c.limit.ensures at c.in-Ok.ensures.first.0) (rw c.limit.ensures at c.in-Ok.ensures.second.0) c.in-Ok.ensures.first.1 c.in-Ok.ensures.second.1)
 
