@@ -345,7 +345,7 @@ fn by_sums<R: Threads + Wait + Sync, P: Progress<R> + Sync>(
 }
 
 /// The report over what rounds of sweeping find equal that take no longer than diagrams of one worker, which becomes known, where there
-/// are few inputs; and by such diagrams.
+/// are few inputs; and by such diagrams, unless these rounds found so much that longer ones come first.
 fn by_one<R: Threads + Wait + Sync, P: Progress<R> + Sync>(
     comparison: &Comparison<'_, R, P>,
     inside: &mut Inside<'_>,
@@ -360,9 +360,13 @@ fn by_one<R: Threads + Wait + Sync, P: Progress<R> + Sync>(
     ensures kept { KeepsMarks comparison.now.pair.now alike.old.equal.items alike.new.equal.items }
     ensures report { IfOk result (λ report. report_of report ≡ pair_report comparison.now.options.now.every comparison.now.pair.now) }
 {
-    if has_some_inputs(comparison.pair) {
+    let Comparison { alloc, pair, .. } = *comparison;
+    if has_some_inputs(pair) {
         rounds.lengthen(Span::Medium);
         sweep_more(comparison, inside, alike, rounds);
+        if rounds.are_fruitful() && known_outcome(alloc, pair, &alike.equal).is_none() {
+            return Err(Stop::NodeLimit);
+        }
     }
     in_room(comparison, Room::One, alike)
 }
@@ -458,6 +462,12 @@ fn by_sweeping<R: Threads + Wait + Sync, P: Progress<R> + Sync>(
     match by_long_rounds(comparison, inside, alike, rounds, left) {
         Err(Stop::NodeLimit) => {}
         report => return report,
+    }
+    if rounds.are_fruitful() {
+        match in_room(comparison, Room::One, alike) {
+            Err(Stop::NodeLimit) => {}
+            report => return report,
+        }
     }
     by_longer_searches(comparison, inside, alike, left)
 }

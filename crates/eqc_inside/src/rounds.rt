@@ -49,6 +49,9 @@ const LONG_WHOLE: u64 = 100_000_000;
 /// A level comes once more after a round of it that found a node equal for each so many questions that were given up.
 const WORTHWHILE: u64 = 8;
 
+/// Rounds between are fruitful where they find one of so many steps equal.
+const FRUITFUL: u64 = 20;
+
 /// How much a round may cost.
 #[derive(Clone, Copy, PartialEq)]
 pub enum Span {
@@ -70,6 +73,9 @@ pub struct Rounds {
     level: usize,
     left: u64,
     span: Span,
+    /// The steps of both netlists, and how many nodes rounds between found equal.
+    steps: u64,
+    found: u64,
     /// Whether questions were left open in the last round, and whether there are no more such rounds.
     is_open: bool,
     is_over: bool,
@@ -94,6 +100,8 @@ impl Rounds {
             level: usize::from(steps < MANY_STEPS),
             left: conflicts.saturating_mul(WORK),
             span: Span::Short,
+            steps: steps as u64,
+            found: 0,
             is_open: true,
             is_over: false,
         }
@@ -102,6 +110,11 @@ impl Rounds {
     /// Whether there is another round.
     pub fn has_next(&self) -> bool {
         !self.is_over && self.left > 0
+    }
+
+    /// Whether rounds between found much, so that long ones may do where diagrams of one worker don't.
+    pub fn are_fruitful(&self) -> bool {
+        self.found.saturating_mul(FRUITFUL) > self.steps
     }
 
     /// Work in proportion to the conflicts that the options give, where it is so much with the usual number of them.
@@ -145,6 +158,9 @@ impl Rounds {
                 || self.level.saturating_add(1) >= SHORT_LEVELS;
             self.level = self.level.saturating_add(usize::from(!round.is_cut));
             return;
+        }
+        if self.span == Span::Medium {
+            self.found = self.found.saturating_add(round.found);
         }
         let is_worthwhile = round.found.saturating_mul(WORTHWHILE) > round.open;
         let next = self.level.saturating_add(1);
