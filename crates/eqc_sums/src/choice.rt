@@ -26,11 +26,16 @@ const TURNED: u8 = 16;
 /// How often a node is taken for a sum.
 const OFTEN: u8 = 8;
 
+/// How often it is taken for a product of one: where nodes were found equal, two products may lead to one another.
+const OFTEN_PRODUCT: u8 = 2;
+
 /// How many rules there are.
 const RULES: u32 = 16;
 
-/// The rule for sums.
+/// The rules for sums and for products of sums.
 const SUM: u32 = 1;
+
+const PRODUCT: u32 = 2;
 
 /// The rule that asks whether nodes are equal, and the last one before sums are allowed again.
 const ALIKE: u32 = 7;
@@ -47,6 +52,7 @@ pub(crate) struct Choice {
     terms: Vec<(u32, u32)>,
     marks: Vec<u8>,
     times: Vec<u8>,
+    products: Vec<u8>,
     turns: u32,
     /// The node and the coefficient for which the last step was chosen.
     last: (u32, u128),
@@ -62,6 +68,7 @@ impl Choice {
             terms: Vec::new(alloc),
             marks: Vec::new(alloc),
             times: Vec::new(alloc),
+            products: Vec::new(alloc),
             turns: 0,
             last: (0, 0),
             asked: Vec::new(alloc),
@@ -96,6 +103,7 @@ impl Choice {
         adders.catch_up(reduction.sweep().graph())?;
         self.marks.resize(adders.nodes.len(), 0)?;
         self.times.resize(adders.nodes.len(), 0)?;
+        self.products.resize(adders.nodes.len(), 0)?;
         if self.last.0 != 0 && reduction.form().coefficient(self.last.0) == self.last.1 {
             self.mark(self.last.0, STUCK);
         }
@@ -217,6 +225,9 @@ impl Choice {
             return None;
         }
         let step = self.by_one(sweep, rule, place)?;
+        if rule == PRODUCT {
+            self.count_product(place.node)?;
+        }
         if rule != ALIKE {
             self.last = (place.node, place.factor);
         }
@@ -228,7 +239,7 @@ impl Choice {
         match rule {
             0 => place.relation(),
             SUM => self.sum(place),
-            2 => self.product(place),
+            PRODUCT => self.product(place),
             3 => place.complement(),
             4 => self.carry(place),
             5 => place.small(false),
@@ -266,6 +277,16 @@ impl Choice {
     fn count(&mut self, node: u32) -> Option<()> {
         let times = self.times.get_mut(node as usize)?;
         if *times >= OFTEN {
+            return None;
+        }
+        *times = times.wrapping_add(1);
+        Some(())
+    }
+
+    /// Counts that a node is taken for a product of a sum, as long as it may be.
+    fn count_product(&mut self, node: u32) -> Option<()> {
+        let times = self.products.get_mut(node as usize)?;
+        if *times >= OFTEN_PRODUCT {
             return None;
         }
         *times = times.wrapping_add(1);
