@@ -120,9 +120,10 @@ def contradictions(pairs, tell):
 
 def register_line(register, source, suffix):
     """The comment by which `replay` knows a register: its name, the input that it became or `=0` or `=1`, the output of
-    what goes into it, and its clock."""
+    what goes into it, its clock, and what its own file calls it, of all names that of what holds the value."""
     clock = [register.kind or b"-", register.clock or b"-"]
-    return b" ".join([REGISTER_LINE, register.name, source, register.name + suffix, *clock])
+    held = next((it for it in register.names if not CELL_PART.search(it)), register.name)
+    return b" ".join([REGISTER_LINE, register.name, source, register.name + suffix, *clock, held])
 
 
 def cut_registers(design, suffix):
