@@ -306,7 +306,7 @@ def have_names_of_ports(registers):
 
 def have_numbers_of_instances(registers):
     """Whether registers have numbers of instances in the ways to them, which other files number otherwise or not at all."""
-    return any(NUMBERED_PART.search(CELL_PART.sub(b"", it.name)) for it in registers)
+    return any(NUMBERED_PART.search(CELL_PART.sub(b"", name)) for it in registers for name in (it.name, it.held))
 
 
 def hint(lost):
