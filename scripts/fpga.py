@@ -21,6 +21,16 @@ TABLES = {
 STEPS = "proc; flatten; memory -nordff; opt; techmap; opt; opt_clean -purge"
 
 
+def cell_hint(name):
+    """What may tell what a cell is that has no model."""
+    if name[:1] == b"$":
+        return "a cell of yosys, of which `techmap` before `write_blif` makes plain ones"
+    families = [family for family, cells in TABLES.items() if name in cells]
+    if families:
+        return f"a cell of an FPGA, which --fpga {' or '.join(families)} knows"
+    return "--fpga FAMILY, --liberty FILE or --genlib FILE tells what a library's cell is"
+
+
 def shared_folder():
     """Where yosys has its files."""
     program = shutil.which("yosys")

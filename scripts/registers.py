@@ -120,9 +120,10 @@ def contradictions(pairs, tell):
 
 def register_line(register, source, suffix):
     """The comment by which `replay` knows a register: its name, the input that it became or `=0` or `=1`, the output of
-    what goes into it, and its clock."""
+    what goes into it, its clock, and what its own file calls it, of all names that of what holds the value."""
     clock = [register.kind or b"-", register.clock or b"-"]
-    return b" ".join([REGISTER_LINE, register.name, source, register.name + suffix, *clock])
+    held = next((it for it in register.names if not CELL_PART.search(it)), register.name)
+    return b" ".join([REGISTER_LINE, register.name, source, register.name + suffix, *clock, held])
 
 
 def cut_registers(design, suffix):
@@ -305,7 +306,7 @@ def have_names_of_ports(registers):
 
 def have_numbers_of_instances(registers):
     """Whether registers have numbers of instances in the ways to them, which other files number otherwise or not at all."""
-    return any(NUMBERED_PART.search(CELL_PART.sub(b"", it.name)) for it in registers)
+    return any(NUMBERED_PART.search(CELL_PART.sub(b"", name)) for it in registers for name in (it.name, it.held))
 
 
 def hint(lost):
