@@ -80,7 +80,7 @@ impl Patterns {
         for row in 0..self.rows {
             let mut words = Vec::with_capacity(alloc, inputs.len())?;
             for (k, _) in inputs {
-                words.push(self.word(row, *k))?;
+                words.push(self.word(row, *k as usize))?;
             }
             kept.push(words)?;
         }
@@ -109,16 +109,19 @@ impl Patterns {
 
     /// The first simulated value of a node.
     pub(crate) fn phase(&self, k: u32) -> bool {
-        self.phases.get(k as usize).copied().unwrap_or(false)
+        self.flip(k as usize) != 0
     }
 
     /// What makes the first value of a node false: nothing, or the complement.
-    fn flip(&self, k: u32) -> u64 {
-        if self.phase(k) { u64::MAX } else { 0 }
+    fn flip(&self, k: usize) -> u64 {
+        match self.phases.get(k) {
+            Some(true) => u64::MAX,
+            Some(false) | None => 0,
+        }
     }
 
     /// The word of a node in a row.
-    fn word(&self, row: usize, k: u32) -> u64 {
+    fn word(&self, row: usize, k: usize) -> u64 {
         match self.blocks.get(row / TOGETHER) {
             None => 0,
             Some(block) => words_at(block.as_slice(), k)[row % TOGETHER],
@@ -143,7 +146,7 @@ impl Patterns {
 
     /// The value of a node in a pattern.
     pub(crate) fn value(&self, row: usize, place: u32, k: u32) -> bool {
-        (self.word(row, k) >> (place % 64)) % 2 == 1
+        (self.word(row, k as usize) >> (place % 64)) % 2 == 1
     }
 
     /// The words of a node in the rows of a block, if it is an input. A gate draws as many random words as an input, so what inputs
@@ -300,7 +303,7 @@ impl Patterns {
         let count = self.signatures.len().min(self.blocks[place].len());
         for k in 0..count.min(row.len()) {
             let word = row[k];
-            let flip = self.flip(k as u32);
+            let flip = self.flip(k);
             self.blocks[place][k][at % TOGETHER] = word;
             self.signatures[k] = self.signatures[k].wrapping_add(share_of(at, word ^ flip));
         }
@@ -309,7 +312,7 @@ impl Patterns {
     /// Takes a row out of the signatures.
     fn discount(&mut self, at: usize) {
         for k in 0..self.signatures.len() {
-            let share = share_of(at, self.word(at, k as u32) ^ self.flip(k as u32));
+            let share = share_of(at, self.word(at, k) ^ self.flip(k));
             self.signatures[k] = self.signatures[k].wrapping_sub(share);
         }
     }

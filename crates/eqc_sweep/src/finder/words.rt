@@ -33,8 +33,8 @@ pub(crate) fn word_by(row: &[u64], node: Node, input: u64) -> u64 {
 }
 
 /// The words of a node in a block of rows, or 0 where it has none.
-pub(crate) fn words_at(block: &[Words], k: u32) -> Words {
-    match block.get(k as usize) {
+pub(crate) fn words_at(block: &[Words], k: usize) -> Words {
+    match block.get(k) {
         None => [0; TOGETHER],
         Some(words) => *words,
     }
@@ -43,7 +43,7 @@ pub(crate) fn words_at(block: &[Words], k: u32) -> Words {
 /// The words of a literal.
 #[inline(always)]
 pub(crate) fn words_of(block: &[Words], l: u32) -> Words {
-    let mut words = words_at(block, node_of(l));
+    let mut words = words_at(block, node_of(l) as usize);
     let flip = if is_negated(l) { u64::MAX } else { 0 };
     for lane in 0..TOGETHER {
         words[lane] ^= flip;
