@@ -54,6 +54,17 @@ fn empty_blocks(alloc: Global, rows: usize) -> Result<Vec<Vec<Words>>, AllocErro
     Ok(blocks)
 }
 
+/// Puts the words of nodes in a row in a lane of their block.
+fn put_words(block: &mut Vec<Words>, lane: usize, row: &[u64]) {
+    for (k, word) in row.iter().enumerate() {
+        if k < block.len() && lane < TOGETHER {
+            let mut words = block[k];
+            words[lane] = *word;
+            block[k] = words;
+        }
+    }
+}
+
 impl Patterns {
     /// The rows that are there before counterexamples, without nodes.
     pub(crate) fn new(alloc: Global) -> Result<Patterns, AllocError> {
@@ -296,16 +307,12 @@ impl Patterns {
 
     /// Puts a row in its place, and adds it to the signatures.
     fn put(&mut self, at: usize, row: &[u64]) {
-        let place = at / TOGETHER;
-        if place >= self.blocks.len() {
-            return;
+        if let Some(block) = self.blocks.get_mut(at / TOGETHER) {
+            put_words(block, at % TOGETHER, row);
         }
-        let count = self.signatures.len().min(self.blocks[place].len());
-        for k in 0..count.min(row.len()) {
-            let word = row[k];
-            let flip = self.flip(k);
-            self.blocks[place][k][at % TOGETHER] = word;
-            self.signatures[k] = self.signatures[k].wrapping_add(share_of(at, word ^ flip));
+        for k in 0..self.signatures.len() {
+            let share = share_of(at, self.word(at, k) ^ self.flip(k));
+            self.signatures[k] = self.signatures[k].wrapping_add(share);
         }
     }
 
