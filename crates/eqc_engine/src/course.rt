@@ -53,6 +53,9 @@ const MOST_TIMES: u32 = 8;
 /// With this part of them all outputs are searched for differences at first.
 const SEARCH_PART: u64 = 5;
 
+/// Longer rounds come before diagrams of one worker where the rounds between left this part fewer nodes.
+const FRUITFUL: u64 = 8;
+
 /// There are no more rounds of sweeping than so many, whatever they find.
 const MOST_ROUNDS: u32 = 100;
 
@@ -344,31 +347,29 @@ fn by_sums<R: Threads + Wait + Sync, P: Progress<R> + Sync>(
     }
 }
 
-/// The report over what rounds of sweeping find equal that take no longer than diagrams of one worker, which becomes known, where there
-/// are few inputs; and by such diagrams, unless these rounds found so much that longer ones come first.
-fn by_one<R: Threads + Wait + Sync, P: Progress<R> + Sync>(
+/// Sweeps in rounds that take no longer than diagrams of one worker, where there are few inputs. Answers whether outputs are left of so
+/// many fewer nodes that longer rounds come before such diagrams.
+fn rounds_between<R: Threads + Wait + Sync, P: Progress<R> + Sync>(
     comparison: &Comparison<'_, R, P>,
     inside: &mut Inside<'_>,
     alike: &mut Alike,
     rounds: &mut Rounds,
-) -> Result<Report, Stop>
-    requires options { options_code comparison.now.options.now ≡ None }
+) -> bool
     requires inside { inside.old ≡ comparison.now.pair.now }
-    requires known { IsKnown comparison.now.pair.now alike.old }
-    ensures inside { inside.new ≡ inside.old }
-    ensures known { IsKnown comparison.now.pair.now alike.new }
-    ensures kept { KeepsMarks comparison.now.pair.now alike.old.equal.items alike.new.equal.items }
-    ensures report { IfOk result (λ report. report_of report ≡ pair_report comparison.now.options.now.every comparison.now.pair.now) }
+    requires known { IsKnown inside.old alike.old }
+    ensures pair { inside.new ≡ inside.old }
+    ensures known { IsKnown inside.new alike.new }
+    ensures kept { KeepsMarks inside.old alike.old.equal.items alike.new.equal.items }
 {
     let Comparison { alloc, pair, .. } = *comparison;
-    if has_some_inputs(pair) {
-        rounds.lengthen(Span::Medium);
-        sweep_more(comparison, inside, alike, rounds);
-        if rounds.are_fruitful() && known_outcome(alloc, pair, &alike.equal).is_none() {
-            return Err(Stop::NodeLimit);
-        }
+    if !has_some_inputs(pair) {
+        return false;
     }
-    in_room(comparison, Room::One, alike)
+    let before = u64::from(inside.nodes());
+    rounds.lengthen(Span::Medium);
+    sweep_more(comparison, inside, alike, rounds);
+    let after = u64::from(inside.nodes());
+    before - before / FRUITFUL > after && known_outcome(alloc, pair, &alike.equal).is_none()
 }
 
 /// The report over what long rounds of sweeping find equal, which becomes known: by short searches, and by diagrams of all workers.
@@ -455,15 +456,18 @@ fn by_sweeping<R: Threads + Wait + Sync, P: Progress<R> + Sync>(
         Err(Stop::NodeLimit) => {}
         report => return report,
     }
-    match by_one(comparison, inside, alike, rounds) {
-        Err(Stop::NodeLimit) => {}
-        report => return report,
+    let is_late = rounds_between(comparison, inside, alike, rounds);
+    if !is_late {
+        match in_room(comparison, Room::One, alike) {
+            Err(Stop::NodeLimit) => {}
+            report => return report,
+        }
     }
     match by_long_rounds(comparison, inside, alike, rounds, left) {
         Err(Stop::NodeLimit) => {}
         report => return report,
     }
-    if rounds.are_fruitful() {
+    if is_late {
         match in_room(comparison, Room::One, alike) {
             Err(Stop::NodeLimit) => {}
             report => return report,

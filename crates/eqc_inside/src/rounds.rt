@@ -49,9 +49,6 @@ const LONG_WHOLE: u64 = 100_000_000;
 /// A level comes once more after a round of it that found a node equal for each so many questions that were given up.
 const WORTHWHILE: u64 = 8;
 
-/// Rounds between are fruitful where they find one of so many steps equal.
-const FRUITFUL: u64 = 20;
-
 /// How much a round may cost.
 #[derive(Clone, Copy, PartialEq)]
 pub enum Span {
@@ -73,9 +70,6 @@ pub struct Rounds {
     level: usize,
     left: u64,
     span: Span,
-    /// The steps of both netlists, and how many nodes rounds between found equal.
-    steps: u64,
-    found: u64,
     /// Whether questions were left open in the last round, and whether there are no more such rounds.
     is_open: bool,
     is_over: bool,
@@ -100,8 +94,6 @@ impl Rounds {
             level: usize::from(steps < MANY_STEPS),
             left: conflicts.saturating_mul(WORK),
             span: Span::Short,
-            steps: steps as u64,
-            found: 0,
             is_open: true,
             is_over: false,
         }
@@ -110,11 +102,6 @@ impl Rounds {
     /// Whether there is another round.
     pub fn has_next(&self) -> bool {
         !self.is_over && self.left > 0
-    }
-
-    /// Whether rounds between found much, so that long ones may do where diagrams of one worker don't.
-    pub fn are_fruitful(&self) -> bool {
-        self.found.saturating_mul(FRUITFUL) > self.steps
     }
 
     /// Work in proportion to the conflicts that the options give, where it is so much with the usual number of them.
@@ -158,9 +145,6 @@ impl Rounds {
                 || self.level.saturating_add(1) >= SHORT_LEVELS;
             self.level = self.level.saturating_add(usize::from(!round.is_cut));
             return;
-        }
-        if self.span == Span::Medium {
-            self.found = self.found.saturating_add(round.found);
         }
         let is_worthwhile = round.found.saturating_mul(WORTHWHILE) > round.open;
         let next = self.level.saturating_add(1);
@@ -275,6 +259,12 @@ impl<'a> Inside<'a> {
     /// What came of the questions of the last round. Nothing is promised of it.
     pub fn tally(&self) -> Tally {
         self.sweep.tally()
+    }
+
+    /// How many nodes there are of what outputs depended on which weren't known to be equal before the last round. Nothing is promised of
+    /// it.
+    pub fn nodes(&self) -> u32 {
+        self.sweep.graph().len()
     }
 
     /// The literals of steps in another graph, into which what open outputs depend on is copied: all that is in the first netlist before
