@@ -45,7 +45,8 @@ fn position_from(pair: &Pair<'_>, from: usize, name: &[u8]) -> Option<usize>
     None
 }
 
-/// The positions of the outputs that differ, which a report has in their order. Fails where memory is refused.
+/// For each output that differs its position, none of an output where it isn't found; a report has them in their order. Fails where
+/// memory is refused.
 fn positions_of(
     alloc: Global,
     pair: &Pair<'_>,
@@ -54,9 +55,12 @@ fn positions_of(
     let mut positions = Vec::with_capacity(alloc, differences.each.len())?;
     let mut from = 0usize;
     for difference in &differences.each {
-        if let Some(position) = position_from(pair, from, difference.name.as_bytes()) {
-            positions.push(position)?;
-            from = position.saturating_add(1);
+        match position_from(pair, from, difference.name.as_bytes()) {
+            Some(position) => {
+                positions.push(position)?;
+                from = position.saturating_add(1);
+            }
+            None => positions.push(usize::MAX)?,
         }
     }
     Ok(positions)
@@ -102,6 +106,13 @@ fn take_largest(groups: &mut Vec<Group>) -> Option<Group> {
         return None;
     }
     Some(groups.remove(found))
+}
+
+/// Marks a difference as left.
+fn put_back(is_left: &mut Vec<bool>, difference: usize) {
+    if difference < is_left.len() {
+        is_left[difference] = true;
+    }
 }
 
 /// Outputs that are simulated together, by their positions among the differences.
@@ -237,8 +248,9 @@ impl<'x> Task<'x> {
         for k in 0..positions.len() {
             if k < is_left.len() && is_left[k] && groups.len() < MOST_GROUPS {
                 is_left[k] = false;
-                if let Some(group) = self.group(pair, &locator, &positions, k, &mut is_left)? {
-                    groups.push(group)?;
+                match self.group(pair, &locator, &positions, k, &mut is_left)? {
+                    Some(group) => groups.push(group)?,
+                    None => put_back(&mut is_left, k),
                 }
             }
         }

@@ -274,7 +274,7 @@ fn pairs_are_compared_by_workers(rt: HostRuntime) {
 #[test]
 fn no_output_is_left_at_first(rt: HostRuntime) {
     let left = Undecided::none(rt.alloc());
-    assert!(rt; left.count() == 0 && left.names().is_empty() && left.seen().is_none());
+    assert!(rt; left.left().count == 0 && left.left().names.is_empty() && left.seen().is_none());
 }
 
 /// Whether two outputs are reported on, and were compared at once.

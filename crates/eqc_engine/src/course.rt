@@ -28,7 +28,7 @@ ghost use Rattle.eqc_report.specs.PairReport.{pair_report};
 ghost use Rattle.eqc_report.specs.ReportView.{report_of};
 ghost use Rattle.eqc_report.specs.Options.{options_code};
 ghost use Rattle.eqc_report.specs.Seen.{IsLeftOf};
-ghost use Rattle.eqc_report.specs.Left.{AddsLeft, AddsNone};
+ghost use Rattle.eqc_report.specs.Left.{IsTold, KeepsTold};
 
 use crate::workers::{
     Comparison, check_by_one, check_by_team, check_in_first, check_in_large, goes_on_alone,
@@ -168,7 +168,7 @@ fn by_search<R: Threads + Wait + Sync, P: Progress<R> + Sync>(
     ensures kept { KeepsMarks comparison.now.pair.now alike.old.equal.items alike.new.equal.items }
     ensures report { IfOk result (λ report. report_of report ≡ pair_report comparison.now.options.now.every comparison.now.pair.now) }
     ensures seen { IsLeftOf comparison.now.pair.now left.old → IsLeftOf comparison.now.pair.now left.new }
-    ensures none { AddsNone left.old left.new }
+    ensures told { KeepsTold left.old left.new }
 {
     let Comparison {
         rt,
@@ -303,7 +303,7 @@ fn by_short_rounds<R: Threads + Wait + Sync, P: Progress<R> + Sync>(
     ensures kept { KeepsMarks comparison.now.pair.now alike.old.equal.items alike.new.equal.items }
     ensures report { IfOk result (λ report. report_of report ≡ pair_report comparison.now.options.now.every comparison.now.pair.now) }
     ensures seen { IsLeftOf comparison.now.pair.now left.old → IsLeftOf comparison.now.pair.now left.new }
-    ensures none { AddsNone left.old left.new }
+    ensures told { KeepsTold left.old left.new }
 {
     if let Ok(more) = inside.known(comparison.alloc, alike) {
         *alike = more;
@@ -388,7 +388,7 @@ fn by_long_rounds<R: Threads + Wait + Sync, P: Progress<R> + Sync>(
     ensures kept { KeepsMarks comparison.now.pair.now alike.old.equal.items alike.new.equal.items }
     ensures report { IfOk result (λ report. report_of report ≡ pair_report comparison.now.options.now.every comparison.now.pair.now) }
     ensures seen { IsLeftOf comparison.now.pair.now left.old → IsLeftOf comparison.now.pair.now left.new }
-    ensures none { AddsNone left.old left.new }
+    ensures told { KeepsTold left.old left.new }
 {
     rounds.lengthen(Span::Long);
     sweep_more(comparison, inside, alike, rounds);
@@ -412,7 +412,7 @@ fn by_longer_searches<R: Threads + Wait + Sync, P: Progress<R> + Sync>(
     ensures kept { KeepsMarks comparison.now.pair.now alike.old.equal.items alike.new.equal.items }
     ensures report { IfOk result (λ report. report_of report ≡ pair_report comparison.now.options.now.every comparison.now.pair.now) }
     ensures seen { IsLeftOf comparison.now.pair.now left.old → IsLeftOf comparison.now.pair.now left.new }
-    ensures none { AddsNone left.old left.new }
+    ensures told { KeepsTold left.old left.new }
 {
     let conflicts = u64::from(comparison.options.conflicts);
     let more = ask_outputs(comparison, inside, alike, conflicts);
@@ -442,7 +442,7 @@ fn by_sweeping<R: Threads + Wait + Sync, P: Progress<R> + Sync>(
     ensures kept { KeepsMarks comparison.now.pair.now alike.old.equal.items alike.new.equal.items }
     ensures report { IfOk result (λ report. report_of report ≡ pair_report comparison.now.options.now.every comparison.now.pair.now) }
     ensures seen { IsLeftOf comparison.now.pair.now left.old → IsLeftOf comparison.now.pair.now left.new }
-    ensures none { AddsNone left.old left.new }
+    ensures told { KeepsTold left.old left.new }
 {
     match by_short_rounds(comparison, inside, alike, rounds, left) {
         Err(Stop::NodeLimit) => {}
@@ -489,7 +489,7 @@ fn behind_first<R: Threads + Wait + Sync, P: Progress<R> + Sync>(
     ensures kept { KeepsMarks comparison.now.pair.now alike.old.equal.items alike.new.equal.items }
     ensures report { IfOk result (λ report. report_of report ≡ pair_report comparison.now.options.now.every comparison.now.pair.now) }
     ensures seen { IsLeftOf comparison.now.pair.now left.old → IsLeftOf comparison.now.pair.now left.new }
-    ensures none { AddsNone left.old left.new }
+    ensures told { KeepsTold left.old left.new }
 {
     let Comparison {
         rt,
@@ -526,7 +526,7 @@ fn by_stages<R: Threads + Wait + Sync, P: Progress<R> + Sync>(
     ensures kept { KeepsMarks comparison.now.pair.now alike.old.equal.items alike.new.equal.items }
     ensures report { IfOk result (λ report. report_of report ≡ pair_report comparison.now.options.now.every comparison.now.pair.now) }
     ensures seen { IsLeftOf comparison.now.pair.now left.old → IsLeftOf comparison.now.pair.now left.new }
-    ensures none { AddsNone left.old left.new }
+    ensures told { KeepsTold left.old left.new }
 {
     match first_diagrams(comparison, alike) {
         Err(Stop::NodeLimit) => behind_first(comparison, alike, left),
@@ -551,8 +551,8 @@ pub fn known_by_structure<R, P: Progress<R>>(comparison: &Comparison<'_, R, P>) 
 ///
 /// The options are in their ranges. With 0 conflicts, only diagrams are made; with fewer than 1,024 nodes, only by all workers. The
 /// call may wait, as `check` may. The watch is told of each stage as it begins, and how far it is; of each comparison by diagrams
-/// it is told before that begins. Where it is given up, the outputs that are left, which aren't known to be equal then, are added to
-/// those in `left`, with what was seen of one that differs. The errors are the node limit 71, also where operations took too many
+/// it is told before that begins. Where it is given up, the outputs that are left, which aren't known to be equal then, are told in
+/// `left`, with what was seen of one that differs. The errors are the node limit 71, also where operations took too many
 /// turns, want of memory 72, the limit of references 73, and 74 where a thread could not be started.
 pub fn decide_pair<R: Threads + Wait + Sync, P: Progress<R> + Sync>(
     comparison: &Comparison<'_, R, P>,
@@ -565,14 +565,14 @@ pub fn decide_pair<R: Threads + Wait + Sync, P: Progress<R> + Sync>(
     ensures known { IsKnown comparison.now.pair.now alike.new }
     ensures kept { KeepsMarks comparison.now.pair.now alike.old.equal.items alike.new.equal.items }
     ensures seen { IsLeftOf comparison.now.pair.now left.old → IsLeftOf comparison.now.pair.now left.new }
-    ensures none { IfOk result (λ _. AddsNone left.old left.new) }
-    ensures left { IfErr result (λ _. AddsLeft comparison.now.pair.now alike.new.equal.items (length comparison.now.pair.now.first.outputs) left.old left.new) }
+    ensures told { IfOk result (λ _. KeepsTold left.old left.new) }
+    ensures left { IfErr result (λ _. IsTold comparison.now.pair.now alike.new.equal.items left.new.left) }
 {
     let report = by_stages(comparison, alike, left);
     match report {
         Ok(report) => Ok(report),
         Err(stop) => {
-            left.add_unmarked(comparison.pair, &alike.equal);
+            left.take_unmarked(comparison.pair, &alike.equal);
             Err(stop)
         }
     }

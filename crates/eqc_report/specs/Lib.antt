@@ -6,6 +6,7 @@ pub mod Report
 pub mod ReportView
 pub mod PairReport
 pub mod Seen
+pub mod Words
 pub mod Left
 pub mod Written
 pub mod Evaluation

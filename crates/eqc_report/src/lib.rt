@@ -24,4 +24,4 @@ pub use option_rule::{OPTION_RULES, OptionRule};
 pub use options::{Options, options_fault};
 pub use report::text::{write_or_stop, write_report};
 pub use report::{Difference, Differences, Report, Status};
-pub use undecided::{Seen, Undecided, note_seen};
+pub use undecided::{Left, Seen, Undecided, Word, note_seen};

@@ -9,7 +9,7 @@ use eqc_blif::{Finding as TextFinding, Library};
 use eqc_case::{Diagnostics, Located};
 use eqc_flat::{Circle, Finding, FoundFormal, FoundInstance, HierarchicalName};
 use eqc_pair::{Finding as PairFinding, Side, Unmatched};
-use eqc_report::{Options, RunFault, Seen, Undecided};
+use eqc_report::{Left, Options, RunFault, Seen, Undecided, Word};
 use eqc_tree::Stop;
 use eqc_words::Request;
 use std::alloc::{AllocError, Global};
@@ -469,19 +469,47 @@ fn stop_said(alloc: Global, options: Options, stop: Stop) -> Result<String, Allo
     format!(in alloc; "{stop} ({})", stop.code())
 }
 
-/// What is said of the outputs that are left undecided.
-fn undecided_said(alloc: Global, left: &Undecided) -> Result<String, AllocError> {
-    let mut said = format!(in alloc; "outputs that are left undecided, {}", left.count())?;
-    let mut cut = ":";
-    for name in left.names() {
-        let output = format!(in alloc; "{cut} '{}'", Shown(name))?;
+/// What is said before the outputs that are left undecided.
+fn undecided_said(alloc: Global, left: &Left) -> Result<String, AllocError> {
+    format!(in alloc;
+        "{} of {} outputs are equal; left undecided, {}:",
+        left.compared.saturating_sub(left.count),
+        left.compared,
+        left.count
+    )
+}
+
+/// A word of outputs, as `p[63:0]`, with the number of those that are left undecided.
+fn word_said(alloc: Global, word: &Word) -> Result<String, AllocError> {
+    format!(in alloc;
+        "{}{}:{}{}: {} of {}",
+        Shown(&word.before),
+        word.high,
+        word.low,
+        Shown(&word.after),
+        word.left,
+        word.all
+    )
+}
+
+/// The names that are told of outputs that are in no word, and how many outputs more are left. None if there are neither.
+fn alone_said(alloc: Global, left: &Left) -> Result<Option<String>, AllocError> {
+    let mut said = String::new(alloc);
+    let mut cut = "";
+    for name in &left.names {
+        let output = format!(in alloc; "{cut}'{}'", Shown(name))?;
         said.push_str(&output)?;
-        cut = "";
+        cut = " ";
     }
-    if left.count() > left.names().len() {
-        said.push_str(" ..")?;
+    let more = left.alone.saturating_sub(left.names.len());
+    if more > 0 {
+        let count = format!(in alloc; "{cut}and {more} more")?;
+        said.push_str(&count)?;
     }
-    Ok(said)
+    if said.is_empty() {
+        return Ok(None);
+    }
+    Ok(Some(said))
 }
 
 /// What is said of an output that was seen to differ, before the assignment under which it does.
@@ -611,6 +639,17 @@ impl<'a> Explanation<'a> {
     }
 
     /// Tells of the places of a difference, and of the others that may begin at one of them.
+    fn tell_left(&mut self, left: &Left) -> Result<(), AllocError> {
+        self.tell(undecided_said(self.alloc, left))?;
+        for word in &left.words {
+            self.tell(word_said(self.alloc, word))?;
+        }
+        if let Some(said) = alone_said(self.alloc, left)? {
+            self.tell(Ok(said))?;
+        }
+        Ok(())
+    }
+
     fn tell_places(&mut self, located: &Located<'_>) -> Result<(), AllocError> {
         self.put(output_said(self.alloc, located))?;
         let places = located.places;
@@ -673,8 +712,8 @@ impl<'a> Diagnostics for Explanation<'a> {
     }
 
     fn undecided(&mut self, left: &Undecided) {
-        if left.count() > 0 {
-            let _ = self.tell(undecided_said(self.alloc, left));
+        if left.left().count > 0 {
+            let _ = self.tell_left(left.left());
         }
         if let Some(seen) = left.seen() {
             let _ = self.tell(seen_said(self.alloc, seen));

@@ -52,6 +52,10 @@ static FLATTENING: &[Row<Told>] = &[
     ("too many signals", ".model f;.subckt a;.subckt a;.end;.model a;.subckt b;.subckt b;.end;.model b;.subckt c;.subckt c;.end;.model c;.subckt d;.subckt d;.end;.model d;.subckt e;.subckt e;.end;.model e;.subckt g;.subckt g;.end;.model g;.subckt h;.subckt h;.end;.model h;.subckt i;.subckt i;.end;.model i;.subckt j;.subckt j;.end;.model j;.subckt k;.subckt k;.end;.model k;.subckt l;.subckt l;.end;.model l;.subckt m;.subckt m;.end;.model m;.subckt n;.subckt n;.end;.model n;.subckt o;.subckt o;.end;.model o;.subckt p;.subckt p;.end;.model p;.subckt q;.subckt q;.end;.model q;.subckt r;.subckt r;.end;.model r;.subckt s;.subckt s;.end;.model s;.subckt t;.subckt t;.end;.model t;.subckt u;.subckt u;.end;.model u;.end;", ("", "refused first 0 29;", &["eqc: standard input: the main model has 2097150 signals and instances in all, and may have 1048576 (29)"])),
 ];
 
+/// Netlists with outputs of one structure, two of a word that have others, one of none, and one that has an index alone.
+const LEFT_OF_A_WORD: &str =
+    ".model f;.inputs a b;.outputs q p[0] p[1] p[2] r v_1_;.names a p[0];1 1;.names a b p[1];11 1;.names a b p[2];10 1;.names a b q;01 1;.names b r;1 1;.names a b v_1_;00 1;.end;.model g;.inputs a b;.outputs q p[0] p[1] p[2] r v_1_;.names a p[0];1 1;.names a b p[1];1- 1;.names a b p[2];0- 1;.names a b q;-1 1;.names b r;1 1;.names a b v_1_;-0 1;.end;";
+
 /// Netlists that make no pair, order texts, options, and files that can't be read.
 #[rattlefmt::skip]
 static COMPARING: &[Row<Told>] = &[
@@ -67,7 +71,8 @@ static COMPARING: &[Row<Told>] = &[
     ("no statement in the assumption", UNEQUAL, ("--assume yx", "refused assume 1 6;", &["eqc: yx: line 1: the row 'y x' follows no .names (6)", "eqc: BLIF begins with a command; other formats are converted first, and a byte order mark is left out"])),
     ("the assumption's hierarchy", UNEQUAL, ("--assume undriven", "refused assume 0 27;", &["eqc: undriven: signal 'e' has no driver (27)", "eqc: 'opt_clean -purge', 'write_blif -noalias' or scripts/prepare --unused leaves such a name out; what an output needs 'setundef -undriven -zero' before 'techmap' ties to 0"])),
     ("nothing is allowed", UNEQUAL, ("--assume nothing", "vacuous;", &["eqc: nothing: no assignment of the inputs meets the assumption, so nothing was compared"])),
-    ("too few nodes", UNEQUAL, ("--nodes 1", "stopped 71;", &["eqc: the diagrams want more than --nodes 1, or too many turns (71); try a larger number, up to 1048574, or another --order, as scripts/order makes", "eqc: with --nodes 1024 and more equal signals are looked for inside the netlists", "eqc: outputs that are left undecided, 1: 'z'"])),
+    ("too few nodes", UNEQUAL, ("--nodes 1", "stopped 71;", &["eqc: the diagrams want more than --nodes 1, or too many turns (71); try a larger number, up to 1048574, or another --order, as scripts/order makes", "eqc: with --nodes 1024 and more equal signals are looked for inside the netlists", "eqc: 0 of 1 outputs are equal; left undecided, 1:", "eqc: 'z'"])),
+    ("outputs left of a word", LEFT_OF_A_WORD, ("--nodes 1", "stopped 71;", &["eqc: the diagrams want more than --nodes 1, or too many turns (71); try a larger number, up to 1048574, or another --order, as scripts/order makes", "eqc: with --nodes 1024 and more equal signals are looked for inside the netlists", "eqc: 2 of 6 outputs are equal; left undecided, 4:", "eqc: p[2:0]: 2 of 3", "eqc: 'q' 'v_1_'"])),
     ("too many workers", UNEQUAL, ("--workers 65", "refused options 0 81;", &["eqc: --workers 65: 1 to 64 are allowed (81)"])),
     ("no node", UNEQUAL, ("--nodes 0", "refused options 0 82;", &["eqc: --nodes 0: 1 to 1048574 are allowed (82)"])),
     ("three cells", UNEQUAL, ("--cells 3", "refused options 0 83;", &["eqc: --cells 3: a power of two up to 1048576 is wanted (83)"])),
@@ -360,6 +365,10 @@ const LOST_TWICE_REPORT: &str =
 /// What is said of the second output.
 const LOST_SHARED: &str = "eqc: 1 more output may begin to differ at 'm': 'z'";
 
+/// What is said of outputs for which no place is looked for.
+const UNPLACED: &str =
+    "eqc: 2 more outputs may begin to differ elsewhere, which was not looked for";
+
 /// Whether a report is the same with `--locate` behind options, and standard error begins and ends with these lines.
 fn is_located(
     rt: &(impl AllocGlobal + Threads + Wait + Sync),
@@ -396,4 +405,31 @@ fn outputs_are_grouped_by_place(rt: HostRuntime) {
     let first = [LOST_OUTPUT];
     let located = is_located(&rt, LOST_TWICE, told, &first, &[LOST_SHARED]);
     holds(&rt, located, "two outputs");
+}
+
+/// A text in which each of so many outputs is negated on one side, and the report on it.
+fn negated(alloc: Global, outputs: u32) -> Result<(String, String), AllocError> {
+    let mut names = String::new(alloc);
+    let mut first = String::new(alloc);
+    let mut second = String::new(alloc);
+    let mut report = String::new(alloc);
+    for k in 0..outputs {
+        names.push_str(&format!(in alloc; " y{k}")?)?;
+        first.push_str(&format!(in alloc; ".names a y{k};1 1;")?)?;
+        second.push_str(&format!(in alloc; ".names a y{k};0 1;")?)?;
+        report.push_str(&format!(in alloc; "differs at y{k};a=0;first=0;second=1;")?)?;
+    }
+    let text = format!(in alloc;
+        ".model f;.inputs a;.outputs{names};{first}.end;.model g;.inputs a;.outputs{names};{second}.end;"
+    )?;
+    Ok((text, report))
+}
+
+#[test]
+fn outputs_without_a_place_are_counted(rt: HostRuntime) -> Result<(), AllocError> {
+    let (text, report) = negated(rt.alloc(), 12)?;
+    let told = ("--all", report.as_str());
+    let located = is_located(&rt, &text, told, &[], &[UNPLACED]);
+    holds(&rt, located, "twelve outputs");
+    Ok(())
 }
