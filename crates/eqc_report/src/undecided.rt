@@ -10,8 +10,6 @@ mod counting;
 mod largest;
 mod word;
 
-pub use word::Word;
-
 use crate::found::{copied, shown};
 use crate::report::Difference;
 use crate::undecided::counting::{Alone, Compared, ComparedIn, IsLeft, LeftIn, Test, count};
@@ -20,6 +18,7 @@ use crate::undecided::word::{number_between, number_in};
 use eqc_netlist::Name;
 use eqc_pair::Pair;
 use std::alloc::{AllocError, Global};
+pub use word::Word;
 
 /// So many words and names are told.
 const KEPT: usize = 10;
@@ -93,12 +92,7 @@ fn left_in(pair: &Pair<'_>, marks: &[bool], before: &[u8], after: &[u8]) -> usiz
 }
 
 /// A word of names that begin and end so, if outputs of it are left.
-fn word_between(
-    pair: &Pair<'_>,
-    marks: &[bool],
-    before: Vec<u8>,
-    after: Vec<u8>,
-) -> Option<Word>
+fn word_between(pair: &Pair<'_>, marks: &[bool], before: Vec<u8>, after: Vec<u8>) -> Option<Word>
     ensures { IfSome result (IsWordLeft pair.now marks.now) }
 {
     let left = left_in(pair, marks, &before, &after);
@@ -137,13 +131,7 @@ fn word_at(
 }
 
 /// Puts the word of the output at a position behind others, if there is one. Where memory is refused it stays out.
-fn add_word(
-    alloc: Global,
-    pair: &Pair<'_>,
-    marks: &[bool],
-    output: usize,
-    words: &mut Vec<Word>,
-)
+fn add_word(alloc: Global, pair: &Pair<'_>, marks: &[bool], output: usize, words: &mut Vec<Word>)
     ensures { All (IsWordLeft pair.now marks.now) words.old.items → All (IsWordLeft pair.now marks.now) words.new.items }
 {
     if output < pair.first().outputs().len()

@@ -100,5 +100,9 @@ pub(crate) fn number_in(name: &[u8]) -> Option<(usize, usize)>
         }
         start = k;
     }
-    if start < end { Some((start, end)) } else { None }
+    if start < end {
+        Some((start, end))
+    } else {
+        None
+    }
 }
