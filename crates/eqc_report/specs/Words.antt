@@ -1,6 +1,6 @@
 -- Words among the names of outputs: their names begin with the same bytes and end with the same, and have a number between them, as
 -- `p[3]` and `p[4]`.
-use Rattle.std.specs.Prelude.{◌≡◌, ℕ, ◌-◌, Bool, not, ◌&&◌, ◌==◌, List, length, take, drop, bytes_eq}
+use Rattle.std.specs.Prelude.{ℕ, ◌-◌, Bool, not, ◌&&◌, ◌==◌, List, length, take, drop, bytes_eq}
 use Rattle.std.specs.List.{list_any, list_all}
 use Rattle.std.specs.Char.{is_ascii_digit}
 use Rattle.eqc_report.specs.declared.undecided.word.Word.{Word}
