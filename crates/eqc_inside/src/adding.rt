@@ -1,7 +1,8 @@
 //! Outputs that are equal since the words to which they belong add up the same.
 //!
 //! The graph of the pair isn't asked: what was found equal in it took the place of other nodes, among them adders. The words enter a
-//! graph of their own, which is swept with few conflicts, since what is hard to see is what the sums are for.
+//! graph of their own, and from there another one, in which carries go along chains. That one is swept with few conflicts, since what is
+//! hard to see is what the sums are for.
 ghost use Rattle.std.specs.Prelude.{◌≡◌, ℕ, ◌<◌, ◌≤◌, [], None, length, slice_index, IfOk};
 ghost use Rattle.std.specs.List.{All};
 ghost use Rattle.eqc_pair.specs.PairOf.{PairOf};
@@ -14,13 +15,14 @@ ghost use Rattle.eqc_inside.specs.Adding.{AreAskedBy};
 
 use crate::entering::{CHARACTERS, entered};
 use crate::inside::{Inside, NONE, literal_of};
+use crate::rounds::moved;
 use crate::searching::mark;
 use eqc_build::Steps;
 use eqc_compare::{Alike, Progress, Stage, is_settled};
 use eqc_gates::needed_within;
 use eqc_graph::{Node, node_of};
 use eqc_netlist::Name;
-use eqc_sums::{Limits, Sums, has_adders, words_of};
+use eqc_sums::{Limits, Sums, copy_with_chains, has_adders, words_of};
 use eqc_sweep::{Effort, Sweep};
 use std::alloc::{AllocError, Global};
 
@@ -32,8 +34,17 @@ const EACH_NODE: u64 = 10_000;
 
 const WHOLE: u64 = 60_000_000;
 
-/// So many words that aren't shown equal end it.
+/// So many words that aren't shown equal end a turn.
 const MOST_FAILED: u32 = 3;
+
+/// So often a graph of fewer nodes than `LARGE` is made of the words that are open, each time with other patterns, and with the other netlist
+/// first: which adders are found depends on both.
+const TURNS: u32 = 4;
+
+const LARGE: u32 = 20_000;
+
+/// In a graph of more nodes none is shown: words of 64 bits times 64 take a quarter of them, and each step takes time for what there is.
+const MOST_NODES: u32 = 200_000;
 
 /// The limits for words in a graph of so many nodes.
 fn limits_in(nodes: u32, conflicts: u64) -> Limits {
@@ -42,6 +53,29 @@ fn limits_in(nodes: u32, conflicts: u64) -> Limits {
     Limits {
         work: limits.work.min(work),
         ..limits
+    }
+}
+
+/// One of the turns in which words are shown equal.
+#[derive(Clone, Copy)]
+struct Turn {
+    number: u32,
+    /// Whether there is no turn behind it.
+    is_last: bool,
+    limits: Limits,
+}
+
+impl Turn {
+    /// The limits in a graph of so many nodes. What succeeds mostly takes fewer steps than there are nodes, and what fails takes all that it
+    /// may: that is for the last turn.
+    fn limits(&self, nodes: u32) -> Limits {
+        let limits = self.limits;
+        let steps = if self.is_last {
+            limits.steps
+        } else {
+            limits.steps.min(nodes)
+        };
+        Limits { steps, ..limits }
     }
 }
 
@@ -121,7 +155,7 @@ struct Task<'a> {
     alloc: Global,
     steps: &'a Steps<'a>,
     words: &'a [Vec<usize>],
-    limits: Limits,
+    turn: Turn,
 }
 
 /// Whether a word is shown equal, in a graph whose adders are known: then its outputs become marked. Fails where memory is refused.
@@ -130,6 +164,7 @@ fn show_word(
     literals: &[Option<u32>],
     word: &[usize],
     sums: &mut Sums,
+    limits: Limits,
     alike: &mut Alike,
 ) -> Result<bool, AllocError>
     requires inside { IsInside task.now.steps.now sums.old.reduction.sweep literals.now }
@@ -140,7 +175,7 @@ fn show_word(
     ensures kept { KeepsMarks task.now.steps.now.pair alike.old.equal.items alike.new.equal.items }
 {
     let Literals { firsts, seconds } = literals_of(task.alloc, task.steps, literals, word)?;
-    let is_shown = sums.show(&firsts, &seconds, task.limits)?;
+    let is_shown = sums.show(&firsts, &seconds, limits)?;
     if is_shown {
         mark_first(alike, word, firsts.len());
     }
@@ -163,12 +198,13 @@ fn show_words<R, P: Progress<R>>(
     ensures known { IsKnown task.now.steps.now.pair alike.new }
     ensures kept { KeepsMarks task.now.steps.now.pair alike.old.equal.items alike.new.equal.items }
 {
-    sums.find_adders(task.limits)?;
+    let limits = task.turn.limits(sums.sweep().graph().len());
+    sums.find_adders(limits)?;
     let mut failed = 0u32;
     let words = task.words;
     for k in 0..words.len() {
         watch.step(rt, k, words.len());
-        if !show_word(task, literals, &words[k], sums, alike)? {
+        if !show_word(task, literals, &words[k], sums, limits, alike)? {
             failed = failed.saturating_add(1);
         }
         if failed >= MOST_FAILED {
@@ -178,7 +214,99 @@ fn show_words<R, P: Progress<R>>(
     Ok(())
 }
 
-/// Enters the marked steps into a graph, and shows words equal in it. The watch is told of each step, and then of each word. Fails where
+/// Which signals of outputs are meant.
+#[derive(Clone, Copy, PartialEq)]
+enum Side {
+    Second,
+    Both,
+}
+
+/// The literals of signals of the outputs of words, word by word. Fails where memory is refused.
+fn literals_of_all(
+    alloc: Global,
+    steps: &Steps<'_>,
+    literals: &[Option<u32>],
+    words: &[Vec<usize>],
+    side: Side,
+) -> Result<Vec<u32>, AllocError>
+    requires lawful { AreSteps steps.now }
+    requires outputs { All (λ w. All (λ o. o < length steps.now.pair.first.outputs) w.items) words.now }
+{
+    let mut all = Vec::new(alloc);
+    for k in 0..words.len() {
+        let Literals { firsts, seconds } = literals_of(alloc, steps, literals, &words[k])?;
+        if side == Side::Both {
+            all.extend_from_slice(&firsts)?;
+        }
+        all.extend_from_slice(&seconds)?;
+    }
+    Ok(all)
+}
+
+/// Copies what the second netlist's words are made of into a graph that is swept, where the turn has it before the first one's: what is equal
+/// to an older node is that one, and adders are found of older nodes. Fails where memory is refused.
+fn copy_second_first(
+    task: &Task<'_>,
+    plain: &Sweep,
+    literals: &[Option<u32>],
+    sweep: &mut Sweep,
+) -> Result<(), AllocError>
+    requires inside { IsInside task.now.steps.now plain.now literals.now }
+    requires outputs { All (λ w. All (λ o. o < length task.now.steps.now.pair.first.outputs) w.items) task.now.words.now }
+{
+    if task.turn.number % 2 == 1 {
+        let side = Side::Second;
+        let asked = literals_of_all(task.alloc, task.steps, literals, task.words, side)?;
+        copy_with_chains(task.alloc, plain.graph(), &asked, sweep)?;
+    }
+    Ok(())
+}
+
+/// Copies what words are made of into a graph that is swept, with chains of carries in place of trees of prefixes, and answers the
+/// literals of the steps there. Fails where memory is refused.
+fn chained(
+    task: &Task<'_>,
+    plain: &Sweep,
+    literals: &[Option<u32>],
+    sweep: &mut Sweep,
+) -> Result<Vec<Option<u32>>, AllocError>
+    requires inside { IsInside task.now.steps.now plain.now literals.now }
+    requires outputs { All (λ w. All (λ o. o < length task.now.steps.now.pair.first.outputs) w.items) task.now.words.now }
+    ensures { IfOk result (λ all. IsInside task.now.steps.now sweep.new all.items) }
+{
+    let asked = literals_of_all(task.alloc, task.steps, literals, task.words, Side::Both)?;
+    let table = copy_with_chains(task.alloc, plain.graph(), &asked, sweep)?;
+    moved(task.alloc, literals, &table)
+}
+
+/// Enters the marked steps into a graph in which nothing is asked, and from there into one that is swept. The first one is let go here.
+/// The watch is told of each step. Fails where memory is refused.
+fn enter_words<R, P: Progress<R>>(
+    rt: &R,
+    task: &Task<'_>,
+    marks: &[bool],
+    sweep: &mut Sweep,
+    watch: &P,
+) -> Result<Vec<Option<u32>>, AllocError>
+    requires closed { AreClosed task.now.steps.now marks.now }
+    requires outputs { All (λ w. All (λ o. o < length task.now.steps.now.pair.first.outputs) w.items) task.now.words.now }
+    ensures { IfOk result (λ all. IsInside task.now.steps.now sweep.new all.items) }
+{
+    let mut plain = Sweep::new(task.alloc, Effort::none())?;
+    let literals = entered(rt, task.alloc, task.steps, marks, &mut plain, watch)?;
+    copy_second_first(task, &plain, &literals, sweep)?;
+    chained(task, &plain, &literals, sweep)
+}
+
+/// Enters so many inputs that nothing depends on: those behind them have other patterns then. Fails where memory is refused.
+fn draw(sweep: &mut Sweep, count: u32) -> Result<(), AllocError> {
+    for k in 0..count {
+        sweep.input(u32::MAX - k)?;
+    }
+    Ok(())
+}
+
+/// Enters the marked steps into a graph, and shows words equal there. The watch is told of each step, and then of each word. Fails where
 /// memory is refused; what was marked before stays then.
 fn add_words<R, P: Progress<R>>(
     rt: &R,
@@ -193,18 +321,13 @@ fn add_words<R, P: Progress<R>>(
     ensures known { IsKnown task.now.steps.now.pair alike.new }
     ensures kept { KeepsMarks task.now.steps.now.pair alike.old.equal.items alike.new.equal.items }
 {
-    let Task {
-        alloc,
-        steps,
-        limits,
-        ..
-    } = *task;
     watch.stage(rt, Stage::Sweeping);
-    let effort = Effort::of(CHEAP, limits.work);
-    let mut sweep = Sweep::new(alloc, effort)?;
-    let literals = entered(rt, alloc, steps, marks, &mut sweep, watch)?;
+    let mut sweep = Sweep::new(task.alloc, Effort::of(CHEAP, task.turn.limits.work))?;
+    draw(&mut sweep, task.turn.number)?;
+    let literals = enter_words(rt, task, marks, &mut sweep, watch)?;
+    sweep.ask_no_more();
     watch.stage(rt, Stage::Adding);
-    let mut sums = Sums::new(alloc, sweep);
+    let mut sums = Sums::new(task.alloc, sweep);
     show_words(rt, task, &literals, &mut sums, alike, watch)
 }
 
@@ -277,6 +400,48 @@ impl<'a> Inside<'a> {
         Ok(open)
     }
 
+    /// Marks outputs whose words are shown equal in a turn.
+    fn add_in_turn<R, P: Progress<R>>(
+        &mut self,
+        rt: &R,
+        alloc: Global,
+        alike: &mut Alike,
+        turn: Turn,
+        watch: &P,
+    ) -> Result<(), AllocError>
+        requires { IsKnown self.old alike.old }
+        ensures pair { self.new ≡ self.old }
+        ensures known { IsKnown self.new alike.new }
+        ensures kept { KeepsMarks self.old alike.old.equal.items alike.new.equal.items }
+    {
+        let words = self.open_words(alloc, &alike.equal)?;
+        if words.is_empty() {
+            return Ok(());
+        }
+        let steps = Steps::each(alloc, self.steps.pair());
+        let outputs = of_words(alloc, steps.pair().first().outputs().len(), &words)?;
+        let marks = needed_within(alloc, &steps, &outputs, CHARACTERS)?;
+        let task = Task {
+            alloc,
+            steps: &steps,
+            words: &words,
+            turn,
+        };
+        add_words(rt, &task, &marks, alike, watch)
+    }
+
+    /// Whether words are open in a graph that has something like adders and isn't too large. Fails where memory is refused.
+    fn has_open_sums(&mut self, alloc: Global, marks: &[bool]) -> Result<bool, AllocError>
+        requires { AreEqual self.old marks.now }
+        ensures { self.new ≡ self.old }
+    {
+        if self.sweep.graph().len() > MOST_NODES {
+            return Ok(false);
+        }
+        let words = self.open_words(alloc, marks)?;
+        Ok(!words.is_empty() && has_adders(alloc, &self.sweep)?)
+    }
+
     /// Marks outputs whose words are shown equal by what they add up to: products, say, that are summed up in different ways. A word are
     /// outputs of one name with numbers (`words_of`); what is known of it by its marks isn't shown again, and nothing is shown of one
     /// of more than 128 outputs. Where nothing looks like an adder it is left at a look; else it takes work in proportion to the conflicts.
@@ -295,19 +460,19 @@ impl<'a> Inside<'a> {
         ensures known { IsKnown self.new alike.new }
         ensures kept { KeepsMarks self.old alike.old.equal.items alike.new.equal.items }
     {
-        let words = self.open_words(alloc, &alike.equal)?;
-        if words.is_empty() || !has_adders(alloc, &self.sweep)? {
+        if !self.has_open_sums(alloc, &alike.equal)? {
             return Ok(());
         }
-        let steps = Steps::each(alloc, self.steps.pair());
-        let outputs = of_words(alloc, steps.pair().first().outputs().len(), &words)?;
-        let marks = needed_within(alloc, &steps, &outputs, CHARACTERS)?;
-        let task = Task {
-            alloc,
-            steps: &steps,
-            words: &words,
-            limits: limits_in(self.sweep.graph().len(), conflicts),
-        };
-        add_words(rt, &task, &marks, alike, watch)
+        let nodes = self.sweep.graph().len();
+        let turns = if nodes < LARGE { TURNS } else { 1 };
+        'turns: for number in 0..turns {
+            let turn = Turn {
+                number,
+                is_last: number + 1 == turns,
+                limits: limits_in(nodes, conflicts),
+            };
+            self.add_in_turn(rt, alloc, alike, turn, watch)?;
+        }
+        Ok(())
     }
 }

@@ -205,7 +205,7 @@ fn moved_one(literals: &[Option<u32>], table: &[Option<u32>], step: usize) -> Op
 
 #[tactic(auto, using(crate::proofs::RoundLaws::moved_begins, crate::proofs::RoundLaws::moved_more))]
 /// The literals of steps in another graph. Fails where memory is refused.
-fn moved(
+pub(crate) fn moved(
     alloc: Global,
     literals: &[Option<u32>],
     table: &[Option<u32>],

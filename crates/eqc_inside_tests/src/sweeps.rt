@@ -3,7 +3,7 @@ ghost use Rattle.std.specs.Prelude.{IfOk};
 ghost use Rattle.eqc_graph.specs.Graph.{IsWithin, Extends};
 
 use crate::ends::same;
-use eqc_graph::negated;
+use eqc_graph::{Graph, negated};
 use eqc_sweep::{Comparison, Effort, Sweep, Twins, below, copied, copy, no_copies};
 use std::alloc::{AllocError, Global};
 use std::process::Abort;
@@ -119,18 +119,11 @@ static TWINS: &[(&str, u32, u64, &[usize])] = &[
     ("without a conflict", 4, 0, &[]),
 ];
 
-/// The places of the parities that are found equal to that of all variables.
-fn equal_twins<R: Threads + Sync>(
-    rt: &R,
-    alloc: Global,
-    threads: u32,
-    conflicts: u64,
-) -> Result<Vec<usize>, AllocError> {
-    let mut sweep = Sweep::new(alloc, Effort::none().by(threads))?;
-    let mut twins = Vec::new(alloc);
+/// The parity of all variables beside others.
+fn put_twins(sweep: &mut Sweep, twins: &mut Vec<Twins>) -> Result<(), AllocError> {
     for (place, second) in [BACK, WITHOUT_ONE, BACK].iter().enumerate() {
-        let x = parity(&mut sweep, FORTH)?;
-        let y = parity(&mut sweep, second)?;
+        let x = parity(sweep, FORTH)?;
+        let y = parity(sweep, second)?;
         twins.push(Twins {
             place,
             x,
@@ -138,17 +131,36 @@ fn equal_twins<R: Threads + Sync>(
             used: 0,
         })?;
     }
+    Ok(())
+}
+
+/// The places of twins.
+fn places_of(alloc: Global, twins: &[Twins]) -> Result<Vec<usize>, AllocError> {
     let mut places = Vec::new(alloc);
-    for found in sweep.equal_among(rt, &twins, conflicts)? {
+    for found in twins {
         places.push(found.place)?;
     }
     Ok(places)
 }
 
+/// The places of the parities that are found equal to that of all variables, in a graph that has none yet.
+fn equal_twins<R: Threads + Sync>(
+    rt: &R,
+    alloc: Global,
+    sweep: &mut Sweep,
+    conflicts: u64,
+) -> Result<Vec<usize>, AllocError> {
+    let mut twins = Vec::new(alloc);
+    put_twins(sweep, &mut twins)?;
+    let equal = sweep.equal_among(rt, &twins, conflicts)?;
+    places_of(alloc, &equal)
+}
+
 #[test]
 fn twins_are_found_equal_side_by_side(rt: HostRuntime) -> Result<(), AllocError> {
     for (case, threads, conflicts, places) in TWINS {
-        let found = equal_twins(&rt, rt.alloc(), *threads, *conflicts)?;
+        let mut sweep = Sweep::new(rt.alloc(), Effort::none().by(*threads))?;
+        let found = equal_twins(&rt, rt.alloc(), &mut sweep, *conflicts)?;
         same(&rt, found.as_slice(), *places, case);
     }
     Ok(())
@@ -268,32 +280,45 @@ fn what_is_made_again_has_one_literal(rt: HostRuntime) -> Result<(), AllocError>
     Ok(())
 }
 
-/// Whether a carry and a majority have one literal in a copy of their graph by so many threads, whether two parities do, and how many
-/// nodes there are.
+/// A carry and a majority, and two parities.
+fn carries_and_parities(sweep: &mut Sweep) -> Result<[u32; 4], AllocError> {
+    let x = sweep.input(7)?;
+    let y = sweep.input(8)?;
+    let z = sweep.input(9)?;
+    let carry = carry(sweep, x, y, z)?;
+    let majority = majority(sweep, x, y, z)?;
+    Ok([carry, majority, parity(sweep, FORTH)?, parity(sweep, BACK)?])
+}
+
+/// Whether of four literals of a graph the first two have one literal in a copy of it, and whether the others have.
+fn copied_alike<R: Threads + Sync>(
+    rt: &R,
+    alloc: Global,
+    graph: &Graph,
+    literals: [u32; 4],
+    sweep: &mut Sweep,
+) -> Result<(bool, bool), AllocError> {
+    let marks = below(alloc, graph, &literals)?;
+    let mut table = no_copies(alloc, graph)?;
+    let told = |_entered: u32| {};
+    copy(rt, graph, &marks, sweep, &mut table, &told)?;
+    Ok((
+        copied(&table, literals[0]) == copied(&table, literals[1]),
+        copied(&table, literals[2]) == copied(&table, literals[3]),
+    ))
+}
+
+/// The same of a carry and a majority, and of two parities, in a copy of their graph by so many threads, and how many nodes there are.
 fn copies<R: Threads + Sync>(
     rt: &R,
     alloc: Global,
     workers: u32,
 ) -> Result<(bool, bool, u32), AllocError> {
     let mut plain = Sweep::new(alloc, Effort::none())?;
-    let x = plain.input(7)?;
-    let y = plain.input(8)?;
-    let z = plain.input(9)?;
-    let carry = carry(&mut plain, x, y, z)?;
-    let majority = majority(&mut plain, x, y, z)?;
-    let forth = parity(&mut plain, FORTH)?;
-    let back = parity(&mut plain, BACK)?;
+    let literals = carries_and_parities(&mut plain)?;
     let mut sweep = Sweep::new(alloc, effort(true).by(workers))?;
-    let graph = plain.graph();
-    let marks = below(alloc, graph, &[carry, majority, forth, back])?;
-    let mut table = no_copies(alloc, graph)?;
-    let told = |_entered: u32| {};
-    copy(rt, graph, &marks, &mut sweep, &mut table, &told)?;
-    Ok((
-        copied(&table, carry) == copied(&table, majority),
-        copied(&table, forth) == copied(&table, back),
-        sweep.graph().len(),
-    ))
+    let (carries, parities) = copied_alike(rt, alloc, plain.graph(), literals, &mut sweep)?;
+    Ok((carries, parities, sweep.graph().len()))
 }
 
 #[test]

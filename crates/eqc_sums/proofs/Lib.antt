@@ -4,3 +4,4 @@ pub mod StepLemmas
 pub mod WordLemmas
 pub mod KeepLemmas
 pub mod PolynomialLemmas
+pub mod ChainLemmas

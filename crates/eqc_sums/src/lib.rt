@@ -10,10 +10,12 @@
 //! - `reduction`, a form over a graph that grows: what it comes to stays
 //! - `moves`, steps as values; `sums`, the public type and its calls
 //! - `names`, words among outputs
+//! - `chains`, a copy of a graph in which chains of carries stand in place of trees of prefixes (`specs/Chains.antt`)
 //! - `support` and `adders`, what is found in the graph; `choice`, which step comes next: of these nothing is believed
 #![tactic(auto)]
 
 mod adders;
+mod chains;
 mod choice;
 mod form;
 mod gates;
@@ -28,6 +30,7 @@ mod support;
 mod term;
 mod words;
 
+pub use chains::copy_with_chains;
 pub use form::Form;
 pub use names::words_of;
 pub use reduction::Reduction;

@@ -15,14 +15,14 @@ pub(crate) enum Architecture {
     Booth,
 }
 
-fn and(sweep: &mut Sweep, x: u32, y: u32) -> Result<u32, AllocError> {
+pub(crate) fn and(sweep: &mut Sweep, x: u32, y: u32) -> Result<u32, AllocError> {
     if node_of(x) >= sweep.graph().len() || node_of(y) >= sweep.graph().len() {
         return Ok(0);
     }
     sweep.and(x, y)
 }
 
-fn xor(sweep: &mut Sweep, x: u32, y: u32) -> Result<u32, AllocError> {
+pub(crate) fn xor(sweep: &mut Sweep, x: u32, y: u32) -> Result<u32, AllocError> {
     if node_of(x) >= sweep.graph().len() || node_of(y) >= sweep.graph().len() {
         return Ok(0);
     }
@@ -103,7 +103,58 @@ fn digit(
     Ok((one, two, high))
 }
 
-/// A row of recoded digits: the row's literals, and what makes it a complement of two.
+/// Puts a row of recoded digits, and what makes it a complement of two, into columns; ones that the row goes on with into others.
+fn put_recoded(
+    sweep: &mut Sweep,
+    a: &[u32],
+    b: &[u32],
+    place: usize,
+    all: &mut Vec<Vec<u32>>,
+    ones: &mut Vec<Vec<u32>>,
+) -> Result<(), AllocError> {
+    let low = if place == 0 { 0 } else { at(b, place - 1) };
+    let (one, two, high) = digit(sweep, low, at(b, place), at(b, place.saturating_add(1)))?;
+    for j in 0..a.len().saturating_add(1) {
+        let single = and(sweep, one, at(a, j))?;
+        let double = if j == 0 {
+            0
+        } else {
+            and(sweep, two, at(a, j - 1))?
+        };
+        let either = or(sweep, single, double)?;
+        let signed = xor(sweep, either, high)?;
+        put(all, place.saturating_add(j), signed)?;
+    }
+    if high != 0 {
+        // The row goes on with its sign: less 2^k, and the sign's complement there.
+        let end = place.saturating_add(a.len()).saturating_add(1);
+        put(all, end, negated(high))?;
+        for column in end..ones.len() {
+            put(ones, column, 1)?;
+        }
+        put(all, place, high)?;
+    }
+    Ok(())
+}
+
+/// Puts the sum of columns of ones into others.
+fn put_ones(all: &mut Vec<Vec<u32>>, ones: &[Vec<u32>]) -> Result<(), AllocError> {
+    let mut carry: usize = 0;
+    for column in 0..ones.len() {
+        let here = match ones.get(column) {
+            None => 0,
+            Some(some) => some.len(),
+        };
+        let sum = here.saturating_add(carry);
+        if sum % 2 == 1 {
+            put(all, column, 1)?;
+        }
+        carry = sum / 2;
+    }
+    Ok(())
+}
+
+/// The rows of recoded digits, by columns.
 fn recoded(
     alloc: Global,
     sweep: &mut Sweep,
@@ -114,42 +165,9 @@ fn recoded(
     let mut all = columns(alloc, width)?;
     let mut ones = columns(alloc, width)?;
     for row in 0..b.len() / 2 + 1 {
-        let place = row.saturating_mul(2);
-        let low = if place == 0 { 0 } else { at(b, place - 1) };
-        let (one, two, high) = digit(sweep, low, at(b, place), at(b, place.saturating_add(1)))?;
-        for j in 0..a.len().saturating_add(1) {
-            let single = and(sweep, one, at(a, j))?;
-            let double = if j == 0 {
-                0
-            } else {
-                and(sweep, two, at(a, j - 1))?
-            };
-            let either = or(sweep, single, double)?;
-            let signed = xor(sweep, either, high)?;
-            put(&mut all, place.saturating_add(j), signed)?;
-        }
-        if high != 0 {
-            // The row goes on with its sign: less 2^k, and the sign's complement there.
-            let end = place.saturating_add(a.len()).saturating_add(1);
-            put(&mut all, end, negated(high))?;
-            for column in end..width {
-                put(&mut ones, column, 1)?;
-            }
-            put(&mut all, place, high)?;
-        }
+        put_recoded(sweep, a, b, row.saturating_mul(2), &mut all, &mut ones)?;
     }
-    let mut carry: usize = 0;
-    for column in 0..width {
-        let here = match ones.get(column) {
-            None => 0,
-            Some(some) => some.len(),
-        };
-        let sum = here.saturating_add(carry);
-        if sum % 2 == 1 {
-            put(&mut all, column, 1)?;
-        }
-        carry = sum / 2;
-    }
+    put_ones(&mut all, ones.as_slice())?;
     Ok(all)
 }
 

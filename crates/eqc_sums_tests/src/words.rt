@@ -1,9 +1,10 @@
 //! Which products are shown equal.
 
 use crate::ends::same;
-use crate::multipliers::{Architecture, product};
-use eqc_sums::{Limits, Sums, has_adders, words_of};
-use eqc_sweep::{Effort, Sweep};
+use crate::multipliers::{Architecture, and, product, xor};
+use eqc_graph::negated;
+use eqc_sums::{Limits, Sums, copy_with_chains, has_adders, words_of};
+use eqc_sweep::{Effort, Sweep, copied};
 use std::alloc::{AllocError, Global};
 
 /// Two products in one graph.
@@ -80,5 +81,58 @@ fn adders_are_seen(rt: HostRuntime) -> Result<(), AllocError> {
     let mut sweep = Sweep::new(rt.alloc(), Effort::of(30, 100_000_000))?;
     let _ = product(rt.alloc(), &mut sweep, 6, Architecture::Array, 0)?;
     same(&rt, has_adders(rt.alloc(), &sweep)?, true, "6 bits");
+    Ok(())
+}
+
+/// What two spans of columns make of a carry, and pass on, together: the upper one, and the lower one.
+fn joined(
+    sweep: &mut Sweep,
+    upper: (u32, u32),
+    lower: (u32, u32),
+) -> Result<(u32, u32), AllocError> {
+    let passed = and(sweep, upper.1, lower.0)?;
+    let none = and(sweep, negated(upper.0), negated(passed))?;
+    Ok((negated(none), and(sweep, upper.1, lower.1)?))
+}
+
+/// What a column makes and passes on.
+fn column(sweep: &mut Sweep, k: u32) -> Result<(u32, u32), AllocError> {
+    let x = sweep.input(k)?;
+    let y = sweep.input(k.wrapping_add(4))?;
+    Ok((and(sweep, x, y)?, xor(sweep, x, y)?))
+}
+
+/// The carry of four columns by a tree of prefixes, or along a chain.
+fn carry(sweep: &mut Sweep, is_tree: bool) -> Result<u32, AllocError> {
+    let first = column(sweep, 0)?;
+    let second = column(sweep, 1)?;
+    let third = column(sweep, 2)?;
+    let fourth = column(sweep, 3)?;
+    let lower = joined(sweep, second, first)?;
+    if is_tree {
+        let upper = joined(sweep, fourth, third)?;
+        return Ok(joined(sweep, upper, lower)?.0);
+    }
+    let lower = joined(sweep, third, lower)?;
+    Ok(joined(sweep, fourth, lower)?.0)
+}
+
+/// The literal that a carry by a tree has in a copy with chains, and that of the same carry along a chain there.
+fn chained(
+    alloc: Global,
+    plain: &mut Sweep,
+    sweep: &mut Sweep,
+) -> Result<(Option<u32>, u32), AllocError> {
+    let tree = carry(plain, true)?;
+    let table = copy_with_chains(alloc, plain.graph(), &[tree], sweep)?;
+    Ok((copied(&table, tree), carry(sweep, false)?))
+}
+
+#[test]
+fn trees_of_prefixes_become_chains(rt: HostRuntime) -> Result<(), AllocError> {
+    let mut plain = Sweep::new(rt.alloc(), Effort::none())?;
+    let mut sweep = Sweep::new(rt.alloc(), Effort::none())?;
+    let (copy, chain) = chained(rt.alloc(), &mut plain, &mut sweep)?;
+    same(&rt, copy, Some(chain), "four columns");
     Ok(())
 }

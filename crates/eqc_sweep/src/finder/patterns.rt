@@ -160,8 +160,8 @@ impl Patterns {
         (self.word(row, k as usize) >> (place % 64)) % 2 == 1
     }
 
-    /// The words of a node in the rows of a block, if it is an input. A gate draws as many random words as an input, so what inputs
-    /// have doesn't depend on the gates before them.
+    /// The words of a node in the rows of a block, if it is an input. A gate draws as many random numbers as an input, though it needs
+    /// none: so later inputs keep the words with which all was measured, since other words find other things.
     fn drawn(&mut self, node: Node, block: usize) -> Words {
         let mut words = [0; TOGETHER];
         for lane in 0..TOGETHER {
@@ -266,8 +266,8 @@ impl Patterns {
         };
         if self.rows < most {
             let at = self.rows;
-            self.rows = at.wrapping_add(1);
             self.make_room(at)?;
+            self.rows = at.wrapping_add(1);
             self.put(at, row.as_slice());
             return Ok(());
         }
