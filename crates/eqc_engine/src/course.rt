@@ -4,7 +4,7 @@
 //! | | Stage | Call | What it decides |
 //! |---|---|---|---|
 //! | 1 | equal structure | `alike_or_nothing` | outputs whose two signals have one structure are equal |
-//! | 2 | diagrams on one thread | `first_diagrams` | all outputs, where they fit |
+//! | 2 | diagrams on one thread; in the larger room too where there are very many inputs and many outputs began | `first_diagrams` | all outputs, where they fit |
 //! | 3 | short rounds of sweeping, and a short search that refutes after each | `Inside::of`, `sweep_more`, `ask_while_found` | outputs that are found equal |
 //! | 4 | a short search, where simulation saw an output differ | `by_search` | all outputs, or all up to the first that differs |
 //! | 5 | words of outputs that add up the same | `by_sums` | outputs whose words are shown equal |

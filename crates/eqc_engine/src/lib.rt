@@ -5,9 +5,10 @@
 //!
 //! - `course`, `known_by_structure` and `decide_pair`: the stages of a run in their order
 //! - `workers`, diagrams in rooms, by one thread and by several, of a run and of pairs without one; `watched`, how those of a run
-//!   tell of their nodes; `plain`, a pair's report by one thread
+//!   tell of their nodes; `begun`, how far one came; `plain`, a pair's report by one thread
 #![tactic(auto, using(eqc_tree::proofs::HoldingLemmas::counts_itself))]
 
+mod begun;
 mod course;
 mod plain;
 mod watched;

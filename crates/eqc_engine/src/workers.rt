@@ -7,6 +7,7 @@ ghost use Rattle.eqc_report.specs.PairReport.{pair_report};
 ghost use Rattle.eqc_report.specs.ReportView.{report_of};
 ghost use Rattle.eqc_report.specs.Options.{options_code};
 
+use crate::begun::Begun;
 use crate::watched::{Watched, all_watched};
 use eqc_apply::{Allowance, Applier, team_with};
 use eqc_compare::{Alike, Gate, Progress, compare_known, is_settled};
@@ -264,10 +265,11 @@ fn team_for(
 /// The report by diagrams on this thread, in a store of so many nodes at most, where this is known of the pair, or why it stopped.
 /// Where the options allow fewer nodes than is usual it has no more than they do. A store that is full is left at once: what was
 /// given back there makes no room. The watch is told of each comparison, and of the nodes in use behind each operation.
-fn check_first<R, P: Progress<R>>(
+fn check_first<R, P: Progress<R>, G: Gate<R>>(
     comparison: &Comparison<'_, R, P>,
     alike: Alike,
     nodes: u32,
+    gate: &G,
 ) -> Result<Report, Stop>
     requires nodes { 1 ≤ nodes }
     requires few { comparison.now.options.now.nodes < 65536 → nodes ≤ comparison.now.options.now.nodes }
@@ -291,7 +293,7 @@ fn check_first<R, P: Progress<R>>(
         diagrams: first_store(alloc, pair, nodes, turns)?,
         watch,
     };
-    let outcome = compare_known(alloc, rt, &mut store, pair, every, alike, false, watch)?;
+    let outcome = compare_known(alloc, rt, &mut store, pair, every, alike, false, gate)?;
     found_report(alloc, pair, every, outcome)
 }
 
@@ -396,22 +398,6 @@ fn alone_nodes(pair: &Pair<'_>) -> u32
     }
 }
 
-/// The report by diagrams in the first room, where this is known of the pair, or why it stopped.
-pub(crate) fn check_in_first<R, P: Progress<R>>(
-    comparison: &Comparison<'_, R, P>,
-    alike: &Alike,
-) -> Result<Report, Stop>
-    requires options { options_code comparison.now.options.now ≡ None }
-    requires known { IsKnown comparison.now.pair.now alike.now }
-    ensures report { IfOk result (λ report. report_of report ≡ pair_report comparison.now.options.now.every comparison.now.pair.now) }
-{
-    let Comparison { pair, options, .. } = *comparison;
-    let Ok(alike) = alike.clone() else {
-        return Err(Stop::Memory);
-    };
-    check_first(comparison, alike, first_nodes(pair, options))
-}
-
 /// The report by diagrams in the larger room, where this is known of the pair, or why it stopped.
 pub(crate) fn check_in_large<R, P: Progress<R>>(
     comparison: &Comparison<'_, R, P>,
@@ -425,7 +411,41 @@ pub(crate) fn check_in_large<R, P: Progress<R>>(
     let Ok(alike) = alike.clone() else {
         return Err(Stop::Memory);
     };
-    check_first(comparison, alike, FIRST_NODES)
+    check_first(comparison, alike, FIRST_NODES, comparison.watch)
+}
+
+/// Whether a store was full, or the turns of its operations spent.
+fn is_full(report: &Result<Report, Stop>) -> bool {
+    matches!(report, Err(Stop::NodeLimit))
+}
+
+/// The report by diagrams in the first room, where this is known of the pair, or why it stopped. Where there are very many inputs, and many
+/// outputs began there before it was full, it is by those in the larger room, if there is one. With fewer inputs what has many such
+/// outputs may be a product, of which the others fit into no room.
+pub(crate) fn check_in_first<R, P: Progress<R>>(
+    comparison: &Comparison<'_, R, P>,
+    alike: &Alike,
+) -> Result<Report, Stop>
+    requires options { options_code comparison.now.options.now ≡ None }
+    requires known { IsKnown comparison.now.pair.now alike.now }
+    ensures report { IfOk result (λ report. report_of report ≡ pair_report comparison.now.options.now.every comparison.now.pair.now) }
+{
+    let Comparison {
+        pair,
+        options,
+        watch,
+        ..
+    } = *comparison;
+    let Ok(again) = alike.clone() else {
+        return Err(Stop::Memory);
+    };
+    let begun = Begun::new(watch);
+    let report = check_first(comparison, again, first_nodes(pair, options), &begun);
+    let goes_on = has_many_inputs(pair) && begun.has_many(pair) && is_full(&report);
+    if goes_on && has_large_room(pair, options) {
+        return check_in_large(comparison, alike);
+    }
+    report
 }
 
 /// The report by diagrams of one worker alone, who takes dead nodes back, where this is known of the pair, or why it stopped.
