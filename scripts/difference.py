@@ -85,6 +85,23 @@ class Cone:
         }
 
 
+def same_inputs(path, flat, report):
+    """Looks whether a netlist has the inputs and the output of a report."""
+    names = flat.main.model.inputs
+    if set(names) != set(report.inputs):
+        name = sorted(set(names) ^ set(report.inputs))[0]
+        raise Fault(f"{path}: the report and the netlist don't have the same inputs, as {shown(name)}")
+    if report.output not in flat.main.model.outputs:
+        raise Fault(f"{path}: the netlist has no output {shown(report.output)}")
+
+
+def cones_of(flats, report):
+    """The cones of a report's output in the two netlists."""
+    for path, flat in flats:
+        same_inputs(path, flat, report)
+    return [Cone(path, flat, report, report.output) for path, flat in flats]
+
+
 def opposite(value):
     return b"0" if value == b"1" else b"1"
 

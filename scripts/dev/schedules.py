@@ -9,9 +9,9 @@ forks writes, or `stopped 71` where its nodes are drawn so that they may not do.
 that stopped so, and of those that wrote something else or did not end; its status is 1 if there is any of the last two.
 Without `--eqc` it takes the program that `./eqc` has built.
 
-With `--stops` it looks at pairs that stop half-way: low halves of products by rows and by columns, with so few conflicts that some
-outputs are found equal and others aren't. By 1, 2, 3, 4 and 16 workers, N runs each (100), all that a run writes has to be the same, what
-it explains of outputs that are left too. So it is with the pairs of a folder that stop.
+With `--stops` it looks at pairs that stop half-way: low halves of products by rows and by columns, with so few conflicts
+that some outputs are found equal and others aren't. By 1, 2, 3, 4 and 16 workers, N runs each (100), all that a run writes
+has to be the same, what it explains of outputs that are left too. So it is with the pairs of a folder that stop.
 """
 import argparse
 import random
