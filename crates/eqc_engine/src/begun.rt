@@ -7,6 +7,9 @@ use std::sync::atomic::{AtomicU64, Ordering};
 /// Where this part of the outputs entered a room that was too small, a larger one mostly holds them all.
 const MANY_PART: u64 = 4;
 
+/// Fewer outputs aren't many: of one alone it is known that it didn't fit, and nothing of what would.
+const FEWEST_MANY: u64 = 8;
+
 /// Counts the outputs that enter, and passes on what is told.
 #[derive(Drop)]
 pub(crate) struct Begun<'x, P> {
@@ -25,7 +28,8 @@ impl<'x, P> Begun<'x, P> {
     /// Whether many of a pair's outputs entered.
     pub(crate) fn has_many(&self, pair: &Pair<'_>) -> bool {
         let entered = self.entered.load(Ordering::SeqCst);
-        entered >= pair.first().outputs().len() as u64 / MANY_PART
+        let part = pair.first().outputs().len() as u64 / MANY_PART;
+        entered >= part.max(FEWEST_MANY)
     }
 }
 

@@ -264,7 +264,7 @@ fn team_for(
 
 /// The report by diagrams on this thread, in a store of so many nodes at most, where this is known of the pair, or why it stopped.
 /// Where the options allow fewer nodes than is usual it has no more than they do. A store that is full is left at once: what was
-/// given back there makes no room. The watch is told of each comparison, and of the nodes in use behind each operation.
+/// given back there makes no room. The gate is told of each comparison, and the watch of the nodes in use behind each operation.
 fn check_first<R, P: Progress<R>, G: Gate<R>>(
     comparison: &Comparison<'_, R, P>,
     alike: Alike,

@@ -444,9 +444,9 @@ impl<'a> Inside<'a> {
 
     /// Marks outputs whose words are shown equal by what they add up to: products, say, that are summed up in different ways. A word are
     /// outputs of one name with numbers (`words_of`); what is known of it by its marks isn't shown again, and nothing is shown of one
-    /// of more than 128 outputs. Where nothing looks like an adder it is left at a look; else it takes work in proportion to the conflicts.
-    /// The watch is told of each step that enters a graph of these words, and of each word. Fails where memory is refused; what was marked
-    /// before stays then.
+    /// of more than 128 outputs, or in a graph of more than 200,000 nodes. Where nothing looks like an adder it is left at a look; else it takes
+    /// work in proportion to the conflicts, in up to four turns, in each of which the words that are open enter a graph anew.
+    /// The watch is told of each step that enters, and of each word. Fails where memory is refused; what was marked before stays then.
     pub fn add_up<R, P: Progress<R>>(
         &mut self,
         rt: &R,

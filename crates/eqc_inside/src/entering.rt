@@ -102,6 +102,22 @@ struct Wanted {
     work: u64,
 }
 
+/// Enters the marked steps into a graph, of which nobody is told, and answers their literals. It stands apart for its proof's sake, as
+/// `first_seen_in` does. Fails where memory is refused.
+fn entered_untold(
+    alloc: Global,
+    steps: &Steps<'_>,
+    marks: &[bool],
+    sweep: &mut Sweep,
+) -> Result<Vec<Option<u32>>, AllocError>
+    requires { AreClosed steps.now marks.now }
+    ensures { IfOk result (λ literals. IsInside steps.now sweep.new literals.items) }
+{
+    let _count = steps.len();
+    let ignored = |_step: u32| {};
+    literals(alloc, steps, marks, sweep, &ignored)
+}
+
 /// The first of some outputs that is seen to differ under pseudo-random values in a graph to which the marked steps are added, if
 /// one is: others may differ before it. The work that it took is added to what there is. Fails where memory is refused.
 fn first_seen_in(
@@ -115,9 +131,7 @@ fn first_seen_in(
     requires closed { AreClosed steps.now marks.now }
     requires outputs { length wanted.now ≤ length steps.now.pair.first.outputs }
 {
-    let _count = steps.len();
-    let ignored = |_step: u32| {};
-    let literals = literals(alloc, steps, marks, sweep, &ignored)?;
+    let literals = entered_untold(alloc, steps, marks, sweep)?;
     let (found, outputs) = differences(alloc, steps, sweep, &literals, wanted)?;
     *work = work.saturating_add(work_seeing(sweep.graph().len()));
     let Some(place) = first_shown(alloc, sweep.graph(), &found)? else {
@@ -196,9 +210,7 @@ impl<'a> Inside<'a> {
         ensures { IfOk result (λ inside. inside ≡ steps.entry.pair) }
     {
         let mut sweep = Sweep::new(alloc, Effort::none())?;
-        let _count = steps.len();
-        let ignored = |_step: u32| {};
-        let literals = literals(alloc, &steps, marks, &mut sweep, &ignored)?;
+        let literals = entered_untold(alloc, &steps, marks, &mut sweep)?;
         Ok(Inside {
             steps,
             sweep,

@@ -23,6 +23,9 @@ const STUCK: u8 = 8;
 /// Another conjunction was taken for a node.
 const TURNED: u8 = 16;
 
+/// There is no step for a node: it is of a word that stays as it is.
+const KEPT: u8 = 32;
+
 /// How often a node is taken for a sum.
 const OFTEN: u8 = 8;
 
@@ -87,6 +90,15 @@ impl Choice {
         if let Some(marks) = self.marks.get_mut(node as usize) {
             *marks = *marks | mark;
         }
+    }
+
+    /// Leaves a word of a graph of so many nodes as it is.
+    pub(crate) fn keep(&mut self, word: &[u32], nodes: u32) -> Result<(), AllocError> {
+        self.marks.resize(nodes as usize, 0)?;
+        for literal in word {
+            self.mark(node_of(*literal), KEPT);
+        }
+        Ok(())
     }
 
     /// Takes in which coefficients have changed. What comes of a polynomial is plain.
@@ -212,7 +224,7 @@ impl Choice {
         for marks in self.marks.iter_mut() {
             if *marks & NO_SUM != 0 {
                 some = true;
-                *marks = *marks & (NO_CARRY | ASKED);
+                *marks = *marks & (NO_CARRY | ASKED | KEPT);
             }
         }
         self.are_sums_used = true;
@@ -221,7 +233,7 @@ impl Choice {
 
     /// The step that a rule has for a node, unless it is of no use.
     fn of_use(&mut self, sweep: &Sweep, rule: u32, place: &Place<'_>) -> Option<Move> {
-        if place.factor == 0 || self.has(place.node, STUCK) {
+        if place.factor == 0 || self.has(place.node, STUCK | KEPT) {
             return None;
         }
         let step = self.by_one(sweep, rule, place)?;

@@ -11,12 +11,14 @@
 //! - `moves`, steps as values; `sums`, the public type and its calls
 //! - `names`, words among outputs
 //! - `chains`, a copy of a graph in which chains of carries stand in place of trees of prefixes (`specs/Chains.antt`)
-//! - `support` and `adders`, what is found in the graph; `choice`, which step comes next: of these nothing is believed
+//! - `support` and `adders`, what is found in the graph; `choice`, which step comes next; `columns`, what a word comes to, added up as
+//!   another one does it: of these nothing is believed
 #![tactic(auto)]
 
 mod adders;
 mod chains;
 mod choice;
+mod columns;
 mod form;
 mod gates;
 mod moves;

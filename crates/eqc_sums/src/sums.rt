@@ -6,6 +6,7 @@ ghost use Rattle.eqc_sums.specs.Adding.{AreEqualWords};
 
 use crate::adders::Adders;
 use crate::choice::Choice;
+use crate::columns::Columns;
 use crate::moves::{Move, apply};
 use crate::reduction::Reduction;
 use eqc_sweep::{Effort, Sweep};
@@ -69,6 +70,23 @@ const MORE: usize = 8;
 
 const FEWER: usize = 4;
 
+/// How many are few where a word is taken down to what it adds up: all that is above conjunctions of two inputs is taken for an adder.
+const LEAST: usize = 2;
+
+/// What a column is compared with may take this part of a pair's conflicts.
+const MEETINGS: u64 = 5;
+
+/// How two words are shown equal.
+#[derive(Clone, Copy)]
+enum Way {
+    /// Both are taken down to what they add up.
+    Down,
+    /// The second one is, and that is added up as the first one does it.
+    AsFirst,
+    /// The first one is, and that is added up as the second one does it.
+    AsSecond,
+}
+
 /// Whether some nodes of a graph look like adders. Nothing is promised of it: it is a look that takes little time. Fails where memory is
 /// refused.
 pub fn has_adders(alloc: Global, sweep: &Sweep) -> Result<bool, AllocError> {
@@ -124,17 +142,60 @@ fn reduce_by(
     Ok(())
 }
 
-/// Adds steps to a form, until it is zero or none is found.
-fn reduce(
+/// The place of a word's lowest literal in a form.
+fn lowest_of(word: &[u32]) -> u32 {
+    128u32.saturating_sub(word.len().min(128) as u32)
+}
+
+#[tactic(auto, using(crate::proofs::KeepLemmas::keeps_itself, crate::proofs::KeepLemmas::keeps_along, crate::proofs::KeepLemmas::keeps_same))]
+/// Adds steps to a form that leave a word as it is, which is taken away from the other one or not, and adds up what is left besides as the
+/// nodes below that word do it.
+fn rebuild(
     alloc: Global,
     reduction: &mut Reduction,
     adders: &mut Adders,
-    lowest: u32,
+    kept: (&[u32], bool),
     limits: Limits,
 ) -> Result<(), AllocError>
     ensures { Keeps reduction.old.sweep reduction.new.sweep reduction.old.form reduction.new.form }
 {
-    reduce_by(&mut Choice::new(alloc), reduction, adders, lowest, limits)
+    let (word, is_second) = kept;
+    let lowest = lowest_of(word);
+    let mut choice = Choice::new(alloc);
+    choice.keep(word, reduction.sweep().graph().len())?;
+    reduce_by(&mut choice, reduction, adders, lowest, limits)?;
+    reduction.ask_again(limits.effort())?;
+    let graph = reduction.sweep().graph();
+    let mut columns = Columns::new(alloc, graph, word, lowest, is_second)?;
+    if !columns.take(reduction.form(), adders, word)? {
+        return Ok(());
+    }
+    columns.add_up(reduction, word, limits.conflicts / MEETINGS)
+}
+
+#[tactic(auto, using(crate::proofs::KeepLemmas::keeps_itself, crate::proofs::KeepLemmas::keeps_along, crate::proofs::KeepLemmas::keeps_same))]
+/// Adds steps to a form that compares two words, until it is zero or none is found.
+fn reduce(
+    alloc: Global,
+    reduction: &mut Reduction,
+    adders: &mut Adders,
+    words: (&[u32], &[u32], Way),
+    limits: Limits,
+) -> Result<(), AllocError>
+    ensures { Keeps reduction.old.sweep reduction.new.sweep reduction.old.form reduction.new.form }
+{
+    let (ps, qs, way) = words;
+    match way {
+        Way::Down => reduce_by(
+            &mut Choice::new(alloc),
+            reduction,
+            adders,
+            lowest_of(ps),
+            limits,
+        ),
+        Way::AsFirst => rebuild(alloc, reduction, adders, (ps, false), limits),
+        Way::AsSecond => rebuild(alloc, reduction, adders, (qs, true), limits),
+    }
 }
 
 impl Sums {
@@ -182,6 +243,10 @@ impl Sums {
         if self.attempt(ps, qs, (FEW, false), limits)? {
             return Ok(true);
         }
+        self.take_kind((LEAST, false), limits)?;
+        if self.shown(ps, qs, Way::AsSecond, limits)? || self.shown(ps, qs, Way::AsFirst, limits)? {
+            return Ok(true);
+        }
         if self.attempt(ps, qs, (FEW, true), limits)? {
             return Ok(true);
         }
@@ -189,6 +254,18 @@ impl Sums {
             return Ok(true);
         }
         self.attempt(ps, qs, (FEWER, true), limits)
+    }
+
+    /// Looks for adders anew where others are known than those for which so many inputs are few, and it is asked for many carries or not.
+    fn take_kind(&mut self, kind: (usize, bool), limits: Limits) -> Result<(), AllocError>
+        ensures { Extends self.old.reduction.sweep self.new.reduction.sweep }
+    {
+        if self.adders.kind() != kind {
+            let first = self.adders.first();
+            self.adders = Adders::new(self.alloc, kind.0, kind.1, first);
+            self.find_adders(limits)?;
+        }
+        Ok(())
     }
 
     #[tactic(auto, using(crate::proofs::GateLemmas::extends_both))]
@@ -203,16 +280,18 @@ impl Sums {
         ensures extends { Extends self.old.reduction.sweep self.new.reduction.sweep }
         ensures equal { IfOk result (λ is. IsTrue is → AreEqualWords self.new.reduction.sweep ps.now qs.now) }
     {
-        if self.adders.kind() != kind {
-            let first = self.adders.first();
-            self.adders = Adders::new(self.alloc, kind.0, kind.1, first);
-            self.find_adders(limits)?;
-        }
-        self.shown(ps, qs, limits)
+        self.take_kind(kind, limits)?;
+        self.shown(ps, qs, Way::Down, limits)
     }
 
     /// Whether two words are shown equal by the adders that are known.
-    fn shown(&mut self, ps: &[u32], qs: &[u32], limits: Limits) -> Result<bool, AllocError>
+    fn shown(
+        &mut self,
+        ps: &[u32],
+        qs: &[u32],
+        way: Way,
+        limits: Limits,
+    ) -> Result<bool, AllocError>
         ensures extends { Extends self.old.reduction.sweep self.new.reduction.sweep }
         ensures equal { IfOk result (λ is. IsTrue is → AreEqualWords self.new.reduction.sweep ps.now qs.now) }
     {
@@ -220,12 +299,12 @@ impl Sums {
             return Ok(false);
         }
         self.adders.begin(self.reduction.sweep().graph().len());
-        let lowest = 128u32.saturating_sub(ps.len().min(128) as u32);
+        let reduction = &mut self.reduction;
         reduce(
             self.alloc,
-            &mut self.reduction,
+            reduction,
             &mut self.adders,
-            lowest,
+            (ps, qs, way),
             limits,
         )?;
         let _ = self.reduction.sweep().graph().len();

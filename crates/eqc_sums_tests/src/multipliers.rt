@@ -11,7 +11,9 @@ pub(crate) enum Architecture {
     Array,
     /// Column by column, three at a time, and a chain of adders at last.
     Columns,
-    /// The same with the digits of one factor recoded, two bits at a time.
+    /// The same, five at a time where there are as many, by two adders as a mapping leaves them.
+    Mapped,
+    /// Column by column with the digits of one factor recoded, two bits at a time.
     Booth,
 }
 
@@ -42,6 +44,35 @@ fn full(sweep: &mut Sweep, x: u32, y: u32, z: u32) -> Result<(u32, u32), AllocEr
     let carried = and(sweep, one, z)?;
     let carry = or(sweep, both, carried)?;
     Ok((sum, carry))
+}
+
+/// One of two by another one.
+fn chosen(sweep: &mut Sweep, by: u32, high: u32, low: u32) -> Result<u32, AllocError> {
+    let first = and(sweep, by, high)?;
+    let second = and(sweep, negated(by), low)?;
+    or(sweep, first, second)
+}
+
+/// The carry of three, the first of which is one of two by another one.
+fn carry_by(sweep: &mut Sweep, by: u32, one: u32, y: u32, z: u32) -> Result<u32, AllocError> {
+    let (_, high) = full(sweep, negated(one), y, z)?;
+    let (_, low) = full(sweep, one, y, z)?;
+    chosen(sweep, by, high, low)
+}
+
+/// The sum of five, and the carries of two adders, of the first three and of what they come to with the others, as a mapping leaves them: the
+/// sum of the first three isn't there.
+fn mapped(sweep: &mut Sweep, five: [u32; 5]) -> Result<(u32, u32, u32), AllocError> {
+    let [x, y, z, u, v] = five;
+    let first = xor(sweep, y, u)?;
+    let second = xor(sweep, z, v)?;
+    let third = xor(sweep, x, second)?;
+    let sum = xor(sweep, first, third)?;
+    let either = or(sweep, y, z)?;
+    let both = and(sweep, y, z)?;
+    let one = xor(sweep, y, z)?;
+    let carry = carry_by(sweep, x, one, u, v)?;
+    Ok((sum, chosen(sweep, x, either, both)?, carry))
 }
 
 /// Empty columns.
@@ -191,16 +222,31 @@ fn height(all: &Vec<Vec<u32>>, column: usize) -> usize {
     }
 }
 
-/// Sums up columns, three at a time.
+/// Puts the sum and the carries of five literals of a column in their place.
+fn add_five(sweep: &mut Sweep, all: &mut Vec<Vec<u32>>, column: usize) -> Result<(), AllocError> {
+    let mut five = [0; 5];
+    for k in 0..5 {
+        five[k] = taken(all, column);
+    }
+    let (sum, first, second) = mapped(sweep, five)?;
+    put(all, column, sum)?;
+    put(all, column.saturating_add(1), first)?;
+    put(all, column.saturating_add(1), second)
+}
+
+/// Sums up columns, three at a time, or five where they are mapped.
 fn by_columns(
     alloc: Global,
     sweep: &mut Sweep,
     mut all: Vec<Vec<u32>>,
+    is_mapped: bool,
 ) -> Result<Vec<u32>, AllocError> {
     let mut word = Vec::new(alloc);
     for column in 0..all.len() {
         for _turn in 0..height(&all, column) {
-            if height(&all, column) > 1 {
+            if is_mapped && height(&all, column) > 4 {
+                add_five(sweep, &mut all, column)?;
+            } else if height(&all, column) > 1 {
                 let x = taken(&mut all, column);
                 let y = taken(&mut all, column);
                 let z = taken(&mut all, column);
@@ -272,13 +318,13 @@ pub(crate) fn product(
             let all = partial(alloc, sweep, a.as_slice(), b.as_slice())?;
             by_rows(alloc, sweep, all, fault)
         }
-        Architecture::Columns => {
+        Architecture::Columns | Architecture::Mapped => {
             let all = partial(alloc, sweep, a.as_slice(), b.as_slice())?;
-            by_columns(alloc, sweep, all)
+            by_columns(alloc, sweep, all, architecture == Architecture::Mapped)
         }
         Architecture::Booth => {
             let all = recoded(alloc, sweep, a.as_slice(), b.as_slice())?;
-            by_columns(alloc, sweep, all)
+            by_columns(alloc, sweep, all, false)
         }
     }
 }

@@ -54,6 +54,7 @@ static PRODUCTS: &[(&str, u32, Architecture, Architecture, usize, (bool, bool))]
     ("4 bits, by columns", 4, Architecture::Array, Architecture::Columns, 0, (true, true)),
     ("6 bits, by columns", 6, Architecture::Array, Architecture::Columns, 0, (true, false)),
     ("8 bits, by columns", 8, Architecture::Array, Architecture::Columns, 0, (true, false)),
+    ("8 bits, mapped", 8, Architecture::Array, Architecture::Mapped, 0, (true, false)),
     ("4 bits, recoded", 4, Architecture::Array, Architecture::Booth, 0, (true, true)),
     ("4 bits, a wrong carry", 4, Architecture::Columns, Architecture::Array, 11, (false, false)),
     ("6 bits, a wrong carry", 6, Architecture::Columns, Architecture::Array, 16, (false, false)),

@@ -4,9 +4,8 @@ use crate::finder::Finder;
 use eqc_graph::negated_if;
 
 impl Finder {
-    /// The oldest literal that simulation doesn't tell from the carry of three others, if there is one.
-    pub(crate) fn like_carry(&self, x: u32, y: u32, z: u32) -> Option<u32> {
-        let (signature, phase) = self.patterns.carry(x, y, z);
+    /// The oldest literal that has a signature, whose first simulated value is this one, if there is one.
+    fn oldest(&self, signature: u64, phase: bool) -> Option<u32> {
         let node = self
             .classes
             .first(self.patterns.signatures(), signature, &[])?;
@@ -14,6 +13,18 @@ impl Finder {
             return None;
         }
         Some(negated_if(2 * node, phase != self.patterns.phase(node)))
+    }
+
+    /// The oldest literal that simulation doesn't tell from the carry of three, of which the first is the sum of literals, if there is one.
+    pub(crate) fn like_carry(&self, literals: &[u32], y: u32, z: u32) -> Option<u32> {
+        let (signature, phase) = self.patterns.carry(literals, y, z);
+        self.oldest(signature, phase)
+    }
+
+    /// The oldest literal that simulation doesn't tell from the sum of literals, if there is one.
+    pub(crate) fn like_sum(&self, literals: &[u32]) -> Option<u32> {
+        let (signature, phase) = self.patterns.sum(literals);
+        self.oldest(signature, phase)
     }
 
     /// The oldest literal that simulation doesn't tell from a node, if that isn't one of these nodes.

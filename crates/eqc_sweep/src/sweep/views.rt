@@ -52,7 +52,17 @@ impl Sweep {
 
     /// The oldest literal that simulation doesn't tell from the carry of three others, if there is one.
     pub fn like_carry(&self, x: u32, y: u32, z: u32) -> Option<u32> {
-        self.finder.like_carry(x, y, z)
+        self.finder.like_carry(&[x], y, z)
+    }
+
+    /// The oldest literal that simulation doesn't tell from the carry of three, of which the first is the sum of literals, if there is one.
+    pub fn like_carry_of_sum(&self, literals: &[u32], y: u32, z: u32) -> Option<u32> {
+        self.finder.like_carry(literals, y, z)
+    }
+
+    /// The oldest literal that simulation doesn't tell from the sum of literals, which is true where an odd number of them are, if there is one.
+    pub fn like_sum(&self, literals: &[u32]) -> Option<u32> {
+        self.finder.like_sum(literals)
     }
 
     /// The oldest literal that simulation doesn't tell from a node, if that isn't one of these nodes.
