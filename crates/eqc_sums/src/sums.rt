@@ -243,7 +243,7 @@ impl Sums {
         if self.attempt(ps, qs, (FEW, false), limits)? {
             return Ok(true);
         }
-        self.take_kind((LEAST, false), limits)?;
+        self.take_kind((LEAST, true), limits)?;
         if self.shown(ps, qs, Way::AsSecond, limits)? || self.shown(ps, qs, Way::AsFirst, limits)? {
             return Ok(true);
         }
