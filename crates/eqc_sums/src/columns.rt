@@ -6,6 +6,8 @@
 ghost use Rattle.eqc_sums.specs.Forms.{Keeps};
 
 use crate::adders::Adders;
+use crate::chosen::{Chosen, MOST_CHOSEN};
+use crate::column::{Column, Item, Likely};
 use crate::form::Form;
 use crate::place::minus;
 use crate::reduction::Reduction;
@@ -28,108 +30,11 @@ const ONE_OF_TWO: u32 = 4;
 /// A column takes so many steps at most.
 const STEPS: u32 = 4_096;
 
-/// The literals that count as much.
-#[derive(Drop)]
-struct Column {
-    /// No three of them have their sum and their carry among the nodes.
-    settled: Vec<u32>,
-    /// These are still to be looked at.
-    waiting: Vec<u32>,
-}
+/// A column of more literals isn't added up: a product of 64 bits has as many.
+const WIDEST: usize = 192;
 
-/// Which literals of a column are to be added up: two, or three.
-#[derive(Clone, Copy)]
-struct Likely {
-    x: usize,
-    y: usize,
-    z: Option<usize>,
-    score: u32,
-}
-
-/// So many literals are chosen at most.
-const MOST_CHOSEN: usize = 5;
-
-/// So many choices of as many are looked at.
+/// So many choices of as many literals of a column are looked at.
 const MOST_LOOKS: u32 = 100_000;
-
-/// Some literals of a column by their places, in ascending order.
-#[derive(Clone, Copy)]
-struct Chosen {
-    places: [usize; 5],
-    count: usize,
-}
-
-impl Chosen {
-    /// The first so many.
-    fn first(count: usize) -> Chosen {
-        Chosen {
-            places: [0, 1, 2, 3, 4],
-            count,
-        }
-    }
-
-    /// The literal at one of its places, or the one that is false where there are fewer.
-    fn literal(&self, settled: &[u32], k: usize) -> u32 {
-        if k >= self.count || k >= MOST_CHOSEN {
-            return 0;
-        }
-        settled.get(self.places[k]).copied().unwrap_or(0)
-    }
-
-    /// Whether these are places of a column of so many.
-    fn is_within(&self, len: usize) -> bool {
-        let last = self.count.saturating_sub(1);
-        last < MOST_CHOSEN && self.places[last] < len
-    }
-
-    /// The next choice of as many: the last place that can move on does, and those behind it follow it closely.
-    fn advance(&mut self, len: usize) {
-        let mut moved = 0;
-        for k in 0..MOST_CHOSEN {
-            let room = self.count.saturating_sub(k);
-            if k < self.count && self.places[k].saturating_add(room) < len {
-                moved = k;
-            }
-        }
-        let from = self
-            .places
-            .get(moved)
-            .copied()
-            .unwrap_or(0)
-            .saturating_add(1);
-        for k in moved..MOST_CHOSEN {
-            if k < self.count {
-                self.places[k] = from.saturating_add(k - moved);
-            }
-        }
-    }
-
-    /// All but two.
-    fn without(&self, y: usize, z: usize) -> Chosen {
-        let mut part = Chosen::first(0);
-        for k in 0..MOST_CHOSEN {
-            if k < self.count && k != y && k != z && part.count < MOST_CHOSEN {
-                part.places[part.count] = self.places[k];
-                part.count += 1;
-            }
-        }
-        part
-    }
-
-    /// Two or three of them.
-    fn likely(&self) -> Likely {
-        Likely {
-            x: self.places[0],
-            y: self.places[1],
-            z: if self.count > 2 {
-                Some(self.places[2])
-            } else {
-                None
-            },
-            score: 0,
-        }
-    }
-}
 
 /// A constant, and coefficients of nodes.
 #[derive(Drop)]
@@ -154,19 +59,24 @@ impl Rest {
     }
 }
 
+/// Which nodes are below the word that stays.
+#[derive(Drop)]
+struct Below {
+    marks: Vec<bool>,
+}
+
 /// A word that stays as it is, and what the other one comes to.
 #[derive(Drop)]
 pub(crate) struct Columns {
     alloc: Global,
-    /// Which nodes are below the word that stays.
-    below: Vec<bool>,
+    below: Below,
     columns: Vec<Column>,
     /// The literals of the lowest column count 2^lowest times.
     lowest: u32,
     /// Whether the word that stays is taken away from the other one.
     is_second: bool,
-    /// How many were added up since their sum and their carry were there.
-    sure: usize,
+    /// So many looks at a sum or a carry are left.
+    looks: u64,
 }
 
 /// Of how many nodes there are coefficients.
@@ -182,6 +92,20 @@ fn has_node(word: &[u32], node: u32) -> bool {
         }
     }
     false
+}
+
+/// Notes two or three literals where something speaks for adding them up.
+fn note(
+    likely: &mut Vec<Likely>,
+    x: u32,
+    y: u32,
+    z: Option<u32>,
+    score: u32,
+) -> Result<(), AllocError> {
+    if score > 0 {
+        likely.push(Likely { x, y, z, score })?;
+    }
+    Ok(())
 }
 
 fn mark(marks: &mut [bool], literal: u32) {
@@ -210,22 +134,142 @@ fn marked_below(alloc: Global, graph: &Graph, word: &[u32]) -> Result<Vec<bool>,
     Ok(marks)
 }
 
+impl Below {
+    /// Whether a literal is of one of them.
+    fn has(&self, literal: Option<u32>) -> bool {
+        match literal {
+            None => false,
+            Some(literal) => self
+                .marks
+                .get(node_of(literal) as usize)
+                .copied()
+                .unwrap_or(false),
+        }
+    }
+
+    fn has_carry(&self, sweep: &Sweep, x: u32, y: u32, z: u32) -> bool {
+        self.has(sweep.like_carry(x, y, z))
+    }
+
+    fn has_sum(&self, sweep: &Sweep, x: u32, y: u32, z: u32) -> bool {
+        self.has(sweep.like_sum(&[x, y, z]))
+    }
+
+    /// How much speaks for adding up three.
+    fn score_of_three(&self, sweep: &Sweep, x: u32, y: u32, z: u32) -> u32 {
+        let carry = if self.has_carry(sweep, x, y, z) {
+            CARRY
+        } else {
+            0
+        };
+        let sum = if self.has_sum(sweep, x, y, z) { SUM } else { 0 };
+        carry + sum
+    }
+
+    /// How much speaks for adding up two.
+    fn score_of_two(&self, sweep: &Sweep, x: u32, y: u32) -> u32 {
+        let has_carry = self.has_carry(sweep, x, y, 0);
+        let has_sum = self.has_sum(sweep, x, y, 0);
+        if has_carry && has_sum {
+            BOTH_OF_TWO
+        } else if has_carry || has_sum {
+            ONE_OF_TWO
+        } else {
+            0
+        }
+    }
+
+    /// The part of some literals that is added up first, where their sum is there, and the carry of what is added up next: of the first part's
+    /// sum and the one or two others.
+    fn first_part(&self, sweep: &Sweep, settled: &[Item], chosen: &Chosen) -> Option<Likely> {
+        if !self.has(sweep.like_sum(&chosen.literals(settled))) {
+            return None;
+        }
+        for y in 0..MOST_CHOSEN {
+            // The last place never has a literal: then one alone is left out of the first part.
+            for z in y + 1..MOST_CHOSEN + 1 {
+                let part = chosen.without(y, z);
+                if y >= chosen.count || z > chosen.count || part.count < 2 || part.count > 3 {
+                    continue;
+                }
+                let first = [
+                    part.literal(settled, 0),
+                    part.literal(settled, 1),
+                    part.literal(settled, 2),
+                ];
+                let (u, v) = (chosen.literal(settled, y), chosen.literal(settled, z));
+                if self.has(sweep.like_carry_of_sum(&first, u, v)) {
+                    return part.likely(settled);
+                }
+            }
+        }
+        None
+    }
+
+    /// Literals that are added up in two steps, the first of which left nothing: so many, the last of which stands at this place.
+    fn compound_with(
+        &self,
+        sweep: &Sweep,
+        settled: &[Item],
+        count: usize,
+        last: usize,
+        looks: &mut u64,
+    ) -> Option<Likely> {
+        let mut chosen = Chosen::first(count.saturating_sub(1));
+        for _ in 0..MOST_LOOKS {
+            if !chosen.is_within(last) || *looks == 0 {
+                break;
+            }
+            *looks = *looks - 1;
+            let likely = self.first_part(sweep, settled, &chosen.with(last));
+            if likely.is_some() {
+                return likely;
+            }
+            chosen.advance(last);
+        }
+        None
+    }
+
+    /// Literals that are added up in two steps, one of which has at least this number.
+    fn compound(
+        &self,
+        sweep: &Sweep,
+        settled: &[Item],
+        from: u32,
+        looks: &mut u64,
+    ) -> Option<Likely> {
+        for count in 3..MOST_CHOSEN + 1 {
+            for last in 0..settled.len() {
+                if settled[last].number < from {
+                    continue;
+                }
+                let likely = self.compound_with(sweep, settled, count, last, looks);
+                if likely.is_some() {
+                    return likely;
+                }
+            }
+        }
+        None
+    }
+}
+
 impl Columns {
-    /// Columns without literals, for a word that stays. Fails where memory is refused.
+    /// Columns without literals, for a word that stays and is the second one or not, with so many looks at sums and carries. Fails where
+    /// memory is refused.
     pub(crate) fn new(
         alloc: Global,
         graph: &Graph,
-        word: &[u32],
+        kept: (&[u32], bool),
         lowest: u32,
-        is_second: bool,
+        looks: u64,
     ) -> Result<Columns, AllocError> {
-        let below = marked_below(alloc, graph, word)?;
+        let (word, is_second) = kept;
+        let below = Below {
+            marks: marked_below(alloc, graph, word)?,
+        };
         let mut columns = Vec::new(alloc);
         for _ in 0..word.len() {
-            columns.push(Column {
-                settled: Vec::new(alloc),
-                waiting: Vec::new(alloc),
-            })?;
+            columns.push(Column::new(alloc))?;
         }
         Ok(Columns {
             alloc,
@@ -233,7 +277,7 @@ impl Columns {
             columns,
             lowest,
             is_second,
-            sure: 0,
+            looks,
         })
     }
 
@@ -255,7 +299,7 @@ impl Columns {
     /// Puts a literal in a column.
     fn put(&mut self, at: usize, literal: u32) -> Result<(), AllocError> {
         if literal != 0 && at < self.columns.len() {
-            self.columns[at].waiting.push(literal)?;
+            self.columns[at].put(literal)?;
         }
         Ok(())
     }
@@ -290,8 +334,17 @@ impl Columns {
         Ok(rest)
     }
 
+    /// Whether no column is too wide.
+    fn are_narrow(&self) -> bool {
+        let mut are = true;
+        for column in self.columns.iter() {
+            are &= column.waiting() <= WIDEST;
+        }
+        are
+    }
+
     /// Takes in what a form comes to besides the word that stays. Answers whether that are inputs, conjunctions of them and literals of the word,
-    /// and in no lower column than the word's.
+    /// in no lower column than the word's and not too many in any.
     pub(crate) fn take(
         &mut self,
         form: &Form,
@@ -320,63 +373,66 @@ impl Columns {
                 return Ok(false);
             }
         }
-        self.spread(TRUE, constant)
+        Ok(self.spread(TRUE, constant)? && self.are_narrow())
     }
 
-    /// Whether a literal is of a node below the word that stays.
-    fn is_below(&self, literal: Option<u32>) -> bool {
-        match literal {
-            None => false,
-            Some(literal) => self
-                .below
-                .get(node_of(literal) as usize)
-                .copied()
-                .unwrap_or(false),
-        }
-    }
-
-    fn has_carry(&self, sweep: &Sweep, x: u32, y: u32, z: u32) -> bool {
-        self.is_below(sweep.like_carry(x, y, z))
-    }
-
-    fn has_sum(&self, sweep: &Sweep, x: u32, y: u32, z: u32) -> bool {
-        self.is_below(sweep.like_sum(&[x, y, z]))
-    }
-
-    fn settled(&self, at: usize) -> &[u32] {
+    fn settled(&self, at: usize) -> &[Item] {
         match self.columns.get(at) {
             None => &[],
-            Some(column) => column.settled.as_slice(),
+            Some(column) => column.settled(),
         }
     }
 
-    /// Two settled literals of a column that have their sum and their carry with another one.
-    fn partners(&self, sweep: &Sweep, at: usize, literal: u32) -> Option<(usize, usize)> {
+    /// Takes so many looks away. Answers whether there were as many.
+    fn spend(&mut self, looks: usize) -> bool {
+        let were_enough = self.looks >= looks as u64;
+        self.looks = self.looks.saturating_sub(looks as u64);
+        were_enough
+    }
+
+    /// What speaks for adding up a literal and settled ones of a column, the sum or the carry of which is there. Where both are there, and
+    /// the literals are three, the numbers of the two settled ones are answered.
+    fn partners(
+        &self,
+        sweep: &Sweep,
+        at: usize,
+        literal: u32,
+        likely: &mut Vec<Likely>,
+    ) -> Result<Option<(u32, u32)>, AllocError> {
         let settled = self.settled(at);
+        let number = self.number(at);
         for (later, y) in settled.iter().enumerate() {
+            let of_two = self.below.score_of_two(sweep, y.literal, literal);
+            note(likely, y.number, number, None, of_two)?;
             for (earlier, x) in settled.iter().enumerate() {
                 if earlier >= later {
                     break;
                 }
-                if self.has_carry(sweep, *x, *y, literal) && self.has_sum(sweep, *x, *y, literal) {
-                    return Some((earlier, later));
+                let score = self
+                    .below
+                    .score_of_three(sweep, x.literal, y.literal, literal);
+                if score == CARRY + SUM {
+                    return Ok(Some((x.number, y.number)));
                 }
+                note(likely, x.number, y.number, Some(number), score)?;
             }
         }
-        None
+        Ok(None)
+    }
+
+    /// The number that the next literal of a column gets.
+    fn number(&self, at: usize) -> u32 {
+        match self.columns.get(at) {
+            None => 0,
+            Some(column) => column.next(),
+        }
     }
 
     /// Takes a settled literal out of a column.
-    fn remove(&mut self, at: usize, place: usize) -> u32 {
+    fn remove(&mut self, at: usize, number: u32) -> u32 {
         match self.columns.get_mut(at) {
             None => 0,
-            Some(column) => {
-                if place < column.settled.len() {
-                    column.settled.remove(place)
-                } else {
-                    0
-                }
-            }
+            Some(column) => column.take(number),
         }
     }
 
@@ -384,8 +440,28 @@ impl Columns {
     fn next(&mut self, at: usize) -> Option<u32> {
         match self.columns.get_mut(at) {
             None => None,
-            Some(column) => column.waiting.pop(),
+            Some(column) => column.draw(),
         }
+    }
+
+    /// Settles a literal in a column, or takes out the two that have their sum and their carry with it.
+    fn place(
+        &mut self,
+        sweep: &Sweep,
+        at: usize,
+        literal: u32,
+    ) -> Result<Option<(u32, u32)>, AllocError> {
+        let mut likely = Vec::new(self.alloc);
+        let count = self.settled(at).len();
+        if self.spend(count.saturating_mul(count)) {
+            if let Some((x, y)) = self.partners(sweep, at, literal, &mut likely)? {
+                return Ok(Some((self.remove(at, x), self.remove(at, y))));
+            }
+        }
+        if at < self.columns.len() {
+            self.columns[at].settle(literal, likely.as_slice())?;
+        }
+        Ok(None)
     }
 
     #[tactic(auto, using(crate::proofs::KeepLemmas::keeps_itself, crate::proofs::KeepLemmas::keeps_along))]
@@ -416,13 +492,8 @@ impl Columns {
             let Some(literal) = self.next(at) else {
                 break;
             };
-            if let Some((earlier, later)) = self.partners(reduction.sweep(), at, literal) {
-                let y = self.remove(at, later);
-                let x = self.remove(at, earlier);
-                self.sure = self.sure.saturating_add(1);
+            if let Some((x, y)) = self.place(reduction.sweep(), at, literal)? {
                 self.add(reduction, at, (x, y, literal))?;
-            } else if at < self.columns.len() {
-                self.columns[at].settled.push(literal)?;
             }
         }
         Ok(())
@@ -439,132 +510,46 @@ impl Columns {
         Ok(())
     }
 
-    /// How much speaks for adding up three.
-    fn score_of_three(&self, sweep: &Sweep, x: u32, y: u32, z: u32) -> u32 {
-        let carry = if self.has_carry(sweep, x, y, z) {
-            CARRY
-        } else {
-            0
-        };
-        let sum = if self.has_sum(sweep, x, y, z) { SUM } else { 0 };
-        carry + sum
-    }
-
-    /// How much speaks for adding up two.
-    fn score_of_two(&self, sweep: &Sweep, x: u32, y: u32) -> u32 {
-        let has_carry = self.has_carry(sweep, x, y, 0);
-        let has_sum = self.has_sum(sweep, x, y, 0);
-        if has_carry && has_sum {
-            BOTH_OF_TWO
-        } else if has_carry || has_sum {
-            ONE_OF_TWO
-        } else {
-            0
-        }
-    }
-
-    /// The more likely one of what there is with these two literals and of another choice.
-    fn likelier(&self, sweep: &Sweep, settled: &[u32], best: Likely, x: usize, y: usize) -> Likely {
-        if x >= settled.len() || y >= settled.len() {
-            return best;
-        }
-        let mut best = best;
-        let score = self.score_of_two(sweep, settled[x], settled[y]);
-        if score > best.score {
-            best = Likely {
-                x,
-                y,
-                z: None,
-                score,
-            };
-        }
-        for z in y.saturating_add(1)..settled.len() {
-            let score = self.score_of_three(sweep, settled[x], settled[y], settled[z]);
-            if score > best.score {
-                best = Likely {
-                    x,
-                    y,
-                    z: Some(z),
-                    score,
-                };
+    /// Literals of a column that are added up in two steps, unless it was looked for all of them.
+    fn compound(&mut self, sweep: &Sweep, at: usize) -> Option<Likely> {
+        let from = self.columns.get(at)?.looked;
+        let mut looks = self.looks;
+        let found = self
+            .below
+            .compound(sweep, self.settled(at), from, &mut looks);
+        self.looks = looks;
+        if found.is_none() {
+            if let Some(column) = self.columns.get_mut(at) {
+                column.looked = column.next();
             }
         }
-        best
-    }
-
-    /// The part of some literals that is added up first, where their sum is there, and the carry of what is added up next: of the first part's
-    /// sum and the one or two others.
-    fn first_part(&self, sweep: &Sweep, settled: &[u32], chosen: &Chosen) -> Option<Likely> {
-        let mut literals = [0; MOST_CHOSEN];
-        for k in 0..MOST_CHOSEN {
-            literals[k] = chosen.literal(settled, k);
-        }
-        if !self.is_below(sweep.like_sum(&literals)) {
-            return None;
-        }
-        for y in 0..MOST_CHOSEN {
-            // The last place never has a literal: then one alone is left out of the first part.
-            for z in y + 1..MOST_CHOSEN + 1 {
-                let part = chosen.without(y, z);
-                if y >= chosen.count || z > chosen.count || part.count < 2 || part.count > 3 {
-                    continue;
-                }
-                let first = [
-                    part.literal(settled, 0),
-                    part.literal(settled, 1),
-                    part.literal(settled, 2),
-                ];
-                let (u, v) = (chosen.literal(settled, y), chosen.literal(settled, z));
-                if self.is_below(sweep.like_carry_of_sum(&first, u, v)) {
-                    return Some(part.likely());
-                }
-            }
-        }
-        None
-    }
-
-    /// Literals that are added up in two steps, the first of which left nothing.
-    fn compound(&self, sweep: &Sweep, settled: &[u32]) -> Option<Likely> {
-        for count in 3..MOST_CHOSEN + 1 {
-            let mut chosen = Chosen::first(count);
-            for _ in 0..MOST_LOOKS {
-                if !chosen.is_within(settled.len()) {
-                    break;
-                }
-                let likely = self.first_part(sweep, settled, &chosen);
-                if likely.is_some() {
-                    return likely;
-                }
-                chosen.advance(settled.len());
-            }
-        }
-        None
+        found
     }
 
     /// What is added up next in a column in which nothing is sure: two are, or the first three where nothing speaks for others.
-    fn likely(&self, sweep: &Sweep, at: usize) -> Likely {
+    fn likely(&mut self, sweep: &Sweep, at: usize) -> Option<Likely> {
         let settled = self.settled(at);
-        let mut best = Likely {
-            x: 0,
-            y: 1,
-            z: if settled.len() > 2 { Some(2) } else { None },
+        let x = settled.get(0)?.number;
+        let y = settled.get(1)?.number;
+        let Some(third) = settled.get(2) else {
+            return Some(Likely {
+                x,
+                y,
+                z: None,
+                score: 0,
+            });
+        };
+        let first = Likely {
+            x,
+            y,
+            z: Some(third.number),
             score: 0,
         };
-        if settled.len() <= 2 {
-            return best;
-        }
-        for x in 0..settled.len() {
-            for y in x + 1..settled.len() {
-                best = self.likelier(sweep, settled, best, x, y);
-            }
-        }
+        let best = self.columns.get(at)?.likeliest().unwrap_or(first);
         if best.score >= CARRY {
-            return best;
+            return Some(best);
         }
-        match self.compound(sweep, settled) {
-            None => best,
-            Some(likely) => likely,
-        }
+        Some(self.compound(sweep, at).unwrap_or(best))
     }
 
     #[tactic(auto, using(crate::proofs::KeepLemmas::keeps_itself, crate::proofs::KeepLemmas::keeps_along))]
@@ -573,13 +558,12 @@ impl Columns {
         ensures { Keeps reduction.old.sweep reduction.new.sweep reduction.old.form reduction.new.form }
     {
         'steps: for _step in 0..STEPS {
-            if self.settled(at).len() < 2 {
+            let Some(likely) = self.likely(reduction.sweep(), at) else {
                 break;
-            }
-            let likely = self.likely(reduction.sweep(), at);
+            };
             let z = match likely.z {
                 None => 0,
-                Some(place) => self.remove(at, place),
+                Some(number) => self.remove(at, number),
             };
             let y = self.remove(at, likely.y);
             let x = self.remove(at, likely.x);
@@ -601,7 +585,10 @@ impl Columns {
     ) -> Result<bool, AllocError>
         ensures { Keeps reduction.old.sweep reduction.new.sweep reduction.old.form reduction.new.form }
     {
-        let left = self.settled(at).get(0).copied().unwrap_or(0);
+        let left = match self.settled(at).get(0) {
+            None => 0,
+            Some(item) => item.literal,
+        };
         if left != literal {
             reduction.unify(left, literal, self.factor(at), conflicts)?;
         }
@@ -610,7 +597,7 @@ impl Columns {
 
     #[tactic(auto, using(crate::proofs::KeepLemmas::keeps_itself, crate::proofs::KeepLemmas::keeps_along))]
     /// Adds up all columns, and puts the literals of the word that stays in place of what comes of it, from the lowest one on as long as these are
-    /// found equal, with so many conflicts for each.
+    /// found equal, with so many conflicts for each, and as long as looks are left.
     pub(crate) fn add_up(
         &mut self,
         reduction: &mut Reduction,
@@ -623,7 +610,7 @@ impl Columns {
         'columns: for at in 0..word.len() {
             self.close(reduction, at)?;
             let mut conflicts = conflicts;
-            if !self.meet(reduction, at, word[at], &mut conflicts)? {
+            if !self.meet(reduction, at, word[at], &mut conflicts)? || self.looks == 0 {
                 break;
             }
         }

@@ -12,12 +12,14 @@
 //! - `names`, words among outputs
 //! - `chains`, a copy of a graph in which chains of carries stand in place of trees of prefixes (`specs/Chains.antt`)
 //! - `support` and `adders`, what is found in the graph; `choice`, which step comes next; `columns`, what a word comes to, added up as
-//!   another one does it: of these nothing is believed
+//!   another one does it, with the literals of one `column` and what is `chosen` of them: of these nothing is believed
 #![tactic(auto)]
 
 mod adders;
 mod chains;
 mod choice;
+mod chosen;
+mod column;
 mod columns;
 mod form;
 mod gates;

@@ -76,6 +76,9 @@ const LEAST: usize = 2;
 /// What a column is compared with may take this part of a pair's conflicts.
 const MEETINGS: u64 = 5;
 
+/// The work of a look at whether a sum or a carry is among the nodes.
+const LOOK: u64 = 10;
+
 /// How two words are shown equal.
 #[derive(Clone, Copy)]
 enum Way {
@@ -159,14 +162,14 @@ fn rebuild(
 ) -> Result<(), AllocError>
     ensures { Keeps reduction.old.sweep reduction.new.sweep reduction.old.form reduction.new.form }
 {
-    let (word, is_second) = kept;
+    let (word, _is_second) = kept;
     let lowest = lowest_of(word);
     let mut choice = Choice::new(alloc);
     choice.keep(word, reduction.sweep().graph().len())?;
     reduce_by(&mut choice, reduction, adders, lowest, limits)?;
     reduction.ask_again(limits.effort())?;
     let graph = reduction.sweep().graph();
-    let mut columns = Columns::new(alloc, graph, word, lowest, is_second)?;
+    let mut columns = Columns::new(alloc, graph, kept, lowest, limits.work / LOOK)?;
     if !columns.take(reduction.form(), adders, word)? {
         return Ok(());
     }
