@@ -79,6 +79,14 @@ fn marked(alloc: Global, pair: &Pair<'_>, positions: &[usize]) -> Result<Vec<boo
     Ok(marks)
 }
 
+/// The values of the inputs under which the first output differs, which are allowed.
+fn first_values(differences: &Differences) -> &[bool] {
+    match differences.each.first() {
+        Some(difference) => &difference.values,
+        None => &[],
+    }
+}
+
 /// The first of the longest of these lists, by its position; 0 where all are empty.
 fn longest(lists: &[Vec<usize>]) -> usize {
     let mut found = 0usize;
@@ -242,7 +250,8 @@ impl<'x> Task<'x> {
         let positions = positions_of(self.alloc, pair, self.differences)?;
         let marks = marked(self.alloc, pair, &positions)?;
         let conflicts = u64::from(self.case.options.conflicts);
-        let locator = Locator::of(self.alloc, pair, &marks, conflicts)?;
+        let values = first_values(self.differences);
+        let locator = Locator::of(self.alloc, pair, &marks, values, conflicts)?;
         let mut is_left = vec![in self.alloc; true; positions.len()]?;
         let mut groups = Vec::new(self.alloc);
         for k in 0..positions.len() {

@@ -7,7 +7,6 @@ use Rattle.eqc_graph.specs.Graph.{literal_value}
 use Rattle.eqc_pair.specs.PairOf.{PairOf}
 use Rattle.eqc_build.specs.Building.{reference_of}
 use Rattle.eqc_build.specs.Steps.{value_at}
-use Rattle.eqc_gates.specs.Entering.{AreLiterals}
 use Rattle.std.specs.Prelude.{All}
 use Rattle.std.proofs.lemmas.List.Elements.{All-push}
 use Rattle.eqc_place.specs.Values.{AreValues}
@@ -16,17 +15,18 @@ use Rattle.eqc_place.specs.declared.place.Partner.{Partner}
 use Rattle.eqc_place.specs.declared.place.Column.{Column}
 
 -- steps of one literal are partners
-pub equal_partner : (p : PairOf) (nodes : List Node) (table : List (Option ℕ)) (j k x y : ℕ) → AreLiterals p nodes table →
-    reference_of table j ≡ Some x → reference_of table k ≡ Some y → x ≡ y → IsPartner p j (record { step = k; is_opposite = false })
-equal_partner p nodes table j k x y are here there same =
-    record { value = λ a. sym ((are.each j x here).value a) ∙ (ap (literal_value nodes a) same ∙ (are.each k y there).value a) }
+pub equal_partner : (p : PairOf) (table : List (Option ℕ)) (j k x y : ℕ) → AreProved p table → reference_of table j ≡ Some x → reference_of table k ≡ Some y → x ≡ y →
+    IsPartner p j (record { step = k; is_opposite = false })
+equal_partner p table j k x y proved here there same = record {
+  value = λ a allowed. sym ((proved.are.each j x here).value a allowed) ∙ (ap (literal_value proved.nodes a) same ∙ (proved.are.each k y there).value a allowed);
+}
 
 -- steps of opposite literals are partners
-pub opposite_partner : (p : PairOf) (nodes : List Node) (table : List (Option ℕ)) (j k x y : ℕ) → AreLiterals p nodes table →
-    reference_of table j ≡ Some x → reference_of table k ≡ Some y → ((nodes : List Node) (a : ℕ → Bool) → literal_value nodes a x ≡ not (literal_value nodes a y)) →
-    IsPartner p j (record { step = k; is_opposite = true })
-opposite_partner p nodes table j k x y are here there opposite =
-    record { value = λ a. sym ((are.each j x here).value a) ∙ (opposite nodes a ∙ ap not ((are.each k y there).value a)) }
+pub opposite_partner : (p : PairOf) (table : List (Option ℕ)) (j k x y : ℕ) → AreProved p table → reference_of table j ≡ Some x → reference_of table k ≡ Some y →
+    ((nodes : List Node) (a : ℕ → Bool) → literal_value nodes a x ≡ not (literal_value nodes a y)) → IsPartner p j (record { step = k; is_opposite = true })
+opposite_partner p table j k x y proved here there opposite = record {
+  value = λ a allowed. sym ((proved.are.each j x here).value a allowed) ∙ (opposite proved.nodes a ∙ ap not ((proved.are.each k y there).value a allowed));
+}
 
 -- the first c values of some steps were read from a table
 pub record IsReading (table : List (Option Bool)) (steps : List ℕ) (c : ℕ) (values : List Bool) : Type 0 where
@@ -94,6 +94,6 @@ pub listing_whole : (p : PairOf) (a : ℕ → Bool) (steps : List ℕ) (c : ℕ)
 listing_whole p a steps c columns whole so_far = record { same = so_far.same ∙ take_all c steps whole; each = so_far.each }
 
 -- a column whose value is in a table of values
-pub column_of : (p : PairOf) (a : ℕ → Bool) (table : List (Option Bool)) (literals : List (Option ℕ)) (k : ℕ) (v : Bool) (q : Option Partner) → AreValues p a table → reference_of table k ≡ Some v →
-    AreProved p literals → ((p : PairOf) (nodes : List Node) → AreLiterals p nodes literals → IfSome q (IsPartner p k)) → IsColumn p a (record { step = k; value = v; partner = q })
-column_of p a table literals k v q are here proved partner = record { value = are.each k v here; partner = partner p proved.nodes proved.are }
+pub column_of : (p : PairOf) (a : ℕ → Bool) (table : List (Option Bool)) (k : ℕ) (v : Bool) (q : Option Partner) → AreValues p a table → reference_of table k ≡ Some v →
+    IfSome q (IsPartner p k) → IsColumn p a (record { step = k; value = v; partner = q })
+column_of p a table k v q are here partner = record { value = are.each k v here; partner = partner }

@@ -1,22 +1,36 @@
 -- What is told of the place of a difference.
-use Rattle.std.specs.Prelude.{◌≡◌, ℕ, ◌<◌, Bool, List, length, map, All, Option, IfSome}
-use Rattle.eqc_graph.specs.Graph.{differ}
+use Rattle.std.specs.Prelude.{◌≡◌, ℕ, ◌<◌, Bool, true, List, length, map, All, Option, Some, IfSome, slice_index}
+use Rattle.eqc_graph.specs.Graph.{differ, literal_value, IsWithin}
 use Rattle.eqc_graph.specs.declared.node.Node.{Node}
-use Rattle.eqc_pair.specs.PairOf.{PairOf}
-use Rattle.eqc_build.specs.Steps.{StepsOf, steps_in, uses_of, value_at}
-use Rattle.eqc_gates.specs.Entering.{AreLiterals}
+use Rattle.eqc_netlist.specs.Graph.{value_of}
+use Rattle.eqc_pair.specs.PairOf.{PairOf, assumed_variables}
+use Rattle.eqc_build.specs.Building.{reference_of}
+use Rattle.eqc_build.specs.Steps.{StepsOf, inputs_under, steps_in, uses_of, value_at}
 use Rattle.eqc_place.specs.declared.place.Partner.{Partner}
 use Rattle.eqc_place.specs.declared.place.Column.{Column}
 use Rattle.eqc_place.specs.declared.place.Place.{Place}
 
+-- the assumption allows values of the variables: its output is 1 under them. Without an assumption all are allowed
+pub record IsAllowed (p : PairOf) (a : ℕ → Bool) : Type 0 where
+  pub holds : IfSome p.assumes (λ h. value_of h (inputs_under (assumed_variables p) a) (slice_index h.output_signals 0) ≡ true)
+
+-- a literal of the graph has the value of a step under all values of the variables that are allowed
+pub record HasAllowedValue (p : PairOf) (nodes : List Node) (step l : ℕ) : Type 0 where
+  pub within : IsWithin nodes l
+  pub value : (a : ℕ → Bool) → IsAllowed p a → literal_value nodes a l ≡ value_at p a step
+
+-- each literal of a table has the value of its step so
+pub record HaveAllowedValues (p : PairOf) (nodes : List Node) (literals : List (Option ℕ)) : Type 0 where
+  pub each : (k l : ℕ) → reference_of literals k ≡ Some l → HasAllowedValue p nodes k l
+
 -- literals of steps in some graph
 pub record AreProved (p : PairOf) (literals : List (Option ℕ)) : Type 0 where
   pub nodes : List Node
-  pub are : AreLiterals p nodes literals
+  pub are : HaveAllowedValues p nodes literals
 
--- a step has the value of its partner, or the opposite one, under all values of the variables
+-- a step has the value of its partner, or the opposite one, under all values of the variables that are allowed
 pub record IsPartner (p : PairOf) (step : ℕ) (q : Partner) : Type 0 where
-  pub value : (a : ℕ → Bool) → value_at p a step ≡ differ q.is_opposite (value_at p a q.step)
+  pub value : (a : ℕ → Bool) → IsAllowed p a → value_at p a step ≡ differ q.is_opposite (value_at p a q.step)
 
 -- a column has the value of its step, and its partner is one
 pub record IsColumn (p : PairOf) (a : ℕ → Bool) (c : Column) : Type 0 where

@@ -3,7 +3,8 @@
 //! What is told of a place is said in `specs/Places.antt`. Nothing is promised of which signals are told: that is found by simulation.
 //! Read the modules in this order:
 //!
-//! - `locating`, the call; `place`, what it tells, and `partner`, which signals are proved equal
+//! - `locating`, the call; `place`, what it tells; `partner`, which signals are proved equal, and `allowed`, which are where an assumption
+//!   holds
 //! - `told`, the values of all signals under one assignment, and `words`, those under many, of which nothing is believed, by `covers`
 //! - `trial`, in which order signals are told of one output: by `sensitised`, signals on ways from it back; by `turning`, what comes
 //!   of a signal with the opposite value, over its `users`; by `ranking`; and `mending`, signals that have the wanted values
@@ -11,6 +12,7 @@
 //! - `known`, signals that the other netlist has, and `depths`, how high they stand
 #![tactic(auto)]
 
+mod allowed;
 mod covers;
 mod depths;
 mod known;

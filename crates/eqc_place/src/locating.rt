@@ -2,14 +2,15 @@
 ghost use Rattle.std.specs.Prelude.{◌≡◌, ◌<◌, ◌≤◌, All, length, map, IfOk, IfSome};
 ghost use Rattle.eqc_build.specs.Steps.{steps_in, uses_of};
 ghost use Rattle.eqc_pair.specs.PairOf.{input_values};
-ghost use Rattle.eqc_place.specs.Places.{AreColumns, IsPlace};
+ghost use Rattle.eqc_place.specs.Places.{AreColumns, IsPartner, IsPlace};
 ghost use Rattle.eqc_place.specs.Values.{AreValues};
 
+use crate::allowed::literals_where_allowed;
 use crate::covers::Covers;
 use crate::depths::depths_of;
 use crate::known::Known;
-use crate::partner::Firsts;
-use crate::place::{Column, Place, Places};
+use crate::partner::{Partners, second_steps};
+use crate::place::{Column, Partner, Place, Places};
 use crate::ranking::Suspect;
 use crate::told::{value_in, values_under};
 use crate::trial::Trial;
@@ -37,8 +38,9 @@ const CHARACTERS: u64 = 8_000_000;
 #[derive(Drop)]
 pub struct Locator<'a> {
     pub(crate) steps: Steps<'a>,
-    literals: Vec<Option<u32>>,
-    firsts: Firsts,
+    /// What is proved equal under all values of the inputs, and what is under those that the assumption allows.
+    everywhere: Partners,
+    where_allowed: Partners,
     known: Known,
     /// The steps that the chosen outputs need, and who uses each.
     pub(crate) marks: Vec<bool>,
@@ -57,7 +59,7 @@ impl<'a> Model for Locator<'a> {
 
     ghost view = { λ a. a.steps };
 
-    ghost invariant = { λ a. AreProved a.steps.pair a.literals.items };
+    ghost invariant = { λ a. AreProved a.steps.pair a.everywhere × AreProved a.steps.pair a.where_allowed };
 }
 
 /// What questions may cost, where so many conflicts are allowed in all.
@@ -100,6 +102,7 @@ impl<'a> Locator<'a> {
         alloc: Global,
         steps: Steps<'a>,
         outputs: &[bool],
+        inputs: &[bool],
         sweep: &mut Sweep,
     ) -> Result<Locator<'a>, AllocError>
         requires { length outputs.now ≤ length steps.pair.first.outputs }
@@ -108,11 +111,12 @@ impl<'a> Locator<'a> {
         let asked = needed_within(alloc, &steps, outputs, CHARACTERS)?;
         let ignored = |_step: u32| {};
         let literals = literals(alloc, &steps, &asked, sweep, &ignored)?;
-        let second = steps.pair().first().steps().len() as u32;
-        let end = second.saturating_add(steps.pair().second().steps().len() as u32);
-        let graph = sweep.graph();
-        let firsts = Firsts::of(alloc, &literals, graph.len(), second, end)?;
-        let known = Known::of(alloc, graph, &literals, second, end)?;
+        let (second, end) = second_steps(steps.pair());
+        let known = Known::of(alloc, sweep.graph(), &literals, second, end)?;
+        let allowed = literals_where_allowed(alloc, &steps, &literals, inputs, sweep)?;
+        let nodes = sweep.graph().len();
+        let everywhere = Partners::of(alloc, literals, nodes, second, end)?;
+        let where_allowed = Partners::of(alloc, allowed, nodes, second, end)?;
         let chosen = chosen_outputs(alloc, steps.pair())?;
         let marks = needed_within(alloc, &steps, &chosen, CHARACTERS)?;
         let covers = Covers::of(alloc, &steps, &marks)?;
@@ -121,8 +125,8 @@ impl<'a> Locator<'a> {
         let roots = roots_of(alloc, &steps)?;
         Ok(Locator {
             steps,
-            literals,
-            firsts,
+            everywhere,
+            where_allowed,
             known,
             marks,
             covers,
@@ -133,25 +137,27 @@ impl<'a> Locator<'a> {
     }
 
     /// The steps of a pair, of which those that these outputs need enter a graph in which nodes that are found equal are one, within so
-    /// many conflicts. `outputs` marks outputs by their positions in the first netlist. It takes time and memory in proportion to the
-    /// rows of the steps' covers, for each instance of a model anew, and to the conflicts. Fails where memory is refused.
+    /// many conflicts. `outputs` marks outputs by their positions in the first netlist. `inputs` are values of the first netlist's
+    /// inputs that the assumption allows; others only mean that fewer steps have a partner. It takes time and memory in proportion to
+    /// the rows of the steps' covers, for each instance of a model anew, and to the conflicts. Fails where memory is refused.
     pub fn of(
         alloc: Global,
         pair: &'a Pair<'a>,
         outputs: &[bool],
+        inputs: &[bool],
         conflicts: u64,
     ) -> Result<Locator<'a>, AllocError>
         requires { length outputs.now ≤ length pair.now.first.outputs }
         ensures { IfOk result (λ locator. locator.pair ≡ pair.now) }
     {
         let mut sweep = Sweep::new(alloc, effort_for(conflicts))?;
-        Locator::within(alloc, Steps::each(alloc, pair), outputs, &mut sweep)
+        Locator::within(alloc, Steps::each(alloc, pair), outputs, inputs, &mut sweep)
     }
 
-    /// Whether a step's node is one of the other netlist too, or stands below one.
+    /// Whether a step has a partner where the assumption holds, or its node is one of the other netlist too, or stands below one.
     pub(crate) fn is_known(&self, step: u32) -> bool {
-        let is_second = step >= self.firsts.second;
-        self.known.has(&self.literals, step, is_second)
+        let is_second = step >= self.everywhere.second;
+        self.where_allowed.has(step) || self.known.has(self.everywhere.literals(), step, is_second)
     }
 
     /// Whether all that a step uses is known in the other netlist.
@@ -168,7 +174,18 @@ impl<'a> Locator<'a> {
 
     /// Where the steps of the second netlist begin, and where they end.
     pub(crate) fn second_steps(&self) -> (u32, u32) {
-        (self.firsts.second, self.firsts.end)
+        (self.everywhere.second, self.everywhere.end)
+    }
+
+    /// The partner of a step in the other netlist, if one is known: one that is equal under all values comes first.
+    fn partner(&self, step: u32) -> Option<Partner>
+        ensures { IfSome result (IsPartner self.now.pair step) }
+    {
+        let everywhere = self.everywhere.partner(step);
+        if everywhere.is_some() {
+            return everywhere;
+        }
+        self.where_allowed.partner(step)
     }
 
     #[tactic(auto, using(crate::proofs::PlaceLaws::listing_begins, crate::proofs::PlaceLaws::listing_more, crate::proofs::PlaceLaws::listing_whole, crate::proofs::PlaceLaws::column_of))]
@@ -192,7 +209,7 @@ impl<'a> Locator<'a> {
             let Some(value) = value_in(values, column) else {
                 return Ok(None);
             };
-            let partner = self.firsts.partner(&self.literals, column);
+            let partner = self.partner(column);
             columns.push(Column {
                 step: column,
                 value,
@@ -253,8 +270,8 @@ impl<'a> Locator<'a> {
 
     /// The places at which an output begins to differ, by its position in the first netlist, where the first netlist's inputs have these
     /// values, one for each; at most five in each netlist, first those of the second. What is told of a place is so under these values,
-    /// and what is a partner is one under all values; that it is a place, and which comes first, is found by simulation. Fails where
-    /// memory is refused.
+    /// and what is a partner is one under all that the assumption allows; that it is a place, and which comes first, is found by
+    /// simulation. Fails where memory is refused.
     pub fn locate(
         &self,
         alloc: Global,

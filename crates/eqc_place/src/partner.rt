@@ -1,18 +1,24 @@
 //! Which steps are proved equal or opposite, by their literals in one graph.
-ghost use Rattle.std.specs.Prelude.{◌≡◌, ℕ, ◌<◌, List, length, IfOk, IfSome};
-ghost use Rattle.eqc_graph.specs.declared.node.Node.{Node};
+ghost use Rattle.std.specs.Prelude.{◌≡◌, IfOk, IfSome};
 ghost use Rattle.eqc_build.specs.Building.{reference_of};
-ghost use Rattle.eqc_build.specs.Steps.{steps_in};
-ghost use Rattle.eqc_gates.specs.Entering.{AreLiterals};
 ghost use Rattle.eqc_pair.specs.PairOf.{PairOf};
-ghost use Rattle.eqc_place.specs.Places.{IsPartner};
+ghost use Rattle.eqc_place.specs.Places.{AreProved, IsPartner};
 
 use crate::place::Partner;
 use eqc_graph::{negated, node_of};
+use eqc_pair::Pair;
 use std::alloc::{AllocError, Global};
+use std::marker::Model;
 
 /// No step.
 pub(crate) const NONE: u32 = 4_294_967_295;
+
+/// Where the steps of the second netlist begin, and where they end.
+pub(crate) fn second_steps(pair: &Pair<'_>) -> (u32, u32) {
+    let begin = pair.first().steps().len() as u32;
+    let end = begin.saturating_add(pair.second().steps().len() as u32);
+    (begin, end)
+}
 
 /// The literal of a step, if it has one.
 pub(crate) fn literal_at(literals: &[Option<u32>], step: u32) -> Option<u32>
@@ -24,7 +30,7 @@ pub(crate) fn literal_at(literals: &[Option<u32>], step: u32) -> Option<u32>
 #[tactic(auto, using(crate::proofs::PlaceLaws::equal_partner, crate::proofs::PlaceLaws::opposite_partner))]
 /// Another step as a partner of one, where their literals are equal or opposite.
 fn as_partner(literals: &[Option<u32>], step: u32, other: u32) -> Option<Partner>
-    ensures { (p : PairOf) (nodes : List Node) → AreLiterals p nodes literals.now → IfSome result (IsPartner p step) }
+    ensures { (p : PairOf) → AreProved p literals.now → IfSome result (IsPartner p step) }
 {
     let x = literal_at(literals, step)?;
     let y = literal_at(literals, other)?;
@@ -51,9 +57,11 @@ fn note_first(firsts: &mut Vec<u32>, node: u32, step: u32) {
     }
 }
 
-/// For each node of a graph the first step of each netlist whose literal it has. Nothing is believed of it.
+/// The literals of steps in one graph, and for each node the first step of each netlist whose literal it has. Contracts see the literals,
+/// and nothing is believed of the rest.
 #[derive(Drop)]
-pub(crate) struct Firsts {
+pub(crate) struct Partners {
+    literals: Vec<Option<u32>>,
     /// Where the second netlist's steps begin, and where they end.
     pub(crate) second: u32,
     pub(crate) end: u32,
@@ -61,19 +69,29 @@ pub(crate) struct Firsts {
     by_second: Vec<u32>,
 }
 
-impl Firsts {
+impl Model for Partners {
+    ghost use Rattle.std.specs.Prelude.{ℕ, List, Option};
+
+    ghost Value = { List (Option ℕ) };
+
+    ghost view = { λ a. a.literals.items };
+}
+
+impl Partners {
     /// Those of steps with these literals. Fails where memory is refused.
     pub(crate) fn of(
         alloc: Global,
-        literals: &[Option<u32>],
+        literals: Vec<Option<u32>>,
         nodes: u32,
         second: u32,
         end: u32,
-    ) -> Result<Firsts, AllocError> {
+    ) -> Result<Partners, AllocError>
+        ensures { IfOk result (λ partners. partners ≡ literals.items) }
+    {
         let mut by_first = vec![in alloc; NONE; nodes as usize]?;
         let mut by_second = vec![in alloc; NONE; nodes as usize]?;
         for step in 0..end {
-            let Some(literal) = literal_at(literals, step) else {
+            let Some(literal) = literal_at(&literals, step) else {
                 continue;
             };
             if step < second {
@@ -82,7 +100,8 @@ impl Firsts {
                 note_first(&mut by_second, node_of(literal), step);
             }
         }
-        Ok(Firsts {
+        Ok(Partners {
+            literals,
             second,
             end,
             by_first,
@@ -90,9 +109,16 @@ impl Firsts {
         })
     }
 
+    /// The literals.
+    pub(crate) fn literals(&self) -> &[Option<u32>]
+        ensures { result.now ≡ self.now }
+    {
+        &self.literals
+    }
+
     /// The first step of the other netlist that has a step's literal, or `NONE`.
-    fn other(&self, literals: &[Option<u32>], step: u32) -> u32 {
-        let Some(literal) = literal_at(literals, step) else {
+    fn other(&self, step: u32) -> u32 {
+        let Some(literal) = literal_at(&self.literals, step) else {
             return NONE;
         };
         let firsts = if step < self.second {
@@ -106,10 +132,15 @@ impl Firsts {
             .unwrap_or(NONE)
     }
 
+    /// Whether a step has a partner.
+    pub(crate) fn has(&self, step: u32) -> bool {
+        self.other(step) != NONE
+    }
+
     /// The partner of a step in the other netlist, if one is known.
-    pub(crate) fn partner(&self, literals: &[Option<u32>], step: u32) -> Option<Partner>
-        ensures { (p : PairOf) (nodes : List Node) → AreLiterals p nodes literals.now → IfSome result (IsPartner p step) }
+    pub(crate) fn partner(&self, step: u32) -> Option<Partner>
+        ensures { (p : PairOf) → AreProved p self.now → IfSome result (IsPartner p step) }
     {
-        as_partner(literals, step, self.other(literals, step))
+        as_partner(&self.literals, step, self.other(step))
     }
 }

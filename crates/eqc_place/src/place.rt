@@ -1,6 +1,7 @@
 //! What is told of the place of a difference.
 
-/// A step of the other netlist that is proved to have the same value, or the opposite one, under all values of the inputs.
+/// A step of the other netlist that is proved to have the same value, or the opposite one, under all values of the inputs that the
+/// assumption allows, and under all of them without an assumption.
 #[derive(Clone, Copy, Debug)]
 pub struct Partner {
     pub step: u32,

@@ -407,6 +407,31 @@ fn outputs_are_grouped_by_place(rt: HostRuntime) {
     holds(&rt, located, "two outputs");
 }
 
+/// Covers of which those of `n` and `m` are equal where `x` is 1, and those of the outputs aren't.
+const ALLOWED: &str =
+    ".model f;.inputs x y w;.outputs z;.names x y w n;11- 1;1-1 1;.names n y z;10 1;01 1;.end;.model g;.inputs x y w;.outputs z;.names y w m;1- 1;-1 1;.names m y z;11 1;.end;";
+
+const ALLOWED_REPORT: &str = "differs at z;x=1;y=0;w=1;first=1;second=0;";
+
+/// The line on the output, and the first place where `x` has to be 1.
+const ALLOWED_OUTPUT: &str = "eqc: 'z' differs, in 384 simulated assignments, which may begin at:";
+
+const ALLOWED_PLACE: &str =
+    "eqc: second, line 17: 'z' is 0, mends 384 of 384 if turned, and another cover of its columns may do so; cover 11 1 of 'm'=1 ('n') 'y'=0 ('y')";
+
+/// The same where `x` may be 0 too.
+const EACH_PLACE: &str =
+    "eqc: second, line 17: 'z' is 0, mends 384 of 384 if turned; cover 11 1 of 'm'=1 'y'=0 ('y')";
+
+#[test]
+fn partners_are_equal_where_allowed(rt: HostRuntime) {
+    for (options, place) in [("--assume x_is_1", ALLOWED_PLACE), ("--all", EACH_PLACE)] {
+        let first = [ALLOWED_OUTPUT, place];
+        let located = is_located(&rt, ALLOWED, (options, ALLOWED_REPORT), &first, &[]);
+        holds(&rt, located, place);
+    }
+}
+
 /// A text in which each of so many outputs is negated on one side, and the report on it.
 fn negated(alloc: Global, outputs: u32) -> Result<(String, String), AllocError> {
     let mut names = String::new(alloc);
