@@ -10,7 +10,7 @@ use Rattle.eqc_build.specs.Steps.{value_at}
 use Rattle.std.specs.Prelude.{All}
 use Rattle.std.proofs.lemmas.List.Elements.{All-push}
 use Rattle.eqc_place.specs.Values.{AreValues}
-use Rattle.eqc_place.specs.Places.{AreProved, IsPartner, IsColumn, AreColumns}
+use Rattle.eqc_place.specs.Places.{AreApart, AreProved, IsPartner, IsColumn, AreColumns}
 use Rattle.eqc_place.specs.declared.place.Partner.{Partner}
 use Rattle.eqc_place.specs.declared.place.Column.{Column}
 
@@ -95,5 +95,5 @@ listing_whole p a steps c columns whole so_far = record { same = so_far.same ∙
 
 -- a column whose value is in a table of values
 pub column_of : (p : PairOf) (a : ℕ → Bool) (table : List (Option Bool)) (k : ℕ) (v : Bool) (q : Option Partner) → AreValues p a table → reference_of table k ≡ Some v →
-    IfSome q (IsPartner p k) → IsColumn p a (record { step = k; value = v; partner = q })
-column_of p a table k v q are here partner = record { value = are.each k v here; partner = partner }
+    IfSome q (IsPartner p k) → IfSome q (λ (r : Partner). AreApart p k r.step) → IsColumn p a (record { step = k; value = v; partner = q })
+column_of p a table k v q are here partner apart = record { value = are.each k v here; partner = partner; apart = apart }

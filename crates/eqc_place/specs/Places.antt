@@ -1,5 +1,5 @@
 -- What is told of the place of a difference.
-use Rattle.std.specs.Prelude.{◌≡◌, ℕ, ◌<◌, Bool, true, List, length, map, All, Option, Some, IfSome, slice_index}
+use Rattle.std.specs.Prelude.{◌≡◌, ℕ, ◌<◌, Bool, true, not, ltb, List, length, map, All, Option, Some, IfSome, slice_index}
 use Rattle.eqc_graph.specs.Graph.{differ, literal_value, IsWithin}
 use Rattle.eqc_graph.specs.declared.node.Node.{Node}
 use Rattle.eqc_netlist.specs.Graph.{value_of}
@@ -32,10 +32,15 @@ pub record AreProved (p : PairOf) (literals : List (Option ℕ)) : Type 0 where
 pub record IsPartner (p : PairOf) (step : ℕ) (q : Partner) : Type 0 where
   pub value : (a : ℕ → Bool) → IsAllowed p a → value_at p a step ≡ differ q.is_opposite (value_at p a q.step)
 
--- a column has the value of its step, and its partner is one
+-- exactly one of two steps is of the first netlist
+pub record AreApart (p : PairOf) (step other : ℕ) : Type 0 where
+  pub apart : ltb other (length p.first.drivers) ≡ not (ltb step (length p.first.drivers))
+
+-- a column has the value of its step, and its partner is one, in the other netlist
 pub record IsColumn (p : PairOf) (a : ℕ → Bool) (c : Column) : Type 0 where
   pub value : c.value ≡ value_at p a c.step
   pub partner : IfSome c.partner (IsPartner p c.step)
+  pub apart : IfSome c.partner (λ (q : Partner). AreApart p c.step q.step)
 
 -- these are columns for steps
 pub record AreColumns (p : PairOf) (a : ℕ → Bool) (steps : List ℕ) (columns : List Column) : Type 0 where

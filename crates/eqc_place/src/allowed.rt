@@ -49,6 +49,7 @@ pub(crate) fn literals_where_allowed(
     };
     let values = values_under(alloc, steps, inputs)?;
     let (_, end) = second_steps(steps.pair());
+    // For the proof alone: it states the laws of steps.
     let _count = steps.len();
     for step in 0..end {
         let Some(literal) = literal_at(literals, step) else {

@@ -2,7 +2,7 @@
 ghost use Rattle.std.specs.Prelude.{◌≡◌, ◌<◌, ◌≤◌, All, length, map, IfOk, IfSome};
 ghost use Rattle.eqc_build.specs.Steps.{steps_in, uses_of};
 ghost use Rattle.eqc_pair.specs.PairOf.{input_values};
-ghost use Rattle.eqc_place.specs.Places.{AreColumns, IsPartner, IsPlace};
+ghost use Rattle.eqc_place.specs.Places.{AreApart, AreColumns, IsPartner, IsPlace};
 ghost use Rattle.eqc_place.specs.Values.{AreValues};
 
 use crate::allowed::literals_where_allowed;
@@ -177,8 +177,8 @@ impl<'a> Locator<'a> {
         (self.everywhere.second, self.everywhere.end)
     }
 
-    /// The partner of a step in the other netlist, if one is known: one that is equal under all values comes first.
-    fn partner(&self, step: u32) -> Option<Partner>
+    /// The partner of a step, if one is known: one that is equal under all values comes first.
+    fn known_partner(&self, step: u32) -> Option<Partner>
         ensures { IfSome result (IsPartner self.now.pair step) }
     {
         let everywhere = self.everywhere.partner(step);
@@ -186,6 +186,20 @@ impl<'a> Locator<'a> {
             return everywhere;
         }
         self.where_allowed.partner(step)
+    }
+
+    /// The same, where it is in the other netlist.
+    fn partner(&self, step: u32) -> Option<Partner>
+        ensures partner { IfSome result (IsPartner self.now.pair step) }
+        ensures apart { IfSome result (λ q. AreApart self.now.pair step q.step) }
+    {
+        let partner = self.known_partner(step)?;
+        let (second, _) = second_steps(self.steps.pair());
+        let is_first = step < second;
+        if is_first == (partner.step < second) {
+            return None;
+        }
+        Some(partner)
     }
 
     #[tactic(auto, using(crate::proofs::PlaceLaws::listing_begins, crate::proofs::PlaceLaws::listing_more, crate::proofs::PlaceLaws::listing_whole, crate::proofs::PlaceLaws::column_of))]
@@ -201,6 +215,7 @@ impl<'a> Locator<'a> {
         requires values { AreValues self.now.pair (input_values self.now.pair inputs.now) values.now }
         ensures { IfOk result (λ found. IfSome found (λ columns. AreColumns self.now.pair (input_values self.now.pair inputs.now) (uses_of self.now step) columns.items)) }
     {
+        // They are for the clauses alone, which say whose values these are.
         let _inputs = inputs;
         let uses = self.steps.uses(step);
         let mut columns = Vec::with_capacity(alloc, uses.len())?;
@@ -279,16 +294,13 @@ impl<'a> Locator<'a> {
         inputs: &[bool],
     ) -> Result<Places, AllocError>
         requires { output < length self.now.pair.first.outputs }
-        ensures { IfOk result (λ found. All (IsPlace self.now (input_values self.now.pair inputs.now)) found.each.items) }
+        ensures places { IfOk result (λ found. All (IsPlace self.now (input_values self.now.pair inputs.now)) found.each.items) }
+        ensures mendings { IfOk result (λ found. length found.mendings.items ≡ length found.each.items) }
     {
         let mut trial = Trial::of(alloc, self, self.steps.roots(output), inputs)?;
         let suspects = trial.ranked()?;
         let each = self.places(alloc, inputs, &suspects)?;
-        let mut mendings = Vec::with_capacity(alloc, each.len())?;
-        for place in &each {
-            let mending = trial.mending(place.step)?;
-            mendings.push(mending)?;
-        }
+        let mendings = trial.mendings(&each)?;
         Ok(Places {
             each,
             mendings,

@@ -1,5 +1,5 @@
 //! Which steps are proved equal or opposite, by their literals in one graph.
-ghost use Rattle.std.specs.Prelude.{◌≡◌, IfOk, IfSome};
+ghost use Rattle.std.specs.Prelude.{◌≡◌, length, IfOk, IfSome};
 ghost use Rattle.eqc_build.specs.Building.{reference_of};
 ghost use Rattle.eqc_pair.specs.PairOf.{PairOf};
 ghost use Rattle.eqc_place.specs.Places.{AreProved, IsPartner};
@@ -14,7 +14,9 @@ use std::marker::Model;
 pub(crate) const NONE: u32 = 4_294_967_295;
 
 /// Where the steps of the second netlist begin, and where they end.
-pub(crate) fn second_steps(pair: &Pair<'_>) -> (u32, u32) {
+pub(crate) fn second_steps(pair: &Pair<'_>) -> (u32, u32)
+    ensures { result.0 ≡ length pair.now.first.drivers }
+{
     let begin = pair.first().steps().len() as u32;
     let end = begin.saturating_add(pair.second().steps().len() as u32);
     (begin, end)

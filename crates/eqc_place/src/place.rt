@@ -41,7 +41,7 @@ pub struct Place {
 #[derive(Drop)]
 pub struct Places {
     pub each: Vec<Place>,
-    /// What would mend each.
+    /// What would mend each, in their order.
     pub mendings: Vec<Option<Mending>>,
     pub differing: u32,
 }

@@ -9,7 +9,7 @@ use std::alloc::AllocError;
 /// How many places of a difference are told at most in each netlist.
 pub(crate) const MOST: usize = 5;
 
-/// How many are looked at in all rounds.
+/// How many of each are looked at in all rounds.
 pub(crate) const MOST_LOOKED_AT: usize = 60;
 
 /// So many assignments that want another value of a cover are compared with those that want the same.

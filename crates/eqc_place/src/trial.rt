@@ -1,8 +1,9 @@
 //! The signals at which one output may begin to differ, in the order in which they are told.
+ghost use Rattle.std.specs.Prelude.{◌≡◌, length, IfOk};
 
 use crate::locating::Locator;
 use crate::mending::mending_among;
-use crate::place::Mending;
+use crate::place::{Mending, Place};
 use crate::ranking::{MOST, MOST_LOOKED_AT, Suspect, rank, torn_in};
 use crate::sensitised::sensitised;
 use crate::turning::{Scene, Turned, Turning};
@@ -148,7 +149,8 @@ impl<'x, 'a> Trial<'x, 'a> {
         Ok(())
     }
 
-    /// The same for the marked covers of a kind, as long as what may be gone over for them is left. Fails where memory is refused.
+    /// The same for the marked covers of a kind, from the outputs down, where little follows a turn, as long as what may be gone over for
+    /// them is left. Fails where memory is refused.
     fn look_at(
         &mut self,
         found: &[bool],
@@ -156,7 +158,8 @@ impl<'x, 'a> Trial<'x, 'a> {
         ranked: &mut Vec<Suspect>,
     ) -> Result<(), AllocError> {
         let limit = self.limit();
-        for step in kind.begin..kind.end {
+        for back in 0..kind.end.saturating_sub(kind.begin) {
+            let step = kind.end.wrapping_sub(1).wrapping_sub(back);
             let is_found = found.get(step as usize).copied().unwrap_or(false);
             if is_found && self.is_cover(step) && self.locator.is_known(step) == kind.is_known {
                 self.try_step(step, ranked)?;
@@ -168,46 +171,53 @@ impl<'x, 'a> Trial<'x, 'a> {
         Ok(())
     }
 
-    /// The signals at which the output may begin to differ by the first round. Fails where memory is refused.
-    fn ranked_first(&mut self) -> Result<Vec<Suspect>, AllocError> {
-        let mut ranked = Vec::new(self.alloc);
-        if self.rounds.is_empty() {
-            return Ok(ranked);
-        }
+    /// The steps on sensitised ways in the first round. Fails where memory is refused.
+    fn found(&self) -> Result<Vec<bool>, AllocError> {
         let locator = self.locator;
-        let found = sensitised(
-            self.alloc,
-            &locator.steps,
-            &locator.covers,
-            &self.rounds[0].words,
-            self.roots,
-        )?;
-        let (second, end) = locator.second_steps();
+        match self.rounds.first() {
+            None => Ok(Vec::new(self.alloc)),
+            Some(round) => sensitised(
+                self.alloc,
+                &locator.steps,
+                &locator.covers,
+                &round.words,
+                self.roots,
+            ),
+        }
+    }
+
+    /// Those of a netlist's signals at which the output may begin to differ by the first round. Fails where memory is refused.
+    fn ranked_first(
+        &mut self,
+        found: &[bool],
+        begin: u32,
+        end: u32,
+    ) -> Result<Vec<Suspect>, AllocError> {
+        let mut ranked = Vec::new(self.alloc);
         for is_known in [false, true] {
-            for (begin, end) in [(second, end), (0, second)] {
-                let kind = Kind {
-                    begin,
-                    end,
-                    is_known,
-                };
-                self.look_at(&found, kind, &mut ranked)?;
-            }
+            let kind = Kind {
+                begin,
+                end,
+                is_known,
+            };
+            self.look_at(found, kind, &mut ranked)?;
         }
         Ok(ranked)
     }
 
-    /// Those of them that a netlist has, by all rounds. Fails where memory is refused.
+    /// The same by all rounds. Fails where memory is refused.
     fn ranked_in(
         &mut self,
-        first: &[Suspect],
-        is_second: bool,
+        found: &[bool],
+        begin: u32,
+        end: u32,
     ) -> Result<Vec<Suspect>, AllocError> {
-        let (second, _) = self.locator.second_steps();
+        let first = self.ranked_first(found, begin, end)?;
         let mut ranked = Vec::new(self.alloc);
         let limit = self.limit();
-        for suspect in first {
-            if (suspect.step >= second) != is_second || self.work() > limit {
-                continue;
+        for suspect in &first {
+            if self.work() > limit {
+                return Ok(ranked);
             }
             let turned = self.turned(suspect.step, ROUNDS)?;
             let suspect = self.suspect(&turned, suspect.step);
@@ -218,15 +228,16 @@ impl<'x, 'a> Trial<'x, 'a> {
 
     /// The signals at which the output may begin to differ, first those of the second netlist. Fails where memory is refused.
     pub(crate) fn ranked(&mut self) -> Result<Vec<Suspect>, AllocError> {
-        let first = self.ranked_first()?;
-        let mut ranked = self.ranked_in(&first, true)?;
-        let others = self.ranked_in(&first, false)?;
+        let found = self.found()?;
+        let (second, end) = self.locator.second_steps();
+        let mut ranked = self.ranked_in(&found, second, end)?;
+        let others = self.ranked_in(&found, 0, second)?;
         ranked.extend_from_slice(&others)?;
         Ok(ranked)
     }
 
     /// A signal of the other netlist by which a step would be mended, if one is found. Fails where memory is refused.
-    pub(crate) fn mending(&mut self, step: u32) -> Result<Option<Mending>, AllocError> {
+    fn mending(&mut self, step: u32) -> Result<Option<Mending>, AllocError> {
         let turned = self.turned(step, ROUNDS)?;
         let locator = self.locator;
         let (second, end) = locator.second_steps();
@@ -236,5 +247,17 @@ impl<'x, 'a> Trial<'x, 'a> {
             (0, second)
         };
         Ok(mending_among(&self.rounds, &turned, &locator.marks, step, others))
+    }
+
+    /// What would mend each of these places. Fails where memory is refused.
+    pub(crate) fn mendings(&mut self, places: &[Place]) -> Result<Vec<Option<Mending>>, AllocError>
+        ensures { IfOk result (λ each. length each.items ≡ length places.now) }
+    {
+        let mut each = Vec::with_capacity(self.alloc, places.len())?;
+        for k in 0..places.len() {
+            let mending = self.mending(places[k].step)?;
+            each.push(mending)?;
+        }
+        Ok(each)
     }
 }

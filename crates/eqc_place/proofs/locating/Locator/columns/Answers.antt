@@ -10,5 +10,5 @@ loop-c-preserved c =
     (record { step = c.get-column.result; value = c.in-Some.value; partner = c.partner-partner.result })
     (rw (← uses) (omega (arith, c.loop-c-test.true, c.len-c-end.ensures))) c.loop-c.invariant
     (c.get-column.ensures ∙ ap (λ l. get_or l c.loop-c.c 0) uses)
-    (column_of _ _ c.args.values.now c.get-column.result c.in-Some.value c.partner-partner.result c.requires.values (sym c.in-Some.ensures) c.partner-partner.ensures)
+    (column_of _ _ c.args.values.now c.get-column.result c.in-Some.value c.partner-partner.result c.requires.values (sym c.in-Some.ensures) c.partner-partner.ensures.partner c.partner-partner.ensures.apart)
     c.in_ok-push.ensures.items
