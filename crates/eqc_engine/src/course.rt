@@ -35,7 +35,7 @@ use crate::workers::{
     has_large_room, has_some_inputs,
 };
 use eqc_compare::{Alike, Progress, Stage, alike_or_nothing, known_outcome};
-use eqc_inside::{Conflicts, Inside, Rounds, Searched, Span};
+use eqc_inside::{Conflicts, Inside, Rounds, Searched, Span, Terms};
 use eqc_report::{Options, Report, Undecided, found_report, note_seen};
 use eqc_tree::Stop;
 use std::sync::Wait;
@@ -152,8 +152,8 @@ fn first_diagrams<R: Threads + Wait + Sync, P: Progress<R> + Sync>(
     in_room(comparison, Room::First, alike)
 }
 
-/// The report by searches for differences with so many conflicts, or 71 where these don't do, with the difference that was seen
-/// then. The outputs found equal on the way become known.
+/// The report by searches for differences with so many conflicts, or `NodeLimit` where these don't do, with the difference that was
+/// seen then. The outputs found equal on the way become known.
 fn by_search<R: Threads + Wait + Sync, P: Progress<R> + Sync>(
     comparison: &Comparison<'_, R, P>,
     inside: &mut Inside<'_>,
@@ -179,7 +179,12 @@ fn by_search<R: Threads + Wait + Sync, P: Progress<R> + Sync>(
     } = *comparison;
     let Options { every, workers, .. } = *options;
     watch.stage(rt, Stage::Searching);
-    match inside.search_outputs(rt, alloc, alike, every, conflicts, workers, watch) {
+    let terms = Terms {
+        every,
+        conflicts,
+        threads: workers,
+    };
+    match inside.search_outputs(rt, alloc, alike, terms, watch) {
         Ok(Searched::Found(outcome)) => found_report(alloc, pair, every, outcome),
         Ok(Searched::Open(output, Some(values))) => {
             note_seen(alloc, pair, left, output, values);
@@ -552,8 +557,8 @@ pub fn known_by_structure<R, P: Progress<R>>(comparison: &Comparison<'_, R, P>) 
 /// The options are in their ranges. With 0 conflicts, only diagrams are made; with fewer than 1,024 nodes, only by all workers. The
 /// call may wait, as `check` may. The watch is told of each stage as it begins, and how far it is; of each comparison by diagrams
 /// it is told before that begins. Where it is given up, the outputs that are left, which aren't known to be equal then, are told in
-/// `left`, with what was seen of one that differs. The errors are the node limit 71, also where operations took too many
-/// turns, want of memory 72, the limit of references 73, and 74 where a thread could not be started.
+/// `left`, with what was seen of one that differs. The errors are `NodeLimit` (71), also where operations took too many
+/// turns, `Memory` (72), `References` (73), and `Threads` (74) where a thread could not be started.
 pub fn decide_pair<R: Threads + Wait + Sync, P: Progress<R> + Sync>(
     comparison: &Comparison<'_, R, P>,
     alike: &mut Alike,

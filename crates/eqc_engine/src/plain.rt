@@ -31,7 +31,7 @@ fn compare_plain<R>(
 }
 
 /// Compares a pair on this thread with a store of `nodes` nodes, 1 to 1,048,574: the report, or why it stopped:
-/// the node limit 71, want of memory 72, the limit of references 73. Whether the assumption, if there is one, allows an
+/// `NodeLimit` (71), `Memory` (72) or `References` (73). Whether the assumption, if there is one, allows an
 /// assignment is asked first. With `every` each output that differs is told, and else the first alone.
 pub fn check_plain<R>(
     rt: &R,

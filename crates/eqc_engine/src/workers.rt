@@ -11,7 +11,7 @@ use crate::begun::Begun;
 use crate::watched::{Watched, all_watched};
 use eqc_apply::{Allowance, Applier, team_with};
 use eqc_compare::{Alike, Gate, Progress, compare_known, is_settled};
-use eqc_members::{Patience, compare_by_members};
+use eqc_members::{Patience, Request, compare_by_members};
 use eqc_pair::Pair;
 use eqc_plain::Plain;
 use eqc_report::{Options, Report, found_report};
@@ -20,23 +20,22 @@ use std::alloc::Global;
 use std::sync::Wait;
 use std::thread::Threads;
 
-/// The report by these members, where this is known of the pair, or why it stopped.
+/// The report by these members, of whom this is asked, or why it stopped.
 fn check_known<R: Threads + Wait + Sync, D: Diagrams<R> + Send + Drop, G: Gate<R> + Sync>(
     rt: &R,
     alloc: Global,
     pair: &Pair<'_>,
-    every: bool,
+    request: Request,
     members: Vec<D>,
-    alike: Alike,
-    patience: Patience,
     gate: &G,
 ) -> Result<Report, Stop>
     requires some { 1 ≤ vec_len members }
     requires variables { All (λ d. length pair.now.first.inputs ≤ (D.holding d).variables) members.items }
-    requires known { IsKnown pair.now alike }
-    ensures report { IfOk result (λ report. report_of report ≡ pair_report every pair.now) }
+    requires known { IsKnown pair.now request.alike }
+    ensures report { IfOk result (λ report. report_of report ≡ pair_report request.every pair.now) }
 {
-    let outcome = compare_by_members(rt, alloc, pair, every, members, alike, patience, gate)?;
+    let every = request.every;
+    let outcome = compare_by_members(rt, alloc, pair, request, members, gate)?;
     found_report(alloc, pair, every, outcome)
 }
 
@@ -48,8 +47,8 @@ fn check_known<R: Threads + Wait + Sync, D: Diagrams<R> + Send + Drop, G: Gate<R
 /// found a difference compares no later output. One that has drawn its last helps the others. The call may wait, since it waits
 /// for all members, and for the gate.
 ///
-/// The errors are those of the members' diagrams, 71, 72 and 73; 72 also where memory is refused; and 74 where a thread could not
-/// be started. Where several came it is one of them.
+/// The errors are those of the members' diagrams, `NodeLimit` (71), `Memory` (72) and `References` (73); `Memory` also where memory is
+/// refused; and `Threads` (74) where a thread could not be started. Where several came it is one of them.
 pub fn check_with<R: Threads + Wait + Sync, D: Diagrams<R> + Send + Drop, G: Gate<R> + Sync>(
     rt: &R,
     alloc: Global,
@@ -62,16 +61,12 @@ pub fn check_with<R: Threads + Wait + Sync, D: Diagrams<R> + Send + Drop, G: Gat
     requires variables { All (λ d. length pair.now.first.inputs ≤ (D.holding d).variables) members.items }
     ensures report { IfOk result (λ report. report_of report ≡ pair_report every pair.now) }
 {
-    check_known(
-        rt,
-        alloc,
-        pair,
+    let request = Request {
         every,
-        members,
-        Alike::nothing(alloc),
-        Patience::short(),
-        gate,
-    )
+        alike: Alike::nothing(alloc),
+        patience: Patience::short(),
+    };
+    check_known(rt, alloc, pair, request, members, gate)
 }
 
 /// The most nodes of the store of one thread in which a run's comparison begins. None is laid out before it is needed, and none
@@ -331,9 +326,12 @@ fn check_team<R: Threads + Wait + Sync, P: Progress<R> + Sync>(
     } = *comparison;
     let team = team_for(alloc, pair, options, Some(turns))?;
     let members = all_watched(alloc, team, watch)?;
-    let every = comparison.options.every;
-    let patience = Patience::of_forks(options.forks);
-    check_known(rt, alloc, pair, every, members, alike, patience, watch)
+    let request = Request {
+        every: comparison.options.every,
+        alike,
+        patience: Patience::of_forks(options.forks),
+    };
+    check_known(rt, alloc, pair, request, members, watch)
 }
 
 /// The report by the team that the options ask for, without workers that aren't needed, where this is known of the pair, or why it
@@ -469,7 +467,7 @@ pub(crate) fn check_by_one<R: Threads + Wait + Sync, P: Progress<R> + Sync>(
 /// have nothing to do. Gives the report, or why it stopped.
 ///
 /// The options are in their ranges. The gate is told of each comparison before it begins. The call may wait, as `check_with`
-/// may. The errors are the node limit 71, want of memory 72, the limit of references 73, and 74 where a thread could not be
+/// may. The errors are `NodeLimit` (71), `Memory` (72), `References` (73), and `Threads` (74) where a thread could not be
 /// started. It takes as long as it needs: only a run is given up where its operations take too many turns.
 pub fn check<R: Threads + Wait + Sync, G: Gate<R> + Sync>(
     rt: &R,
@@ -482,15 +480,10 @@ pub fn check<R: Threads + Wait + Sync, G: Gate<R> + Sync>(
     ensures report { IfOk result (λ report. report_of report ≡ pair_report options.now.every pair.now) }
 {
     let members = team_for(alloc, pair, options, None)?;
-    let patience = Patience::of_forks(options.forks);
-    check_known(
-        rt,
-        alloc,
-        pair,
-        options.every,
-        members,
-        Alike::nothing(alloc),
-        patience,
-        gate,
-    )
+    let request = Request {
+        every: options.every,
+        alike: Alike::nothing(alloc),
+        patience: Patience::of_forks(options.forks),
+    };
+    check_known(rt, alloc, pair, request, members, gate)
 }

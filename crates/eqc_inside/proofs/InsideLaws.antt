@@ -238,6 +238,10 @@ kept_set p old marks o kept k inside marked = by (cases_eq k o) (cases_lt o (len
 
 -- ---- literals of a graph
 
+-- no step has a literal
+pub inside_none : (g : StepsOf) (nodes : List Node) → AreSteps g → IsInside g nodes []
+inside_none g nodes are = record { lawful = are; values = record { each = λ k l is. absurd (let q = is in cc) } }
+
 -- the value of a step that has a literal is the literal's
 pub has_value : (p : PairOf) (nodes : List Node) (literals : List (Option ℕ)) (k : ℕ) → AreLiterals p nodes literals →
     literal_of literals k ≢ 4294967295 → HasValue nodes (literal_of literals k) (λ a. value_at p a k)

@@ -1,5 +1,6 @@
 -- What is found of literals that are true where an output differs, or where the assumption allows the inputs' values.
-use Rattle.std.proofs.Common.{◌≡◌, ◌≢◌, ℕ, ◌<◌, Bool, true, false, true≢false, ◌&&◌, List, [], ◌∷◌, length, find, get_or, is_none, refl, sym, ◌∙◌, ap, ap₂, Option, Some, None, Vec, Global, Result, Ok, Err, IfOk, subst, arith}
+use Rattle.std.proofs.Common.{◌≡◌, ◌≢◌, ℕ, ◌<◌, Bool, true, false, true≢false, ◌&&◌, List, [], ◌∷◌, length, find, get_or, is_none, refl, sym, ◌∙◌, ap, ap₂, Option, Some, None, Vec, Global, subst, arith, All, ◌++◌}
+use Rattle.std.proofs.lemmas.List.Elements.{All-push, All-weaker}
 use Rattle.eqc_tree.specs.Assigned.{assigned, assignments}
 use Rattle.eqc_netlist.specs.Graph.{value_of}
 use Rattle.eqc_graph.specs.declared.node.Node.{Node}
@@ -18,7 +19,8 @@ use Rattle.eqc_compare.specs.Verdict.{is_different, is_allowed, differs_under}
 use Rattle.eqc_compare.specs.Comparing.{netlist_of, assumption_of, values_differ_at, differs_at}
 use Rattle.eqc_inside.specs.Inside.{IsInside, literal_of}
 use Rattle.eqc_inside.specs.declared.asking.Question.{Question}
-use Rattle.eqc_inside.specs.Searching.{IsQuestionOf, IsWitnessAt, SaysAllowed, SaysDifferent, TellsVacuous}
+use Rattle.eqc_inside.specs.declared.asking.Answer.{Answer}
+use Rattle.eqc_inside.specs.Searching.{IsAnswerOf, IsQuestionOf, IsWitnessAt, SaysAllowed, SaysDifferent, TellsVacuous}
 use Rattle.eqc_compare.proofs.AllowingLaws.{allowed_is, allowed_without, root_says, not_without}
 use Rattle.eqc_compare.proofs.DifferenceLaws.{differs_is}
 use Rattle.eqc_inside.proofs.InsideLaws.{has_value}
@@ -97,18 +99,24 @@ answer_at p nodes o l variables found lawful are inside says is =
     found_as (length p.first.inputs) (is_true_under nodes l (first_variables p)) (differs_under (netlist_of p.first) (netlist_of p.second) (assumption_of p) (get_or p.first.outputs o [])) found agrees
     (rw (are, differs.size) at is)
 
-pub witness_at : {E : Type 0} (p : PairOf) (nodes : List Node) (o l : ℕ) (variables : List ℕ) (found : Result Witness E) → IsPair p →
-    variables ≡ first_variables p → o < length p.first.outputs → SaysDifferent p nodes o l
-    → IfOk found (IsWitness nodes l variables) → IfOk found (IsWitnessAt p o)
-witness_at p nodes o l variables (Err e) lawful are inside says is = tt
-witness_at p nodes o l variables (Ok found) lawful are inside says is = answer_at p nodes o l variables found lawful are inside says is
-
 -- what is asked stays where the graph goes on
 question_stays : (p : PairOf) (old new : List Node) (q : Question) → Extends old new → IsQuestionOf p old q → IsQuestionOf p new q
 question_stays p old new q extends is = record {
   within = is.within;
   says = record { within = omega (arith, is.says.within, extends.longer); value = λ a. extends.same q.literal a is.says.within ∙ is.says.value a };
 }
+
+pub questions_stay : (p : PairOf) (old new : List Node) (qs : List Question) → Extends old new → All (IsQuestionOf p old) qs → All (IsQuestionOf p new) qs
+questions_stay p old new qs extends are = All-weaker (IsQuestionOf p old) (IsQuestionOf p new) (λ q is. question_stays p old new q extends is) qs are
+
+-- one question more
+pub questions_more : (p : PairOf) (old new : List Node) (qs : List Question) (q : Question) → Extends old new → All (IsQuestionOf p old) qs → IsQuestionOf p new q
+    → All (IsQuestionOf p new) (qs ++ q ∷ [])
+questions_more p old new qs q extends are is = All-push (IsQuestionOf p new) qs q (questions_stay p old new qs extends are) is
+
+-- the answer to a question is what is found of its output
+pub answer_for : (p q : PairOf) (o : ℕ) (a : Answer) → p ≡ q → a.output ≡ o → IsAnswerOf p a → IsWitnessAt q o a.witness
+answer_for p q o a same at is = subst (λ r. IsWitnessAt r o a.witness) same (subst (λ k. IsWitnessAt p k a.witness) at is)
 
 -- what is found of the assumption's literal is found of the assignments that are allowed
 pub allowed_found : (p : PairOf) (nodes : List Node) (l : ℕ) (variables : List ℕ) (found : Witness) → IsPair p → variables ≡ first_variables p →

@@ -14,7 +14,7 @@ ghost use Rattle.eqc_inside.specs.Inside.{IsInside, KeepsMarks};
 ghost use Rattle.eqc_inside.specs.Adding.{AreAskedBy};
 
 use crate::entering::{CHARACTERS, entered};
-use crate::inside::{Inside, NONE, literal_of};
+use crate::inside::{Inside, NONE, Owned, literal_of};
 use crate::rounds::moved;
 use crate::searching::mark;
 use eqc_build::Steps;
@@ -257,7 +257,13 @@ fn copy_second_first(
     if task.turn.number % 2 == 1 {
         let side = Side::Second;
         let asked = literals_of_all(task.alloc, task.steps, literals, task.words, side)?;
-        copy_with_chains(task.alloc, plain.graph(), &asked, sweep)?;
+        copy_with_chains(
+            task.alloc,
+            plain.graph(),
+            &asked,
+            sweep,
+            task.turn.number % 2 == 1,
+        )?;
     }
     Ok(())
 }
@@ -275,12 +281,36 @@ fn chained(
     ensures { IfOk result (λ all. IsInside task.now.steps.now sweep.new all.items) }
 {
     let asked = literals_of_all(task.alloc, task.steps, literals, task.words, Side::Both)?;
-    let table = copy_with_chains(task.alloc, plain.graph(), &asked, sweep)?;
+    let table = copy_with_chains(
+        task.alloc,
+        plain.graph(),
+        &asked,
+        sweep,
+        task.turn.number % 2 == 1,
+    )?;
     moved(task.alloc, literals, &table)
 }
 
-/// Enters the marked steps into a graph in which nothing is asked, and from there into one that is swept. The first one is let go here.
-/// The watch is told of each step. Fails where memory is refused.
+/// Enters the marked steps into a graph in which nothing is asked, and from there into one that is swept. The watch is told of each step.
+/// Fails where memory is refused.
+fn enter_by<R, P: Progress<R>>(
+    rt: &R,
+    task: &Task<'_>,
+    marks: &[bool],
+    plain: &mut Sweep,
+    sweep: &mut Sweep,
+    watch: &P,
+) -> Result<Vec<Option<u32>>, AllocError>
+    requires closed { AreClosed task.now.steps.now marks.now }
+    requires outputs { All (λ w. All (λ o. o < length task.now.steps.now.pair.first.outputs) w.items) task.now.words.now }
+    ensures { IfOk result (λ all. IsInside task.now.steps.now sweep.new all.items) }
+{
+    let literals = entered(rt, task.alloc, task.steps, marks, plain, watch)?;
+    copy_second_first(task, plain, &literals, sweep)?;
+    chained(task, plain, &literals, sweep)
+}
+
+/// The same by a graph that is let go here, in the one exit that there is.
 fn enter_words<R, P: Progress<R>>(
     rt: &R,
     task: &Task<'_>,
@@ -292,10 +322,10 @@ fn enter_words<R, P: Progress<R>>(
     requires outputs { All (λ w. All (λ o. o < length task.now.steps.now.pair.first.outputs) w.items) task.now.words.now }
     ensures { IfOk result (λ all. IsInside task.now.steps.now sweep.new all.items) }
 {
-    let mut plain = Sweep::new(task.alloc, Effort::none())?;
-    let literals = entered(rt, task.alloc, task.steps, marks, &mut plain, watch)?;
-    copy_second_first(task, &plain, &literals, sweep)?;
-    chained(task, &plain, &literals, sweep)
+    let mut plain = Owned {
+        sweep: Sweep::new(task.alloc, Effort::none())?,
+    };
+    enter_by(rt, task, marks, &mut plain.sweep, sweep, watch)
 }
 
 /// Enters so many inputs that nothing depends on: those behind them have other patterns then. Fails where memory is refused.
@@ -306,8 +336,49 @@ fn draw(sweep: &mut Sweep, count: u32) -> Result<(), AllocError> {
     Ok(())
 }
 
+/// Sweeps the marked steps in a new graph, and answers their literals there. The watch is told of each step. Fails where memory is refused.
+fn sweep_words<R, P: Progress<R>>(
+    rt: &R,
+    task: &Task<'_>,
+    marks: &[bool],
+    sweep: &mut Sweep,
+    watch: &P,
+) -> Result<Vec<Option<u32>>, AllocError>
+    requires closed { AreClosed task.now.steps.now marks.now }
+    requires outputs { All (λ w. All (λ o. o < length task.now.steps.now.pair.first.outputs) w.items) task.now.words.now }
+    ensures { IfOk result (λ all. IsInside task.now.steps.now sweep.new all.items) }
+{
+    watch.stage(rt, Stage::Sweeping);
+    draw(sweep, task.turn.number)?;
+    let literals = enter_words(rt, task, marks, sweep, watch)?;
+    sweep.ask_no_more();
+    Ok(literals)
+}
+
+/// Shows words equal in a graph that has these literals of theirs, where memory for them wasn't refused. The watch is told of each word.
+/// Fails where memory is refused; what was marked before stays then.
+fn show_swept<R, P: Progress<R>>(
+    rt: &R,
+    task: &Task<'_>,
+    swept: Result<Vec<Option<u32>>, AllocError>,
+    sums: &mut Sums,
+    alike: &mut Alike,
+    watch: &P,
+) -> Result<(), AllocError>
+    requires inside { IfOk swept (λ all. IsInside task.now.steps.now sums.old.reduction.sweep all.items) }
+    requires outputs { All (λ w. All (λ o. o < length task.now.steps.now.pair.first.outputs) w.items) task.now.words.now }
+    requires known { IsKnown task.now.steps.now.pair alike.old }
+    ensures known { IsKnown task.now.steps.now.pair alike.new }
+    ensures kept { KeepsMarks task.now.steps.now.pair alike.old.equal.items alike.new.equal.items }
+{
+    let literals = swept?;
+    watch.stage(rt, Stage::Adding);
+    show_words(rt, task, &literals, sums, alike, watch)
+}
+
 /// Enters the marked steps into a graph, and shows words equal there. The watch is told of each step, and then of each word. Fails where
-/// memory is refused; what was marked before stays then.
+/// memory is refused; what was marked before stays then. The graph is let go in one exit for its proof's sake: in each of four that takes
+/// many times longer.
 fn add_words<R, P: Progress<R>>(
     rt: &R,
     task: &Task<'_>,
@@ -321,14 +392,33 @@ fn add_words<R, P: Progress<R>>(
     ensures known { IsKnown task.now.steps.now.pair alike.new }
     ensures kept { KeepsMarks task.now.steps.now.pair alike.old.equal.items alike.new.equal.items }
 {
-    watch.stage(rt, Stage::Sweeping);
     let mut sweep = Sweep::new(task.alloc, Effort::of(CHEAP, task.turn.limits.work))?;
-    draw(&mut sweep, task.turn.number)?;
-    let literals = enter_words(rt, task, marks, &mut sweep, watch)?;
-    sweep.ask_no_more();
-    watch.stage(rt, Stage::Adding);
+    let swept = sweep_words(rt, task, marks, &mut sweep, watch);
     let mut sums = Sums::new(task.alloc, sweep);
-    show_words(rt, task, &literals, &mut sums, alike, watch)
+    let shown = show_swept(rt, task, swept, &mut sums, alike, watch);
+    let _owned = Owned {
+        sweep: sums.into_sweep(),
+    };
+    shown
+}
+
+/// Enters what words need into a graph, and shows them equal there. The watch is told of each step, and then of each word. Fails where
+/// memory is refused; what was marked before stays then.
+fn add_open<R, P: Progress<R>>(
+    rt: &R,
+    task: &Task<'_>,
+    alike: &mut Alike,
+    watch: &P,
+) -> Result<(), AllocError>
+    requires outputs { All (λ w. All (λ o. o < length task.now.steps.now.pair.first.outputs) w.items) task.now.words.now }
+    requires known { IsKnown task.now.steps.now.pair alike.old }
+    ensures known { IsKnown task.now.steps.now.pair alike.new }
+    ensures kept { KeepsMarks task.now.steps.now.pair alike.old.equal.items alike.new.equal.items }
+{
+    let count = task.steps.pair().first().outputs().len();
+    let outputs = of_words(task.alloc, count, task.words)?;
+    let marks = needed_within(task.alloc, task.steps, &outputs, CHARACTERS)?;
+    add_words(rt, task, &marks, alike, watch)
 }
 
 impl<'a> Inside<'a> {
@@ -418,16 +508,13 @@ impl<'a> Inside<'a> {
         if words.is_empty() {
             return Ok(());
         }
-        let steps = Steps::each(alloc, self.steps.pair());
-        let outputs = of_words(alloc, steps.pair().first().outputs().len(), &words)?;
-        let marks = needed_within(alloc, &steps, &outputs, CHARACTERS)?;
         let task = Task {
             alloc,
-            steps: &steps,
+            steps: &Steps::each(alloc, self.steps.pair()),
             words: &words,
             turn,
         };
-        add_words(rt, &task, &marks, alike, watch)
+        add_open(rt, &task, alike, watch)
     }
 
     /// Whether words are open in a graph that has something like adders and isn't too large. Fails where memory is refused.

@@ -1,7 +1,9 @@
 //! Outputs that are asked for ahead by several threads, each with searches of its own over the one graph.
-ghost use Rattle.std.specs.Prelude.{◌≡◌, ◌<◌, length, IfOk};
+ghost use Rattle.std.specs.Prelude.{◌≡◌, ◌<◌, length, IfOk, IfSome};
 ghost use Rattle.std.specs.List.{All};
 ghost use Rattle.std.specs.Thread.{IsSync};
+ghost use Rattle.eqc_graph.specs.Graph.{Extends};
+ghost use Rattle.eqc_pair.specs.PairOf.{PairOf};
 ghost use Rattle.eqc_inside.specs.Inside.{IsInside};
 ghost use Rattle.eqc_inside.specs.Searching.{IsAnswerOf, IsQuestionOf};
 
@@ -10,7 +12,7 @@ use eqc_build::Steps;
 use eqc_graph::Graph;
 use eqc_pair::Pair;
 use eqc_sweep::Sweep;
-use eqc_witness::{Witness, least_witness};
+use eqc_witness::{Hints, Target, Witness, least_witness};
 use std::alloc::{AllocError, Global};
 use std::thread::{Threads, join};
 
@@ -46,6 +48,50 @@ impl Answer {
     }
 }
 
+/// What is asked about.
+#[derive(Clone, Copy)]
+pub(crate) struct Subject<'a> {
+    pub alloc: Global,
+    pub pair: &'a Pair<'a>,
+    pub graph: &'a Graph,
+}
+
+/// What a part of the outputs may take.
+#[derive(Clone, Copy)]
+pub(crate) struct Share {
+    pub conflicts: Conflicts,
+    /// The conflicts of each other part that is made of it.
+    pub others: Conflicts,
+    /// The work beside the conflicts.
+    pub work: u64,
+}
+
+/// The question for an output, or none where its steps have no literals. Fails where memory is refused.
+pub(crate) fn question_of(
+    alloc: Global,
+    steps: &Steps<'_>,
+    sweep: &mut Sweep,
+    literals: &[Option<u32>],
+    output: usize,
+) -> Result<Option<Question>, AllocError>
+    requires inside { IsInside steps.now sweep.old literals.now }
+    requires output { output < length steps.now.pair.first.outputs }
+    ensures inside { IsInside steps.now sweep.new literals.now }
+    ensures extends { Extends sweep.old sweep.new }
+    ensures question { IfOk result (λ found. IfSome found (IsQuestionOf steps.now.pair sweep.new)) }
+    ensures output { IfOk result (λ found. IfSome found (λ question. question.output ≡ output)) }
+{
+    let Some(literal) = difference_literal(steps, sweep, literals, output)? else {
+        return Ok(None);
+    };
+    let seen = seen_true(alloc, sweep, literal);
+    Ok(Some(Question {
+        output,
+        literal,
+        seen,
+    }))
+}
+
 /// The questions for these outputs, in their order. An output whose steps have no literals isn't asked for. Fails where memory is
 /// refused.
 pub(crate) fn questions_of(
@@ -62,33 +108,26 @@ pub(crate) fn questions_of(
 {
     let mut all = Vec::with_capacity(alloc, outputs.len())?;
     for k in 0..outputs.len() {
-        let output = outputs[k];
-        let Some(literal) = difference_literal(steps, sweep, literals, output)? else {
+        let Some(question) = question_of(alloc, steps, sweep, literals, outputs[k])? else {
             continue;
         };
-        let seen = seen_true(alloc, sweep, literal);
-        all.push(Question {
-            output,
-            literal,
-            seen,
-        })?;
+        all.push(question)?;
     }
     Ok(all)
 }
 
 /// What is found of an output by a search with so many conflicts and so much work beside them, where these are earlier assignments
 /// that are tried. Fails where memory is refused.
-fn ask(
-    alloc: Global,
-    pair: &Pair<'_>,
-    graph: &Graph,
+pub(crate) fn ask(
+    subject: &Subject<'_>,
     question: &Question,
     earlier: &[Vec<bool>],
     conflicts: u64,
     work: u64,
 ) -> Result<Answer, AllocError>
-    requires { IsQuestionOf pair.now graph.now question.now }
-    ensures { IfOk result (IsAnswerOf pair.now) }
+    requires { IsQuestionOf subject.now.pair.now subject.now.graph.now question.now }
+    ensures answer { IfOk result (IsAnswerOf subject.now.pair.now) }
+    ensures output { IfOk result (λ answer. answer.output ≡ question.now.output) }
 {
     let mut left = conflicts;
     let mut rest = work;
@@ -98,12 +137,13 @@ fn ask(
         seen,
     } = question;
     let witness = least_witness(
-        alloc,
-        graph,
-        *literal,
-        pair.variables(),
-        seen,
-        earlier,
+        subject.alloc,
+        subject.graph,
+        &Target {
+            literal: *literal,
+            variables: subject.pair.variables(),
+        },
+        &Hints { seen, earlier },
         &mut left,
         &mut rest,
     )?;
@@ -129,31 +169,20 @@ fn copied(alloc: Global, assignments: &[Vec<bool>]) -> Result<Vec<Vec<bool>>, Al
 /// What is found of each of these outputs, one after the other, up to the first where it gives up. What one takes the next ones can't
 /// have, and its least assignment is tried for them.
 fn ask_each(
-    alloc: Global,
-    pair: &Pair<'_>,
-    graph: &Graph,
+    subject: &Subject<'_>,
     questions: &[Question],
     earlier: &[Vec<bool>],
-    conflicts: Conflicts,
-    work: u64,
+    share: Share,
 ) -> Result<Vec<Answer>, AllocError>
-    requires { All (IsQuestionOf pair.now graph.now) questions.now }
-    ensures { IfOk result (λ all. All (IsAnswerOf pair.now) all.items) }
+    requires { All (IsQuestionOf subject.now.pair.now subject.now.graph.now) questions.now }
+    ensures { IfOk result (λ all. All (IsAnswerOf subject.now.pair.now) all.items) }
 {
-    let mut all = Vec::with_capacity(alloc, questions.len())?;
-    let mut earlier = copied(alloc, earlier)?;
-    let mut conflicts = conflicts;
-    let mut work = work;
+    let mut all = Vec::with_capacity(subject.alloc, questions.len())?;
+    let mut earlier = copied(subject.alloc, earlier)?;
+    let mut conflicts = share.conflicts;
+    let mut work = share.work;
     for question in questions {
-        let answer = ask(
-            alloc,
-            pair,
-            graph,
-            question,
-            &earlier,
-            conflicts.next(),
-            work,
-        )?;
+        let answer = ask(subject, question, &earlier, conflicts.next(), work)?;
         conflicts.take(answer.used);
         work = work.saturating_sub(answer.work);
         note(&mut earlier, &answer.witness);
@@ -166,50 +195,52 @@ fn ask_each(
     Ok(all)
 }
 
-/// What is found of these outputs, in their order, by so many threads, of which each takes a part, up to the first where it gives up.
-/// The outputs of the first part may have so many conflicts, those of each other part as many as `others` has, and each part so much
-/// work beside them. Fails where memory is refused. Where a thread can't be started its part is done here.
-#[cycle(questions)]
-pub(crate) fn ask_all<R: Threads + Sync>(
-    rt: &R,
-    alloc: Global,
-    pair: &Pair<'_>,
-    graph: &Graph,
-    questions: &[Question],
-    earlier: &[Vec<bool>],
-    conflicts: Conflicts,
-    others: Conflicts,
-    work: u64,
-    threads: u32,
+/// What two threads found, unless memory was refused to one.
+fn together(
+    front: Result<Vec<Answer>, AllocError>,
+    back: Result<Vec<Answer>, AllocError>,
 ) -> Result<Vec<Answer>, AllocError>
-    requires { All (IsQuestionOf pair.now graph.now) questions.now }
-    ensures { IfOk result (λ all. All (IsAnswerOf pair.now) all.items) }
+    ensures { (p : PairOf) → IfOk front (λ all. All (IsAnswerOf p) all.items) → IfOk back (λ all. All (IsAnswerOf p) all.items) → IfOk result (λ all. All (IsAnswerOf p) all.items) }
 {
-    if threads < 2 || questions.len() < 2 {
-        return ask_each(alloc, pair, graph, questions, earlier, conflicts, work);
-    }
-    let (some, rest) = questions.split_at(questions.len() / 2);
-    let here = threads / 2;
-    let there = threads - here;
-    let front = move || -> Result<Vec<Answer>, AllocError>
-        requires { IsSync R.row × All (IsQuestionOf pair.now graph.now) some.now }
-        ensures { IfOk result (λ all. All (IsAnswerOf pair.entry.now) all.items) }
-    {
-        ask_all(
-            rt, alloc, pair, graph, some, earlier, conflicts, others, work, here,
-        )
-    };
-    let back = move || -> Result<Vec<Answer>, AllocError>
-        requires { IsSync R.row × All (IsQuestionOf pair.now graph.now) rest.now }
-        ensures { IfOk result (λ all. All (IsAnswerOf pair.entry.now) all.items) }
-    {
-        ask_all(
-            rt, alloc, pair, graph, rest, earlier, others, others, work, there,
-        )
-    };
-    let (front, back) = join(rt, front, back);
     let mut all = front?;
     let mut more = back?;
     all.append(&mut more)?;
     Ok(all)
+}
+
+/// What is found of these outputs, in their order, by so many threads, of which each takes a part, up to the first where it gives up.
+/// The outputs of the first part may have the share's conflicts, those of each other part as many as its `others` has, and each part its
+/// work. Fails where memory is refused. Where a thread can't be started its part is done here.
+#[cycle(questions)]
+pub(crate) fn ask_all<R: Threads + Sync>(
+    rt: &R,
+    subject: Subject<'_>,
+    questions: &[Question],
+    earlier: &[Vec<bool>],
+    share: Share,
+    threads: u32,
+) -> Result<Vec<Answer>, AllocError>
+    requires { All (IsQuestionOf subject.pair.now subject.graph.now) questions.now }
+    ensures { IfOk result (λ all. All (IsAnswerOf subject.entry.pair.now) all.items) }
+{
+    if threads < 2 || questions.len() < 2 {
+        return ask_each(&subject, questions, earlier, share);
+    }
+    let (some, rest) = questions.split_at(questions.len() / 2);
+    let here = threads / 2;
+    let there = threads - here;
+    let other = Share {
+        conflicts: share.others,
+        ..share
+    };
+    let front = move || -> Result<Vec<Answer>, AllocError>
+        requires { IsSync R.row × All (IsQuestionOf subject.pair.now subject.graph.now) some.now }
+        ensures { IfOk result (λ all. All (IsAnswerOf subject.entry.pair.now) all.items) }
+    { ask_all(rt, subject, some, earlier, share, here) };
+    let back = move || -> Result<Vec<Answer>, AllocError>
+        requires { IsSync R.row × All (IsQuestionOf subject.pair.now subject.graph.now) rest.now }
+        ensures { IfOk result (λ all. All (IsAnswerOf subject.entry.pair.now) all.items) }
+    { ask_all(rt, subject, rest, earlier, other, there) };
+    let (front, back) = join(rt, front, back);
+    together(front, back)
 }

@@ -4,7 +4,7 @@ ghost use Rattle.eqc_compare.specs.Alike.{AreEqual, IsKnown};
 ghost use Rattle.eqc_gates.specs.Entering.{AreClosed};
 ghost use Rattle.eqc_inside.specs.Inside.{IsInside};
 
-use crate::inside::Inside;
+use crate::inside::{Inside, Owned};
 use crate::rounds::Rounds;
 use crate::searching::difference_literal;
 use eqc_build::Steps;
@@ -102,8 +102,7 @@ struct Wanted {
     work: u64,
 }
 
-/// Enters the marked steps into a graph, of which nobody is told, and answers their literals. It stands apart for its proof's sake, as
-/// `first_seen_in` does. Fails where memory is refused.
+/// Enters the marked steps into a graph, of which nobody is told, and answers their literals. Fails where memory is refused.
 fn entered_untold(
     alloc: Global,
     steps: &Steps<'_>,
@@ -152,8 +151,10 @@ fn first_seen(
     requires closed { AreClosed steps.now marks.now }
     requires outputs { length wanted.now ≤ length steps.now.pair.first.outputs }
 {
-    let mut sweep = Sweep::new(alloc, Effort::none())?;
-    first_seen_in(alloc, steps, marks, wanted, &mut sweep, work)
+    let mut plain = Owned {
+        sweep: Sweep::new(alloc, Effort::none())?,
+    };
+    first_seen_in(alloc, steps, marks, wanted, &mut plain.sweep, work)
 }
 
 /// Which steps enter for the chosen outputs of a pair that are not marked as equal: unless `every` one that differs is looked for,
@@ -203,22 +204,49 @@ pub(crate) fn entered<R, P: Progress<R>>(
 }
 
 impl<'a> Inside<'a> {
-    /// The marked steps of a pair in a graph in which nothing was asked yet. It stands apart from `of` for its proof's sake, as
-    /// `first_seen_in` does: the steps and the graph are let go in one exit.
-    fn unswept(alloc: Global, steps: Steps<'a>, marks: &[bool]) -> Result<Inside<'a>, AllocError>
-        requires { AreClosed steps marks.now }
+    /// A graph into which no step of a pair has entered. Fails where memory is refused.
+    fn empty(alloc: Global, steps: Steps<'a>) -> Result<Inside<'a>, AllocError>
         ensures { IfOk result (λ inside. inside ≡ steps.entry.pair) }
     {
-        let mut sweep = Sweep::new(alloc, Effort::none())?;
-        let literals = entered_untold(alloc, &steps, marks, &mut sweep)?;
+        let sweep = Sweep::new(alloc, Effort::none())?;
         Ok(Inside {
             steps,
             sweep,
-            literals,
+            literals: Vec::new(alloc),
             work: 0,
             earlier: Vec::new(alloc),
             gave_up: false,
         })
+    }
+
+    /// Enters the steps that outputs need, into a graph in which nothing is asked yet, and answers the work that it took to see that
+    /// others aren't needed. Fails where memory is refused: no step has a literal then.
+    fn enter(&mut self, alloc: Global, alike: &Alike, every: bool) -> Result<u64, AllocError>
+        requires { IsKnown self.old alike.now }
+        ensures { self.new ≡ self.old }
+    {
+        let wanted = entering(alloc, &self.steps, &alike.equal, every)?;
+        self.literals = Vec::new(alloc);
+        self.literals = entered_untold(alloc, &self.steps, &wanted.marks, &mut self.sweep)?;
+        Ok(wanted.work)
+    }
+
+    /// Enters the steps that outputs need, sweeps them in a first round, and allows searches. Fails where memory is refused.
+    fn begin<R: Threads + Sync, P: Progress<R>>(
+        &mut self,
+        rt: &R,
+        alloc: Global,
+        alike: &Alike,
+        rounds: &Rounds,
+        watch: &P,
+    ) -> Result<(), AllocError>
+        requires { IsKnown self.old alike.now }
+        ensures { self.new ≡ self.old }
+    {
+        let seeing = self.enter(alloc, alike, rounds.every)?;
+        self.sweep_again(rt, alloc, alike, rounds.effort(), watch)?;
+        self.allow_searches(rounds, seeing);
+        Ok(())
     }
 
     /// Enters the steps of a pair that its chosen outputs need which are not marked, where this is known of it, and sweeps them in a first
@@ -239,11 +267,8 @@ impl<'a> Inside<'a> {
         requires { IsKnown pair.now alike.now }
         ensures { IfOk result (λ inside. inside ≡ pair.now) }
     {
-        let steps = Steps::of(alloc, pair, alike.chosen.clone()?);
-        let wanted = entering(alloc, &steps, &alike.equal, rounds.every)?;
-        let mut inside = Inside::unswept(alloc, steps, &wanted.marks)?;
-        inside.sweep_again(rt, alloc, alike, rounds.effort(), watch)?;
-        inside.allow_searches(rounds, wanted.work);
+        let mut inside = Inside::empty(alloc, Steps::of(alloc, pair, alike.chosen.clone()?))?;
+        inside.begin(rt, alloc, alike, rounds, watch)?;
         Ok(inside)
     }
 

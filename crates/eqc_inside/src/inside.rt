@@ -17,9 +17,19 @@ use std::marker::Model;
 /// The literal of a step that has none.
 pub(crate) const NONE: u32 = 4_294_967_295;
 
+/// A graph that a function owns. It stands here for the sake of proofs: a call in each exit in place of all that is let go.
+pub(crate) struct Owned {
+    pub(crate) sweep: Sweep,
+}
+
+impl Drop for Owned {
+    fn drop(self) {
+        let Owned { sweep: _ } = self;
+    }
+}
+
 /// A graph of the steps of a pair in which nodes that were found equal are one, and the literal of each step that was entered.
 /// Contracts see the pair.
-#[derive(Drop)]
 pub struct Inside<'a> {
     pub(crate) steps: Steps<'a>,
     pub(crate) sweep: Sweep,
@@ -41,6 +51,21 @@ impl<'a> Model for Inside<'a> {
     ghost view = { λ a. a.steps.pair };
 
     ghost invariant = { λ a. IsInside a.steps a.sweep a.literals.items };
+}
+
+/// It stands here for the sake of proofs, as that of `Owned`.
+impl<'a> Drop for Inside<'a> {
+    fn drop(self) {
+        let Inside {
+            steps: _,
+            sweep,
+            literals: _,
+            work: _,
+            earlier: _,
+            gave_up: _,
+        } = self;
+        let _owned = Owned { sweep };
+    }
 }
 
 /// The literal of a step, or none.

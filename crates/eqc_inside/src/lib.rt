@@ -19,4 +19,4 @@ mod searching;
 
 pub use inside::Inside;
 pub use rounds::{Rounds, Span};
-pub use searching::{Conflicts, Searched};
+pub use searching::{Conflicts, Searched, Terms};

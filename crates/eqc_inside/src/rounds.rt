@@ -9,12 +9,13 @@ ghost use Rattle.eqc_build.specs.Steps.{value_at};
 ghost use Rattle.eqc_gates.specs.Entering.{AreLiterals};
 ghost use Rattle.eqc_compare.specs.Alike.{AreEqual, IsKnown};
 
-use crate::inside::{Inside, NONE, literal_of};
+use crate::inside::{Inside, NONE, Owned, literal_of};
 use eqc_build::Steps;
 use eqc_compare::{Alike, Progress, is_settled};
 use eqc_pair::Pair;
 use eqc_sweep::{Comparison, Effort, Sweep, Tally, below, copied, copy, no_copies};
 use std::alloc::{AllocError, Global};
+use std::mem::swap;
 use std::thread::Threads;
 
 /// The most conflicts of a question in each level of rounds, and how much work a round of it may take of all that there is, in
@@ -219,13 +220,6 @@ pub(crate) fn moved(
     Ok(all)
 }
 
-/// Puts a graph in the place of another one. It stands apart for its proof's sake: the other one is let go here.
-fn put(place: &mut Sweep, sweep: Sweep)
-    ensures { place.new ≡ sweep }
-{
-    *place = sweep;
-}
-
 impl<'a> Inside<'a> {
     /// Whether an output is seen to differ by simulation. Nothing is promised of it.
     pub(crate) fn is_seen_to_differ(&mut self, output: usize) -> bool
@@ -305,10 +299,13 @@ impl<'a> Inside<'a> {
         requires { IsKnown self.old alike.now }
         ensures pair { self.new ≡ self.old }
     {
-        let mut sweep = self.sweep.again(alloc, effort)?;
-        let literals = self.literals_in(rt, alloc, alike, &mut sweep, watch)?;
-        sweep.ask_no_more();
-        put(&mut self.sweep, sweep);
+        let mut next = Owned {
+            sweep: self.sweep.again(alloc, effort)?,
+        };
+        let literals = self.literals_in(rt, alloc, alike, &mut next.sweep, watch)?;
+        next.sweep.ask_no_more();
+        // What was there before is let go here.
+        swap(&mut self.sweep, &mut next.sweep);
         self.literals = literals;
         Ok(())
     }

@@ -10,13 +10,13 @@ ghost use Rattle.eqc_compare.specs.Alike.{AreEqual, IsKnown};
 ghost use Rattle.eqc_inside.specs.Inside.{IsInside, KeepsMarks};
 ghost use Rattle.eqc_inside.specs.Searching.{IsAnswerOf, IsSearched, IsWitnessAt, SaysAllowed, SaysDifferent, TellsVacuous};
 
-use crate::asking::{Answer, ask_all, questions_of};
+use crate::asking::{Answer, Share, Subject, ask, ask_all, question_of, questions_of};
 use crate::inside::{Inside, NONE, literal_of};
 use eqc_build::Steps;
 use eqc_compare::{Alike, Difference, Outcome, Progress, is_settled};
 use eqc_pair::Pair;
 use eqc_sweep::{Comparison, Sweep};
-use eqc_witness::{EARLIER, Witness, least_witness};
+use eqc_witness::{EARLIER, Hints, Target, Witness, least_witness};
 use std::alloc::{AllocError, Global};
 use std::thread::Threads;
 
@@ -65,6 +65,43 @@ impl Conflicts {
     pub(crate) fn take(&mut self, used: u64) {
         self.all = self.all.saturating_sub(used);
     }
+}
+
+/// How outputs that differ are looked for.
+#[derive(Drop, Clone, Copy)]
+pub struct Terms {
+    /// Whether each of them is, or the first alone.
+    pub every: bool,
+    /// What the searches may have.
+    pub conflicts: Conflicts,
+    /// So many outputs are asked for side by side, each in a thread of its own, or in this one where no thread can be started.
+    pub threads: u32,
+}
+
+impl Terms {
+    /// So many outputs are asked for at once: one for each thread, or where each is looked for, more.
+    fn at_once(&self) -> usize {
+        let each = if self.every { IN_TURN } else { 1 };
+        (self.threads as usize).saturating_mul(each)
+    }
+
+    /// What the outputs may take that are asked for at once, with so much work beside the conflicts.
+    fn share(&self, work: u64) -> Share {
+        Share {
+            conflicts: self.conflicts,
+            others: self.conflicts.part(self.threads),
+            work,
+        }
+    }
+}
+
+/// How far the outputs that differ are looked for.
+#[derive(Drop)]
+struct Course {
+    /// With the conflicts that are left.
+    terms: Terms,
+    /// What was found of outputs ahead of the next one.
+    ahead: Vec<Answer>,
 }
 
 /// The literal that is true where the assumption allows the inputs' values: always, if there is none. None where its step has
@@ -123,36 +160,6 @@ pub(crate) fn seen_true(alloc: Global, sweep: &mut Sweep, literal: u32) -> Vec<(
     }
 }
 
-/// The least assignment under which an output differs, where a literal of the graph says when it does, by a search with so many
-/// conflicts and so much work beside them, which are counted down. Fails where memory is refused.
-fn witness_of(
-    alloc: Global,
-    pair: &Pair<'_>,
-    sweep: &mut Sweep,
-    output: usize,
-    literal: u32,
-    earlier: &[Vec<bool>],
-    conflicts: &mut u64,
-    work: &mut u64,
-) -> Result<Witness, AllocError>
-    requires output { output < length pair.now.first.outputs }
-    requires literal { SaysDifferent pair.now sweep.old output literal }
-    ensures unchanged { sweep.new ≡ sweep.old }
-    ensures found { IfOk result (IsWitnessAt pair.now output) }
-{
-    let seen = seen_true(alloc, sweep, literal);
-    least_witness(
-        alloc,
-        sweep.graph(),
-        literal,
-        pair.variables(),
-        &seen,
-        earlier,
-        conflicts,
-        work,
-    )
-}
-
 /// The work that is left for further outputs, where so much was there before a search, and so much behind it: a difference that is told
 /// of is worth its work.
 pub(crate) fn work_left(found: &Witness, before: u64, behind: u64) -> u64 {
@@ -200,10 +207,11 @@ fn is_never_allowed(
     let found = least_witness(
         alloc,
         sweep.graph(),
-        literal,
-        variables,
-        &seen,
-        &[],
+        &Target { literal, variables },
+        &Hints {
+            seen: &seen,
+            earlier: &[],
+        },
         &mut left,
         &mut work,
     )?;
@@ -301,24 +309,17 @@ impl<'a> Inside<'a> {
         ensures found { IfOk result (IsWitnessAt self.old output) }
     {
         let pair = self.steps.pair();
-        match difference_literal(&self.steps, &mut self.sweep, &self.literals, output)? {
-            Some(literal) => {
-                let mut work = self.work;
-                let found = witness_of(
-                    alloc,
-                    pair,
-                    &mut self.sweep,
-                    output,
-                    literal,
-                    &self.earlier,
-                    conflicts,
-                    &mut work,
-                )?;
-                self.work = work_left(&found, self.work, work);
-                Ok(found)
-            }
-            None => Ok(Witness::Unknown(None)),
-        }
+        let literals = &self.literals;
+        let Some(question) = question_of(alloc, &self.steps, &mut self.sweep, literals, output)?
+        else {
+            return Ok(Witness::Unknown(None));
+        };
+        let graph = self.sweep.graph();
+        let subject = Subject { alloc, pair, graph };
+        let answer = ask(&subject, &question, &self.earlier, *conflicts, self.work)?;
+        *conflicts = conflicts.saturating_sub(answer.used);
+        self.work = self.work.saturating_sub(answer.work);
+        Ok(answer.witness)
     }
 
     /// Whether the assumption allows no assignment, by a search with so many conflicts: none where it gave up. Without an
@@ -337,35 +338,62 @@ impl<'a> Inside<'a> {
         }
     }
 
-    /// What is found of the next outputs from one on that are chosen and not marked, up to those of these answers: of one for each
-    /// thread, or where `every` one is looked for, of more. Fails where memory is refused.
+    /// What is found of these outputs by several threads. Fails where memory is refused.
     fn ask_ahead<R: Threads + Sync>(
+        &mut self,
+        rt: &R,
+        alloc: Global,
+        outputs: &[usize],
+        terms: Terms,
+    ) -> Result<Vec<Answer>, AllocError>
+        requires { All (λ o. o < length self.old.first.outputs) outputs.now }
+        ensures pair { self.new ≡ self.old }
+        ensures found { IfOk result (λ all. All (IsAnswerOf self.old) all.items) }
+    {
+        let pair = self.steps.pair();
+        let literals = &self.literals;
+        let questions = questions_of(alloc, &self.steps, &mut self.sweep, literals, outputs)?;
+        let graph = self.sweep.graph();
+        let subject = Subject { alloc, pair, graph };
+        let share = terms.share(self.work);
+        ask_all(rt, subject, &questions, &self.earlier, share, terms.threads)
+    }
+
+    /// Notes what is found of the next outputs from one on that are chosen and not marked, up to those of which it is known. Fails where
+    /// memory is refused.
+    fn look_ahead<R: Threads + Sync>(
         &mut self,
         rt: &R,
         alloc: Global,
         marks: &[bool],
         from: usize,
-        ahead: &[Answer],
-        every: bool,
-        conflicts: Conflicts,
-        threads: u32,
-    ) -> Result<Vec<Answer>, AllocError>
-        requires { AreEqual self.old marks.now }
+        course: &mut Course,
+    ) -> Result<(), AllocError>
+        requires equal { AreEqual self.old marks.now }
+        requires ahead { All (IsAnswerOf self.old) course.old.ahead.items }
         ensures pair { self.new ≡ self.old }
-        ensures found { IfOk result (λ all. All (IsAnswerOf self.old) all.items) }
+        ensures ahead { All (IsAnswerOf self.old) course.new.ahead.items }
     {
-        let pair = self.steps.pair();
-        let each = if every { IN_TURN } else { 1 };
-        let most = (threads as usize).saturating_mul(each);
-        let open = open_outputs(alloc, pair, marks, from, ahead, most)?;
-        let questions = questions_of(alloc, &self.steps, &mut self.sweep, &self.literals, &open)?;
-        let graph = self.sweep.graph();
-        let earlier = &self.earlier;
-        let others = conflicts.part(threads);
-        let work = self.work;
-        ask_all(
-            rt, alloc, pair, graph, &questions, earlier, conflicts, others, work, threads,
-        )
+        let most = course.terms.at_once();
+        let open = open_outputs(alloc, self.steps.pair(), marks, from, &course.ahead, most)?;
+        let mut more = self.ask_ahead(rt, alloc, &open, course.terms)?;
+        more.append(&mut course.ahead)?;
+        course.ahead = more;
+        Ok(())
+    }
+
+    /// What was found of an output ahead of others, if anything was: the conflicts and the work of that are taken.
+    fn found_ahead(&mut self, output: usize, course: &mut Course) -> Option<Witness>
+        requires { All (IsAnswerOf self.old) course.old.ahead.items }
+        ensures pair { self.new ≡ self.old }
+        ensures ahead { All (IsAnswerOf self.old) course.new.ahead.items }
+        ensures found { IfSome result (IsWitnessAt self.old output) }
+    {
+        let conflicts = course.terms.conflicts.next();
+        let answer = next_found(self.steps.pair(), &mut course.ahead, output, conflicts)?;
+        course.terms.conflicts.take(answer.used);
+        self.work = self.work.saturating_sub(answer.work);
+        Some(answer.witness)
     }
 
     /// What is found of an output by a search with as many conflicts as the next one may have, which are taken. Fails where memory
@@ -387,16 +415,6 @@ impl<'a> Inside<'a> {
         Ok(found)
     }
 
-    /// What was found of an output ahead of others, whose conflicts and work are taken.
-    fn taken(&mut self, answer: Answer, conflicts: &mut Conflicts) -> Witness
-        ensures pair { self.new ≡ self.old }
-        ensures witness { result ≡ answer.witness }
-    {
-        conflicts.take(answer.used);
-        self.work = self.work.saturating_sub(answer.work);
-        answer.witness
-    }
-
     /// What is found of an output: with several threads the next ones are asked for beside it, and what is found of these is kept. Where
     /// the search before gave up it is asked for alone: should this one give up too, what is found of others is of no use. Fails where
     /// memory is refused.
@@ -406,33 +424,25 @@ impl<'a> Inside<'a> {
         alloc: Global,
         marks: &[bool],
         output: usize,
-        every: bool,
-        conflicts: &mut Conflicts,
-        threads: u32,
-        ahead: &mut Vec<Answer>,
+        course: &mut Course,
     ) -> Result<Witness, AllocError>
         requires equal { AreEqual self.old marks.now }
         requires output { output < length self.old.first.outputs }
-        requires ahead { All (IsAnswerOf self.old) ahead.old.items }
+        requires ahead { All (IsAnswerOf self.old) course.old.ahead.items }
         ensures pair { self.new ≡ self.old }
-        ensures ahead { All (IsAnswerOf self.old) ahead.new.items }
+        ensures ahead { All (IsAnswerOf self.old) course.new.ahead.items }
         ensures found { IfOk result (IsWitnessAt self.old output) }
     {
-        let next = conflicts.next();
-        if let Some(answer) = next_found(self.steps.pair(), ahead, output, next) {
-            return Ok(self.taken(answer, conflicts));
+        if let Some(witness) = self.found_ahead(output, course) {
+            return Ok(witness);
         }
-        if threads > 1 && !self.gave_up {
-            let mut more = self.ask_ahead(
-                rt, alloc, marks, output, ahead, every, *conflicts, threads,
-            )?;
-            more.append(ahead)?;
-            *ahead = more;
-            if let Some(answer) = next_found(self.steps.pair(), ahead, output, next) {
-                return Ok(self.taken(answer, conflicts));
+        if course.terms.threads > 1 && !self.gave_up {
+            self.look_ahead(rt, alloc, marks, output, course)?;
+            if let Some(witness) = self.found_ahead(output, course) {
+                return Ok(witness);
             }
         }
-        self.search_next(alloc, output, conflicts)
+        self.search_next(alloc, output, &mut course.terms.conflicts)
     }
 
     /// The chosen outputs that differ, with their least assignments, where some assignment is allowed: all of them, or the first
@@ -443,9 +453,7 @@ impl<'a> Inside<'a> {
         rt: &R,
         alloc: Global,
         alike: &mut Alike,
-        every: bool,
-        conflicts: Conflicts,
-        threads: u32,
+        terms: Terms,
         watch: &P,
     ) -> Result<Searched, AllocError>
         requires known { IsKnown self.old alike.old }
@@ -453,11 +461,12 @@ impl<'a> Inside<'a> {
         ensures pair { self.new ≡ self.old }
         ensures known { IsKnown self.new alike.new }
         ensures kept { KeepsMarks self.old alike.old.equal.items alike.new.equal.items }
-        ensures found { IfOk result (IsSearched self.old every) }
+        ensures found { IfOk result (IsSearched self.old terms.every) }
     {
-        let mut conflicts = conflicts;
+        let every = terms.every;
         let mut found = Vec::new(alloc);
-        let mut ahead = Vec::new(alloc);
+        let ahead = Vec::new(alloc);
+        let mut course = Course { terms, ahead };
         let outputs = self.steps.pair().first().outputs().len();
         for output in 0..outputs {
             watch.step(rt, output, outputs);
@@ -465,16 +474,7 @@ impl<'a> Inside<'a> {
                 continue;
             }
             let marks = &alike.equal;
-            let witness = self.next_witness(
-                rt,
-                alloc,
-                marks,
-                output,
-                every,
-                &mut conflicts,
-                threads,
-                &mut ahead,
-            )?;
+            let witness = self.next_witness(rt, alloc, marks, output, &mut course)?;
             note(&mut self.earlier, &witness);
             self.gave_up = matches!(witness, Witness::Unknown(_));
             match witness {
@@ -491,29 +491,26 @@ impl<'a> Inside<'a> {
         Ok(Searched::Found(Outcome::Compared(found)))
     }
 
-    /// What the comparison of the pair has to find, by searches with so many conflicts: with `every` each chosen output that
-    /// differs, else the first; or `Vacuous`, where the assumption allows no assignment. Outputs that are marked are not asked
-    /// about, and those that never differ become marked. So many outputs are asked for side by side, each in a thread of its own,
-    /// or in this one where no thread can be started. The watch is told of each output. Fails where memory is refused.
+    /// What the comparison of the pair has to find, by searches on such terms: each chosen output that differs, or the first; or
+    /// `Vacuous`, where the assumption allows no assignment. Outputs that are marked are not asked about, and those that never differ
+    /// become marked. The watch is told of each output. Fails where memory is refused.
     pub fn search_outputs<R: Threads + Sync, P: Progress<R>>(
         &mut self,
         rt: &R,
         alloc: Global,
         alike: &mut Alike,
-        every: bool,
-        conflicts: Conflicts,
-        threads: u32,
+        terms: Terms,
         watch: &P,
     ) -> Result<Searched, AllocError>
         requires { IsKnown self.old alike.old }
         ensures pair { self.new ≡ self.old }
         ensures known { IsKnown self.new alike.new }
         ensures kept { KeepsMarks self.old alike.old.equal.items alike.new.equal.items }
-        ensures found { IfOk result (IsSearched self.old every) }
+        ensures found { IfOk result (IsSearched self.old terms.every) }
     {
-        match self.allows_none(alloc, conflicts.next())? {
+        match self.allows_none(alloc, terms.conflicts.next())? {
             Some(true) => Ok(Searched::Found(Outcome::Vacuous)),
-            Some(false) => { self.search_each(rt, alloc, alike, every, conflicts, threads, watch) }
+            Some(false) => self.search_each(rt, alloc, alike, terms, watch),
             None => Ok(Searched::Unasked),
         }
     }

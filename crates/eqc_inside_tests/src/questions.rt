@@ -207,17 +207,27 @@ fn answers_again(
     Ok((answers, conflicts))
 }
 
+/// It has fewer conflicts where it is asked again, and its last assignment is right. It stands apart for its proof's sake: the graph and
+/// the search are let go in one exit.
+fn check_learning(
+    rt: &(impl Abort + AllocGlobal),
+    graph: &Graph,
+    search: &mut Search,
+) -> Result<(), AllocError> {
+    let (answers, conflicts) = answers_again(graph, search)?;
+    let wanted = [Answer::Refuted, Answer::Refuted, Answer::Satisfied];
+    same(rt, answers, wanted, "anew, again, and where they agree");
+    same(rt, conflicts[1] < conflicts[0], true, "fewer conflicts");
+    let right = are_true(rt.alloc(), graph, &[FORTH, BACK], search.model())?;
+    same(rt, right, true, "the assignment");
+    Ok(())
+}
+
 #[test]
 fn what_was_learned_helps_with_the_next_question(rt: HostRuntime) -> Result<(), AllocError> {
     let graph = graph_of(&rt, PARITIES)?;
     let mut search = Search::new(rt.alloc());
-    let (answers, conflicts) = answers_again(&graph, &mut search)?;
-    let wanted = [Answer::Refuted, Answer::Refuted, Answer::Satisfied];
-    same(&rt, answers, wanted, "anew, again, and where they agree");
-    same(&rt, conflicts[1] < conflicts[0], true, "fewer conflicts");
-    let right = are_true(rt.alloc(), &graph, &[FORTH, BACK], search.model())?;
-    same(&rt, right, true, "the assignment");
-    Ok(())
+    check_learning(&rt, &graph, &mut search)
 }
 
 /// The values of the first two variables in what a search finds where not both may be true, and a decision on each begins with

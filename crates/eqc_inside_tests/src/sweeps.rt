@@ -9,6 +9,23 @@ use std::alloc::{AllocError, Global};
 use std::process::Abort;
 use std::thread::Threads;
 
+/// A graph that a test owns. It stands here for the sake of proofs: a call in each exit in place of all that is let go.
+struct Owned {
+    sweep: Sweep,
+}
+
+impl Drop for Owned {
+    fn drop(self) {
+        let Owned { sweep: _ } = self;
+    }
+}
+
+/// A new graph.
+fn new_sweep(alloc: Global, effort: Effort) -> Result<Owned, AllocError> {
+    let sweep = Sweep::new(alloc, effort)?;
+    Ok(Owned { sweep })
+}
+
 /// What is found of two literals.
 #[derive(Clone, Copy, PartialEq, Eq, Debug)]
 enum Found {
@@ -103,8 +120,8 @@ static PARITIES: &[(&str, bool, &[u32], &[u32], u64, bool, Found)] = &[
 #[test]
 fn parities_are_told_apart_or_equal(rt: HostRuntime) -> Result<(), AllocError> {
     for (case, asks, first, second, conflicts, one, found) in PARITIES {
-        let mut sweep = Sweep::new(rt.alloc(), effort(*asks))?;
-        let tried = parities(&mut sweep, first, second, *conflicts);
+        let mut made = new_sweep(rt.alloc(), effort(*asks))?;
+        let tried = parities(&mut made.sweep, first, second, *conflicts);
         same(&rt, tried, Ok((*one, *found)), case);
     }
     Ok(())
@@ -159,8 +176,8 @@ fn equal_twins<R: Threads + Sync>(
 #[test]
 fn twins_are_found_equal_side_by_side(rt: HostRuntime) -> Result<(), AllocError> {
     for (case, threads, conflicts, places) in TWINS {
-        let mut sweep = Sweep::new(rt.alloc(), Effort::none().by(*threads))?;
-        let found = equal_twins(&rt, rt.alloc(), &mut sweep, *conflicts)?;
+        let mut made = new_sweep(rt.alloc(), Effort::none().by(*threads))?;
+        let found = equal_twins(&rt, rt.alloc(), &mut made.sweep, *conflicts)?;
         same(&rt, found.as_slice(), *places, case);
     }
     Ok(())
@@ -168,9 +185,9 @@ fn twins_are_found_equal_side_by_side(rt: HostRuntime) -> Result<(), AllocError>
 
 #[test]
 fn nothing_is_asked_any_more(rt: HostRuntime) -> Result<(), AllocError> {
-    let mut sweep = Sweep::new(rt.alloc(), Effort::of(3_000, 100_000_000))?;
-    sweep.ask_no_more();
-    let tried = parities(&mut sweep, FORTH, BACK, 10_000);
+    let mut made = new_sweep(rt.alloc(), Effort::of(3_000, 100_000_000))?;
+    made.sweep.ask_no_more();
+    let tried = parities(&mut made.sweep, FORTH, BACK, 10_000);
     same(&rt, tried, Ok((false, Found::Equal)), "another order");
     Ok(())
 }
@@ -231,8 +248,8 @@ fn carries(sweep: &mut Sweep) -> Result<(bool, bool), AllocError> {
 #[test]
 fn a_carry_is_a_majority(rt: HostRuntime) -> Result<(), AllocError> {
     for asks in [false, true] {
-        let mut sweep = Sweep::new(rt.alloc(), effort(asks))?;
-        same(&rt, carries(&mut sweep), Ok((asks, true)), asks);
+        let mut made = new_sweep(rt.alloc(), effort(asks))?;
+        same(&rt, carries(&mut made.sweep), Ok((asks, true)), asks);
     }
     Ok(())
 }
@@ -273,10 +290,15 @@ fn have_one(sweep: &mut Sweep) -> Result<bool, AllocError> {
 
 #[test]
 fn what_is_made_again_has_one_literal(rt: HostRuntime) -> Result<(), AllocError> {
-    let mut sweep = Sweep::new(rt.alloc(), Effort::none())?;
-    same(&rt, are_known(&mut sweep), Ok([true; 3]), "gates");
-    same(&rt, are_plain(&mut sweep), Ok([true; 4]), "plain gates");
-    same(&rt, have_one(&mut sweep), Ok(true), "variables");
+    let mut made = new_sweep(rt.alloc(), Effort::none())?;
+    same(&rt, are_known(&mut made.sweep), Ok([true; 3]), "gates");
+    same(
+        &rt,
+        are_plain(&mut made.sweep),
+        Ok([true; 4]),
+        "plain gates",
+    );
+    same(&rt, have_one(&mut made.sweep), Ok(true), "variables");
     Ok(())
 }
 
@@ -314,11 +336,12 @@ fn copies<R: Threads + Sync>(
     alloc: Global,
     workers: u32,
 ) -> Result<(bool, bool, u32), AllocError> {
-    let mut plain = Sweep::new(alloc, Effort::none())?;
-    let literals = carries_and_parities(&mut plain)?;
-    let mut sweep = Sweep::new(alloc, effort(true).by(workers))?;
-    let (carries, parities) = copied_alike(rt, alloc, plain.graph(), literals, &mut sweep)?;
-    Ok((carries, parities, sweep.graph().len()))
+    let mut plain = new_sweep(alloc, Effort::none())?;
+    let literals = carries_and_parities(&mut plain.sweep)?;
+    let mut made = new_sweep(alloc, effort(true).by(workers))?;
+    let graph = plain.sweep.graph();
+    let (carries, parities) = copied_alike(rt, alloc, graph, literals, &mut made.sweep)?;
+    Ok((carries, parities, made.sweep.graph().len()))
 }
 
 #[test]

@@ -4,7 +4,7 @@ ghost use Rattle.eqc_graph.specs.Graph.{IsBelow};
 
 use crate::ends::same;
 use eqc_graph::{Graph, Node, node_of};
-use eqc_witness::{Witness, first_shown, least_witness, words_shown};
+use eqc_witness::{Hints, Target, Witness, first_shown, least_witness, words_shown};
 use std::alloc::AllocError;
 use std::process::Abort;
 
@@ -158,20 +158,18 @@ fn found_of(witness: Witness) -> Found {
 fn witness_in(
     rt: &(impl Abort + AllocGlobal),
     nodes: &[Node],
-    literal: u32,
-    variables: &[u16],
+    target: &Target<'_>,
     seen: &[(u32, bool)],
     conflicts: u64,
 ) -> Result<Found, AllocError> {
-    witness_after(rt, nodes, literal, variables, seen, &[], conflicts)
+    witness_after(rt, nodes, target, seen, &[], conflicts)
 }
 
 /// The same, where these are earlier assignments.
 fn witness_after(
     rt: &(impl Abort + AllocGlobal),
     nodes: &[Node],
-    literal: u32,
-    variables: &[u16],
+    target: &Target<'_>,
     seen: &[(u32, bool)],
     rows: &[&[bool]],
     conflicts: u64,
@@ -182,21 +180,16 @@ fn witness_after(
     }
     let mut graph = Graph::new(rt.alloc())?;
     push_all(rt, &mut graph, nodes)?;
-    if node_of(literal) >= graph.len() {
+    if node_of(target.literal) >= graph.len() {
         panic!(rt; "a literal is of a node");
     }
+    let hints = Hints {
+        seen,
+        earlier: &earlier,
+    };
     let mut left = conflicts;
     let mut work = MUCH_WORK;
-    let witness = least_witness(
-        rt.alloc(),
-        &graph,
-        literal,
-        variables,
-        seen,
-        &earlier,
-        &mut left,
-        &mut work,
-    )?;
+    let witness = least_witness(rt.alloc(), &graph, target, &hints, &mut left, &mut work)?;
     Ok(found_of(witness))
 }
 
@@ -224,24 +217,26 @@ fn found_in_chain(
     }
     let mut left = 100;
     let mut rest = work;
-    let variables = &[0, 1, 2];
-    let witness = least_witness(
-        rt.alloc(),
-        &graph,
+    let target = Target {
         literal,
-        variables,
-        &[],
-        &[],
-        &mut left,
-        &mut rest,
-    )?;
+        variables: &[0, 1, 2],
+    };
+    let hints = Hints {
+        seen: &[],
+        earlier: &[],
+    };
+    let witness = least_witness(rt.alloc(), &graph, &target, &hints, &mut left, &mut rest)?;
     Ok((found_of(witness), left, rest))
 }
 
 #[test]
 fn least_assignments_are_found(rt: HostRuntime) {
     for (case, literal, variables, seen, wanted) in CASES {
-        let witness = witness_in(&rt, NODES, *literal, variables, seen, 100);
+        let target = Target {
+            literal: *literal,
+            variables,
+        };
+        let witness = witness_in(&rt, NODES, &target, seen, 100);
         same(&rt, witness, Ok(*wanted), case);
     }
 }
@@ -260,7 +255,11 @@ static EARLIER: &[(&'static str, u32, &'static [&'static [bool]], Found)] = &[
 #[test]
 fn earlier_assignments_are_tried(rt: HostRuntime) {
     for (case, literal, rows, wanted) in EARLIER {
-        let witness = witness_after(&rt, NODES, *literal, &[0, 1, 2], &[], rows, 100);
+        let target = Target {
+            literal: *literal,
+            variables: &[0, 1, 2],
+        };
+        let witness = witness_after(&rt, NODES, &target, &[], rows, 100);
         same(&rt, witness, Ok(*wanted), case);
     }
 }
@@ -297,14 +296,11 @@ fn words_are_bounded(rt: HostRuntime) {
 #[test]
 fn conflicts_are_a_limit(rt: HostRuntime) {
     for (case, literal, seen, conflicts, wanted) in LIMITS {
-        let witness = witness_in(
-            &rt,
-            PARITIES,
-            *literal,
-            &[0, 1, 2, 3, 4, 5, 6],
-            seen,
-            *conflicts,
-        );
+        let target = Target {
+            literal: *literal,
+            variables: &[0, 1, 2, 3, 4, 5, 6],
+        };
+        let witness = witness_in(&rt, PARITIES, &target, seen, *conflicts);
         same(&rt, witness, Ok(*wanted), case);
     }
 }

@@ -10,8 +10,6 @@ use Rattle.eqc_members.specs.declared.verdict.Finding.{Finding}
 use Rattle.eqc_members.specs.declared.verdict.Finding.TheVariants.{Equal, Differs, Behind}
 use Rattle.eqc_members.specs.declared.verdict.Verdict.{Verdict}
 use Rattle.eqc_pair.specs.PairOf.{PairOf}
-use Rattle.eqc_build.specs.Turns.{AreTurns}
-use Rattle.eqc_compare.specs.Alike.{AreSettled}
 use Rattle.eqc_compare.specs.Comparing.{told_at}
 use Rattle.eqc_members.specs.Ticket.{IsSeat, strangers, times, once_below}
 

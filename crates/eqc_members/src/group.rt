@@ -25,6 +25,7 @@ pub(crate) fn halves<D: References + Drop>(
     ensures front { IfOk result (λ h. AreSeated D.holding pair.now words.now.table_id words.now.key h.0.seat h.0.worker h.0.members) }
     ensures back { IfOk result (λ h. AreSeated D.holding pair.now words.now.table_id words.now.key h.1.seat h.1.worker h.1.members) }
     ensures all { IfOk result (λ h. vec_len h.0.members + vec_len h.1.members ≡ vec_len group.members) }
+    ensures numbers { IfOk result (λ h. (h.0.worker ≡ group.worker) × (h.1.worker ≡ group.worker + vec_len h.0.members)) }
 {
     let Group {
         worker,

@@ -8,13 +8,14 @@ ghost use Rattle.eqc_compare.specs.Comparing.{assumption_of, netlist_of, AreTold
 ghost use Rattle.eqc_compare.specs.Alike.{IsKnown, IsSchedule};
 ghost use Rattle.eqc_members.specs.Verdicts.{asked, AreMembers, AreVerdicts, IsShare};
 
+use crate::comparison::Comparison;
 use crate::group::Group;
-use crate::patience::Patience;
+use crate::request::Request;
 use crate::share::{Share, work_together};
 use crate::task::Task;
 use crate::ticket::{Key, TicketTable, open, settle};
 use crate::verdict::{Verdict, in_order, told_of};
-use eqc_compare::{Alike, Difference, Gate, Outcome, Schedule, allows_none};
+use eqc_compare::{Difference, Gate, Outcome, Schedule, allows_none};
 use eqc_pair::Pair;
 use eqc_tree::{Diagrams, References, Stop};
 use std::alloc::{AllocError, Global};
@@ -58,7 +59,16 @@ fn all_verdicts<R: Threads + Wait + Sync, D: Diagrams<R> + Send + Drop, G: Gate<
         seat,
         members,
     };
-    let share = work_together(rt, alloc, pair, task, &table.shared, gate, group)?;
+    // All are lent for as long as the words are, which are known here alone.
+    let comparison = Comparison {
+        rt: &*rt,
+        alloc,
+        pair: &*pair,
+        task: &*task,
+        words: &table.shared,
+        gate: &*gate,
+    };
+    let share = work_together(&comparison, group)?;
     Ok(verdicts_of(table, pair, task.schedule.every, share))
 }
 
@@ -76,21 +86,24 @@ fn told_by(
     told_of(alloc, pair, every, row)
 }
 
-/// The chosen outputs that differ, or the first of them alone, where this is known of the pair.
+/// The chosen outputs that differ, or the first of them alone, as this is requested.
 fn told_by_members<R: Threads + Wait + Sync, D: Diagrams<R> + Send + Drop, G: Gate<R> + Sync>(
     rt: &R,
     alloc: Global,
     pair: &Pair<'_>,
-    every: bool,
+    request: Request,
     members: Vec<D>,
-    alike: Alike,
-    patience: Patience,
     gate: &G,
 ) -> Result<Vec<Difference>, Stop>
     requires members { AreMembers D.holding pair.now members }
-    requires known { IsKnown pair.now alike }
-    ensures found { IfOk result (λ found. AreTold pair.now every found.items) }
+    requires known { IsKnown pair.now request.alike }
+    ensures found { IfOk result (λ found. AreTold pair.now request.every found.items) }
 {
+    let Request {
+        every,
+        alike,
+        patience,
+    } = request;
     let outputs = pair.first().outputs().len() as u64;
     let draws = outputs.saturating_add(members.len() as u64);
     let Ok(schedule) = Schedule::of(alloc, pair, every, alike) else {
@@ -123,17 +136,17 @@ fn first_allows_none<R, D: Diagrams<R>>(
 }
 
 /// Compares the chosen outputs of a pair by these members, of which each runs in a thread of its own: those that differ, by their
-/// positions and in their order, each with its least assignment; without `every` the first of them alone. Whether the assumption
-/// allows none is asked of the first member, before anything is drawn.
+/// positions and in their order, each with its least assignment; without the request's `every` the first of them alone. Whether the
+/// assumption allows none is asked of the first member, before anything is drawn.
 ///
 /// There is at least one member, and each has at least as many variables as the pair has inputs; they are consumed. Members
-/// beyond the first 4,294,967,295 are let go, since 32 bits number those that compare. What is known of the pair need not be
-/// compared. The gate is told of each comparison before it begins. Without `every` a member that has found a difference compares
-/// no later output. One that has drawn its last helps the others, for as long as it has patience.
+/// beyond the first 4,294,967,295 are let go, since 32 bits number those that compare. What the request says is known of the pair
+/// need not be compared. The gate is told of each comparison before it begins. Without `every` a member that has found a difference
+/// compares no later output. One that has drawn its last helps the others, for as long as the request's patience lasts.
 /// The call may wait, since it waits for all members, and for the gate.
 ///
-/// The errors are those of the members' diagrams, 71, 72 and 73; 72 also where memory is refused; and 74 where a thread could
-/// not be started. Where several came it is one of them.
+/// The errors are those of the members' diagrams, `NodeLimit` (71), `Memory` (72) and `References` (73); `Memory` also where memory is
+/// refused; and `Threads` (74) where a thread could not be started. Where several came it is one of them.
 pub fn compare_by_members<
     R: Threads + Wait + Sync,
     D: Diagrams<R> + Send + Drop,
@@ -142,16 +155,14 @@ pub fn compare_by_members<
     rt: &R,
     alloc: Global,
     pair: &Pair<'_>,
-    every: bool,
+    request: Request,
     members: Vec<D>,
-    alike: Alike,
-    patience: Patience,
     gate: &G,
 ) -> Result<Outcome, Stop>
     requires some { 1 ≤ vec_len members }
     requires variables { All (λ d. length pair.now.first.inputs ≤ (D.holding d).variables) members.items }
-    requires known { IsKnown pair.now alike }
-    ensures found { IfOk result (IsOutcome pair.now every) }
+    requires known { IsKnown pair.now request.alike }
+    ensures found { IfOk result (IsOutcome pair.now request.every) }
 {
     // It has no more outputs than signals, so 32 bits number them.
     pair.recall_laws();
@@ -160,6 +171,6 @@ pub fn compare_by_members<
     if first_allows_none(rt, alloc, pair, &mut members)? {
         return Ok(Outcome::Vacuous);
     }
-    let found = told_by_members(rt, alloc, pair, every, members, alike, patience, gate)?;
+    let found = told_by_members(rt, alloc, pair, request, members, gate)?;
     Ok(Outcome::Compared(found))
 }

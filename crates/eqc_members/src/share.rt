@@ -5,6 +5,7 @@ ghost use Rattle.eqc_build.specs.Turns.{AreKept};
 ghost use Rattle.eqc_compare.specs.Alike.{IsSchedule};
 ghost use Rattle.eqc_members.specs.Verdicts.{asked, DiffersBefore, IsFoundAt, IsShare, IsFresh, AreSeated};
 
+use crate::comparison::Comparison;
 use crate::group::{Group, halves};
 use crate::help::help_others;
 use crate::member::{self, Member};
@@ -14,7 +15,6 @@ use crate::verdict::{Finding, Verdict};
 use eqc_compare::{Gate, is_marked};
 use eqc_pair::Pair;
 use eqc_tree::{Diagrams, References, Stop};
-use std::alloc::Global;
 use std::snapshot::Snapshot;
 use std::sync::Wait;
 use std::thread::{Promise, Scope, Threads, scope, scope_env};
@@ -29,24 +29,28 @@ pub(crate) struct Share {
 /// What a member finds at an output that it drew. Where it knows of a difference before, that the output is equal or that it is
 /// not chosen, it need not compare.
 fn finding<R, D: Diagrams<R>, G: Gate<R>>(
-    rt: &R,
-    alloc: Global,
-    pair: &Pair<'_>,
-    task: &Task<'_>,
-    gate: &G,
+    comparison: &Comparison<'_, R, G>,
     worker: u32,
     member: &mut Member<D>,
     output: u32,
     behind: bool,
 ) -> Result<Finding, Stop>
-    requires kept { AreKept D.entry pair.now (D.holding member.old.diagrams) member.old.kept.table }
-    requires task { IsSchedule pair.now task.now.schedule }
-    requires output { output < length pair.now.first.outputs }
-    requires knows { IsTrue behind → DiffersBefore (asked pair.now task.now.schedule.every) output }
-    ensures found { IfOk result (λ found. IsFoundAt (asked pair.now task.now.schedule.every) output found) }
-    ensures kept { AreKept D.entry pair.now (D.holding member.new.diagrams) member.new.kept.table }
+    requires kept { AreKept D.entry comparison.now.pair.now (D.holding member.old.diagrams) member.old.kept.table }
+    requires task { IsSchedule comparison.now.pair.now comparison.now.task.now.schedule }
+    requires output { output < length comparison.now.pair.now.first.outputs }
+    requires knows { IsTrue behind → DiffersBefore (asked comparison.now.pair.now comparison.now.task.now.schedule.every) output }
+    ensures found { IfOk result (λ found. IsFoundAt (asked comparison.now.pair.now comparison.now.task.now.schedule.every) output found) }
+    ensures kept { AreKept D.entry comparison.now.pair.now (D.holding member.new.diagrams) member.new.kept.table }
     ensures only { IfErr result (λ s. s ≢ Stop.Threads) }
 {
+    let Comparison {
+        rt,
+        alloc,
+        pair,
+        task,
+        gate,
+        ..
+    } = *comparison;
     if behind {
         return Ok(Finding::Behind);
     }
@@ -63,36 +67,31 @@ fn finding<R, D: Diagrams<R>, G: Gate<R>>(
 /// A member draws until its draw is no output. What it draws rises, so behind its first difference nothing that it draws can
 /// be the first of all, which it need not look at where that one is asked for alone.
 fn draw_all<R, D: Diagrams<R>, G: Gate<R>>(
-    rt: &R,
-    alloc: Global,
-    pair: &Pair<'_>,
-    task: &Task<'_>,
-    words: &Words,
-    gate: &G,
+    comparison: &Comparison<'_, R, G>,
     worker: u32,
     seat: Drawer,
     member: &mut Member<D>,
 ) -> Result<Share, Stop>
-    requires fresh { IsFresh pair.now words.now.table_id words.now.key 1 seat }
-    requires kept { AreKept D.entry pair.now (D.holding member.old.diagrams) member.old.kept.table }
-    requires task { IsSchedule pair.now task.now.schedule }
-    ensures share { IfOk result (λ s. IsShare (asked pair.now task.now.schedule.every) words.now.table_id 1 s.seat s.verdicts.items) }
+    requires fresh { IsFresh comparison.now.pair.now comparison.now.words.now.table_id comparison.now.words.now.key 1 seat }
+    requires kept { AreKept D.entry comparison.now.pair.now (D.holding member.old.diagrams) member.old.kept.table }
+    requires task { IsSchedule comparison.now.pair.now comparison.now.task.now.schedule }
+    ensures share { IfOk result (λ s. IsShare (asked comparison.now.pair.now comparison.now.task.now.schedule.every) comparison.now.words.now.table_id 1 s.seat s.verdicts.items) }
     ensures only { IfErr result (λ s. s ≢ Stop.Threads) }
-    ensures kept { AreKept D.entry pair.now (D.holding member.new.diagrams) member.new.kept.table }
+    ensures kept { AreKept D.entry comparison.now.pair.now (D.holding member.new.diagrams) member.new.kept.table }
 {
     let mut seat = seat;
-    let mut verdicts = Vec::new(alloc);
-    let outputs = pair.first().outputs().len() as u64;
+    let mut verdicts = Vec::new(comparison.alloc);
+    let outputs = comparison.pair.first().outputs().len() as u64;
     let mut least = 0u64;
     let mut behind = false;
     loop {
-        let number = draw(words, &mut seat);
+        let number = draw(comparison.words, &mut seat);
         if number >= outputs {
             break;
         }
         let output = number as u32;
-        let finding = finding(rt, alloc, pair, task, gate, worker, member, output, behind)?;
-        behind = finding.ends(task.schedule.every);
+        let finding = finding(comparison, worker, member, output, behind)?;
+        behind = finding.ends(comparison.task.schedule.every);
         let Ok(()) = verdicts.push(Verdict { output, finding }) else {
             return Err(Stop::Memory);
         };
@@ -104,34 +103,27 @@ fn draw_all<R, D: Diagrams<R>, G: Gate<R>>(
 /// All that one member does: it draws, compares, helps others, and gives its diagrams up. What it kept it gives back before
 /// it helps, so that what it holds takes no room from members that work.
 fn work_alone<R: Wait, D: Diagrams<R> + Drop, G: Gate<R>>(
-    rt: &R,
-    alloc: Global,
-    pair: &Pair<'_>,
-    task: &Task<'_>,
-    words: &Words,
-    gate: &G,
+    comparison: &Comparison<'_, R, G>,
     worker: u32,
     seat: Drawer,
     diagrams: D,
 ) -> Result<Share, Stop>
-    requires fresh { IsFresh pair.now words.now.table_id words.now.key 1 seat }
-    requires variables { length pair.now.first.inputs ≤ (D.holding diagrams).variables }
-    requires task { IsSchedule pair.now task.now.schedule }
-    ensures share { IfOk result (λ s. IsShare (asked pair.now task.now.schedule.every) words.now.table_id 1 s.seat s.verdicts.items) }
+    requires fresh { IsFresh comparison.now.pair.now comparison.now.words.now.table_id comparison.now.words.now.key 1 seat }
+    requires variables { length comparison.now.pair.now.first.inputs ≤ (D.holding diagrams).variables }
+    requires task { IsSchedule comparison.now.pair.now comparison.now.task.now.schedule }
+    ensures share { IfOk result (λ s. IsShare (asked comparison.now.pair.now comparison.now.task.now.schedule.every) comparison.now.words.now.table_id 1 s.seat s.verdicts.items) }
     ensures only { IfErr result (λ s. s ≢ Stop.Threads) }
 {
-    let mut member = member::begin(alloc, diagrams, pair)?;
-    let drawn = draw_all(
+    let Comparison {
         rt,
         alloc,
         pair,
         task,
         words,
-        gate,
-        worker,
-        seat,
-        &mut member,
-    );
+        ..
+    } = *comparison;
+    let mut member = member::begin(alloc, diagrams, pair)?;
+    let drawn = draw_all(comparison, worker, seat, &mut member);
     let mut diagrams = member::end(member, pair);
     let share = drawn?;
     help_others(rt, task, words, &share.seat, &mut diagrams);
@@ -140,18 +132,13 @@ fn work_alone<R: Wait, D: Diagrams<R> + Drop, G: Gate<R>>(
 
 /// What the only member of a group does.
 fn work_only<R: Wait, D: Diagrams<R> + Drop, G: Gate<R>>(
-    rt: &R,
-    alloc: Global,
-    pair: &Pair<'_>,
-    task: &Task<'_>,
-    words: &Words,
-    gate: &G,
+    comparison: &Comparison<'_, R, G>,
     group: Group<D>,
 ) -> Result<Share, Stop>
-    requires seated { AreSeated D.holding pair.now words.now.table_id words.now.key group.seat group.worker group.members }
+    requires seated { AreSeated D.holding comparison.now.pair.now comparison.now.words.now.table_id comparison.now.words.now.key group.seat group.worker group.members }
     requires only { vec_len group.members ≡ 1 }
-    requires task { IsSchedule pair.now task.now.schedule }
-    ensures share { IfOk result (λ s. IsShare (asked pair.now task.now.schedule.every) words.now.table_id 1 s.seat s.verdicts.items) }
+    requires task { IsSchedule comparison.now.pair.now comparison.now.task.now.schedule }
+    ensures share { IfOk result (λ s. IsShare (asked comparison.now.pair.now comparison.now.task.now.schedule.every) comparison.now.words.now.table_id 1 s.seat s.verdicts.items) }
 {
     let Group {
         worker,
@@ -161,9 +148,9 @@ fn work_only<R: Wait, D: Diagrams<R> + Drop, G: Gate<R>>(
     let Some(diagrams) = members.pop() else {
         unreachable!()
     };
-    match work_alone(rt, alloc, pair, task, words, gate, worker, seat, diagrams) {
+    match work_alone(comparison, worker, seat, diagrams) {
         Ok(share) => Ok(share),
-        Err(stop) => Err(task.patience.note(stop)),
+        Err(stop) => Err(comparison.task.patience.note(stop)),
     }
 }
 
@@ -234,22 +221,25 @@ fn work<
     D: Diagrams<R> + Send + Drop + 's,
     G: Gate<R> + Sync + 's,
 >(
-    rt: &'s R,
     scope: &'s Scope<'s, E>,
-    alloc: Global,
-    pair: &'s Pair<'s>,
-    task: &'s Task<'s>,
-    words: &'s Words,
-    gate: &'s G,
+    comparison: &Comparison<'s, R, G>,
     group: Group<D>,
 ) -> Result<Share, Stop>
-    requires seated { AreSeated D.holding pair.now words.now.table_id words.now.key group.seat group.worker group.members }
-    requires task { IsSchedule pair.now task.now.schedule }
-    ensures share { IfOk result (λ s. IsShare (asked pair.now task.now.schedule.every) words.now.table_id (vec_len group.members) s.seat s.verdicts.items) }
+    requires seated { AreSeated D.holding comparison.now.pair.now comparison.now.words.now.table_id comparison.now.words.now.key group.seat group.worker group.members }
+    requires task { IsSchedule comparison.now.pair.now comparison.now.task.now.schedule }
+    ensures share { IfOk result (λ s. IsShare (asked comparison.now.pair.now comparison.now.task.now.schedule.every) comparison.now.words.now.table_id (vec_len group.members) s.seat s.verdicts.items) }
 {
     if group.members.len() == 1 {
-        return work_only(rt, alloc, pair, task, words, gate, group);
+        return work_only(comparison, group);
     }
+    let Comparison {
+        rt,
+        alloc,
+        pair,
+        task,
+        words,
+        gate,
+    } = *comparison;
     let Ok((mine, theirs)) = halves(words, pair, group) else {
         return Err(task.patience.note(Stop::Memory));
     };
@@ -258,11 +248,24 @@ fn work<
         requires { IsSync R.row × IsSync G.row × IsSend D.row × IsSchedule pair.now task.now.schedule
             × AreSeated D.holding pair.now words.now.table_id words.now.key theirs.seat theirs.worker theirs.members }
         ensures { IfOk result (λ s. IsShare (asked pair.entry.now task.entry.now.schedule.every) words.entry.now.table_id (vec_len theirs.members) s.seat s.verdicts.items) }
-    { work(rt, scope, alloc, pair, task, words, gate, theirs) };
+    {
+        work(
+            scope,
+            &Comparison {
+                rt,
+                alloc,
+                pair,
+                task,
+                words,
+                gate,
+            },
+            theirs,
+        )
+    };
     let Ok(child) = scope.spawn_with(kept, there) else {
         return Err(task.patience.note(Stop::Threads));
     };
-    let mine = work(rt, scope, alloc, pair, task, words, gate, mine);
+    let mine = work(scope, comparison, mine);
     let theirs = child.join(rt);
     put_together(words, pair, task.schedule.every, mine?, theirs?)
 }
@@ -272,26 +275,18 @@ pub(crate) fn work_together<
     R: Threads + Wait + Sync,
     D: Diagrams<R> + Send + Drop,
     G: Gate<R> + Sync,
->(
-    rt: &R,
-    alloc: Global,
-    pair: &Pair<'_>,
-    task: &Task<'_>,
-    words: &Words,
-    gate: &G,
-    group: Group<D>,
-) -> Result<Share, Stop>
-    requires seated { AreSeated D.holding pair.now words.now.table_id words.now.key group.seat group.worker group.members }
-    requires task { IsSchedule pair.now task.now.schedule }
-    ensures share { IfOk result (λ s. IsShare (asked pair.now task.now.schedule.every) words.now.table_id (vec_len group.members) s.seat s.verdicts.items) }
+>(comparison: &Comparison<'_, R, G>, group: Group<D>) -> Result<Share, Stop>
+    requires seated { AreSeated D.holding comparison.now.pair.now comparison.now.words.now.table_id comparison.now.words.now.key group.seat group.worker group.members }
+    requires task { IsSchedule comparison.now.pair.now comparison.now.task.now.schedule }
+    ensures share { IfOk result (λ s. IsShare (asked comparison.now.pair.now comparison.now.task.now.schedule.every) comparison.now.words.now.table_id (vec_len group.members) s.seat s.verdicts.items) }
 {
     scope(
         scope_env(),
-        rt,
+        comparison.rt,
         move |scope| -> Result<Share, Stop>
-            requires { IsSchedule pair.now task.now.schedule
-                × AreSeated D.holding pair.now words.now.table_id words.now.key group.seat group.worker group.members }
-            ensures { IfOk result (λ s. IsShare (asked pair.entry.now task.entry.now.schedule.every) words.entry.now.table_id (vec_len group.members) s.seat s.verdicts.items) }
-        { work(rt, scope, alloc, pair, task, words, gate, group) },
+            requires { IsSchedule comparison.now.pair.now comparison.now.task.now.schedule
+                × AreSeated D.holding comparison.now.pair.now comparison.now.words.now.table_id comparison.now.words.now.key group.seat group.worker group.members }
+            ensures { IfOk result (λ s. IsShare (asked comparison.entry.now.pair.now comparison.entry.now.task.now.schedule.every) comparison.entry.now.words.now.table_id (vec_len group.members) s.seat s.verdicts.items) }
+        { work(scope, comparison, group) },
     )
 }

@@ -64,6 +64,7 @@ pub(crate) fn in_order(
     ensures size { IfOk result (λ row. vec_len row ≡ length pair.now.first.outputs) }
     ensures each { IfOk result (λ row. (o : ℕ) → o < vec_len row → Stands (asked pair.now every) [] o (slice_index_or row.items o None)) }
 {
+    // It is for the clauses alone, which say what was asked.
     let _every = every;
     let mut rest = verdicts;
     let mut row = places(alloc, pair.first().outputs().len())?;

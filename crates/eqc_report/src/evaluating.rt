@@ -58,6 +58,7 @@ impl Walk {
         requires size { length inputs.now ≡ length flat.now.inputs }
         ensures { IfOk result (λ found. IfSome found (λ value. value ≡ value_of flat.now (values_of inputs.now) s)) }
     {
+        // For the proof alone: the laws of a flat netlist are known where a call states them.
         let _steps = flat.steps();
         match flat.driver(s) {
             Driver::Input(position) => Ok(Some(inputs[position as usize])),
@@ -107,6 +108,7 @@ impl Walk {
                 Ok(())
             }
             None => {
+                // For the proof alone, as in `driven`.
                 let _steps = flat.steps();
                 self.asked.push(s)?;
                 self.ask(flat, &flat.driver(s).dependencies())

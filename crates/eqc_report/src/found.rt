@@ -66,7 +66,7 @@ fn all_shown(alloc: Global, pair: &Pair<'_>, found: Vec<Found>) -> Result<Differ
 }
 
 /// The report on what the comparison of a pair found: each output that differs with the names and the values of the first
-/// netlist's inputs that show it, or that none does or no assignment is allowed. Fails where memory is refused, 72.
+/// netlist's inputs that show it, or that none does or no assignment is allowed. The error is `Memory` (72), where memory is refused.
 pub fn found_report(
     alloc: Global,
     pair: &Pair<'_>,

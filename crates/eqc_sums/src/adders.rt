@@ -3,7 +3,7 @@ ghost use Rattle.std.specs.Prelude.{◌≡◌};
 ghost use Rattle.eqc_sums.specs.Forms.{Keeps};
 
 use crate::reduction::Reduction;
-use crate::support::{ROOM, Support, joined, of_input};
+use crate::support::{ROOM, Support, differing, joined, of_one};
 use eqc_graph::{Graph, Node, node_of};
 use eqc_sweep::Sweep;
 use std::alloc::{AllocError, Global};
@@ -25,6 +25,12 @@ pub(crate) struct Known {
     pub(crate) gate: Node,
     pub(crate) level: u32,
     pub(crate) support: Support,
+    /// The nodes of which it is the exclusive or, itself where these are many or it is none.
+    leaves: Support,
+    /// Whether its polynomial has few terms: few inputs are below it, or it is the exclusive or of few conjunctions of inputs.
+    is_small: bool,
+    /// Whether it has since what is below its gate cancels out in an exclusive or.
+    is_cancelled: bool,
     /// How many ways lead from it down to inputs.
     ways: u32,
     /// Whether it is a conjunction of inputs, or stands for one.
@@ -33,6 +39,8 @@ pub(crate) struct Known {
     is_tried: bool,
     /// Literals of which it is the difference.
     pub(crate) pairs: Vec<(u32, u32)>,
+    /// Literals above it, or beside it, of which it was found to be the difference.
+    merged: Vec<(u32, u32)>,
     pub(crate) sums: Vec<Block>,
     pub(crate) carries: Vec<Block>,
     /// Three literals whose carry it is, the first of which has the other polarity in a carry that comes before it.
@@ -61,6 +69,12 @@ pub(crate) struct Adders {
 const GROWTH: u32 = 2;
 
 const FEWEST: u32 = 1_000;
+
+/// The inputs of a product of two bits.
+const PAIR: usize = 2;
+
+/// How many inputs are somewhat more than few.
+const RATHER: usize = 8;
 
 /// A node isn't put as a polynomial of inputs from which so many ways lead to them.
 const WAYS: u32 = 4_096;
@@ -153,19 +167,19 @@ impl Adders {
         }
     }
 
-    /// Whether few inputs are below a node.
+    /// Whether few inputs are below a node, or few conjunctions of them are left of what is.
     pub(crate) fn is_small(&self, node: u32) -> bool {
         match self.nodes.get(node as usize) {
             None => true,
-            Some(known) => known.support.count() <= self.few,
+            Some(known) => known.is_small,
         }
     }
 
-    /// Whether so many inputs at most are below a node as supports have room for.
+    /// Whether somewhat more than few inputs at most are below a node.
     pub(crate) fn is_rather_small(&self, node: u32) -> bool {
         match self.nodes.get(node as usize) {
             None => true,
-            Some(known) => known.support.count() <= ROOM,
+            Some(known) => known.support.count() <= RATHER,
         }
     }
 
@@ -175,6 +189,12 @@ impl Adders {
             None => true,
             Some(known) => known.is_plain,
         }
+    }
+
+    /// Whether a node stands for a conjunction of inputs that stays as it is. Where all that is above conjunctions of two inputs is taken
+    /// for an adder, such a one may be a carry.
+    pub(crate) fn is_left(&self, node: u32) -> bool {
+        self.few > PAIR && self.is_plain(node)
     }
 
     /// Whether a sum may be taken for its adder: what comes of that is below it, but for a carry that isn't a sum.
@@ -237,43 +257,111 @@ impl Adders {
         }
     }
 
-    /// What is known of a new node.
-    fn of_node(&self, k: u32, node: Node) -> Result<Known, AllocError> {
-        let mut pairs = Vec::new(self.alloc);
-        let (level, support, is_plain) = match node {
-            Node::Constant => (0, Support::none(), true),
-            Node::Input(_) => (0, of_input(k), true),
-            Node::And(x, y) => {
-                let plain = x % 2 == 0 && y % 2 == 0;
-                let both = self.is_plain(node_of(x)) && self.is_plain(node_of(y));
-                (
-                    self.above(x, y),
-                    joined(self.support(x), self.support(y)),
-                    plain && both,
-                )
+    /// The nodes of which a literal is the exclusive or.
+    fn leaves(&self, literal: u32) -> Support {
+        match self.nodes.get(node_of(literal) as usize) {
+            None => Support::many(),
+            Some(known) => known.leaves,
+        }
+    }
+
+    /// The nodes of which two literals' exclusive or is one, itself where these are many. Nothing where no node is of both.
+    fn cancelled(&self, x: u32, y: u32) -> Option<Support> {
+        let leaves = differing(self.leaves(x), self.leaves(y));
+        let both = self
+            .leaves(x)
+            .count()
+            .saturating_add(self.leaves(y).count());
+        if leaves.count() > ROOM || leaves.count() == both {
+            None
+        } else {
+            Some(leaves)
+        }
+    }
+
+    /// The inputs below nodes, and whether these are few conjunctions of inputs.
+    fn below(&self, leaves: &Support) -> (Support, bool) {
+        let mut inputs = Support::none();
+        let mut are_plain = leaves.count() <= self.few;
+        for place in 0..ROOM {
+            if let Some(leaf) = leaves.at(place) {
+                inputs = joined(inputs, self.support(leaf.wrapping_mul(2)));
+                are_plain = are_plain && self.is_plain(leaf);
             }
-            Node::Xor(x, y) => {
-                pairs.push((x, y))?;
-                (
-                    self.above(x, y),
-                    joined(self.support(x), self.support(y)),
-                    false,
-                )
-            }
-        };
+        }
+        (inputs, are_plain)
+    }
+
+    /// What is known of a new node of two literals.
+    fn of_gate(&self, k: u32, node: Node, x: u32, y: u32) -> Result<Known, AllocError> {
+        let mut known = self.of_nothing(node)?;
+        known.support = joined(self.support(x), self.support(y));
+        known.level = self.above(x, y);
+        known.leaves = of_one(k);
+        known.is_small = known.support.count() <= self.few;
+        Ok(known)
+    }
+
+    /// What is known of a new exclusive or.
+    fn of_xor(&self, k: u32, node: Node, x: u32, y: u32) -> Result<Known, AllocError> {
+        let mut known = self.of_gate(k, node, x, y)?;
+        known.pairs.push((x, y))?;
+        let leaves = differing(self.leaves(x), self.leaves(y));
+        if leaves.count() <= ROOM {
+            known.leaves = leaves;
+        }
+        if let Some(left) = self.cancelled(x, y) {
+            let (inputs, are_plain) = self.below(&left);
+            known.support = inputs;
+            known.is_cancelled = !known.is_small;
+            known.is_small = are_plain || inputs.count() <= self.few;
+        }
+        Ok(known)
+    }
+
+    /// What is known of a node before one looks below it.
+    fn of_nothing(&self, node: Node) -> Result<Known, AllocError> {
         Ok(Known {
             gate: node,
-            level,
-            support,
+            level: 0,
+            support: Support::none(),
+            leaves: Support::none(),
+            is_small: true,
+            is_cancelled: false,
             ways: self.ways(node),
-            is_plain,
+            is_plain: true,
             is_tried: false,
-            pairs,
+            pairs: Vec::new(self.alloc),
+            merged: Vec::new(self.alloc),
             sums: Vec::new(self.alloc),
             carries: Vec::new(self.alloc),
             relations: Vec::new(self.alloc),
             others: Vec::new(self.alloc),
         })
+    }
+
+    /// What is known of a new node.
+    fn of_node(&self, k: u32, node: Node) -> Result<Known, AllocError> {
+        match node {
+            Node::Constant => self.of_nothing(node),
+            Node::Input(_) => {
+                let mut known = self.of_nothing(node)?;
+                known.support = of_one(k);
+                known.leaves = of_one(k);
+                Ok(known)
+            }
+            Node::And(x, y) => {
+                let mut known = self.of_gate(k, node, x, y)?;
+                let are_plain = self.is_plain(node_of(x)) && self.is_plain(node_of(y));
+                known.is_plain = x % 2 == 0 && y % 2 == 0 && are_plain;
+                Ok(known)
+            }
+            Node::Xor(x, y) => {
+                let mut known = self.of_xor(k, node, x, y)?;
+                known.is_plain = false;
+                Ok(known)
+            }
+        }
     }
 
     /// How many ways lead from a literal down to inputs.
@@ -321,16 +409,19 @@ impl Adders {
         Ok(())
     }
 
-    /// Takes in that a node is the difference of two literals below it.
+    /// Takes in that a node is the difference of two literals, which are below it or not.
     fn add_pair(&mut self, literal: u32, x: u32, y: u32) -> Result<(), AllocError> {
         let level = self.level(node_of(literal));
-        if self.level(node_of(x)) >= level || self.level(node_of(y)) >= level {
-            return Ok(());
-        }
+        let is_below = self.level(node_of(x)) < level && self.level(node_of(y)) < level;
         let other = if literal % 2 == 1 { y ^ 1 } else { y };
         if let Some(known) = self.nodes.get_mut(node_of(literal) as usize) {
-            if !known.pairs.contains(&(x, other)) {
-                known.pairs.push((x, other))?;
+            let pairs = if is_below {
+                &mut known.pairs
+            } else {
+                &mut known.merged
+            };
+            if !pairs.contains(&(x, other)) {
+                pairs.push((x, other))?;
             }
         }
         Ok(())
@@ -369,10 +460,23 @@ impl Adders {
         Some(pair)
     }
 
-    fn pairs(&self, node: u32) -> usize {
+    /// How many pairs there are, with those that it was found to be the difference of.
+    fn all_pairs(&self, node: u32) -> usize {
         match self.nodes.get(node as usize) {
             None => 0,
-            Some(known) => known.pairs.len(),
+            Some(known) => known.pairs.len().saturating_add(known.merged.len()),
+        }
+    }
+
+    /// The pair of a node at a place of its list, behind which those come that it was found to be the difference of.
+    fn pair_or_merged(&self, node: u32, at: usize) -> Option<(u32, u32)> {
+        let known = self.nodes.get(node as usize)?;
+        match known.pairs.get(at) {
+            Some(pair) => Some(*pair),
+            None => known
+                .merged
+                .get(at.wrapping_sub(known.pairs.len()))
+                .copied(),
         }
     }
 
@@ -390,12 +494,12 @@ impl Adders {
         node: u32,
         out: &mut Vec<(u32, (u32, u32, u32))>,
     ) -> Result<(), AllocError> {
-        for at in 0..self.pairs(node) {
-            if let Some((x, y)) = self.pair(node, at) {
+        for at in 0..self.all_pairs(node) {
+            if let Some((x, y)) = self.pair_or_merged(node, at) {
                 out.push((node, plain(x, y, 0)))?;
                 for (inner, other) in [(x, y), (y, x)] {
-                    for k in 0..self.pairs(node_of(inner)) {
-                        if let Some((p, q)) = self.pair(node_of(inner), k) {
+                    for k in 0..self.all_pairs(node_of(inner)) {
+                        if let Some((p, q)) = self.pair_or_merged(node_of(inner), k) {
                             out.push((node, plain(p, q, other)))?;
                         }
                     }
@@ -405,11 +509,20 @@ impl Adders {
         Ok(())
     }
 
+    /// Whether a node is the difference of literals below which there is more than below it: something cancels out in it, or it was
+    /// found equal to that.
+    fn is_of_more(&self, node: u32) -> bool {
+        match self.nodes.get(node as usize) {
+            None => false,
+            Some(known) => known.is_cancelled || known.merged.len() > 0,
+        }
+    }
+
     /// The literals that nodes from this one on may be sums of.
     fn candidates(&self, from: u32) -> Result<Vec<(u32, (u32, u32, u32))>, AllocError> {
         let mut out = Vec::new(self.alloc);
         for node in from..self.count() {
-            if !self.is_small(node) {
+            if !self.is_small(node) || self.is_of_more(node) {
                 self.candidates_of(node, &mut out)?;
             }
         }

@@ -11,6 +11,7 @@ ghost use Rattle.eqc_sweep.specs.Sweeping.{HasValue};
 ghost use Rattle.eqc_sweep.specs.Copying.{AreCopies, IsCopyOf, IsCopyOfNode};
 ghost use Rattle.eqc_sums.specs.Chains.{IsBoth, IsShared, IsSplit, IsPrefix};
 
+use crate::leaves::{Leaves, make_left};
 use eqc_graph::{Graph, Node, is_negated, negated, node_of};
 use eqc_sweep::{Sweep, copied, no_copies};
 use std::alloc::{AllocError, Global};
@@ -307,6 +308,23 @@ fn enter(
     Ok(())
 }
 
+/// Makes what is left of an exclusive or in a copy of the graph, where something cancels out.
+fn prepare(
+    node: Node,
+    leaves: &mut Leaves,
+    table: &[Option<u32>],
+    sweep: &mut Sweep,
+) -> Result<(), AllocError>
+    ensures { Extends sweep.old sweep.new }
+{
+    if let Node::Xor(x, y) = node {
+        if let (Some(x), Some(y)) = (copied(table, x), copied(table, y)) {
+            make_left(leaves, sweep, x, y)?;
+        }
+    }
+    Ok(())
+}
+
 fn mark(marks: &mut Vec<bool>, literal: u32) {
     let at = node_of(literal) as usize;
     if at < marks.len() {
@@ -370,20 +388,26 @@ fn entering(alloc: Global, graph: &Graph, literals: &[u32]) -> Result<Vec<bool>,
 #[tactic(auto, using(eqc_sweep::proofs::CopyingLemmas::entering_begins, eqc_sweep::proofs::CopyingLemmas::entering_more))]
 /// Copies what these literals of a graph are made of into another graph, and answers the literals that its nodes have there, none for
 /// nodes that didn't enter. Each has its node's value. Carries of trees of prefixes come as chains of single columns, so that adders are
-/// found of them; the spans of the trees don't enter. Fails where memory is refused, or where the other graph has no room for more nodes.
+/// found of them; the spans of the trees don't enter. Where it is to be shortened, an exclusive or in which something cancels out is made of
+/// what is left. Fails where memory is refused, or where the other graph has no room for more nodes.
 pub fn copy_with_chains(
     alloc: Global,
     graph: &Graph,
     literals: &[u32],
     sweep: &mut Sweep,
+    is_shortened: bool,
 ) -> Result<Vec<Option<u32>>, AllocError>
     ensures extends { Extends sweep.old sweep.new }
     ensures copies { IfOk result (λ table. AreCopies graph.now sweep.new table.items) }
 {
     let marks = entering(alloc, graph, literals)?;
     let mut table = no_copies(alloc, graph)?;
+    let mut leaves = Leaves::new(alloc);
     'nodes: for k in 0..graph.len() {
         if marks.get(k as usize).copied() == Some(true) {
+            if is_shortened {
+                prepare(graph.node(k), &mut leaves, table.as_slice(), sweep)?;
+            }
             enter(graph, k, sweep, &mut table)?;
         }
     }

@@ -63,10 +63,13 @@ pub(crate) struct Choice {
     asked: Vec<(u32, u32)>,
     /// Whether carries of sums that are used aren't taken for carries any more.
     are_sums_used: bool,
+    /// How many nodes may still be looked at.
+    looks: u64,
 }
 
 impl Choice {
-    pub(crate) fn new(alloc: Global) -> Choice {
+    /// What chooses steps with so many looks at nodes.
+    pub(crate) fn new(alloc: Global, looks: u64) -> Choice {
         Choice {
             terms: Vec::new(alloc),
             marks: Vec::new(alloc),
@@ -76,7 +79,13 @@ impl Choice {
             last: (0, 0),
             asked: Vec::new(alloc),
             are_sums_used: false,
+            looks,
         }
+    }
+
+    /// How many looks at nodes are left.
+    pub(crate) fn looks(&self) -> u64 {
+        self.looks
     }
 
     fn has(&self, node: u32, mark: u8) -> bool {
@@ -189,7 +198,7 @@ impl Choice {
         None
     }
 
-    /// The step that a rule has for the highest node.
+    /// The step that a rule has for the highest node. None where no look is left.
     fn by_rule(
         &mut self,
         reduction: &Reduction,
@@ -198,6 +207,10 @@ impl Choice {
         lowest: u32,
     ) -> Option<Move> {
         for back in 0..self.terms.len() {
+            if self.looks == 0 {
+                return None;
+            }
+            self.looks -= 1;
             if let Some(node) = self.node(back) {
                 let place = Place {
                     form: reduction.form(),
@@ -340,9 +353,9 @@ impl Choice {
         Some(step)
     }
 
-    /// A carry, of whatever sum.
+    /// A carry, of whatever sum, unless it stands for a conjunction of inputs that stays.
     fn any_carry(&mut self, place: &Place<'_>) -> Option<Move> {
-        if place.is_small() {
+        if place.is_small() || place.adders.is_left(place.node) {
             return None;
         }
         let half = place.half()?;

@@ -10,7 +10,8 @@
 //! - `reduction`, a form over a graph that grows: what it comes to stays
 //! - `moves`, steps as values; `sums`, the public type and its calls
 //! - `names`, words among outputs
-//! - `chains`, a copy of a graph in which chains of carries stand in place of trees of prefixes (`specs/Chains.antt`)
+//! - `chains`, a copy of a graph in which chains of carries stand in place of trees of prefixes (`specs/Chains.antt`), and `leaves`, what is
+//!   left of exclusive ors in which something cancels out
 //! - `support` and `adders`, what is found in the graph; `choice`, which step comes next; `columns`, what a word comes to, added up as
 //!   another one does it, with the literals of one `column` and what is `chosen` of them: of these nothing is believed
 #![tactic(auto)]
@@ -23,6 +24,7 @@ mod column;
 mod columns;
 mod form;
 mod gates;
+mod leaves;
 mod moves;
 mod names;
 mod place;

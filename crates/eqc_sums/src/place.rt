@@ -163,10 +163,13 @@ impl<'a> Place<'a> {
         Some(Move::Parity(x, y))
     }
 
-    /// The literals of a node that is a conjunction and neither a sum nor a carry nor small.
+    /// The literals of a node that is a conjunction and neither a sum nor a carry nor small, and doesn't stand for one of inputs that stays.
     fn conjunction_at(&self, node: u32) -> Option<(u32, u32)> {
         let adders = self.adders;
-        if adders.is_small(node) || adders.is_sum(node) || adders.is_carry(node) {
+        if adders.is_small(node) || adders.is_left(node) {
+            return None;
+        }
+        if adders.is_sum(node) || adders.is_carry(node) {
             return None;
         }
         adders.literals(node)

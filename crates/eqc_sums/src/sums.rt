@@ -23,7 +23,7 @@ pub struct Limits {
     pub question: u64,
     /// Conflicts of all questions about nodes of a form.
     pub conflicts: u64,
-    /// The work of all questions about nodes that are made, as for an `Effort`.
+    /// The work of all questions about nodes that are made, as for an `Effort`, and the looks at nodes when steps are chosen.
     pub work: u64,
 }
 
@@ -61,6 +61,8 @@ pub struct Sums {
     alloc: Global,
     reduction: Reduction,
     adders: Adders,
+    /// How many nodes may still be looked at for the words that are shown.
+    looks: u64,
 }
 
 /// How many inputs of a node are few: at first, and where that fails.
@@ -155,6 +157,7 @@ fn lowest_of(word: &[u32]) -> u32 {
 /// nodes below that word do it.
 fn rebuild(
     alloc: Global,
+    choice: &mut Choice,
     reduction: &mut Reduction,
     adders: &mut Adders,
     kept: (&[u32], bool),
@@ -164,9 +167,8 @@ fn rebuild(
 {
     let (word, _is_second) = kept;
     let lowest = lowest_of(word);
-    let mut choice = Choice::new(alloc);
     choice.keep(word, reduction.sweep().graph().len())?;
-    reduce_by(&mut choice, reduction, adders, lowest, limits)?;
+    reduce_by(choice, reduction, adders, lowest, limits)?;
     reduction.ask_again(limits.effort())?;
     let graph = reduction.sweep().graph();
     let mut columns = Columns::new(alloc, graph, kept, lowest, limits.work / LOOK)?;
@@ -180,6 +182,7 @@ fn rebuild(
 /// Adds steps to a form that compares two words, until it is zero or none is found.
 fn reduce(
     alloc: Global,
+    choice: &mut Choice,
     reduction: &mut Reduction,
     adders: &mut Adders,
     words: (&[u32], &[u32], Way),
@@ -189,15 +192,9 @@ fn reduce(
 {
     let (ps, qs, way) = words;
     match way {
-        Way::Down => reduce_by(
-            &mut Choice::new(alloc),
-            reduction,
-            adders,
-            lowest_of(ps),
-            limits,
-        ),
-        Way::AsFirst => rebuild(alloc, reduction, adders, (ps, false), limits),
-        Way::AsSecond => rebuild(alloc, reduction, adders, (qs, true), limits),
+        Way::Down => reduce_by(choice, reduction, adders, lowest_of(ps), limits),
+        Way::AsFirst => rebuild(alloc, choice, reduction, adders, (ps, false), limits),
+        Way::AsSecond => rebuild(alloc, choice, reduction, adders, (qs, true), limits),
     }
 }
 
@@ -210,6 +207,7 @@ impl Sums {
             alloc,
             reduction: Reduction::new(alloc, sweep),
             adders: Adders::new(alloc, FEW, false, u32::MAX),
+            looks: 0,
         }
     }
 
@@ -243,6 +241,7 @@ impl Sums {
         ensures extends { Extends self.old.reduction.sweep self.new.reduction.sweep }
         ensures equal { IfOk result (λ is. IsTrue is → AreEqualWords self.new.reduction.sweep ps.now qs.now) }
     {
+        self.looks = limits.work;
         if self.attempt(ps, qs, (FEW, false), limits)? {
             return Ok(true);
         }
@@ -302,14 +301,18 @@ impl Sums {
             return Ok(false);
         }
         self.adders.begin(self.reduction.sweep().graph().len());
+        let mut choice = Choice::new(self.alloc, self.looks);
         let reduction = &mut self.reduction;
+        let adders = &mut self.adders;
         reduce(
             self.alloc,
+            &mut choice,
             reduction,
-            &mut self.adders,
+            adders,
             (ps, qs, way),
             limits,
         )?;
+        self.looks = choice.looks();
         let _ = self.reduction.sweep().graph().len();
         Ok(self.reduction.form().is_zero())
     }

@@ -1,12 +1,12 @@
-//! The inputs below a node, where these are few.
+//! The inputs below a node, or the nodes of which it is the exclusive or, where these are few.
 
-/// How many inputs there is room for.
-pub(crate) const ROOM: usize = 8;
+/// How many there is room for.
+pub(crate) const ROOM: usize = 16;
 
-/// Some inputs, by their nodes.
+/// Some inputs, or other nodes.
 #[derive(Clone, Copy)]
 pub(crate) struct Support {
-    inputs: [u32; 8],
+    inputs: [u32; 16],
     /// How many there are, or one more than there is room for.
     count: usize,
 }
@@ -14,14 +14,14 @@ pub(crate) struct Support {
 impl Support {
     pub(crate) fn none() -> Support {
         Support {
-            inputs: [0; 8],
+            inputs: [0; 16],
             count: 0,
         }
     }
 
     pub(crate) fn many() -> Support {
         Support {
-            inputs: [0; 8],
+            inputs: [0; 16],
             count: ROOM + 1,
         }
     }
@@ -31,14 +31,31 @@ impl Support {
         self.count
     }
 
-    /// With one more input.
-    fn with(self, input: u32) -> Support {
-        let mut more = self;
+    /// Whether a node is one of them.
+    fn has(&self, node: u32) -> bool {
         for at in 0..ROOM {
-            if at < more.count && more.inputs[at] == input {
-                return more;
+            if at < self.count && self.inputs[at] == node {
+                return true;
             }
         }
+        false
+    }
+
+    /// The one at a place.
+    pub(crate) fn at(&self, place: usize) -> Option<u32> {
+        if place < ROOM && place < self.count {
+            Some(self.inputs[place])
+        } else {
+            None
+        }
+    }
+
+    /// With one more.
+    fn with(self, input: u32) -> Support {
+        if self.has(input) {
+            return self;
+        }
+        let mut more = self;
         if more.count < ROOM {
             more.inputs[more.count] = input;
         }
@@ -47,12 +64,12 @@ impl Support {
     }
 }
 
-/// An input alone.
-pub(crate) fn of_input(node: u32) -> Support {
+/// One alone.
+pub(crate) fn of_one(node: u32) -> Support {
     Support::none().with(node)
 }
 
-/// The inputs of two.
+/// Those of two.
 pub(crate) fn joined(first: Support, second: Support) -> Support {
     if first.count > ROOM || second.count > ROOM {
         return Support::many();
@@ -64,4 +81,21 @@ pub(crate) fn joined(first: Support, second: Support) -> Support {
         }
     }
     all
+}
+
+/// Those of one of two that the other one hasn't.
+pub(crate) fn differing(first: Support, second: Support) -> Support {
+    if first.count > ROOM || second.count > ROOM {
+        return Support::many();
+    }
+    let mut left = Support::none();
+    for at in 0..ROOM {
+        if at < first.count && !second.has(first.inputs[at]) {
+            left = left.with(first.inputs[at]);
+        }
+        if at < second.count && !first.has(second.inputs[at]) {
+            left = left.with(second.inputs[at]);
+        }
+    }
+    left
 }

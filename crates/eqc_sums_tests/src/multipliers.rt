@@ -303,16 +303,27 @@ fn inputs(
     Ok(word)
 }
 
-/// The product of two words of inputs.
+/// What is multiplied: two words of inputs of so many bits, or one by itself.
+#[derive(Clone, Copy)]
+pub(crate) enum Factors {
+    Two(u32),
+    Same(u32),
+}
+
+/// The product of two words of inputs, or the square of one.
 pub(crate) fn product(
     alloc: Global,
     sweep: &mut Sweep,
-    width: u32,
+    factors: Factors,
     architecture: Architecture,
     fault: usize,
 ) -> Result<Vec<u32>, AllocError> {
+    let (width, first) = match factors {
+        Factors::Two(width) => (width, width),
+        Factors::Same(width) => (width, 0),
+    };
     let a = inputs(alloc, sweep, width, 0)?;
-    let b = inputs(alloc, sweep, width, width)?;
+    let b = inputs(alloc, sweep, width, first)?;
     match architecture {
         Architecture::Array => {
             let all = partial(alloc, sweep, a.as_slice(), b.as_slice())?;

@@ -1,7 +1,7 @@
 //! Which products are shown equal.
 
 use crate::ends::same;
-use crate::multipliers::{Architecture, and, product, xor};
+use crate::multipliers::{Architecture, Factors, and, product, xor};
 use eqc_graph::negated;
 use eqc_sums::{Limits, Sums, copy_with_chains, has_adders, words_of};
 use eqc_sweep::{Effort, Sweep, copied};
@@ -11,13 +11,13 @@ use std::alloc::{AllocError, Global};
 fn products(
     alloc: Global,
     sweep: &mut Sweep,
-    width: u32,
+    factors: Factors,
     first: Architecture,
     second: Architecture,
     fault: usize,
 ) -> Result<(Vec<u32>, Vec<u32>), AllocError> {
-    let p = product(alloc, sweep, width, first, 0)?;
-    let q = product(alloc, sweep, width, second, fault)?;
+    let p = product(alloc, sweep, factors, first, 0)?;
+    let q = product(alloc, sweep, factors, second, fault)?;
     Ok((p, q))
 }
 
@@ -37,34 +37,35 @@ fn shown_in(alloc: Global, sweep: Sweep, p: &[u32], q: &[u32]) -> Result<(bool, 
 /// Whether two products are shown equal, and whether they are one anyway.
 fn compared(
     alloc: Global,
-    width: u32,
+    factors: Factors,
     first: Architecture,
     second: Architecture,
     fault: usize,
 ) -> Result<(bool, bool), AllocError> {
     let mut sweep = Sweep::new(alloc, Effort::of(3_000, 100_000_000))?;
-    let (p, q) = products(alloc, &mut sweep, width, first, second, fault)?;
+    let (p, q) = products(alloc, &mut sweep, factors, first, second, fault)?;
     shown_in(alloc, sweep, p.as_slice(), q.as_slice())
 }
 
-/// Products: their width, their architectures, an adder with another carry, whether they are shown equal, and whether sweeping made
+/// Products: their factors, their architectures, an adder with another carry, whether they are shown equal, and whether sweeping made
 /// them one.
 #[rattlefmt::skip]
-static PRODUCTS: &[(&str, u32, Architecture, Architecture, usize, (bool, bool))] = &[
-    ("4 bits, by columns", 4, Architecture::Array, Architecture::Columns, 0, (true, true)),
-    ("6 bits, by columns", 6, Architecture::Array, Architecture::Columns, 0, (true, false)),
-    ("8 bits, by columns", 8, Architecture::Array, Architecture::Columns, 0, (true, false)),
-    ("8 bits, mapped", 8, Architecture::Array, Architecture::Mapped, 0, (true, false)),
-    ("4 bits, recoded", 4, Architecture::Array, Architecture::Booth, 0, (true, true)),
-    ("4 bits, a wrong carry", 4, Architecture::Columns, Architecture::Array, 11, (false, false)),
-    ("6 bits, a wrong carry", 6, Architecture::Columns, Architecture::Array, 16, (false, false)),
-    ("8 bits, a wrong carry", 8, Architecture::Columns, Architecture::Array, 21, (false, false)),
+static PRODUCTS: &[(&str, Factors, Architecture, Architecture, usize, (bool, bool))] = &[
+    ("4 bits, by columns", Factors::Two(4), Architecture::Array, Architecture::Columns, 0, (true, true)),
+    ("6 bits, by columns", Factors::Two(6), Architecture::Array, Architecture::Columns, 0, (true, false)),
+    ("8 bits, by columns", Factors::Two(8), Architecture::Array, Architecture::Columns, 0, (true, false)),
+    ("8 bits, mapped", Factors::Two(8), Architecture::Array, Architecture::Mapped, 0, (true, false)),
+    ("4 bits, recoded", Factors::Two(4), Architecture::Array, Architecture::Booth, 0, (true, true)),
+    ("12 bits, a recoded square", Factors::Same(12), Architecture::Columns, Architecture::Booth, 0, (true, false)),
+    ("4 bits, a wrong carry", Factors::Two(4), Architecture::Columns, Architecture::Array, 11, (false, false)),
+    ("6 bits, a wrong carry", Factors::Two(6), Architecture::Columns, Architecture::Array, 16, (false, false)),
+    ("8 bits, a wrong carry", Factors::Two(8), Architecture::Columns, Architecture::Array, 21, (false, false)),
 ];
 
 #[test]
 fn products_are_shown_equal(rt: HostRuntime) -> Result<(), AllocError> {
-    for (case, width, first, second, fault, shown) in PRODUCTS {
-        let found = compared(rt.alloc(), *width, *first, *second, *fault)?;
+    for (case, factors, first, second, fault, shown) in PRODUCTS {
+        let found = compared(rt.alloc(), *factors, *first, *second, *fault)?;
         same(&rt, found, *shown, *case);
     }
     Ok(())
@@ -80,7 +81,13 @@ fn words_are_found(rt: HostRuntime) -> Result<(), AllocError> {
 #[test]
 fn adders_are_seen(rt: HostRuntime) -> Result<(), AllocError> {
     let mut sweep = Sweep::new(rt.alloc(), Effort::of(30, 100_000_000))?;
-    let _ = product(rt.alloc(), &mut sweep, 6, Architecture::Array, 0)?;
+    let _ = product(
+        rt.alloc(),
+        &mut sweep,
+        Factors::Two(6),
+        Architecture::Array,
+        0,
+    )?;
     same(&rt, has_adders(rt.alloc(), &sweep)?, true, "6 bits");
     Ok(())
 }
@@ -125,7 +132,7 @@ fn chained(
     sweep: &mut Sweep,
 ) -> Result<(Option<u32>, u32), AllocError> {
     let tree = carry(plain, true)?;
-    let table = copy_with_chains(alloc, plain.graph(), &[tree], sweep)?;
+    let table = copy_with_chains(alloc, plain.graph(), &[tree], sweep, false)?;
     Ok((copied(&table, tree), carry(sweep, false)?))
 }
 

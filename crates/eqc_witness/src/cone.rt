@@ -47,6 +47,7 @@ impl Cone {
         requires { length first.now ≤ self.now.positions }
         ensures { IfOk result (λ literals. AreAssumptions self.now.graph self.now.root first.now literals.items) }
     {
+        // For the proof alone: a graph has at most 2^30 nodes, so literals of the positions fit.
         let _ = self.graph.len();
         let mut literals = Vec::with_capacity(alloc, first.len() + 1)?;
         literals.push(self.root)?;

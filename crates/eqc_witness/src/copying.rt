@@ -61,6 +61,7 @@ fn copied(
     ensures extends { Extends copy.old copy.new }
     ensures copy { IfOk result (λ found. IfSome found (IsCopy graph.now copy.new variables.now (2 * node))) }
 {
+    // For the proof alone: a graph has at most 2^30 nodes.
     let _ = copy.len();
     match graph.node(node) {
         Node::Constant => Ok(Some(0)),

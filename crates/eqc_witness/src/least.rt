@@ -9,6 +9,7 @@ ghost use Rattle.eqc_witness.specs.Witnesses.{IsFoundOf, IsWitness};
 use crate::Witness;
 use crate::completion::{Completion, Means, complete};
 use crate::cone::Cone;
+use crate::target::{Hints, Target};
 use crate::trials::{Trials, is_less};
 use eqc_graph::Graph;
 use eqc_search::{Budget, Search};
@@ -226,14 +227,12 @@ fn least_of(
     }
 }
 
-/// The least assignment under which a literal of a graph is true, in lexicographic order over `variables`, false before
+/// The least assignment under which a literal of a graph is true, in lexicographic order over the target's variables, false before
 /// true, where every other variable is false; or that there is none; or, where the conflicts are used up, an assignment
 /// under which it is true, if one was seen.
 ///
-/// `variables` has the variable of each position; where one stands twice, its first position counts. Of a literal that
-/// depends on others less may be found. `seen` are variables and their values in an assignment that is tried first; what isn't there is
-/// false, and nothing is promised of it. `earlier` are assignments that are tried too, as values of the positions: those of literals like
-/// this one, the nearest last. The less what is tried, the sooner the least is found.
+/// `target` is the literal, with the variable of each position. Of a literal that depends on others less may be found. `hints` are
+/// assignments that are tried first.
 /// `conflicts` are those that all questions together may have: without any, nothing is found. Those that there were are taken away,
 /// and at least one for each two thousand literals that were visited and nodes below the literal. `work` is what may be done beside
 /// these conflicts: without any, nothing is found. What was done is taken away, and may be more, since no search is given up for it.
@@ -242,23 +241,21 @@ fn least_of(
 pub fn least_witness(
     alloc: Global,
     graph: &Graph,
-    literal: u32,
-    variables: &[u16],
-    seen: &[(u32, bool)],
-    earlier: &[Vec<bool>],
+    target: &Target<'_>,
+    hints: &Hints<'_>,
     conflicts: &mut u64,
     work: &mut u64,
 ) -> Result<Witness, AllocError>
-    requires { IsWithin graph.now literal }
-    ensures { IfOk result (IsWitness graph.now literal variables.now) }
+    requires { IsWithin graph.now target.now.literal }
+    ensures { IfOk result (IsWitness graph.now target.now.literal target.now.variables.now) }
 {
     if *conflicts == 0 || *work == 0 {
         return Ok(Witness::Unknown(None));
     }
-    let Some(cone) = Cone::of(alloc, graph, literal, variables)? else {
+    let Some(cone) = Cone::of(alloc, graph, target.literal, target.variables)? else {
         return Ok(Witness::Unknown(None));
     };
-    let guess = values_told(alloc, variables, seen)?;
+    let guess = values_told(alloc, target.variables, hints.seen)?;
     let given = budget_of(*conflicts, &cone);
     let mut means = Means {
         search: Search::new(alloc),
@@ -266,7 +263,7 @@ pub fn least_witness(
         budget: given,
         trials: Trials::new(alloc, &cone)?,
     };
-    let found = least_of(alloc, &cone, guess, earlier, &mut means);
+    let found = least_of(alloc, &cone, guess, hints.earlier, &mut means);
     let nodes = cone.graph.len();
     *conflicts = conflicts_left(means.given, means.budget, nodes);
     *work = work.saturating_sub(work_beside(&means, nodes));

@@ -5,7 +5,8 @@
 //! a position stays true where it is refuted that it can be false. Read the modules in this order:
 //!
 //! - `witness`, what is found, with `specs/Witnesses.antt`
-//! - `least`, the public call, position by position; `completion`, an assignment that begins with given values
+//! - `least`, the public call, position by position; `target`, what it is asked; `completion`, an assignment that begins with given
+//!   values
 //! - `trials`, assignments that are tried before the search is asked, by `simulation`; `shown`, literals that are seen true by it
 //! - `cone`, the graph below the literal, over positions; `below`, what belongs to it; `copying`, its nodes;
 //!   `evaluation`, its value. What they promise stands in `specs/Cones.antt`
@@ -22,10 +23,12 @@ mod evaluation;
 mod least;
 mod shown;
 mod simulation;
+mod target;
 mod trials;
 mod witness;
 
 pub use least::least_witness;
 pub use shown::{first_shown, words_shown};
+pub use target::{Hints, Target};
 pub use trials::EARLIER;
 pub use witness::Witness;

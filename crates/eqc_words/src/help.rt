@@ -84,10 +84,10 @@ Statuses and reports:
   5                          a bad command line, or want of memory in reading it; told on standard error
   6  vacuous                 no assignment of the inputs meets the assumption, so nothing was compared";
 
-/// What ends a comparison with 71. The store's own word for it knows nothing of turns, which a comparison counts.
+/// What `Stop::NodeLimit` tells of a comparison. The store's own word for it knows nothing of turns, which a comparison counts.
 const NODE_LIMIT: &str = "the store of diagrams is full, or operations on them take too many turns";
 
-/// What is refused with 2. The rule's own words know of no option.
+/// What `TextRule::TextTooLong` tells of a text. The rule's own words know of no option.
 const TEXT_TOO_LONG: &str =
     "a netlist of more bytes than are allowed, or an order text of over 16777216";
 

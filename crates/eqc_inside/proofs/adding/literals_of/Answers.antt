@@ -1,4 +1,4 @@
-use Rattle.std.proofs.Common.{◌<◌, length, ◌∷◌, ◌++◌, []}
+use Rattle.std.proofs.Common.{◌<◌, length}
 use Rattle.std.proofs.lemmas.List.Elements.{All-get_or}
 use Rattle.eqc_inside.proofs.AddingLaws.{asking_more}
 use Rattle.eqc_inside.proofs.adding.literals_of.Goals as goal

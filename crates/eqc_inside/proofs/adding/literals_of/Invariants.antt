@@ -1,4 +1,3 @@
-use Rattle.std.proofs.Common.{◌≤◌, length}
 use Rattle.eqc_inside.proofs.AddingLaws.{IsAsking}
 use Rattle.eqc_inside.proofs.adding.literals_of.Given as goal
 

@@ -1,4 +1,4 @@
-use Rattle.std.proofs.Common.{◌<◌, ℕ, length, subst, arith}
+use Rattle.std.proofs.Common.{subst, arith}
 use Rattle.eqc_sums.specs.Adding.{AreEqualWords}
 use Rattle.eqc_inside.proofs.AddingLaws.{shown_none}
 use Rattle.eqc_inside.proofs.adding.show_word.Goals as goal

@@ -3,4 +3,4 @@ use Rattle.eqc_inside.specs.Searching.{IsAnswerOf}
 use Rattle.eqc_inside.proofs.asking.ask_each.Given as goal
 
 abbrev pub invariant-loop-question : goal.invariant-loop-question
-invariant-loop-question l = All (IsAnswerOf l.pair) l.all.items
+invariant-loop-question l = All (IsAnswerOf l.subject.pair.now) l.all.items

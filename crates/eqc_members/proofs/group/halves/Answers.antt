@@ -1,4 +1,4 @@
-use Rattle.std.proofs.Common.{◌≤◌, length, ◌∙◌, ap, arith}
+use Rattle.std.proofs.Common.{◌≤◌, length, refl, ◌∙◌, ap, arith}
 use Rattle.std.proofs.lemmas.List.Elements.{All-take, All-drop}
 use Rattle.eqc_members.specs.declared.ticket.View.{View}
 use Rattle.eqc_members.proofs.group.halves.Goals as goal
@@ -35,4 +35,5 @@ returns g c =
         variables = rw split.tail (All-drop (λ d. length c.args.pair.now.first.inputs ≤ (g.D.References.holding d).variables) _ _ h.variables);
       };
       all = omega (arith, split.len, split.tail_len, c.len.ensures, c.len-2.ensures);
+      numbers = (refl, omega (arith, split.len, c.len.ensures, c.len-2.ensures));
     }

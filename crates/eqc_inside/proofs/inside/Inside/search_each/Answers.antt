@@ -1,5 +1,6 @@
-use Rattle.std.proofs.Common.{◌≡◌, ◌<◌, ◌∙◌, true, false, Some, None, length, refl, ap, subst, arith}
+use Rattle.std.proofs.Common.{◌≡◌, ◌<◌, ◌∙◌, true, false, Some, None, length, refl, ap, subst, sym, arith}
 use Rattle.std.specs.List.{All}
+use Rattle.eqc_compare.specs.Alike.{AreEqual}
 use Rattle.eqc_inside.specs.Searching.{IsAnswerOf}
 use Rattle.eqc_compare.specs.declared.outcome.Difference.{Difference}
 use Rattle.eqc_compare.specs.Comparing.{difference_at, told_at, is_chosen_at}
@@ -23,7 +24,7 @@ loop-output-preserved-then-is_settled g c =
       known = i.known;
       kept = i.kept;
       ahead = i.ahead;
-      told = told_skip p c.args.every c.loop-output.found.items o i.told inside none;
+      told = told_skip p c.args.terms.every c.loop-output.found.items o i.told inside none;
     }
 
 pub returns-then-not-every-clause-found : goal.returns-then-not-every-clause-found
@@ -40,8 +41,8 @@ returns-then-not-every-clause-found g c =
     let told : told_at c.args.self.now c.loop-output.output ≡ Some c.in-Least.values.items =
     told_chosen p o (subst (λ q. is_chosen_at q c.loop-output.output ≡ true) same (c.is_settled.ensures.chosen c.if-is_settled.false))
     ∙ differs in
-    compared_outcome p c.args.every false c.push.new.self c.requires.allowed refl
-    (rw c.in_ok-push-in-Least.ensures.items (told_first p c.args.every c.loop-output.found.items o i.told inside d refl told c.if-not-every.true))
+    compared_outcome p c.args.terms.every false c.push.new.self c.requires.allowed refl
+    (rw c.in_ok-push-in-Least.ensures.items (told_first p c.args.terms.every c.loop-output.found.items o i.told inside d refl told c.if-not-every.true))
 
 pub loop-output-preserved : goal.loop-output-preserved
 loop-output-preserved g c =
@@ -57,13 +58,13 @@ loop-output-preserved g c =
           let none : difference_at c.args.self.now c.loop-output.output ≡ None = subst (λ q. difference_at q c.loop-output.output ≡ None) i.pair found in
           record {
             pair = c.self-in-loop-output-2.view_is ∙ (c.in_ok-witness.ensures.pair ∙ i.pair);
-            ahead = subst (λ q. All (IsAnswerOf q) c.next_witness.new.ahead.items) i.pair c.in_ok-witness.ensures.ahead;
+            ahead = subst (λ q. All (IsAnswerOf q) c.next_witness.new.course.ahead.items) i.pair c.in_ok-witness.ensures.ahead;
             known = record {
               equal = rw (w.alike-is, w.mark.ensures.equal) (equal_set p c.loop-output.alike.equal.items o i.known.equal none);
               choice = rw (w.alike-is, w.mark.ensures.chosen) i.known.choice;
             };
             kept = rw (w.alike-is, w.mark.ensures.equal) (kept_set p c.args.alike.now.equal.items c.loop-output.alike.equal.items o i.kept);
-            told = rw w.found-is (told_skip p c.args.every c.loop-output.found.items o i.told inside (told_equal p o none));
+            told = rw w.found-is (told_skip p c.args.terms.every c.loop-output.found.items o i.told inside (told_equal p o none));
           }
       | in-Least+in_ok-push-in-Least+else-not-every w ↦
           let found : difference_at c.loop-output.self c.loop-output.output ≡ Some w.in-Least.values.items = rw w.in-Least.is at c.in_ok-witness.ensures.found in
@@ -75,9 +76,24 @@ loop-output-preserved g c =
           ∙ differs in
           record {
             pair = c.self-in-loop-output-2.view_is ∙ (c.in_ok-witness.ensures.pair ∙ i.pair);
-            ahead = subst (λ q. All (IsAnswerOf q) c.next_witness.new.ahead.items) i.pair c.in_ok-witness.ensures.ahead;
+            ahead = subst (λ q. All (IsAnswerOf q) c.next_witness.new.course.ahead.items) i.pair c.in_ok-witness.ensures.ahead;
             known = rw w.alike-is i.known;
             kept = rw w.alike-is i.kept;
-            told = rw (w.found-is, w.in_ok-push-in-Least.ensures.items) (told_more p c.args.every c.loop-output.found.items o i.told inside d refl told w.if-not-every.false);
+            told = rw (w.found-is, w.in_ok-push-in-Least.ensures.items) (told_more p c.args.terms.every c.loop-output.found.items o i.told inside d refl told w.if-not-every.false);
           }
     ]
+
+pub next_witness-requires-clause-equal : goal.next_witness-requires-clause-equal
+next_witness-requires-clause-equal g c = λ κs live.
+    let i = c.loop-output.invariant in
+    rw c.deref-in-loop-output.ensures.value (subst (λ q. AreEqual q c.loop-output.alike.equal.items) (sym i.pair) i.known.equal)
+
+pub next_witness-requires-clause-output : goal.next_witness-requires-clause-output
+next_witness-requires-clause-output g c = λ κs live.
+    let outputs = rw (c.first.ensures, c.pair.ensures, c.self.view_is) at c.outputs-outputs.ensures in
+    let inside : c.loop-output.output < length c.args.self.now.first.outputs = omega (arith, ap length outputs) in
+    subst (λ q. c.loop-output.output < length q.first.outputs) (sym c.loop-output.invariant.pair) inside
+
+pub next_witness-requires-clause-ahead : goal.next_witness-requires-clause-ahead
+next_witness-requires-clause-ahead g c = λ κs live.
+    subst (λ q. All (IsAnswerOf q) c.loop-output.course.ahead.items) (sym c.loop-output.invariant.pair) c.loop-output.invariant.ahead

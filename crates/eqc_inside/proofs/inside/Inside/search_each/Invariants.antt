@@ -11,6 +11,6 @@ invariant-loop-output g l = record {
   pair : l.self ≡ l.initial.self;
   known : IsKnown l.initial.self l.alike;
   kept : KeepsMarks l.initial.self l.initial.alike.equal.items l.alike.equal.items;
-  ahead : All (IsAnswerOf l.initial.self) l.ahead.items;
+  ahead : All (IsAnswerOf l.initial.self) l.course.ahead.items;
   told : AreToldBefore l.initial.self l.every l.found.items l.output;
 }
