@@ -23,7 +23,7 @@ pub struct Limits {
     pub question: u64,
     /// Conflicts of all questions about nodes of a form.
     pub conflicts: u64,
-    /// The work of all questions about nodes that are made, as for an `Effort`, and the looks at nodes when steps are chosen.
+    /// The work of all questions about nodes that are made, as for an `Effort`, and of the looks at nodes when steps are chosen.
     pub work: u64,
 }
 
@@ -80,6 +80,9 @@ const MEETINGS: u64 = 5;
 
 /// The work of a look at whether a sum or a carry is among the nodes.
 const LOOK: u64 = 10;
+
+/// So many looks at terms for a step are one of work: a product of 64 bits takes some 300 million.
+const LOOKS: u64 = 5;
 
 /// How two words are shown equal.
 #[derive(Clone, Copy)]
@@ -241,7 +244,7 @@ impl Sums {
         ensures extends { Extends self.old.reduction.sweep self.new.reduction.sweep }
         ensures equal { IfOk result (λ is. IsTrue is → AreEqualWords self.new.reduction.sweep ps.now qs.now) }
     {
-        self.looks = limits.work;
+        self.looks = limits.work.saturating_mul(LOOKS);
         if self.attempt(ps, qs, (FEW, false), limits)? {
             return Ok(true);
         }
