@@ -1,5 +1,5 @@
 -- What is found of a literal: the least assignment of some variables under which it is true.
-use Rattle.std.specs.Prelude.{◌≡◌, ℕ, Bool, true, List, length, find, Some, None, IfSome}
+use Rattle.std.specs.Prelude.{◌≡◌, ℕ, ◌<◌, Bool, true, List, length, find, Some, None, IfSome, ⊤}
 use Rattle.eqc_tree.specs.Assigned.{assigned, assignments}
 use Rattle.eqc_graph.specs.declared.node.Node.{Node}
 use Rattle.eqc_graph.specs.Graph.{literal_value}
@@ -20,3 +20,10 @@ is_true_under nodes l variables values = literal_value nodes (assigned variables
 -- what is found of the assignments under which it is
 abbrev pub IsWitness : List Node → ℕ → List ℕ → Witness → Type 0
 IsWitness nodes l variables found = IsFoundOf (length variables) (is_true_under nodes l variables) found
+
+-- where an assignment was seen, or that there is none, less is left than there was
+abbrev pub IsSpentOn : ℕ → ℕ → Witness → Type 0
+IsSpentOn before left (Unknown None) = ⊤
+IsSpentOn before left (Unknown (Some _)) = left < before
+IsSpentOn before left (Least _) = left < before
+IsSpentOn before left Never = left < before

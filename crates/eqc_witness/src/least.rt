@@ -4,7 +4,7 @@ ghost use Rattle.eqc_graph.specs.Graph.{IsWithin};
 ghost use Rattle.eqc_clause.specs.Clauses.{IsSound};
 ghost use Rattle.eqc_witness.specs.Completing.{IsCompletion};
 ghost use Rattle.eqc_witness.specs.Cones.{holds_under};
-ghost use Rattle.eqc_witness.specs.Witnesses.{IsFoundOf, IsWitness};
+ghost use Rattle.eqc_witness.specs.Witnesses.{IsFoundOf, IsSpentOn, IsWitness};
 
 use crate::Witness;
 use crate::completion::{Completion, Means, complete};
@@ -45,16 +45,20 @@ fn budget_of(conflicts: u64, cone: &Cone) -> Budget {
     }
 }
 
-/// The conflicts that are left of what was given for a cone of so many nodes. Where much was visited for each, that counts as more
+/// The conflicts that are left of those given for a cone of so many nodes. Where much was visited for each, that counts as more
 /// of them, and so does reading the nodes.
-fn conflicts_left(given: Budget, left: Budget, nodes: u32) -> u64 {
-    let visits = given.visits.saturating_sub(left.visits);
+fn conflicts_left(given: u64, means: &Means, nodes: u32) -> u64
+    ensures { result ≤ given }
+{
+    let visits = means.given.visits.saturating_sub(means.budget.visits);
     let worth = visits.saturating_add(u64::from(nodes)) / WORTH;
-    left.conflicts.min(given.conflicts.saturating_sub(worth))
+    means.budget.conflicts.min(given.saturating_sub(worth))
 }
 
 /// The work that was done beside the conflicts, for a cone of so many nodes.
-fn work_beside(means: &Means, nodes: u32) -> u64 {
+fn work_beside(means: &Means, nodes: u32) -> u64
+    ensures { nodes ≤ result }
+{
     let (given, left) = (means.given, means.budget);
     let conflicts = given.conflicts.saturating_sub(left.conflicts);
     let work = given
@@ -247,7 +251,10 @@ pub fn least_witness(
     work: &mut u64,
 ) -> Result<Witness, AllocError>
     requires { IsWithin graph.now target.now.literal }
-    ensures { IfOk result (IsWitness graph.now target.now.literal target.now.variables.now) }
+    ensures found { IfOk result (IsWitness graph.now target.now.literal target.now.variables.now) }
+    ensures conflicts { conflicts.new ≤ conflicts.old }
+    ensures work { work.new ≤ work.old }
+    ensures spent { IfOk result (IsSpentOn work.old work.new) }
 {
     if *conflicts == 0 || *work == 0 {
         return Ok(Witness::Unknown(None));
@@ -265,7 +272,7 @@ pub fn least_witness(
     };
     let found = least_of(alloc, &cone, guess, hints.earlier, &mut means);
     let nodes = cone.graph.len();
-    *conflicts = conflicts_left(means.given, means.budget, nodes);
+    *conflicts = conflicts_left(*conflicts, &means, nodes);
     *work = work.saturating_sub(work_beside(&means, nodes));
     found
 }
