@@ -66,6 +66,11 @@ struct Turn {
 }
 
 impl Turn {
+    /// Whether it is of the kind in which what is left of exclusive ors is made first, and the second netlist comes before the first one.
+    fn is_other_kind(&self) -> bool {
+        self.number % 2 == 1
+    }
+
     /// The limits in a graph of so many nodes. What succeeds mostly takes fewer steps than there are nodes, and what fails takes all that it
     /// may: that is for the last turn.
     fn limits(&self, nodes: u32) -> Limits {
@@ -254,7 +259,7 @@ fn copy_second_first(
     requires inside { IsInside task.now.steps.now plain.now literals.now }
     requires outputs { All (λ w. All (λ o. o < length task.now.steps.now.pair.first.outputs) w.items) task.now.words.now }
 {
-    if task.turn.number % 2 == 1 {
+    if task.turn.is_other_kind() {
         let side = Side::Second;
         let asked = literals_of_all(task.alloc, task.steps, literals, task.words, side)?;
         copy_with_chains(
@@ -262,7 +267,7 @@ fn copy_second_first(
             plain.graph(),
             &asked,
             sweep,
-            task.turn.number % 2 == 1,
+            task.turn.is_other_kind(),
         )?;
     }
     Ok(())
@@ -286,7 +291,7 @@ fn chained(
         plain.graph(),
         &asked,
         sweep,
-        task.turn.number % 2 == 1,
+        task.turn.is_other_kind(),
     )?;
     moved(task.alloc, literals, &table)
 }
