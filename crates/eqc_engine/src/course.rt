@@ -13,7 +13,7 @@
 //! | 8 | diagrams by one worker who takes dead nodes back, where there are few inputs or very many | `in_room` | the outputs left, where they fit |
 //! | 9 | long rounds of sweeping, as long as they find nodes equal | `sweep_more` | the same as 3 |
 //! | 10 | short searches | `by_search` | the same as 4 |
-//! | 11 | diagrams by all workers | `in_room` | the outputs left, where they fit |
+//! | 11 | diagrams by all workers, and where these don't fit by one of them | `in_room` | the outputs left, where they fit |
 //! | 12 | a longer search that refutes | `ask_outputs` | outputs that are found equal |
 //! | 13 | longer searches | `by_search` | the same as 4 |
 //! | 14 | diagrams by all workers once more, where 12 found some outputs equal | `in_room` | the outputs left, where they fit |
@@ -68,7 +68,8 @@ enum Room {
     Large,
     /// In a forest of one worker, who takes dead nodes back, which is left as the turns of that are spent.
     One,
-    /// In the forest that the options ask for, by as many workers, which is left as the turns of one of them are spent.
+    /// In the forest that the options ask for, by as many workers, which is left as the turns of one of them are spent, and then by one
+    /// worker alone.
     Whole,
 }
 
@@ -127,9 +128,6 @@ fn in_room<R: Threads + Wait + Sync, P: Progress<R> + Sync>(
             check_by_one(comparison, alike)
         }
         Room::Whole => {
-            let Ok(alike) = alike.clone() else {
-                return Err(Stop::Memory);
-            };
             tell_room(comparison, room);
             check_by_team(comparison, alike)
         }

@@ -69,8 +69,8 @@ pub fn check_with<R: Threads + Wait + Sync, D: Diagrams<R> + Send + Drop, G: Gat
     check_known(rt, alloc, pair, request, members, gate)
 }
 
-/// The most nodes of the store of one thread in which a run's comparison begins. None is laid out before it is needed, and none
-/// is taken back: most comparisons end there before a forest would have begun.
+/// The most nodes of the store of one thread in which a run's comparison begins, but for a pair of some inputs and few outputs. None is laid
+/// out before it is needed, and none is taken back: most comparisons end there before a forest would have begun.
 const FIRST_NODES: u32 = 524_288;
 
 /// Who allows as many nodes for all workers, which is the usual number, gets them in the larger room on one thread, too.
@@ -101,6 +101,9 @@ pub struct Comparison<'x, R, P> {
 /// Diagrams over so few inputs mostly fit into the larger room, which is then the first one.
 const FEW_INPUTS: usize = 20;
 
+/// So few outputs may have more nodes in the larger room: of many outputs those that fill it mostly are some of several that would.
+const FEW_OUTPUTS: usize = 4;
+
 /// Over so few, operations in the larger room may take so many turns.
 const SOME_INPUTS: usize = 40;
 
@@ -114,8 +117,8 @@ const SOME_NODES: u32 = 131_072;
 /// room, which such diagrams fill with dead nodes.
 const MANY_INPUTS: usize = 400;
 
-/// The nodes of the forest in which one worker goes on where the larger room is full of dead ones: the most that there can be, or for a
-/// pair of many inputs so many as stay in the caches of a processor.
+/// The most nodes that there can be: in the larger room of a pair of some inputs and few outputs, and in the forest in which one worker goes
+/// on where that is full of dead ones. For a pair of many inputs that forest has so many as stay in the caches of a processor.
 const MOST_NODES: u32 = 1_048_574;
 
 const THIN_NODES: u32 = 65_536;
@@ -133,6 +136,19 @@ fn least_nodes(inputs: usize) -> u32
         SOME_NODES
     } else {
         USUAL_NODES
+    }
+}
+
+/// The nodes of the largest room on one thread. What few outputs over few inputs need mostly fits there, and is seldom found sooner in
+/// another way.
+fn largest_nodes(pair: &Pair<'_>) -> u32
+    ensures some { 1 ≤ result }
+    ensures most { result ≤ 1048574 }
+{
+    if has_some_inputs(pair) && pair.first().outputs().len() <= FEW_OUTPUTS {
+        MOST_NODES
+    } else {
+        FIRST_NODES
     }
 }
 
@@ -174,7 +190,7 @@ pub(crate) fn has_large_room(pair: &Pair<'_>, options: &Options) -> bool
     requires { options_code options.now ≡ None }
     ensures { IsTrue result → 65536 ≤ options.now.nodes }
 {
-    options.nodes >= USUAL_NODES && first_nodes(pair, options) < FIRST_NODES
+    options.nodes >= USUAL_NODES && first_nodes(pair, options) < largest_nodes(pair)
 }
 
 /// Whether one worker goes on alone behind that: not for who allows fewer nodes than is usual. Pairs of real flows whose diagrams don't
@@ -194,7 +210,7 @@ fn first_store(alloc: Global, pair: &Pair<'_>, nodes: u32, turns: u64) -> Result
 {
     pair.recall_laws();
     let inputs = pair.first().inputs().len() as u16;
-    let nodes = nodes.min(FIRST_NODES);
+    let nodes = nodes.min(largest_nodes(pair));
     Plain::with_turns(alloc, inputs, nodes, Some(turns))
 }
 
@@ -279,7 +295,7 @@ fn check_first<R, P: Progress<R>, G: Gate<R>>(
         watch,
     } = *comparison;
     let every = options.every;
-    let turns = if nodes == FIRST_NODES {
+    let turns = if nodes >= FIRST_NODES {
         large_turns(pair)
     } else {
         FIRST_TURNS
@@ -332,21 +348,6 @@ fn check_team<R: Threads + Wait + Sync, P: Progress<R> + Sync>(
         patience: Patience::of_forks(options.forks),
     };
     check_known(rt, alloc, pair, request, members, watch)
-}
-
-/// The report by the team that the options ask for, without workers that aren't needed, where this is known of the pair, or why it
-/// stopped. It is given up as the turns of one of its workers are spent.
-pub(crate) fn check_by_team<R: Threads + Wait + Sync, P: Progress<R> + Sync>(
-    comparison: &Comparison<'_, R, P>,
-    alike: Alike,
-) -> Result<Report, Stop>
-    requires options { options_code comparison.now.options.now ≡ None }
-    requires known { IsKnown comparison.now.pair.now alike }
-    ensures report { IfOk result (λ report. report_of report ≡ pair_report comparison.now.options.now.every comparison.now.pair.now) }
-{
-    let Comparison { pair, options, .. } = *comparison;
-    let needed = needed_options(pair, &alike.equal, options);
-    check_team(comparison, alike, &needed, turns_for(options))
 }
 
 /// The options with one worker alone, which has so many nodes.
@@ -409,12 +410,40 @@ pub(crate) fn check_in_large<R, P: Progress<R>>(
     let Ok(alike) = alike.clone() else {
         return Err(Stop::Memory);
     };
-    check_first(comparison, alike, FIRST_NODES, comparison.watch)
+    let nodes = largest_nodes(comparison.pair);
+    check_first(comparison, alike, nodes, comparison.watch)
 }
 
 /// Whether a store was full, or the turns of its operations spent.
 fn is_full(report: &Result<Report, Stop>) -> bool {
     matches!(report, Err(Stop::NodeLimit))
+}
+
+/// The report by the team that the options ask for, without workers that aren't needed, where this is known of the pair, or why it
+/// stopped. It is given up as the turns of one of its workers are spent. Workers that share a store have diagrams of their own in it, so
+/// where it is full one worker has it alone: what one decides several decide as well.
+pub(crate) fn check_by_team<R: Threads + Wait + Sync, P: Progress<R> + Sync>(
+    comparison: &Comparison<'_, R, P>,
+    alike: &Alike,
+) -> Result<Report, Stop>
+    requires options { options_code comparison.now.options.now ≡ None }
+    requires known { IsKnown comparison.now.pair.now alike.now }
+    ensures report { IfOk result (λ report. report_of report ≡ pair_report comparison.now.options.now.every comparison.now.pair.now) }
+{
+    let Comparison { pair, options, .. } = *comparison;
+    let needed = needed_options(pair, &alike.equal, options);
+    let Ok(again) = alike.clone() else {
+        return Err(Stop::Memory);
+    };
+    let report = check_team(comparison, again, &needed, turns_for(options));
+    if needed.workers == 1 || !is_full(&report) {
+        return report;
+    }
+    let Ok(again) = alike.clone() else {
+        return report;
+    };
+    let alone = alone_options(options, options.nodes);
+    check_team(comparison, again, &alone, turns_for(&alone))
 }
 
 /// The report by diagrams in the first room, where this is known of the pair, or why it stopped. Where there are very many inputs, and many
