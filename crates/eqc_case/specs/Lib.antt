@@ -1,3 +1,4 @@
+pub mod Diagnosed
 pub mod Reading
 pub mod Refusing
 pub mod Sources

@@ -1,8 +1,9 @@
 //! What is told of a run that gave no verdict, beside its report.
+ghost use Rattle.eqc_case.specs.Diagnosed.{IsLocated, IsBordered};
 
 use eqc_blif::Library;
 use eqc_pair::{Finding, Pair, Side};
-use eqc_place::Places;
+use eqc_place::{Border, Places};
 use eqc_report::{Differences, Undecided};
 use eqc_tree::Stop;
 use std::io;
@@ -15,19 +16,34 @@ pub struct Netlist<'a> {
     pub model: usize,
 }
 
+/// What is compared: a pair, and the netlists that it is made of.
+#[derive(Clone, Copy)]
+pub struct Compared<'a> {
+    pub pair: &'a Pair<'a>,
+    pub first: Netlist<'a>,
+    pub second: Netlist<'a>,
+}
+
 /// The places at which an output of a pair begins to differ, and the other outputs that may begin to differ at one of them.
 #[derive(Clone, Copy)]
 pub struct Located<'a> {
+    pub compared: Compared<'a>,
     pub output: &'a [u8],
-    pub pair: &'a Pair<'a>,
+    /// The values of the first netlist's inputs under which it differs.
+    pub values: &'a [bool],
     pub places: &'a Places,
     /// That place by its position among them.
     pub shared: usize,
     /// The others by their positions among the differences.
     pub others: &'a [usize],
     pub differences: &'a Differences,
-    pub first: Netlist<'a>,
-    pub second: Netlist<'a>,
+}
+
+/// Up to where two netlists are known to be equal, below outputs that a run left undecided.
+#[derive(Clone, Copy)]
+pub struct Bordered<'a> {
+    pub compared: Compared<'a>,
+    pub border: &'a Border,
 }
 
 /// Is told why a run gave no verdict, once and after its report was written, if it has one; and where differences begin.
@@ -65,14 +81,23 @@ pub trait Diagnostics {
     /// Whether it is to be told where differences begin.
     fn wants_places(&self) -> bool;
 
-    /// Where some of the differences begin that the report tells: first those that most outputs share.
-    fn places(&mut self, located: &Located<'_>);
+    /// Where some of the differences begin that the report tells: first those that most outputs share. What is told of a place is so under
+    /// the values under which the output differs, and each partner is proved to be one.
+    fn places(&mut self, located: &Located<'_>)
+        requires { IsLocated located.now };
 
     /// For so many of the differences no place was looked for.
     fn unplaced(&mut self, count: usize);
 
-    /// Memory was refused, and not all differences were told of.
+    /// Memory was refused, and not all differences were told of, or not up to where equality is known.
     fn unlocated(&mut self);
+
+    /// Whether it is to be told up to where equality is known, where a run was stopped that left outputs undecided.
+    fn wants_border(&self) -> bool;
+
+    /// Up to where the netlists are known to be equal. Each signal and its partner are proved to be equal, or opposite.
+    fn border(&mut self, bordered: &Bordered<'_>)
+        requires { IsBordered bordered.now };
 }
 
 /// Is told nothing.
@@ -109,4 +134,10 @@ impl Diagnostics for NoDiagnostics {
     fn unplaced(&mut self, _count: usize) {}
 
     fn unlocated(&mut self) {}
+
+    fn wants_border(&self) -> bool {
+        false
+    }
+
+    fn border(&mut self, _bordered: &Bordered<'_>) {}
 }

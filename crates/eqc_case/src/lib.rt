@@ -6,10 +6,13 @@
 //!
 //! - `given`, what a run is given and what is read of it, over `reading`; `choice`, which models are compared
 //! - `told`, a report with its warnings; `warning`, models that are contained in others
-//! - `explaining`, what is at fault in texts that are refused, and `locating`, where differences begin, told to `diagnostics`
+//! - `explaining`, what is at fault in texts that are refused, told to `diagnostics`
+//! - `remaking`, a pair that is made once more, to tell of it too: `locating`, where differences begin, and `bordering`, up to where equality is
+//!   known
 //! - `laws`, facts about the definitions, as functions without a body
 #![tactic(auto)]
 
+mod bordering;
 mod choice;
 mod diagnostics;
 mod explaining;
@@ -17,11 +20,12 @@ mod given;
 mod laws;
 mod locating;
 mod reading;
+mod remaking;
 mod told;
 mod warning;
 
 pub use choice::{Main, ModelNames, OutputNames, choose, read_main};
-pub use diagnostics::{Diagnostics, Located, Netlist, NoDiagnostics};
+pub use diagnostics::{Bordered, Compared, Diagnostics, Located, Netlist, NoDiagnostics};
 pub use explaining::tell_of_case;
 pub use given::{Case, Given, Texts, Unread, bytes_of, read_given};
 pub use laws::{
@@ -29,6 +33,6 @@ pub use laws::{
     answer_is_first_refusal, answer_is_one_for_all_orders,
     answer_is_vacuous_where_nothing_is_allowed, chosen_model_is_the_named_one, runs_are_answered,
 };
-pub use locating::locate_in_case;
+pub use remaking::{border_in_case, locate_in_case};
 pub use told::Told;
 pub use warning::{Contained, Warnings, warnings_in_one, warnings_in_two};

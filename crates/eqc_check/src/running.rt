@@ -9,7 +9,7 @@ ghost use Rattle.eqc_case.specs.Warning.{warnings_at, IsWarned, WarnsOfKnown};
 use crate::decide::decide;
 use eqc_case::{
     Case, Diagnostics, Given, ModelNames, NoDiagnostics, OutputNames, Texts, Told, Unread,
-    Warnings, locate_in_case, read_given, tell_of_case,
+    Warnings, border_in_case, locate_in_case, read_given, tell_of_case,
 };
 use eqc_compare::{NoGate, Progress, Stage};
 use eqc_pair::{Refused, Side};
@@ -116,6 +116,19 @@ fn tell_places<T: Diagnostics>(
     }
 }
 
+/// Tells up to where equality is known below the outputs that are left, if that is wanted and there are any.
+fn tell_border<T: Diagnostics>(alloc: Global, reported: &Reported<'_>, told: &mut T) {
+    let left = reported.left.left();
+    if left.count == 0 || !told.wants_border() {
+        return;
+    }
+    if let Some(case) = &reported.case {
+        if border_in_case(alloc, case, left, told).is_err() {
+            told.unlocated();
+        }
+    }
+}
+
 /// Tells why a report is a refusal or a stop, or where its differences begin. Where memory is refused for it, nothing is told.
 fn tell<T: Diagnostics>(alloc: Global, reported: &Reported<'_>, told: &mut T) {
     match &reported.told.report {
@@ -125,6 +138,7 @@ fn tell<T: Diagnostics>(alloc: Global, reported: &Reported<'_>, told: &mut T) {
         Report::Stopped(stop) => {
             told.stopped(*stop);
             told.undecided(&reported.left);
+            tell_border(alloc, reported, told);
         }
         Report::Refused(refused) => match &reported.case {
             None => told.option(refused.code),

@@ -159,10 +159,10 @@ fn compare<
     R: Read + Drop,
     W: Write,
     E: Write,
->(rt: &RT, request: &Request<'_>, input: R, out: &mut W, err: &mut E) -> End
+>(rt: &RT, request: &Request<'_>, input: R, out: &mut W, err: &mut E, is_terminal: bool) -> End
     ensures { IsRunEnd R.remaining RT.File.remaining request.now input (W.contents out.old) (W.contents out.new) (E.contents err.old) (E.contents err.new) result }
 {
-    let mut explanation = explanation_for(rt.alloc(), request);
+    let mut explanation = explanation_for(rt.alloc(), request, is_terminal);
     let sources = match open(rt, request, input) {
         Ok(sources) => sources,
         Err(Unopened { path, error }) => {
@@ -194,12 +194,13 @@ fn compare<
 /// Does all that the program does, and answers its exit status.
 ///
 /// The words are those of the command line, the program's name first; `input`, `out` and `err` are standard input,
-/// output and error. The options are `--workers N`, `--nodes N`, `--cells N`, `--forks N`, `--conflicts N`, `--order FILE`,
+/// output and error, and `is_terminal` says whether error is a terminal. The options are `--workers N`, `--nodes N`, `--cells N`, `--forks N`, `--conflicts N`, `--order FILE`,
 /// `--assume FILE`, `--all`, `--output NAME` as often as wanted, `--first-model NAME`, `--second-model NAME`, `--explain`, `--locate` and
 /// `--progress`, and up to two files are compared. All files are opened before one is read. The report is written to `out`. Where
 /// it is a verdict on a model that a model of its text contains which isn't compared, `err` gets a warning on it. Where there is no
 /// verdict and `--explain` is given, `err` gets lines on what is at fault, and where outputs differ and `--locate` is, lines on where that
-/// begins. With `--progress` the runtime's own standard error has a
+/// begins; with `--explain` on a terminal a few of them. With both, where outputs are left undecided, it gets lines on up to where the
+/// netlists are known to be equal. With `--progress` the runtime's own standard error has a
 /// line that tells how far the run is, and which is gone before anything is written to `out` or `err`.
 ///
 /// The status is 0 where the netlists are equivalent, 1 where they differ, 2 where the input is refused and 3 where
@@ -212,11 +213,11 @@ pub fn program<
     R: Read + Drop,
     W: Write,
     E: Write,
->(rt: &RT, words: &[String], input: R, out: &mut W, err: &mut E) -> u8
+>(rt: &RT, words: &[String], input: R, out: &mut W, err: &mut E, is_terminal: bool) -> u8
     ensures { IsDone R.remaining RT.File.remaining (map string_bytes words.now) input (W.contents out.old) (W.contents out.new) (E.contents err.old) (E.contents err.new) result }
 {
     let end = match read_words(rt.alloc(), words) {
-        Ok(request) => compare(rt, &request, input, out, err),
+        Ok(request) => compare(rt, &request, input, out, err, is_terminal),
         Err(error) if is_showing(&error) => write_help(rt.alloc(), error, out),
         Err(error) => End::BadWords(error),
     };

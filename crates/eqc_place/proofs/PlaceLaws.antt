@@ -4,15 +4,16 @@ use Rattle.std.proofs.lemmas.Bool.{cases_eq, cases_lt}
 use Rattle.std.proofs.lemmas.List.{take_more, take_all, map-append, get_or_push, get_or_append_left, get_or_past, length_push}
 use Rattle.eqc_graph.specs.declared.node.Node.{Node}
 use Rattle.eqc_graph.specs.Graph.{literal_value}
-use Rattle.eqc_pair.specs.PairOf.{PairOf}
+use Rattle.eqc_pair.specs.PairOf.{PairOf, input_values}
 use Rattle.eqc_build.specs.Building.{reference_of}
-use Rattle.eqc_build.specs.Steps.{value_at}
+use Rattle.eqc_build.specs.Steps.{StepsOf, value_at}
 use Rattle.std.specs.Prelude.{All}
 use Rattle.std.proofs.lemmas.List.Elements.{All-push}
 use Rattle.eqc_place.specs.Values.{AreValues}
-use Rattle.eqc_place.specs.Places.{AreApart, AreProved, IsPartner, IsColumn, AreColumns}
+use Rattle.eqc_place.specs.Places.{AreApart, AreLocated, AreProved, IsPartner, IsPlace, IsColumn, AreColumns}
 use Rattle.eqc_place.specs.declared.place.Partner.{Partner}
 use Rattle.eqc_place.specs.declared.place.Column.{Column}
+use Rattle.eqc_place.specs.declared.place.Places.{Places}
 
 -- steps of one literal are partners
 pub equal_partner : (p : PairOf) (table : List (Option ℕ)) (j k x y : ℕ) → AreProved p table → reference_of table j ≡ Some x → reference_of table k ≡ Some y → x ≡ y →
@@ -97,3 +98,8 @@ listing_whole p a steps c columns whole so_far = record { same = so_far.same ∙
 pub column_of : (p : PairOf) (a : ℕ → Bool) (table : List (Option Bool)) (k : ℕ) (v : Bool) (q : Option Partner) → AreValues p a table → reference_of table k ≡ Some v →
     IfSome q (IsPartner p k) → IfSome q (λ (r : Partner). AreApart p k r.step) → IsColumn p a (record { step = k; value = v; partner = q })
 column_of p a table k v q are here partner apart = record { value = are.each k v here; partner = partner; apart = apart }
+
+-- places of some steps are places of their pair
+pub located : (g : StepsOf) (values : List Bool) (places : Places) → All (IsPlace g (input_values g.pair values)) places.each.items → length places.mendings.items ≡ length places.each.items →
+    AreLocated g.pair values places
+located g values places each mendings = record { steps = g; pair = refl; each = each; mendings = mendings }

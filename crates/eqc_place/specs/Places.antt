@@ -3,12 +3,14 @@ use Rattle.std.specs.Prelude.{◌≡◌, ℕ, ◌<◌, Bool, true, not, ltb, Lis
 use Rattle.eqc_graph.specs.Graph.{differ, literal_value, IsWithin}
 use Rattle.eqc_graph.specs.declared.node.Node.{Node}
 use Rattle.eqc_netlist.specs.Graph.{value_of}
-use Rattle.eqc_pair.specs.PairOf.{PairOf, assumed_variables}
+use Rattle.eqc_pair.specs.PairOf.{PairOf, assumed_variables, input_values}
 use Rattle.eqc_build.specs.Building.{reference_of}
 use Rattle.eqc_build.specs.Steps.{StepsOf, inputs_under, steps_in, uses_of, value_at}
 use Rattle.eqc_place.specs.declared.place.Partner.{Partner}
 use Rattle.eqc_place.specs.declared.place.Column.{Column}
 use Rattle.eqc_place.specs.declared.place.Place.{Place}
+use Rattle.eqc_place.specs.declared.place.Places.{Places}
+use Rattle.eqc_place.specs.declared.place.Meeting.{Meeting}
 
 -- the assumption allows values of the variables: its output is 1 under them. Without an assumption all are allowed
 pub record IsAllowed (p : PairOf) (a : ℕ → Bool) : Type 0 where
@@ -52,3 +54,16 @@ pub record IsPlace (g : StepsOf) (a : ℕ → Bool) (x : Place) : Type 0 where
   pub within : x.step < steps_in g.pair
   pub value : x.value ≡ value_at g.pair a x.step
   pub columns : AreColumns g.pair a (uses_of g x.step) x.columns.items
+
+-- places of a pair where the first netlist's inputs have these values, with what would mend each
+pub record AreLocated (p : PairOf) (values : List Bool) (places : Places) : Type 0 where
+  pub steps : StepsOf
+  pub pair : steps.pair ≡ p
+  pub each : All (IsPlace steps (input_values p values)) places.each.items
+  pub mendings : length places.mendings.items ≡ length places.each.items
+
+-- a step of the first netlist and its partner, which is of the second one
+pub record IsMeeting (p : PairOf) (m : Meeting) : Type 0 where
+  pub first : m.step < length p.first.drivers
+  pub partner : IsPartner p m.step m.partner
+  pub apart : AreApart p m.step m.partner.step

@@ -2,14 +2,14 @@
 ghost use Rattle.std.specs.Prelude.{◌≡◌, ◌<◌, ◌≤◌, All, length, map, IfOk, IfSome};
 ghost use Rattle.eqc_build.specs.Steps.{steps_in, uses_of};
 ghost use Rattle.eqc_pair.specs.PairOf.{input_values};
-ghost use Rattle.eqc_place.specs.Places.{AreApart, AreColumns, IsPartner, IsPlace};
+ghost use Rattle.eqc_place.specs.Places.{AreApart, AreColumns, AreLocated, IsPartner, IsPlace};
 ghost use Rattle.eqc_place.specs.Values.{AreValues};
 
 use crate::allowed::literals_where_allowed;
 use crate::covers::Covers;
 use crate::depths::depths_of;
 use crate::known::Known;
-use crate::partner::{Partners, second_steps};
+use crate::partner::{NONE, Partners, second_steps};
 use crate::place::{Column, Partner, Place, Places};
 use crate::ranking::Suspect;
 use crate::told::{value_in, values_under};
@@ -177,6 +177,47 @@ impl<'a> Locator<'a> {
         (self.everywhere.second, self.everywhere.end)
     }
 
+    /// Whether a step has a partner, under all values or where the assumption holds.
+    pub(crate) fn has_partner(&self, step: u32) -> bool {
+        self.everywhere.has(step) || self.where_allowed.has(step)
+    }
+
+    /// A step of the other netlist with the same node, or `NONE`.
+    pub(crate) fn other(&self, step: u32) -> u32 {
+        let other = self.everywhere.other(step);
+        if other == NONE {
+            self.where_allowed.other(step)
+        } else {
+            other
+        }
+    }
+
+    /// The node that a step has where the assumption holds, or without one under all values; `NONE` where it hasn't entered.
+    pub(crate) fn node(&self, step: u32) -> u32 {
+        let node = self.where_allowed.node(step);
+        if node == NONE {
+            self.everywhere.node(step)
+        } else {
+            node
+        }
+    }
+
+    /// How many nodes there are.
+    pub(crate) fn nodes(&self) -> usize {
+        self.everywhere.nodes()
+    }
+
+    /// Another step as a partner of one, if it is known to be one.
+    pub(crate) fn partner_among(&self, step: u32, other: u32) -> Option<Partner>
+        ensures { IfSome result (IsPartner self.now.pair step) }
+    {
+        let everywhere = self.everywhere.partner_among(step, other);
+        if everywhere.is_some() {
+            return everywhere;
+        }
+        self.where_allowed.partner_among(step, other)
+    }
+
     /// The partner of a step, if one is known: one that is equal under all values comes first.
     fn known_partner(&self, step: u32) -> Option<Partner>
         ensures { IfSome result (IsPartner self.now.pair step) }
@@ -283,6 +324,7 @@ impl<'a> Locator<'a> {
         Ok(each)
     }
 
+    #[tactic(auto, using(crate::proofs::PlaceLaws::located))]
     /// The places at which an output begins to differ, by its position in the first netlist, where the first netlist's inputs have these
     /// values, one for each; at most five in each netlist, first those of the second. What is told of a place is so under these values,
     /// and what is a partner is one under all that the assumption allows; that it is a place, and which comes first, is found by
@@ -296,6 +338,7 @@ impl<'a> Locator<'a> {
         requires { output < length self.now.pair.first.outputs }
         ensures places { IfOk result (λ found. All (IsPlace self.now (input_values self.now.pair inputs.now)) found.each.items) }
         ensures mendings { IfOk result (λ found. length found.mendings.items ≡ length found.each.items) }
+        ensures located { IfOk result (AreLocated self.now.pair inputs.now) }
     {
         let mut trial = Trial::of(alloc, self, self.steps.roots(output), inputs)?;
         let suspects = trial.ranked()?;

@@ -118,8 +118,21 @@ impl Partners {
         &self.literals
     }
 
-    /// The first step of the other netlist that has a step's literal, or `NONE`.
-    fn other(&self, step: u32) -> u32 {
+    /// The node of a step, or `NONE`.
+    pub(crate) fn node(&self, step: u32) -> u32 {
+        match literal_at(&self.literals, step) {
+            Some(literal) => node_of(literal),
+            None => NONE,
+        }
+    }
+
+    /// How many nodes the graph has.
+    pub(crate) fn nodes(&self) -> usize {
+        self.by_first.len()
+    }
+
+    /// The first step of the other netlist that has a step's node, or `NONE`.
+    pub(crate) fn other(&self, step: u32) -> u32 {
         let Some(literal) = literal_at(&self.literals, step) else {
             return NONE;
         };
@@ -139,10 +152,17 @@ impl Partners {
         self.other(step) != NONE
     }
 
+    /// Another step as a partner of one, if it is known to be.
+    pub(crate) fn partner_among(&self, step: u32, other: u32) -> Option<Partner>
+        ensures { (p : PairOf) → AreProved p self.now → IfSome result (IsPartner p step) }
+    {
+        as_partner(&self.literals, step, other)
+    }
+
     /// The partner of a step in the other netlist, if one is known.
     pub(crate) fn partner(&self, step: u32) -> Option<Partner>
         ensures { (p : PairOf) → AreProved p self.now → IfSome result (IsPartner p step) }
     {
-        as_partner(&self.literals, step, self.other(step))
+        self.partner_among(step, self.other(step))
     }
 }

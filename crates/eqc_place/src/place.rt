@@ -1,4 +1,4 @@
-//! What is told of the place of a difference.
+//! What is told of the place of a difference, and of signals that are proved equal.
 
 /// A step of the other netlist that is proved to have the same value, or the opposite one, under all values of the inputs that the
 /// assumption allows, and under all of them without an assumption.
@@ -35,6 +35,24 @@ pub struct Place {
     pub mended: u32,
     /// In so many of the first of them no other cover of the same columns would do, since these want two values for the same ones.
     pub torn: u32,
+}
+
+/// A step of the first netlist with its partner in the second one.
+#[derive(Clone, Copy, Debug)]
+pub struct Meeting {
+    pub step: u32,
+    pub partner: Partner,
+}
+
+/// Up to where two netlists are known to be equal below some of their outputs.
+#[derive(Drop)]
+pub struct Border {
+    /// Steps that are reached from these outputs back by steps without partners, the nearest first.
+    pub meetings: Vec<Meeting>,
+    /// So many inputs are reached in the same way, by themselves or by signals that have their values.
+    pub inputs: usize,
+    /// So many of these outputs are left: the others were found equal on the way.
+    pub outputs: usize,
 }
 
 /// The places of a difference, first those at which it is most likely to begin, and in how many simulated assignments the output differs.

@@ -75,7 +75,8 @@ pub(crate) fn values_under(
     steps: &Steps<'_>,
     inputs: &[bool],
 ) -> Result<Vec<Option<bool>>, AllocError>
-    ensures { IfOk result (λ table. AreValues steps.now.pair (input_values steps.now.pair inputs.now) table.items) }
+    ensures size { IfOk result (λ table. length table.items ≡ steps_in steps.now.pair) }
+    ensures values { IfOk result (λ table. AreValues steps.now.pair (input_values steps.now.pair inputs.now) table.items) }
 {
     let count = steps.len();
     let mut table = Vec::with_capacity(alloc, count as usize)?;

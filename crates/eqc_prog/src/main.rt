@@ -5,6 +5,7 @@
 mod tests;
 
 use eqc_command::program;
+use std::io::IsTerminal;
 use std::process::ExitCode;
 use std::{env, io};
 
@@ -17,7 +18,11 @@ fn main(rt: HostRuntime) -> ExitCode {
     let mut out = rt.stdout();
     let mut err = rt.stderr();
     match words(&rt) {
-        Ok(words) => ExitCode::from(program(&rt, &words, rt.stdin(), &mut out, &mut err)),
+        Ok(words) => {
+            let is_terminal = err.is_terminal();
+            let input = rt.stdin();
+            ExitCode::from(program(&rt, &words, input, &mut out, &mut err, is_terminal))
+        }
         Err(error) => {
             let _ = eprintln!(rt; "error: the command line could not be read: {error}");
             ExitCode::from(5)

@@ -3,10 +3,14 @@
 //! A path of an instance is read from the main model down: `2:adder/1:cell` is, in the second `.subckt` of the main model, an
 //! `adder`, its first one, a `cell`.
 
-use crate::places::{mending_said, output_said, place_said, sharing_said, unplaced_said};
+use crate::border::border_lines;
+use crate::places::{
+    BRIEF, LOCATE_HINT, brief_output_said, brief_place_said, mending_said, output_said, place_said,
+    sharing_said, unplaced_said,
+};
 use crate::warning::{first_source, second_source};
 use eqc_blif::{Finding as TextFinding, Library};
-use eqc_case::{Diagnostics, Located};
+use eqc_case::{Bordered, Diagnostics, Located};
 use eqc_flat::{Circle, Finding, FoundFormal, FoundInstance, HierarchicalName};
 use eqc_pair::{Finding as PairFinding, Side, Unmatched};
 use eqc_report::{Left, Options, RunFault, Seen, Undecided, Word};
@@ -32,7 +36,7 @@ const MOST_NODES: u32 = 1_048_574;
 /// The fewest nodes with which equal signals are looked for inside the netlists.
 const SWEPT_NODES: u32 = 1_024;
 
-/// What is said where memory was refused for the places of differences.
+/// What is said where memory was refused for the places of differences, or for up to where equality is known.
 const UNLOCATED: &str = "the memory is exhausted, so not all places are told of";
 
 /// What is said where nothing was compared.
@@ -53,9 +57,10 @@ pub struct Explanation<'a> {
     /// Empty where there is no assumption.
     assume: &'a str,
     options: Options,
-    /// Whether it is told why there is no verdict, and where differences begin.
+    /// Whether it is told why there is no verdict, and where differences begin, in full or in short.
     explains: bool,
     locates: bool,
+    briefs: bool,
     lines: String,
 }
 
@@ -534,8 +539,12 @@ fn seen_said(alloc: Global, seen: &Seen) -> Result<String, AllocError> {
     Ok(said)
 }
 
-/// No explanation yet, of what is asked for.
-pub fn explanation_for<'a>(alloc: Global, request: &Request<'a>) -> Explanation<'a> {
+/// No explanation yet, of what is asked for. On a terminal `--explain` tells in short where differences begin.
+pub fn explanation_for<'a>(
+    alloc: Global,
+    request: &Request<'a>,
+    is_terminal: bool,
+) -> Explanation<'a> {
     Explanation {
         alloc,
         first: first_source(request),
@@ -545,6 +554,7 @@ pub fn explanation_for<'a>(alloc: Global, request: &Request<'a>) -> Explanation<
         options: request.options,
         explains: request.explain,
         locates: request.locate,
+        briefs: request.explain && !request.locate && is_terminal,
         lines: String::new(alloc),
     }
 }
@@ -638,7 +648,7 @@ impl<'a> Explanation<'a> {
         }
     }
 
-    /// Tells of the places of a difference, and of the others that may begin at one of them.
+    /// Tells of outputs that are left undecided.
     fn tell_left(&mut self, left: &Left) -> Result<(), AllocError> {
         self.tell(undecided_said(self.alloc, left))?;
         for word in &left.words {
@@ -650,6 +660,29 @@ impl<'a> Explanation<'a> {
         Ok(())
     }
 
+    /// Tells up to where equality is known.
+    fn tell_border(&mut self, bordered: &Bordered<'_>) -> Result<(), AllocError> {
+        for line in border_lines(self.alloc, bordered)? {
+            self.put(Ok(line))?;
+        }
+        Ok(())
+    }
+
+    /// Tells in short of the first places of a difference.
+    fn tell_briefly(&mut self, located: &Located<'_>) -> Result<(), AllocError> {
+        let places = located.places;
+        if places.each.is_empty() {
+            return Ok(());
+        }
+        self.put(brief_output_said(self.alloc, located))?;
+        let texts = (self.first, self.second);
+        for (place, mending) in places.each.iter().zip(&places.mendings).take(BRIEF) {
+            self.put(brief_place_said(self.alloc, located, texts, place, *mending))?;
+        }
+        self.hint(LOCATE_HINT)
+    }
+
+    /// Tells of the places of a difference, and of the others that may begin at one of them.
     fn tell_places(&mut self, located: &Located<'_>) -> Result<(), AllocError> {
         self.put(output_said(self.alloc, located))?;
         let places = located.places;
@@ -729,18 +762,34 @@ impl<'a> Diagnostics for Explanation<'a> {
     }
 
     fn wants_places(&self) -> bool {
-        self.locates
+        self.locates || self.briefs
     }
 
     fn places(&mut self, located: &Located<'_>) {
-        let _ = self.tell_places(located);
+        if self.locates {
+            let _ = self.tell_places(located);
+        } else if self.briefs {
+            // Those of the first group of outputs are enough.
+            self.briefs = false;
+            let _ = self.tell_briefly(located);
+        }
     }
 
     fn unplaced(&mut self, count: usize) {
-        let _ = self.put(unplaced_said(self.alloc, count));
+        if self.locates {
+            let _ = self.put(unplaced_said(self.alloc, count));
+        }
     }
 
     fn unlocated(&mut self) {
         let _ = self.put(String::from_str(self.alloc, UNLOCATED));
+    }
+
+    fn wants_border(&self) -> bool {
+        self.explains || self.locates
+    }
+
+    fn border(&mut self, bordered: &Bordered<'_>) {
+        let _ = self.tell_border(bordered);
     }
 }

@@ -1,10 +1,10 @@
-//! The words for where differences begin.
+//! The words for where differences begin, in full and in short.
 ghost use Rattle.std.specs.Prelude.{◌<◌, ◌≤◌, length, IfSome};
 
 use crate::explanation::{LISTED, Shown, Whole};
 use crate::statement::line_of_cover;
 use eqc_blif::Library;
-use eqc_case::{Located, Netlist};
+use eqc_case::{Compared, Located, Netlist};
 use eqc_netlist::{Driver, Flat, Name};
 use eqc_place::{Column, Mending, Place};
 use std::alloc::{AllocError, Global};
@@ -12,28 +12,33 @@ use std::alloc::{AllocError, Global};
 /// What is said of a place whose cover alone may be changed.
 const OTHER_COVER: &str = ", and another cover of its columns may do so";
 
+/// So many places are told in short, and what tells more of them.
+pub(crate) const BRIEF: usize = 3;
+
+pub(crate) const LOCATE_HINT: &str = "--locate tells more places, with their covers and values";
+
 /// A signal of a flat netlist.
 #[derive(Clone, Copy)]
-struct Signal<'a> {
-    flat: &'a Flat<'a>,
+pub(crate) struct Signal<'a> {
+    pub flat: &'a Flat<'a>,
     netlist: Netlist<'a>,
-    number: u32,
+    pub number: u32,
     /// Whether the netlist is the first one.
     is_first: bool,
 }
 
 /// The signal of a step of a pair, if it is one of its netlists.
-fn signal_of<'a>(located: &Located<'a>, step: u32) -> Option<Signal<'a>>
+pub(crate) fn signal_of<'a>(compared: &Compared<'a>, step: u32) -> Option<Signal<'a>>
     ensures { IfSome result (λ signal. signal.number < length signal.flat.now.drivers) }
 {
-    let first = located.pair.first();
-    let second = located.pair.second();
+    let first = compared.pair.first();
+    let second = compared.pair.second();
     let count = first.steps().len();
     let at = step as usize;
     let (flat, netlist, at) = if at < count {
-        (first, located.first, at)
+        (first, compared.first, at)
     } else {
-        (second, located.second, at - count)
+        (second, compared.second, at - count)
     };
     let steps = flat.steps();
     if at >= steps.len() {
@@ -100,19 +105,27 @@ fn path_of(
 }
 
 impl<'a> Signal<'a> {
+    /// The way to its instance, and the number of the model that it stands in. Fails where memory is refused.
+    pub(crate) fn path(&self, alloc: Global) -> Result<(usize, String), AllocError>
+        requires { self.now.number < length self.now.flat.now.drivers }
+    {
+        let (instance, _) = self.flat.signal(self.number);
+        let positions = positions_of(alloc, self.flat, instance)?;
+        path_of(alloc, self.netlist, &positions)
+    }
+
     /// Its name, and the number of the model that it stands in. Fails where memory is refused.
     fn named(&self, alloc: Global) -> Result<(String, usize), AllocError>
         requires { self.now.number < length self.now.flat.now.drivers }
     {
-        let (instance, name) = self.flat.signal(self.number);
-        let positions = positions_of(alloc, self.flat, instance)?;
-        let (model, path) = path_of(alloc, self.netlist, &positions)?;
+        let (_, name) = self.flat.signal(self.number);
+        let (model, path) = self.path(alloc)?;
         let said = format!(in alloc; "'{}'{path}", Shown(name))?;
         Ok((said, model))
     }
 
     /// The line of the cover that drives it, where it stands in a model of this number, if it is found.
-    fn line(&self, model: usize) -> Option<u32>
+    pub(crate) fn line(&self, model: usize) -> Option<u32>
         requires { self.now.number < length self.now.flat.now.drivers }
     {
         if model >= self.netlist.library.models() {
@@ -123,14 +136,14 @@ impl<'a> Signal<'a> {
     }
 
     /// Which netlist it is of.
-    fn side(&self) -> &'static str {
+    pub(crate) fn side(&self) -> &'static str {
         if self.is_first { "first" } else { "second" }
     }
 }
 
 /// The name of the signal of a step, empty where it is none. Fails where memory is refused.
 fn name_of(alloc: Global, located: &Located<'_>, step: u32) -> Result<String, AllocError> {
-    match signal_of(located, step) {
+    match signal_of(&located.compared, step) {
         Some(signal) => {
             let (name, _) = signal.named(alloc)?;
             Ok(name)
@@ -207,7 +220,7 @@ pub(crate) fn place_said(
     located: &Located<'_>,
     place: &Place,
 ) -> Result<String, AllocError> {
-    let Some(signal) = signal_of(located, place.step) else {
+    let Some(signal) = signal_of(&located.compared, place.step) else {
         return Ok(String::new(alloc));
     };
     let (name, model) = signal.named(alloc)?;
@@ -265,6 +278,43 @@ pub(crate) fn sharing_said(
     }
     if count > LISTED {
         said.push_str(" ..")?;
+    }
+    Ok(said)
+}
+
+/// The short line before the places of an output. Fails where memory is refused.
+pub(crate) fn brief_output_said(
+    alloc: Global,
+    located: &Located<'_>,
+) -> Result<String, AllocError> {
+    format!(in alloc; "'{}' may begin to differ at:", Whole(located.output))
+}
+
+/// The short line on a place, in a text that is called so: the line of its driver, its name, and what would mend it. Fails where memory is
+/// refused.
+pub(crate) fn brief_place_said(
+    alloc: Global,
+    located: &Located<'_>,
+    texts: (&str, &str),
+    place: &Place,
+    mending: Option<Mending>,
+) -> Result<String, AllocError> {
+    let Some(signal) = signal_of(&located.compared, place.step) else {
+        return Ok(String::new(alloc));
+    };
+    let (name, model) = signal.named(alloc)?;
+    let text = if signal.is_first { texts.0 } else { texts.1 };
+    let mut said = match signal.line(model) {
+        Some(line) => format!(in alloc; "{text}: line {line}: {name}"),
+        None => format!(in alloc; "{text}: {name}"),
+    }?;
+    if let Some(mending) = mending {
+        let other = name_of(alloc, located, mending.step)?;
+        let not = if mending.is_opposite { "not " } else { "" };
+        let mends = format!(in alloc;
+            "; {not}{other} of the other netlist has the values that mend it"
+        )?;
+        said.push_str(&mends)?;
     }
     Ok(said)
 }

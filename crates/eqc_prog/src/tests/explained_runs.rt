@@ -1,7 +1,7 @@
 //! What `--explain` tells behind the report of a run without a verdict, for each code, worked out by hand from the texts.
 
 use super::ends::{holds, same};
-use super::program::{LEAF_FIRST, words_of, writes, written_by};
+use super::program::{LEAF_FIRST, words_of, writes, written_by, written_on};
 use eqc_check::{Diagnostics, Options};
 use eqc_command::{Request, explanation_for, program};
 use eqc_testing::{
@@ -56,6 +56,10 @@ static FLATTENING: &[Row<Told>] = &[
 const LEFT_OF_A_WORD: &str =
     ".model f;.inputs a b;.outputs q p[0] p[1] p[2] r v_1_;.names a p[0];1 1;.names a b p[1];11 1;.names a b p[2];10 1;.names a b q;01 1;.names b r;1 1;.names a b v_1_;00 1;.end;.model g;.inputs a b;.outputs q p[0] p[1] p[2] r v_1_;.names a p[0];1 1;.names a b p[1];1- 1;.names a b p[2];0- 1;.names a b q;-1 1;.names b r;1 1;.names a b v_1_;-0 1;.end;";
 
+/// Netlists of which a word is equal to another one, and a signal is the opposite of what an instance gives; their outputs differ.
+const EQUAL_BELOW: &str =
+    ".model f;.inputs a b c;.outputs z;.names a b t[0];11 1;.names b c t[1];11 1;.names a c n;11 1;.names t[0] t[1] n b z;1--- 1;-1-- 1;--11 1;.end;.model g;.inputs a b c;.outputs z;.names a b u[2];11 1;.names b c u[3];11 1;.subckt h x=a y=c o=w;.names u[2] u[3] w b z;11-- 1;--11 1;.end;.model h;.inputs x y;.outputs o;.names x y o;11 0;.end;";
+
 /// Netlists that make no pair, order texts, options, and files that can't be read.
 #[rattlefmt::skip]
 static COMPARING: &[Row<Told>] = &[
@@ -71,8 +75,9 @@ static COMPARING: &[Row<Told>] = &[
     ("no statement in the assumption", UNEQUAL, ("--assume yx", "refused assume 1 6;", &["eqc: yx: line 1: the row 'y x' follows no .names (6)", "eqc: BLIF begins with a command; other formats are converted first, and a byte order mark is left out"])),
     ("the assumption's hierarchy", UNEQUAL, ("--assume undriven", "refused assume 0 27;", &["eqc: undriven: signal 'e' has no driver (27)", "eqc: 'opt_clean -purge', 'write_blif -noalias' or scripts/prepare --unused leaves such a name out; what an output needs 'setundef -undriven -zero' before 'techmap' ties to 0"])),
     ("nothing is allowed", UNEQUAL, ("--assume nothing", "vacuous;", &["eqc: nothing: no assignment of the inputs meets the assumption, so nothing was compared"])),
-    ("too few nodes", UNEQUAL, ("--nodes 1", "stopped 71;", &["eqc: the diagrams want more than --nodes 1, or too many turns (71); try a larger number, up to 1048574, or another --order, as scripts/order makes", "eqc: with --nodes 1024 and more equal signals are looked for inside the netlists", "eqc: 0 of 1 outputs are equal; left undecided, 1:", "eqc: 'z'"])),
-    ("outputs left of a word", LEFT_OF_A_WORD, ("--nodes 1", "stopped 71;", &["eqc: the diagrams want more than --nodes 1, or too many turns (71); try a larger number, up to 1048574, or another --order, as scripts/order makes", "eqc: with --nodes 1024 and more equal signals are looked for inside the netlists", "eqc: 2 of 6 outputs are equal; left undecided, 4:", "eqc: p[2:0]: 2 of 3", "eqc: 'q' 'v_1_'"])),
+    ("too few nodes", UNEQUAL, ("--nodes 1", "stopped 71;", &["eqc: the diagrams want more than --nodes 1, or too many turns (71); try a larger number, up to 1048574, or another --order, as scripts/order makes", "eqc: with --nodes 1024 and more equal signals are looked for inside the netlists", "eqc: 0 of 1 outputs are equal; left undecided, 1:", "eqc: 'z'", "eqc: below the outputs that are left no signal was found equal to one of the other netlist; inputs that they need: 2"])),
+    ("outputs left of a word", LEFT_OF_A_WORD, ("--nodes 1", "stopped 71;", &["eqc: the diagrams want more than --nodes 1, or too many turns (71); try a larger number, up to 1048574, or another --order, as scripts/order makes", "eqc: with --nodes 1024 and more equal signals are looked for inside the netlists", "eqc: 2 of 6 outputs are equal; left undecided, 4:", "eqc: p[2:0]: 2 of 3", "eqc: 'q' 'v_1_'", "eqc: below the outputs that are left no signal was found equal to one of the other netlist; inputs that they need: 2"])),
+    ("a word up to which it is equal", EQUAL_BELOW, ("--nodes 1", "stopped 71;", &["eqc: the diagrams want more than --nodes 1, or too many turns (71); try a larger number, up to 1048574, or another --order, as scripts/order makes", "eqc: with --nodes 1024 and more equal signals are looked for inside the netlists", "eqc: 0 of 1 outputs are equal; left undecided, 1:", "eqc: 'z'", "eqc: below the outputs that are left so many signals are proved equal to ones of the other netlist: 3; inputs that they need beside these: 1", "eqc: 't[1:0]' (first, line 4) = 'u[3:2]' (second, line 18): 2 of 2", "eqc: 'n' (first, line 8) = not 'o' of instance 1:h (second, line 30)"])),
     ("too many workers", UNEQUAL, ("--workers 65", "refused options 0 81;", &["eqc: --workers 65: 1 to 64 are allowed (81)"])),
     ("no node", UNEQUAL, ("--nodes 0", "refused options 0 82;", &["eqc: --nodes 0: 1 to 1048574 are allowed (82)"])),
     ("three cells", UNEQUAL, ("--cells 3", "refused options 0 83;", &["eqc: --cells 3: a power of two up to 1048576 is wanted (83)"])),
@@ -254,7 +259,7 @@ fn has_many_bytes(
 ) -> bool {
     let mut out = Vec::new(rt.alloc());
     let mut err = Vec::new(rt.alloc());
-    program(rt, words, Endless::new(), &mut out, &mut err);
+    program(rt, words, Endless::new(), &mut out, &mut err, false);
     is_text(&out, "refused first 0 2;") && is_text(&err, MANY_BYTES)
 }
 
@@ -276,7 +281,7 @@ fn is_write_fault(
     let mut out = Drain::new(Vec::new(rt.alloc()), 4, 1, true);
     let mut err = Vec::new(rt.alloc());
     let input = Feed::new(UNEQUAL, NEVER, NEVER);
-    let status = program(rt, words, input, &mut out, &mut err);
+    let status = program(rt, words, input, &mut out, &mut err, false);
     status == 4 && is_text(&err, said)
 }
 
@@ -327,7 +332,7 @@ fn is_said_of(alloc: Global, stop: Stop, said: &str) -> bool {
         first: None,
         second: None,
     };
-    let mut explanation = explanation_for(alloc, &request);
+    let mut explanation = explanation_for(alloc, &request, false);
     explanation.stopped(stop);
     is_text(explanation.as_bytes(), said)
 }
@@ -405,6 +410,34 @@ fn outputs_are_grouped_by_place(rt: HostRuntime) {
     let first = [LOST_OUTPUT];
     let located = is_located(&rt, LOST_TWICE, told, &first, &[LOST_SHARED]);
     holds(&rt, located, "two outputs");
+}
+
+/// The lines on a terminal: the output, the first place, and what tells more.
+const BRIEF_OUTPUT: &str = "eqc: 'y' may begin to differ at:";
+
+const BRIEF_PLACE: &str =
+    "eqc: standard input: line 12: 'm'; 'n' of the other netlist has the values that mend it";
+
+const BRIEF_HINT: &str = "eqc: --locate tells more places, with their covers and values";
+
+/// Whether `--explain` tells places in short of a difference where standard error is a terminal, and nothing where it isn't, and the report
+/// is the same.
+fn is_told_in_short(rt: &(impl AllocGlobal + Threads + Wait + Sync)) -> Result<bool, AllocError> {
+    let alloc = rt.alloc();
+    let text = lines(alloc, LOST)?;
+    let plain = written_by(rt, "eqc --explain", Feed::of_bytes(&text))?;
+    let shown = written_on(rt, "eqc --explain", Feed::of_bytes(&text), true)?;
+    let first = joined(alloc, &[BRIEF_OUTPUT, BRIEF_PLACE], "")?;
+    let last = joined(alloc, &[BRIEF_HINT], "")?;
+    let is_same = plain.status == 1 && shown.status == 1 && shown.out == plain.out;
+    let told = shown.err.as_slice();
+    let is_short = told.starts_with(first.as_bytes()) && told.ends_with(last.as_bytes());
+    Ok(is_same && is_short && plain.err.is_empty() && is_text(&plain.out, LOST_REPORT))
+}
+
+#[test]
+fn differences_are_told_in_short_on_a_terminal(rt: HostRuntime) {
+    holds(&rt, is_told_in_short(&rt), "a terminal");
 }
 
 /// Covers of which those of `n` and `m` are equal where `x` is 1, and those of the outputs aren't.

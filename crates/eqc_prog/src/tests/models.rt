@@ -78,7 +78,14 @@ fn is_cut_off(
 ) -> bool {
     let mut out = Vec::new(rt.alloc());
     let mut err = Drain::new(Vec::new(rt.alloc()), 4, 1, true);
-    let status = program(rt, words, Feed::whole(LEAF_FIRST), &mut out, &mut err);
+    let status = program(
+        rt,
+        words,
+        Feed::whole(LEAF_FIRST),
+        &mut out,
+        &mut err,
+        false,
+    );
     status == 0 && is_text(&out, "equivalent;") && is_text(&err.bytes, "eqc:")
 }
 

@@ -66,6 +66,16 @@ pub fn written_by<RT: AllocGlobal + Threads + Wait + Sync>(
     line: &str,
     input: Feed<'_>,
 ) -> Result<Written, AllocError> {
+    written_on(rt, line, input, false)
+}
+
+/// The same where standard error may be a terminal.
+pub fn written_on<RT: AllocGlobal + Threads + Wait + Sync>(
+    rt: &RT,
+    line: &str,
+    input: Feed<'_>,
+    is_terminal: bool,
+) -> Result<Written, AllocError> {
     let alloc = rt.alloc();
     let words = words_of(alloc, line)?;
     let disk = Disk {
@@ -75,7 +85,14 @@ pub fn written_by<RT: AllocGlobal + Threads + Wait + Sync>(
     };
     let mut out = Vec::new(alloc);
     let mut err = Vec::new(alloc);
-    let status = program(&(disk, alloc), &words, input, &mut out, &mut err);
+    let status = program(
+        &(disk, alloc),
+        &words,
+        input,
+        &mut out,
+        &mut err,
+        is_terminal,
+    );
     Ok(Written { status, out, err })
 }
 

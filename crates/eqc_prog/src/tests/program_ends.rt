@@ -205,7 +205,7 @@ fn is_write_fault(
 ) -> bool {
     let mut out = Drain::new(Vec::new(rt.alloc()), step, fails_at, flushes);
     let mut err = Vec::new(rt.alloc());
-    let status = program(rt, words, Feed::whole(EQUAL), &mut out, &mut err);
+    let status = program(rt, words, Feed::whole(EQUAL), &mut out, &mut err, false);
     status == 4 && is_text(&out.bytes, written) && is_text(&err, "fault 92;")
 }
 
@@ -227,7 +227,7 @@ fn status_unheard(
 ) -> Option<u8> {
     let mut out = Vec::new(rt.alloc());
     let mut err = Drain::new(Vec::new(rt.alloc()), 3, 1, true);
-    let status = program(rt, words, Feed::whole(EQUAL), &mut out, &mut err);
+    let status = program(rt, words, Feed::whole(EQUAL), &mut out, &mut err, false);
     (out.is_empty() && err.bytes.len() == 3).then_some(status)
 }
 
@@ -280,7 +280,7 @@ fn refuses_endless(
 ) -> bool {
     let mut out = Vec::new(rt.alloc());
     let mut err = Vec::new(rt.alloc());
-    let status = program(rt, words, Endless::new(), &mut out, &mut err);
+    let status = program(rt, words, Endless::new(), &mut out, &mut err, false);
     status == 2 && is_text(&out, "refused first 0 2;") && err.is_empty()
 }
 

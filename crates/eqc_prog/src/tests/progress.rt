@@ -53,7 +53,7 @@ fn shown_late<R: AllocGlobal + Threads + Wait + Sync>(
     };
     let mut out = Vec::new(alloc);
     let mut err = Vec::new(alloc);
-    let ended = program(&(disk, alloc), words, input, &mut out, &mut err);
+    let ended = program(&(disk, alloc), words, input, &mut out, &mut err, false);
     let wanted = ended == status && is_text(&out, report) && is_text(&err, error);
     wanted.then_some(terminal.into_text())
 }
