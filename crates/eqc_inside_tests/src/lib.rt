@@ -2,7 +2,7 @@
 //! least assignments of literals.
 //!
 //! - `graphs`, of `eqc_graph`, and the graphs that the others ask about; `clauses`, of `eqc_clause`; `questions`, of `eqc_search`;
-//!   `sweeps`, of `eqc_sweep`; `witnesses`, least assignments, of `eqc_witness`
+//!   `sweeps`, of `eqc_sweep`, and `teams`, the same by several threads; `witnesses`, least assignments, of `eqc_witness`
 //! - `ends`, what ends a test
 #![tactic(auto)]
 
@@ -16,5 +16,7 @@ mod graphs;
 mod questions;
 #[cfg(test)]
 mod sweeps;
+#[cfg(test)]
+mod teams;
 #[cfg(test)]
 mod witnesses;

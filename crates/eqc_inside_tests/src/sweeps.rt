@@ -10,8 +10,8 @@ use std::process::Abort;
 use std::thread::Threads;
 
 /// A graph that a test owns. It stands here for the sake of proofs: a call in each exit in place of all that is let go.
-struct Owned {
-    sweep: Sweep,
+pub(crate) struct Owned {
+    pub(crate) sweep: Sweep,
 }
 
 impl Drop for Owned {
@@ -21,7 +21,7 @@ impl Drop for Owned {
 }
 
 /// A new graph.
-fn new_sweep(alloc: Global, effort: Effort) -> Result<Owned, AllocError> {
+pub(crate) fn new_sweep(alloc: Global, effort: Effort) -> Result<Owned, AllocError> {
     let sweep = Sweep::new(alloc, effort)?;
     Ok(Owned { sweep })
 }
@@ -48,7 +48,7 @@ fn is_odd(variables: &[u32], model: &[(u32, bool)]) -> bool {
 }
 
 /// Whether an odd number of these variables is true.
-fn parity(sweep: &mut Sweep, variables: &[u32]) -> Result<u32, AllocError>
+pub(crate) fn parity(sweep: &mut Sweep, variables: &[u32]) -> Result<u32, AllocError>
     ensures within { IfOk result (λ l. IsWithin sweep.new l) }
     ensures extends { Extends sweep.old sweep.new }
 {

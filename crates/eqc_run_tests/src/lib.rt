@@ -4,7 +4,7 @@
 //! - `assumptions`, runs in which not every assignment counts, each difference is wanted or outputs are chosen
 //! - `compared_hierarchies`, `structures` and `inside`, what is reported of netlists; `rows`, what compares rows of these
 //! - `watching`, what a run tells of how far it is
-//! - `many_workers`, very many threads
+//! - `teams`, threads that sweep or search; `many_workers`, very many threads that compare outputs
 #![tactic(auto)]
 
 #[cfg(test)]
@@ -23,5 +23,7 @@ mod rows;
 mod runs;
 #[cfg(test)]
 mod structures;
+#[cfg(test)]
+mod teams;
 #[cfg(test)]
 mod watching;
