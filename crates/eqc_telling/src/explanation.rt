@@ -1,16 +1,15 @@
 //! The words for what is at fault where a run gives no verdict, one line each, and a second one where there is a hint.
 //!
 //! A path of an instance is read from the main model down: `2:adder/1:cell` is, in the second `.subckt` of the main model, an
-//! `adder`, its first one, a `cell`.
+//! `adder`, its first one, a `cell`. The words for where differences begin, and up to where equality is known, stand in `eqc_diagnosis`.
 
-use crate::border::border_lines;
-use crate::places::{
-    BRIEF, LOCATE_HINT, brief_output_said, brief_place_said, mending_said, output_said, place_said,
-    sharing_said, unplaced_said,
-};
 use crate::warning::{first_source, second_source};
 use eqc_blif::{Finding as TextFinding, Library};
-use eqc_case::{Bordered, Diagnostics, Located};
+use eqc_case::{Bordered, Compared, Diagnostics, Located, Netlist};
+use eqc_diagnosis::{
+    Design, Designs, LISTED, Lines, Shown, Whole, say_border, say_briefly, say_places, say_sharing,
+    say_unplaced,
+};
 use eqc_flat::{Circle, Finding, FoundFormal, FoundInstance, HierarchicalName};
 use eqc_pair::{Finding as PairFinding, Side, Unmatched};
 use eqc_report::{Left, Options, RunFault, Seen, Undecided, Word};
@@ -23,12 +22,6 @@ use std::{fmt, io};
 /// What to do about a text that begins with no command.
 const NO_BLIF_HINT: &str =
     "BLIF begins with a command; other formats are converted first, and a byte order mark is left out";
-
-/// How many bytes of a name or a row are shown.
-const SHOWN: usize = 60;
-
-/// How many names of a list are shown, and how many steps at each end of a path.
-pub(crate) const LISTED: usize = 10;
 
 /// The most nodes that may be asked for.
 const MOST_NODES: u32 = 1_048_574;
@@ -61,45 +54,7 @@ pub struct Explanation<'a> {
     explains: bool,
     locates: bool,
     briefs: bool,
-    lines: String,
-}
-
-/// Puts a byte, as `\xNN` where it doesn't print.
-fn put_byte<W: fmt::Write>(f: &mut Formatter<W>, byte: u8) -> fmt::Result {
-    if (32..127).contains(&byte) {
-        write!(f, "{}", char::from(byte))
-    } else {
-        write!(f, "\\x{byte:02x}")
-    }
-}
-
-/// Bytes of a name or a row, cut to a readable length, with `\xNN` for those that don't print.
-#[derive(Clone, Copy)]
-pub(crate) struct Shown<'a>(pub(crate) &'a [u8]);
-
-impl<'a> Display for Shown<'a> {
-    fn fmt<W: fmt::Write>(&self, f: &mut Formatter<W>) -> fmt::Result {
-        for byte in self.0.iter().take(SHOWN) {
-            put_byte(f, *byte)?;
-        }
-        if self.0.len() > SHOWN {
-            f.write_str("..")?;
-        }
-        Ok(())
-    }
-}
-
-/// Bytes of a name, all of them, with `\xNN` for those that don't print.
-#[derive(Clone, Copy)]
-pub(crate) struct Whole<'a>(pub(crate) &'a [u8]);
-
-impl<'a> Display for Whole<'a> {
-    fn fmt<W: fmt::Write>(&self, f: &mut Formatter<W>) -> fmt::Result {
-        for byte in self.0 {
-            put_byte(f, *byte)?;
-        }
-        Ok(())
-    }
+    lines: Lines,
 }
 
 /// The name of a model of a library by its number.
@@ -539,6 +494,35 @@ fn seen_said(alloc: Global, seen: &Seen) -> Result<String, AllocError> {
     Ok(said)
 }
 
+/// The design of a netlist that is compared.
+fn design_of<'a>(netlist: &Netlist<'a>) -> Design<'a> {
+    Design {
+        text: netlist.text,
+        library: netlist.library,
+        model: netlist.model,
+    }
+}
+
+/// The designs that are compared.
+fn designs_of<'a>(compared: &Compared<'a>) -> Designs<'a> {
+    Designs {
+        pair: compared.pair,
+        first: design_of(&compared.first),
+        second: design_of(&compared.second),
+    }
+}
+
+/// The names of the other outputs that may begin to differ at one of the places. Fails where memory is refused.
+fn names_of<'a>(alloc: Global, located: &Located<'a>) -> Result<Vec<&'a [u8]>, AllocError> {
+    let mut names = Vec::new(alloc);
+    for other in located.others {
+        if let Some(difference) = located.differences.each.get(*other) {
+            names.push(difference.name.as_bytes())?;
+        }
+    }
+    Ok(names)
+}
+
 /// No explanation yet, of what is asked for. On a terminal `--explain` tells in short where differences begin.
 pub fn explanation_for<'a>(
     alloc: Global,
@@ -555,7 +539,7 @@ pub fn explanation_for<'a>(
         explains: request.explain,
         locates: request.locate,
         briefs: request.explain && !request.locate && is_terminal,
-        lines: String::new(alloc),
+        lines: Lines::new(alloc),
     }
 }
 
@@ -580,13 +564,7 @@ impl<'a> Explanation<'a> {
         if !self.explains {
             return Ok(());
         }
-        self.put(said)
-    }
-
-    /// Puts a line behind the others, whatever is asked for.
-    fn put(&mut self, said: Result<String, AllocError>) -> Result<(), AllocError> {
-        let line = format!(in self.alloc; "eqc: {}\n", said?)?;
-        self.lines.push_str(&line)
+        self.lines.put(said)
     }
 
     /// Puts a line behind the others on something that has a name, as a file.
@@ -594,8 +572,7 @@ impl<'a> Explanation<'a> {
         if !self.explains {
             return Ok(());
         }
-        let line = format!(in self.alloc; "eqc: {name}: {}\n", said?)?;
-        self.lines.push_str(&line)
+        self.lines.put_of(name, said)
     }
 
     /// Puts a hint behind the others, where there is one.
@@ -660,41 +637,23 @@ impl<'a> Explanation<'a> {
         Ok(())
     }
 
-    /// Tells up to where equality is known.
-    fn tell_border(&mut self, bordered: &Bordered<'_>) -> Result<(), AllocError> {
-        for line in border_lines(self.alloc, bordered)? {
-            self.put(Ok(line))?;
-        }
-        Ok(())
-    }
-
     /// Tells in short of the first places of a difference.
     fn tell_briefly(&mut self, located: &Located<'_>) -> Result<(), AllocError> {
-        let places = located.places;
-        if places.each.is_empty() {
-            return Ok(());
-        }
-        self.put(brief_output_said(self.alloc, located))?;
+        let designs = designs_of(&located.compared);
         let texts = (self.first, self.second);
-        for (place, mending) in places.each.iter().zip(&places.mendings).take(BRIEF) {
-            self.put(brief_place_said(self.alloc, located, texts, place, *mending))?;
-        }
-        self.hint(LOCATE_HINT)
+        let Located { output, places, .. } = *located;
+        say_briefly(self.alloc, &designs, texts, output, places, &mut self.lines)
     }
 
     /// Tells of the places of a difference, and of the others that may begin at one of them.
     fn tell_places(&mut self, located: &Located<'_>) -> Result<(), AllocError> {
-        self.put(output_said(self.alloc, located))?;
-        let places = located.places;
-        for (place, mending) in places.each.iter().zip(&places.mendings) {
-            self.put(place_said(self.alloc, located, place))?;
-            if let Some(mending) = mending {
-                self.put(mending_said(self.alloc, located, mending))?;
-            }
-        }
+        let designs = designs_of(&located.compared);
+        let Located { output, places, .. } = *located;
+        say_places(self.alloc, &designs, output, places, &mut self.lines)?;
         match places.each.get(located.shared) {
             Some(place) if !located.others.is_empty() => {
-                self.put(sharing_said(self.alloc, located, place))
+                let others = names_of(self.alloc, located)?;
+                say_sharing(self.alloc, &designs, place, &others, &mut self.lines)
             }
             _ => Ok(()),
         }
@@ -777,12 +736,12 @@ impl<'a> Diagnostics for Explanation<'a> {
 
     fn unplaced(&mut self, count: usize) {
         if self.locates {
-            let _ = self.put(unplaced_said(self.alloc, count));
+            let _ = say_unplaced(self.alloc, count, &mut self.lines);
         }
     }
 
     fn unlocated(&mut self) {
-        let _ = self.put(String::from_str(self.alloc, UNLOCATED));
+        let _ = self.lines.put(String::from_str(self.alloc, UNLOCATED));
     }
 
     fn wants_border(&self) -> bool {
@@ -790,6 +749,7 @@ impl<'a> Diagnostics for Explanation<'a> {
     }
 
     fn border(&mut self, bordered: &Bordered<'_>) {
-        let _ = self.tell_border(bordered);
+        let designs = designs_of(&bordered.compared);
+        let _ = say_border(self.alloc, &designs, bordered.border, &mut self.lines);
     }
 }

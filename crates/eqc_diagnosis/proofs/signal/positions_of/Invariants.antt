@@ -1,5 +1,5 @@
 use Rattle.std.proofs.Common.{◌≤◌, length}
-use Rattle.eqc_telling.proofs.places.positions_of.Given as goal
+use Rattle.eqc_diagnosis.proofs.signal.positions_of.Given as goal
 
 abbrev pub invariant-up : goal.invariant-up
 invariant-up l = l.at ≤ length l.flat.places

@@ -1,8 +1,8 @@
 //! The words for up to where two netlists are known to be equal: signals with their partners, those of a word together.
 
-use crate::explanation::{LISTED, Shown};
-use crate::places::signal_of;
-use eqc_case::{Bordered, Compared};
+use crate::lines::Lines;
+use crate::shown::{LISTED, Shown};
+use crate::signal::{Designs, signal_of};
 use eqc_place::{Border, Meeting};
 use std::alloc::{AllocError, Global};
 
@@ -69,8 +69,8 @@ fn value(digits: &[u8]) -> u32 {
 }
 
 /// A step of the pair by its name.
-fn bit_of<'a>(compared: &Compared<'a>, step: u32) -> Option<Bit<'a>> {
-    let signal = signal_of(compared, step)?;
+fn bit_of<'a>(designs: &Designs<'a>, step: u32) -> Option<Bit<'a>> {
+    let signal = signal_of(designs, step)?;
     let (instance, name) = signal.flat.signal(signal.number);
     match index_in(name) {
         Some((start, end)) if start <= end && end <= name.len() => Some(Bit {
@@ -151,15 +151,15 @@ fn group_among(
 /// Puts a meeting into its group, or makes one of it, where there are fewer words than are told apart, or fewer single signals than are told.
 /// Fails where memory is refused.
 fn put_meeting<'a>(
-    compared: &Compared<'a>,
+    designs: &Designs<'a>,
     meeting: &Meeting,
     groups: &mut Vec<Group<'a>>,
     single: &mut usize,
 ) -> Result<(), AllocError> {
-    let Some(first) = bit_of(compared, meeting.step) else {
+    let Some(first) = bit_of(designs, meeting.step) else {
         return Ok(());
     };
-    let Some(second) = bit_of(compared, meeting.partner.step) else {
+    let Some(second) = bit_of(designs, meeting.partner.step) else {
         return Ok(());
     };
     if let Some(k) = group_among(groups, meeting, &first, &second) {
@@ -181,13 +181,13 @@ fn put_meeting<'a>(
 /// The groups that are told: first words of several signals, then single ones, the nearest of each first. Fails where memory is refused.
 fn told_groups<'a>(
     alloc: Global,
-    compared: &Compared<'a>,
+    designs: &Designs<'a>,
     meetings: &[Meeting],
 ) -> Result<Vec<Group<'a>>, AllocError> {
     let mut groups = Vec::new(alloc);
     let mut single = 0usize;
     for meeting in meetings {
-        put_meeting(compared, meeting, &mut groups, &mut single)?;
+        put_meeting(designs, meeting, &mut groups, &mut single)?;
     }
     let mut told = Vec::new(alloc);
     for is_word in [true, false] {
@@ -204,12 +204,12 @@ fn told_groups<'a>(
 /// is refused.
 fn bit_said(
     alloc: Global,
-    compared: &Compared<'_>,
+    designs: &Designs<'_>,
     step: u32,
     bit: &Bit<'_>,
     ends: (u32, u32),
 ) -> Result<String, AllocError> {
-    let Some(signal) = signal_of(compared, step) else {
+    let Some(signal) = signal_of(designs, step) else {
         return Ok(String::new(alloc));
     };
     let (model, path) = signal.path(alloc)?;
@@ -229,7 +229,7 @@ fn bit_said(
 /// The line on a group: its word, its partner's, and how many of the numbers between have partners. Fails where memory is refused.
 fn group_said(
     alloc: Global,
-    compared: &Compared<'_>,
+    designs: &Designs<'_>,
     group: &Group<'_>,
 ) -> Result<String, AllocError> {
     let Group { low, high, .. } = *group;
@@ -240,8 +240,8 @@ fn group_said(
         .wrapping_sub(group.first.number.unwrap_or(0));
     let others = (low.wrapping_add(apart), high.wrapping_add(apart));
     let leader = group.leader;
-    let first = bit_said(alloc, compared, leader.step, &group.first, (low, high))?;
-    let second = bit_said(alloc, compared, leader.partner.step, &group.second, others)?;
+    let first = bit_said(alloc, designs, leader.step, &group.first, (low, high))?;
+    let second = bit_said(alloc, designs, leader.partner.step, &group.second, others)?;
     let not = if leader.partner.is_opposite {
         "not "
     } else {
@@ -266,26 +266,27 @@ fn border_said(alloc: Global, border: &Border) -> Result<String, AllocError> {
     }
 }
 
-/// The lines on up to where two netlists are known to be equal. Fails where memory is refused.
-pub(crate) fn border_lines(
+/// Puts the lines on up to where two netlists are known to be equal, if outputs are left below which that is told. Fails where memory is
+/// refused, and then some aren't put.
+pub fn say_border(
     alloc: Global,
-    bordered: &Bordered<'_>,
-) -> Result<Vec<String>, AllocError> {
-    let border = bordered.border;
-    let mut lines = Vec::new(alloc);
+    designs: &Designs<'_>,
+    border: &Border,
+    lines: &mut Lines,
+) -> Result<(), AllocError> {
     if border.outputs == 0 {
-        return Ok(lines);
+        return Ok(());
     }
-    lines.push(border_said(alloc, border)?)?;
-    let groups = told_groups(alloc, &bordered.compared, &border.meetings)?;
+    lines.put(border_said(alloc, border))?;
+    let groups = told_groups(alloc, designs, &border.meetings)?;
     let mut told = 0usize;
     for group in &groups {
-        lines.push(group_said(alloc, &bordered.compared, group)?)?;
+        lines.put(group_said(alloc, designs, group))?;
         told = told.saturating_add(group.count as usize);
     }
     let more = border.meetings.len().saturating_sub(told);
     if more > 0 {
-        lines.push(format!(in alloc; "and {more} more")?)?;
+        lines.put(format!(in alloc; "and {more} more"))?;
     }
-    Ok(lines)
+    Ok(())
 }

@@ -1,5 +1,5 @@
 use Rattle.std.proofs.Common.{◌≤◌, length}
-use Rattle.eqc_telling.proofs.statement.line_of_cover.Given as goal
+use Rattle.eqc_diagnosis.proofs.statement.line_of_cover.Given as goal
 
 abbrev pub invariant-lines : goal.invariant-lines
 invariant-lines l = length l.rest ≤ length l.text
