@@ -1,4 +1,4 @@
-//! Graphs about which several threads ask: as many are started as may be, and what is found is what one thread finds.
+//! Graphs about which several threads ask: they are started, and what is found is what one thread finds.
 
 use crate::ends::same;
 use crate::sweeps::{new_sweep, parity};
@@ -20,8 +20,8 @@ const CONFLICTS: u64 = 1_000;
 
 const WORK: u64 = 10_000_000_000;
 
-/// So often it is tried to see all threads at once.
-const TRIES: u32 = 50;
+/// So often it is tried to see the threads at once.
+const TRIES: u32 = 20;
 
 /// How it is asked whether parities are equal.
 #[derive(Clone, Copy)]
@@ -217,22 +217,36 @@ fn several_threads_find_what_one_finds(rt: HostRuntime) {
     }
 }
 
-/// Whether so many threads find what this one found in each of some tries, in the last of which as many are seen at once: where one is to
-/// ask, no other.
+/// How many threads are to ask, and how many of them are to be seen at once: of sixteen the first may have ended as the last begin.
+#[derive(Clone, Copy)]
+struct Team {
+    workers: u32,
+    seen: u32,
+}
+
+#[rattlefmt::skip]
+static TEAMS: &[Team] = &[
+    Team { workers: 1, seen: 1 },
+    Team { workers: 2, seen: 2 },
+    Team { workers: 4, seen: 4 },
+    Team { workers: 16, seen: 8 },
+];
+
+/// Whether a team finds what this one thread found in each of some tries, in the last of which it is seen.
 fn are_seen_by<R: Threads + Sync>(
     rt: &R,
     alloc: Global,
     way: Way,
-    workers: u32,
+    team: Team,
     alone: &Found,
     lookout: &Lookout,
 ) -> Result<bool, AllocError> {
     lookout.open();
     for _ in 0..TRIES {
-        if !find_alike(rt, alloc, way, workers, alone)? {
+        if !find_alike(rt, alloc, way, team.workers, alone)? {
             return Ok(false);
         }
-        if lookout.has_seen(workers) {
+        if lookout.has_seen(team.seen) {
             return Ok(true);
         }
     }
@@ -244,15 +258,12 @@ fn are_seen<R: Census + Threads + Sync>(
     rt: &R,
     alloc: Global,
     way: Way,
-    workers: u32,
+    team: Team,
     alone: &Found,
 ) -> Result<bool, AllocError> {
     let lookout = Lookout::new();
-    lookout.beside(rt, || are_seen_by(rt, alloc, way, workers, alone, &lookout))
+    lookout.beside(rt, || are_seen_by(rt, alloc, way, team, alone, &lookout))
 }
-
-/// How many threads are to be seen.
-static SEEN: &[u32] = &[1, 2, 4, 16];
 
 /// How many threads aren't seen that are to ask, or find something else than one, if there are such.
 fn first_unseen<R: Census + Threads + Sync>(
@@ -261,16 +272,16 @@ fn first_unseen<R: Census + Threads + Sync>(
     way: Way,
 ) -> Result<Option<u32>, AllocError> {
     let alone = found_by(rt, alloc, way, 1)?;
-    for workers in SEEN {
-        if !are_seen(rt, alloc, way, *workers, &alone)? {
-            return Ok(Some(*workers));
+    for team in TEAMS {
+        if !are_seen(rt, alloc, way, *team, &alone)? {
+            return Ok(Some(team.workers));
         }
     }
     Ok(None)
 }
 
 #[test]
-fn as_many_threads_ask_as_may(rt: HostRuntime) {
+fn several_threads_are_started(rt: HostRuntime) {
     for (name, way) in WAYS {
         same(&rt, first_unseen(&rt, rt.alloc(), *way), Ok(None), name);
     }

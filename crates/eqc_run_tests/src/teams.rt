@@ -1,5 +1,4 @@
-//! Runs in which several threads sweep, or search for outputs that differ: as many are started as there are workers, and the report is
-//! that of one.
+//! Runs in which several threads sweep, or search for outputs that differ: they are started, and the report is that of one.
 
 use crate::ends::holds_at;
 use eqc_check::{Gate, NoDiagnostics, Options, Progress, Stage, Texts, run_explained};
@@ -33,8 +32,8 @@ static CASES: &[Case] = &[
     Case { stage: Stage::Searching, outputs: 32, width: 11, differs: true, conflicts: CONFLICTS },
 ];
 
-/// So often it is tried to see all threads at once.
-const TRIES: u32 = 50;
+/// So often it is tried to see the threads at once.
+const TRIES: u32 = 20;
 
 /// An output of a model.
 #[derive(Clone, Copy)]
@@ -237,12 +236,27 @@ fn writes(
     status == status_of(report) && is_text(&out, report)
 }
 
-/// Whether runs by so many workers write their report, each of some, and in the last of them as many threads are seen at once in the stage:
-/// where there is one worker, no other.
+/// How many workers there are, and how many of their threads are to be seen at once: of sixteen the first may have ended as the last
+/// begin.
+#[derive(Clone, Copy)]
+struct Team {
+    workers: u32,
+    seen: u32,
+}
+
+#[rattlefmt::skip]
+static TEAMS: &[Team] = &[
+    Team { workers: 1, seen: 1 },
+    Team { workers: 2, seen: 2 },
+    Team { workers: 4, seen: 4 },
+    Team { workers: 16, seen: 8 },
+];
+
+/// Whether runs by a team write their report, each of some, and in the last of them the team is seen in the stage.
 fn write_alike(
     rt: &(impl AllocGlobal + Threads + Wait + Sync),
     case: Case,
-    workers: u32,
+    team: Team,
     lookout: &Lookout,
 ) -> Result<bool, AllocError> {
     let text = models(rt.alloc(), case)?;
@@ -251,34 +265,35 @@ fn write_alike(
     let options = Options {
         conflicts: case.conflicts,
         every: case.differs,
-        ..options((workers, 1_024, 8_192, 0))
+        ..options((team.workers, 1_024, 8_192, 0))
     };
     for _ in 0..TRIES {
         if !writes(rt, &text, options, &InStage { stage, lookout }, &report) {
             return Ok(false);
         }
-        if lookout.has_seen(workers) {
+        if lookout.has_seen(team.seen) {
             return Ok(true);
         }
     }
     Ok(false)
 }
 
-/// Whether they do, and a lookout beside them sees the threads.
+/// Whether they do, where a lookout beside them sees the threads.
 fn are_seen<R: AllocGlobal + Census + Threads + Wait + Sync>(
     rt: &R,
     case: Case,
-    workers: u32,
+    team: Team,
 ) -> Result<bool, AllocError> {
     let lookout = Lookout::new();
-    lookout.beside(rt, || write_alike(rt, case, workers, &lookout))
+    lookout.beside(rt, || write_alike(rt, case, team, &lookout))
 }
 
 #[test]
-fn all_workers_sweep_and_search_and_write_what_one_does(rt: HostRuntime) {
+fn several_threads_sweep_and_search_and_write_what_one_does(rt: HostRuntime) {
     for case in CASES {
-        for workers in [1, 2, 4, 16] {
-            holds_at(&rt, are_seen(&rt, *case, workers), workers, *case);
+        for team in TEAMS {
+            let found = are_seen(&rt, *case, *team);
+            holds_at(&rt, found, team.workers, *case);
         }
     }
 }
