@@ -175,7 +175,7 @@ impl Account {
             conflicts: doubted(conflicts, doubt),
             visits: doubted(conflicts.saturating_add(WITHOUT), doubt).saturating_mul(VISITS),
             work: self.left(nodes).min(doubted(most, doubt)),
-            sorts: !self.is_patient,
+            sorts: true,
         }
     }
 
