@@ -114,10 +114,9 @@ impl Engine {
         &mut self,
         graph: &Graph,
         assumptions: &[u32],
-        budget: &Budget,
     ) -> Result<Option<u32>, AllocError> {
         self.grow(graph)?;
-        self.restarts = self.restarts.again(budget.sorts);
+        self.restarts = self.restarts.again();
         for literal in assumptions {
             self.window.enter(graph, node_of(*literal))?;
         }

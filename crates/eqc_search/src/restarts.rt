@@ -9,9 +9,6 @@ const FIRST_LIMIT: u32 = 300;
 
 const MORE_AT_RESTART: u32 = 75;
 
-/// A question had many conflicts after so many.
-const MANY: u32 = 600;
-
 /// The account of a question's restarts.
 #[derive(Clone, Copy)]
 pub(crate) struct Restarts {
@@ -19,9 +16,6 @@ pub(crate) struct Restarts {
     place: u32,
     factor: u32,
     conflicts: u32,
-    /// The conflicts of the question, and whether it minds that there are many.
-    all: u32,
-    minds: bool,
     /// How many learned clauses may be there.
     limit: u32,
 }
@@ -32,29 +26,20 @@ impl Restarts {
             place: 1,
             factor: 1,
             conflicts: 0,
-            all: 0,
-            minds: false,
             limit: FIRST_LIMIT,
         }
     }
 
     /// The account of a question that comes after others, whose clauses may stay.
-    pub(crate) fn again(self, minds: bool) -> Restarts {
+    pub(crate) fn again(self) -> Restarts {
         Restarts {
             limit: self.limit,
-            minds,
             ..Restarts::new()
         }
     }
 
     pub(crate) fn count_conflict(&mut self) {
         self.conflicts = self.conflicts.saturating_add(1);
-        self.all = self.all.saturating_add(1);
-    }
-
-    /// Whether the question had many conflicts, and minds that.
-    pub(crate) fn is_late(&self) -> bool {
-        self.minds && self.all >= MANY
     }
 
     pub(crate) fn is_due(&self) -> bool {

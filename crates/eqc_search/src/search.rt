@@ -45,9 +45,6 @@ pub struct Budget {
     /// What takes time, one for each literal visited, and as much more as the rest takes: to lay out windows, to order decisions
     /// and to learn from conflicts.
     pub work: u64,
-    /// Whether the nodes of a conflict are noted in the order in which they last were in one, once there were some hundred conflicts. That is
-    /// for questions about nodes in netlists of which little is known.
-    pub sorts: bool,
 }
 
 /// A search, with the memory that it needs for graphs of the largest size that it met. Contracts see the clauses that it learned.
@@ -140,7 +137,7 @@ impl Search {
         ensures answer { IfOk result (λ answer. answer ≡ Answer.Refuted → IsRefuted graph.now assumptions.now) }
         ensures sound { IsSound graph.now self.new }
     {
-        if let Some(l) = self.engine.begin(graph, assumptions, budget)? {
+        if let Some(l) = self.engine.begin(graph, assumptions)? {
             let is_shown = contradict(graph, assumptions, l);
             return Ok(Answer::refuted_where(is_shown));
         }

@@ -42,7 +42,6 @@ fn budget_of(conflicts: u64, cone: &Cone) -> Budget {
             .saturating_mul(VISITS)
             .saturating_add(questions.saturating_mul(nodes).saturating_mul(EACH)),
         work: u64::MAX,
-        sorts: false,
     }
 }
 

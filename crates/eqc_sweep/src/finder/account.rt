@@ -74,13 +74,12 @@ pub(crate) struct Account {
     is_patient: bool,
 }
 
-/// What a question about outputs may spend that may have so many conflicts, and so much work.
+/// What a question may spend that may have so many conflicts, and so much work.
 pub(crate) fn budget_of(conflicts: u64, work: u64) -> Budget {
     Budget {
         conflicts,
         visits: conflicts.saturating_add(WITHOUT).saturating_mul(VISITS),
         work,
-        sorts: false,
     }
 }
 
@@ -175,7 +174,6 @@ impl Account {
             conflicts: doubted(conflicts, doubt),
             visits: doubted(conflicts.saturating_add(WITHOUT), doubt).saturating_mul(VISITS),
             work: self.left(nodes).min(doubted(most, doubt)),
-            sorts: true,
         }
     }
 
