@@ -1,9 +1,9 @@
 //! The gates that a search looks at: the highest below the question.
-use crate::frontier::Frontier;
 use crate::heights::{node_in, ranked};
 use crate::reads::{NONE, lengthen, node_at, number, read, write};
 use eqc_graph::{Graph, Node, node_of};
 use std::alloc::{AllocError, Global};
+use std::collections::BinaryHeap;
 
 /// What a node is to the window.
 #[derive(Clone, Copy, PartialEq, Eq)]
@@ -15,11 +15,12 @@ enum Part {
     Gate,
 }
 
-/// A gate that has a node as an operand, in four words, since many are read.
+/// A gate that has a node as an operand.
 #[derive(Clone, Copy)]
 pub(crate) struct Fanout {
-    /// Four times the gate, twice the side of the operand, and one where it is an exclusive or.
-    code: u32,
+    pub(crate) gate: u32,
+    pub(crate) side: u32,
+    pub(crate) is_xor: bool,
     /// The operand that is the node, and the other one.
     pub(crate) own: u32,
     pub(crate) other: u32,
@@ -27,25 +28,10 @@ pub(crate) struct Fanout {
     pub(crate) next: u32,
 }
 
-impl Fanout {
-    #[inline(always)]
-    pub(crate) fn gate(self) -> u32 {
-        self.code / 4
-    }
-
-    #[inline(always)]
-    pub(crate) fn side(self) -> u32 {
-        self.code / 2 % 2
-    }
-
-    #[inline(always)]
-    pub(crate) fn is_xor(self) -> bool {
-        self.code % 2 == 1
-    }
-}
-
 const NO_FANOUT: Fanout = Fanout {
-    code: 0,
+    gate: NONE,
+    side: 0,
+    is_xor: false,
     own: 0,
     other: 0,
     next: NONE,
@@ -58,15 +44,12 @@ struct Seat {
     height: u32,
     /// The first gate of the window that has the node as an operand.
     head: u32,
-    /// Its place among the nodes of the window that are in order.
-    place: u32,
     part: Part,
 }
 
 const NO_SEAT: Seat = Seat {
     height: 0,
     head: NONE,
-    place: NONE,
     part: Part::Outside,
 };
 
@@ -78,20 +61,9 @@ pub(crate) struct Window {
     /// What is in the window, in the order in which it came.
     nodes: Vec<u32>,
     fanouts: Vec<Fanout>,
-    /// The gates that may come in.
-    frontier: Frontier,
+    /// The gates that may come in, the highest first.
+    frontier: BinaryHeap<u64>,
     gates: u32,
-    /// The height of the highest node that was looked at.
-    highest: u32,
-    /// The nodes that are in order, the highest first: gates as they came in, of which so many are there, and where the edge is in order too
-    /// what is there. A gate that came in late and is higher than one before it has no place.
-    order: Vec<u32>,
-    ordered: u32,
-    /// The last gate that is in order.
-    last: u64,
-    is_arranged: bool,
-    /// The nodes at the edge, while they are put in order.
-    edge: Vec<u64>,
 }
 
 impl Window {
@@ -100,14 +72,8 @@ impl Window {
             seats: Vec::new(alloc),
             nodes: Vec::new(alloc),
             fanouts: Vec::new(alloc),
-            frontier: Frontier::new(alloc),
+            frontier: BinaryHeap::new(alloc),
             gates: 0,
-            highest: 0,
-            order: Vec::new(alloc),
-            ordered: 0,
-            last: u64::MAX,
-            is_arranged: false,
-            edge: Vec::new(alloc),
         }
     }
 
@@ -126,9 +92,8 @@ impl Window {
             };
             let seat = self.seat(node);
             write(&mut self.seats, node, Seat { height, ..seat });
-            self.highest = self.highest.max(height);
         }
-        self.frontier.grow(nodes, self.highest)
+        Ok(())
     }
 
     #[inline(always)]
@@ -137,26 +102,8 @@ impl Window {
     }
 
     #[inline(always)]
-    fn height(&self, node: u32) -> u32 {
+    pub(crate) fn height(&self, node: u32) -> u32 {
         self.seat(node).height
-    }
-
-    /// The node by its height.
-    #[inline(always)]
-    pub(crate) fn ranked(&self, node: u32) -> u64 {
-        ranked(self.height(node), node)
-    }
-
-    /// The place of a node among those that are in order, or none: the node of a lesser one is higher.
-    #[inline(always)]
-    pub(crate) fn place(&self, node: u32) -> u32 {
-        self.seat(node).place
-    }
-
-    /// The node of a place.
-    #[inline(always)]
-    pub(crate) fn node_at(&self, place: u32) -> u32 {
-        read(&self.order, place, 0)
     }
 
     /// Whether the node is a gate that is propagated.
@@ -197,7 +144,7 @@ impl Window {
         write(&mut self.seats, node, Seat { part, ..seat });
         match node_at(graph, node) {
             Node::And(_, _) | Node::Xor(_, _) => {
-                self.frontier.push(node, seat.height);
+                self.frontier.push(ranked(seat.height, node))?;
             }
             Node::Constant | Node::Input(_) => {}
         }
@@ -226,110 +173,35 @@ impl Window {
     ) -> Result<(), AllocError> {
         self.enter(graph, node_of(a))?;
         self.enter(graph, node_of(b))?;
-        let code = gate.wrapping_mul(4) | u32::from(is_xor);
-        self.link(Fanout {
-            code,
+        let first = Fanout {
+            gate,
+            side: 0,
+            is_xor,
             own: a,
             other: b,
             next: NONE,
-        })?;
+        };
+        self.link(first)?;
         self.link(Fanout {
-            code: code | 2,
+            side: 1,
             own: b,
             other: a,
-            next: NONE,
+            ..first
         })?;
-        self.gates = self.gates.saturating_add(1);
-        self.seat_gate(gate)
-    }
-
-    /// Lets a node at the edge be a gate that is propagated, and gives it the next place if it is lower than the gates that have one.
-    fn seat_gate(&mut self, gate: u32) -> Result<(), AllocError> {
         let part = Part::Gate;
         let seat = self.seat(gate);
-        let rank = ranked(seat.height, gate);
-        let place = if rank < self.last {
-            self.last = rank;
-            self.order.push(gate)?;
-            let place = self.ordered;
-            self.ordered = place.wrapping_add(1);
-            place
-        } else {
-            NONE
-        };
-        write(
-            &mut self.seats,
-            gate,
-            Seat {
-                part,
-                place,
-                ..seat
-            },
-        );
+        write(&mut self.seats, gate, Seat { part, ..seat });
+        self.gates = self.gates.saturating_add(1);
         Ok(())
-    }
-
-    /// Takes the places of the nodes at the edge from them.
-    fn disarrange(&mut self) {
-        for place in self.ordered..number(self.order.len()) {
-            let node = self.node_at(place);
-            let seat = self.seat(node);
-            write(
-                &mut self.seats,
-                node,
-                Seat {
-                    place: NONE,
-                    ..seat
-                },
-            );
-        }
-        self.order.truncate(self.ordered as usize);
-    }
-
-    /// Gives the nodes at the edge places too, behind those of the gates: that pays in a long search.
-    pub(crate) fn arrange(&mut self) -> Result<(), AllocError> {
-        self.disarrange();
-        self.is_arranged = true;
-        self.edge.clear();
-        for at in 0..self.nodes.len() {
-            let node = read(&self.nodes, number(at), 0);
-            let rank = self.ranked(node);
-            if rank < self.last {
-                self.edge.push(rank)?;
-            }
-        }
-        self.edge.sort_unstable();
-        for at in (0..number(self.edge.len())).rev() {
-            let node = node_in(read(&self.edge, at, 0));
-            let place = number(self.order.len());
-            self.order.push(node)?;
-            let seat = self.seat(node);
-            write(&mut self.seats, node, Seat { place, ..seat });
-        }
-        Ok(())
-    }
-
-    /// Whether the nodes at the edge have places.
-    pub(crate) fn is_arranged(&self) -> bool {
-        self.is_arranged
     }
 
     /// Takes in the highest gates at the edge until there are so many.
     pub(crate) fn expand(&mut self, graph: &Graph, most: u32) -> Result<(), AllocError> {
-        self.disarrange();
-        self.take_in_highest(graph, most)?;
-        if self.is_arranged {
-            return self.arrange();
-        }
-        Ok(())
-    }
-
-    /// Takes in the highest gates at the edge until there are so many. None at the edge has a place.
-    fn take_in_highest(&mut self, graph: &Graph, most: u32) -> Result<(), AllocError> {
         for _ in self.gates..most {
-            let Some(gate) = self.frontier.pop()? else {
+            let Some(candidate) = self.frontier.pop() else {
                 return Ok(());
             };
+            let gate = node_in(candidate);
             match node_at(graph, gate) {
                 Node::And(a, b) => self.take_in(graph, gate, a, b, false)?,
                 Node::Xor(a, b) => self.take_in(graph, gate, a, b, true)?,
@@ -360,9 +232,5 @@ impl Window {
         self.fanouts.clear();
         self.frontier.clear();
         self.gates = 0;
-        self.order.clear();
-        self.ordered = 0;
-        self.last = u64::MAX;
-        self.is_arranged = false;
     }
 }
