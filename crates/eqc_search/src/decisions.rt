@@ -100,14 +100,14 @@ impl Decisions {
 
     /// Lets a node be decided.
     #[inline]
-    pub(crate) fn insert(&mut self, node: u32, height: u32) {
+    pub(crate) fn insert(&mut self, node: u32, window: &Window) {
         let link = self.link(node);
         if node == 0 || link.is_open {
             return;
         }
         self.set_open(node, true);
         if link.stamp == 0 {
-            self.heights.insert(node, height);
+            self.heights.insert(node, window);
         } else if self.next == NONE || self.link(self.next).stamp < link.stamp {
             self.next = node;
         }
@@ -119,7 +119,7 @@ impl Decisions {
     }
 
     /// The node whose turn it is, which is taken out.
-    pub(crate) fn pop(&mut self) -> Option<u32> {
+    pub(crate) fn pop(&mut self, window: &Window) -> Option<u32> {
         for _ in 0..self.links.len() {
             let node = self.next;
             if node == NONE {
@@ -132,13 +132,13 @@ impl Decisions {
                 return Some(node);
             }
         }
-        self.pop_highest()
+        self.pop_highest(window)
     }
 
     /// The highest node that was in no conflict, which is taken out.
-    fn pop_highest(&mut self) -> Option<u32> {
+    fn pop_highest(&mut self, window: &Window) -> Option<u32> {
         for _ in 0..u32::MAX {
-            let node = self.heights.pop()?;
+            let node = self.heights.pop(window)?;
             if self.link(node).stamp == 0 {
                 self.set_open(node, false);
                 return Some(node);
@@ -147,14 +147,14 @@ impl Decisions {
         None
     }
 
-    /// Arranges the nodes of the window, so that the next one is found sooner: that pays in a long search.
-    pub(crate) fn arrange(&mut self, window: &Window) -> Result<(), AllocError> {
-        self.heights.arrange(window)
+    /// Notes the nodes without their places in the window, before these change. Until they are settled none may be taken out.
+    pub(crate) fn loosen(&mut self, window: &Window) {
+        self.heights.loosen(window);
     }
 
-    /// Whether the nodes of the window are arranged.
-    pub(crate) fn is_arranged(&self) -> bool {
-        self.heights.is_arranged()
+    /// Puts the nodes where they belong by the places that they have now.
+    pub(crate) fn settle(&mut self, window: &Window) {
+        self.heights.settle(window);
     }
 
     /// Takes a node out of the row, if it is there.
@@ -213,14 +213,13 @@ impl Decisions {
     }
 
     /// Takes all out.
-    pub(crate) fn clear(&mut self) {
+    pub(crate) fn clear(&mut self, window: &Window) {
         for _ in 0..self.links.len() {
-            let Some(node) = self.heights.take_any() else {
+            let Some(node) = self.heights.take_any(window) else {
                 break;
             };
             self.set_open(node, false);
         }
-        self.heights.clear();
         for _ in 0..self.links.len() {
             if self.next == NONE {
                 break;

@@ -92,19 +92,21 @@ impl Engine {
     fn expand(&mut self, graph: &Graph, most: u32) -> Result<(), AllocError> {
         let before = self.window.gates();
         self.aim = most;
+        self.decisions.loosen(&self.window);
         self.window.expand(graph, most)?;
+        self.decisions.settle(&self.window);
         let more = self.window.gates().saturating_sub(before);
         self.visits = self.visits.wrapping_add(u64::from(more) * TAKEN_IN);
         self.count_work(more, WORK_TAKEN_IN);
-        if self.decisions.is_arranged() {
-            self.arrange()?;
-        }
         Ok(())
     }
 
-    /// Lets the order of decisions be laid out for the window as it is.
+    /// Puts the nodes at the window's edge in order.
     fn arrange(&mut self) -> Result<(), AllocError> {
-        self.decisions.arrange(&self.window)
+        self.decisions.loosen(&self.window);
+        self.window.arrange()?;
+        self.decisions.settle(&self.window);
+        Ok(())
     }
 
     /// Begins a question. Gives an assumption that is false because of another one or by itself, if there is one.
@@ -144,7 +146,7 @@ impl Engine {
         let freed = self.values.len().saturating_sub(start);
         for _ in 0..freed {
             let node = self.take_back();
-            self.decisions.insert(node, self.window.height(node));
+            self.decisions.insert(node, &self.window);
         }
         self.count_work(freed, WORK_FREED);
         self.values.end_above(level);
@@ -153,7 +155,7 @@ impl Engine {
     /// The node to be decided next, if there is one.
     fn next_decision(&mut self) -> Option<u32> {
         for _ in 0..u32::MAX {
-            let node = self.decisions.pop()?;
+            let node = self.decisions.pop(&self.window)?;
             if self.values.value(literal_of(node, true)) == Value::Free {
                 return Some(node);
             }
@@ -164,7 +166,7 @@ impl Engine {
     /// Takes back all decisions, and drops learned clauses if there are too many.
     fn restart(&mut self) -> Result<(), AllocError> {
         self.back_to(0);
-        if !self.decisions.is_arranged() {
+        if !self.window.is_arranged() {
             self.arrange()?;
         }
         if self.learned.len() > self.restarts.limit() {
@@ -224,7 +226,7 @@ impl Engine {
         }
         self.values.end_above(0);
         self.values.propagate_anew();
-        self.decisions.clear();
+        self.decisions.clear(&self.window);
         self.analysis.clear();
     }
 

@@ -1,5 +1,5 @@
-//! Nodes that may be decided, of which the highest is next: in a heap at first, and in a long search as bits of a row in their order.
-use crate::reads::{lengthen, number, read, write};
+//! Nodes that may be decided, of which the highest is next: those that have a place in the window as bits of a row, the others in a heap.
+use crate::reads::{NONE, lengthen, read, write};
 use crate::window::Window;
 use std::alloc::{AllocError, Global};
 
@@ -12,9 +12,9 @@ pub(crate) fn node_in(ranked: u64) -> u32 {
     (ranked & 0xFFFF_FFFF) as u32
 }
 
-/// The highest bit of a word that isn't 0.
-fn highest(word: u64) -> u32 {
-    63u32.saturating_sub(word.leading_zeros())
+/// A word without one of its bits.
+fn without(word: u64, bit: u32) -> u64 {
+    word & ((1u64 << (bit % 64)) ^ u64::MAX)
 }
 
 /// Nodes by their heights.
@@ -23,14 +23,12 @@ pub(crate) struct Heights {
     /// A heap, in a row with room for each node.
     heap: Vec<u64>,
     size: u32,
-    /// The nodes of the window in their order, and by node its place there; whether they are arranged so.
-    order: Vec<u64>,
-    places: Vec<u32>,
-    is_arranged: bool,
-    /// By place: whether the node is here. By 64 places: whether one of them is. No word of these behind `top` has a bit.
+    /// By place: whether the node is here. By 64 places: whether one of them is. No word of these before `first` has a bit.
     bits: Vec<u64>,
     groups: Vec<u64>,
-    top: u32,
+    first: u32,
+    /// How many are here by their places.
+    placed: u32,
 }
 
 impl Heights {
@@ -38,19 +36,19 @@ impl Heights {
         Heights {
             heap: Vec::new(alloc),
             size: 0,
-            order: Vec::new(alloc),
-            places: Vec::new(alloc),
-            is_arranged: false,
             bits: Vec::new(alloc),
             groups: Vec::new(alloc),
-            top: 0,
+            first: 0,
+            placed: 0,
         }
     }
 
     /// Makes room for so many nodes.
     pub(crate) fn grow(&mut self, nodes: u32) -> Result<(), AllocError> {
+        let words = nodes / 64 + 1;
         lengthen(&mut self.heap, nodes, 0)?;
-        lengthen(&mut self.places, nodes, 0)
+        lengthen(&mut self.bits, words, 0)?;
+        lengthen(&mut self.groups, words / 64 + 1, 0)
     }
 
     fn ranked_at(&self, at: u32) -> u64 {
@@ -97,62 +95,69 @@ impl Heights {
         write(&mut self.heap, at, ranked);
     }
 
-    /// Sets the bit of a node.
+    /// Sets the bit of a place.
     #[inline(always)]
-    fn set(&mut self, node: u32) {
-        let place = read(&self.places, node, 0);
+    fn set(&mut self, place: u32) {
         let word = place / 64;
         let group = word / 64;
         let bits = read(&self.bits, word, 0) | 1 << (place % 64);
         write(&mut self.bits, word, bits);
         let words = read(&self.groups, group, 0) | 1 << (word % 64);
         write(&mut self.groups, group, words);
-        self.top = self.top.max(group);
+        self.first = self.first.min(group);
+        self.placed = self.placed.wrapping_add(1);
     }
 
-    /// The node of the last bit, which is taken out.
-    fn take(&mut self) -> Option<u32> {
-        for _ in 0..self.groups.len() {
-            if read(&self.groups, self.top, 0) != 0 {
-                break;
-            }
-            self.top = self.top.saturating_sub(1);
-        }
-        let words = read(&self.groups, self.top, 0);
-        if words == 0 {
+    /// The place of the first bit.
+    #[inline(always)]
+    fn first_place(&mut self) -> Option<u32> {
+        if self.placed == 0 {
             return None;
         }
-        let word = self.top.wrapping_mul(64).wrapping_add(highest(words));
+        for _ in 0..self.groups.len() {
+            if read(&self.groups, self.first, 0) != 0 {
+                break;
+            }
+            self.first = self.first.wrapping_add(1);
+        }
+        let words = read(&self.groups, self.first, 0);
+        let word = self
+            .first
+            .wrapping_mul(64)
+            .wrapping_add(words.trailing_zeros());
         let bits = read(&self.bits, word, 0);
-        let bit = highest(bits);
-        let rest = bits & ((1u64 << (bit % 64)) ^ u64::MAX);
+        Some(word.wrapping_mul(64).wrapping_add(bits.trailing_zeros()))
+    }
+
+    /// Takes the bit of a place away.
+    #[inline(always)]
+    fn unset(&mut self, place: u32) {
+        let word = place / 64;
+        let group = word / 64;
+        let rest = without(read(&self.bits, word, 0), place);
         write(&mut self.bits, word, rest);
         if rest == 0 {
-            let others = words & ((1u64 << (word % 64)) ^ u64::MAX);
-            write(&mut self.groups, self.top, others);
+            let others = without(read(&self.groups, group, 0), word);
+            write(&mut self.groups, group, others);
         }
-        let place = word.wrapping_mul(64).wrapping_add(bit);
-        Some(node_in(read(&self.order, place, 0)))
+        self.placed = self.placed.saturating_sub(1);
     }
 
     /// Puts a node in that isn't here.
     #[inline(always)]
-    pub(crate) fn insert(&mut self, node: u32, height: u32) {
-        if self.is_arranged {
-            self.set(node);
+    pub(crate) fn insert(&mut self, node: u32, window: &Window) {
+        let place = window.place(node);
+        if place != NONE {
+            self.set(place);
             return;
         }
         let at = self.size;
         self.size = at.wrapping_add(1);
-        self.lift(at, ranked(height, node));
+        self.lift(at, window.ranked(node));
     }
 
-    /// The highest node, which is taken out.
-    #[inline(always)]
-    pub(crate) fn pop(&mut self) -> Option<u32> {
-        if self.is_arranged {
-            return self.take();
-        }
+    /// The first node of the heap, which is taken out.
+    fn pop_from_heap(&mut self) -> Option<u32> {
         if self.size == 0 {
             return None;
         }
@@ -165,10 +170,25 @@ impl Heights {
         Some(node)
     }
 
+    /// The highest node, which is taken out.
+    #[inline(always)]
+    pub(crate) fn pop(&mut self, window: &Window) -> Option<u32> {
+        let Some(place) = self.first_place() else {
+            return self.pop_from_heap();
+        };
+        let node = window.node_at(place);
+        if self.size > 0 && self.ranked_at(0) > window.ranked(node) {
+            return self.pop_from_heap();
+        }
+        self.unset(place);
+        Some(node)
+    }
+
     /// One of the nodes, the one that is taken out soonest.
-    pub(crate) fn take_any(&mut self) -> Option<u32> {
-        if self.is_arranged {
-            return self.take();
+    pub(crate) fn take_any(&mut self, window: &Window) -> Option<u32> {
+        if let Some(place) = self.first_place() {
+            self.unset(place);
+            return Some(window.node_at(place));
         }
         if self.size == 0 {
             return None;
@@ -177,51 +197,24 @@ impl Heights {
         Some(node_in(self.ranked_at(self.size)))
     }
 
-    /// Arranges the nodes that may come, which are those of the window: that pays in a long search. Those that are here stay.
-    pub(crate) fn arrange(&mut self, window: &Window) -> Result<(), AllocError> {
-        for _ in 0..self.order.len() {
-            let Some(node) = self.take() else {
+    /// Notes the nodes without their places, before these change. Until they are settled none may be taken out.
+    pub(crate) fn loosen(&mut self, window: &Window) {
+        for _ in 0..self.placed {
+            let Some(place) = self.first_place() else {
                 break;
             };
-            write(&mut self.heap, self.size, u64::from(node));
+            self.unset(place);
+            write(&mut self.heap, self.size, u64::from(window.node_at(place)));
             self.size = self.size.wrapping_add(1);
         }
-        self.order.clear();
-        for node in window.nodes() {
-            self.order.push(ranked(window.height(*node), *node))?;
-        }
-        self.order.sort_unstable();
-        for place in 0..self.order.len() {
-            let place = number(place);
-            let node = node_in(read(&self.order, place, 0));
-            write(&mut self.places, node, place);
-        }
-        self.bits.clear();
-        self.groups.clear();
-        let words = number(self.order.len() / 64 + 1);
-        lengthen(&mut self.bits, words, 0)?;
-        lengthen(&mut self.groups, words / 64 + 1, 0)?;
-        self.top = 0;
-        self.is_arranged = true;
-        for at in 0..self.size {
-            self.set(node_in(self.ranked_at(at)));
-        }
-        self.size = 0;
-        Ok(())
     }
 
-    /// Whether the nodes that may come are arranged.
-    pub(crate) fn is_arranged(&self) -> bool {
-        self.is_arranged
-    }
-
-    /// Takes all out, and forgets which may come.
-    pub(crate) fn clear(&mut self) {
+    /// Puts the nodes where they belong by the places that they have now.
+    pub(crate) fn settle(&mut self, window: &Window) {
+        let size = self.size;
         self.size = 0;
-        self.is_arranged = false;
-        self.order.clear();
-        self.bits.clear();
-        self.groups.clear();
-        self.top = 0;
+        for at in 0..size {
+            self.insert(node_in(self.ranked_at(at)), window);
+        }
     }
 }

@@ -8,7 +8,7 @@
 //! - `reads`, places of rows that may not be there
 //! - `values`, the literals that are true, in their order, and why; `decisions`, the nodes that may be decided, the one
 //!   of the latest conflict first, and `heights`, those that were in none; `restarts`, when all decisions are taken back
-//! - `window`, the gates that are looked at; `learned`, the learned clauses and who watches them
+//! - `window`, the gates that are looked at, and `frontier`, those that may come; `learned`, the learned clauses and who watches them
 //! - `engine`, these together; `propagation`, what follows; `conflict`, what a conflict teaches and how it is shown
 //! - `contradiction`, assumptions that need no search; `search`, the question
 #![tactic(auto)]
@@ -17,6 +17,7 @@ mod conflict;
 mod contradiction;
 mod decisions;
 mod engine;
+mod frontier;
 mod heights;
 mod learned;
 mod propagation;

@@ -115,7 +115,7 @@ impl Engine {
     fn offer(&mut self, literal: u32) {
         if self.values.value(literal) == Value::Free {
             let node = node_of(literal);
-            self.decisions.insert(node, self.window.height(node));
+            self.decisions.insert(node, &self.window);
         }
     }
 
@@ -166,7 +166,7 @@ impl Engine {
             }
             self.visit();
             let fanout = self.window.fanout(at);
-            let conflict = if fanout.is_xor {
+            let conflict = if fanout.is_xor() {
                 self.visit_xor_of(fanout)
             } else {
                 self.visit_and_of(fanout, literal)
@@ -180,20 +180,20 @@ impl Engine {
     }
 
     fn visit_xor_of(&mut self, fanout: Fanout) -> Option<Reason> {
-        if fanout.side == 0 {
-            self.visit_xor(fanout.gate, fanout.own, fanout.other)
+        if fanout.side() == 0 {
+            self.visit_xor(fanout.gate(), fanout.own, fanout.other)
         } else {
-            self.visit_xor(fanout.gate, fanout.other, fanout.own)
+            self.visit_xor(fanout.gate(), fanout.other, fanout.own)
         }
     }
 
     /// Makes true what follows for an and, of whose operand a literal is true.
     #[inline(always)]
     fn visit_and_of(&mut self, fanout: Fanout, literal: u32) -> Option<Reason> {
-        let node = fanout.gate;
+        let node = fanout.gate();
         let gate = literal_of(node, true);
         if fanout.own != literal {
-            let side = fanout.side;
+            let side = fanout.side();
             return self.imply(gate ^ 1, Reason::Gate { node, side });
         }
         let reason = Reason::Gate { node, side: 2 };

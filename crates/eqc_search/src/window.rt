@@ -1,9 +1,9 @@
 //! The gates that a search looks at: the highest below the question.
+use crate::frontier::Frontier;
 use crate::heights::{node_in, ranked};
 use crate::reads::{NONE, lengthen, node_at, number, read, write};
 use eqc_graph::{Graph, Node, node_of};
 use std::alloc::{AllocError, Global};
-use std::collections::BinaryHeap;
 
 /// What a node is to the window.
 #[derive(Clone, Copy, PartialEq, Eq)]
@@ -15,12 +15,11 @@ enum Part {
     Gate,
 }
 
-/// A gate that has a node as an operand.
+/// A gate that has a node as an operand, in four words, since many are read.
 #[derive(Clone, Copy)]
 pub(crate) struct Fanout {
-    pub(crate) gate: u32,
-    pub(crate) side: u32,
-    pub(crate) is_xor: bool,
+    /// Four times the gate, twice the side of the operand, and one where it is an exclusive or.
+    code: u32,
     /// The operand that is the node, and the other one.
     pub(crate) own: u32,
     pub(crate) other: u32,
@@ -28,10 +27,25 @@ pub(crate) struct Fanout {
     pub(crate) next: u32,
 }
 
+impl Fanout {
+    #[inline(always)]
+    pub(crate) fn gate(self) -> u32 {
+        self.code / 4
+    }
+
+    #[inline(always)]
+    pub(crate) fn side(self) -> u32 {
+        self.code / 2 % 2
+    }
+
+    #[inline(always)]
+    pub(crate) fn is_xor(self) -> bool {
+        self.code % 2 == 1
+    }
+}
+
 const NO_FANOUT: Fanout = Fanout {
-    gate: NONE,
-    side: 0,
-    is_xor: false,
+    code: 0,
     own: 0,
     other: 0,
     next: NONE,
@@ -44,12 +58,15 @@ struct Seat {
     height: u32,
     /// The first gate of the window that has the node as an operand.
     head: u32,
+    /// Its place among the nodes of the window that are in order.
+    place: u32,
     part: Part,
 }
 
 const NO_SEAT: Seat = Seat {
     height: 0,
     head: NONE,
+    place: NONE,
     part: Part::Outside,
 };
 
@@ -61,9 +78,20 @@ pub(crate) struct Window {
     /// What is in the window, in the order in which it came.
     nodes: Vec<u32>,
     fanouts: Vec<Fanout>,
-    /// The gates that may come in, the highest first.
-    frontier: BinaryHeap<u64>,
+    /// The gates that may come in.
+    frontier: Frontier,
     gates: u32,
+    /// The height of the highest node that was looked at.
+    highest: u32,
+    /// The nodes that are in order, the highest first: gates as they came in, of which so many are there, and where the edge is in order too
+    /// what is there. A gate that came in late and is higher than one before it has no place.
+    order: Vec<u32>,
+    ordered: u32,
+    /// The last gate that is in order.
+    last: u64,
+    is_arranged: bool,
+    /// The nodes at the edge, while they are put in order.
+    edge: Vec<u64>,
 }
 
 impl Window {
@@ -72,8 +100,14 @@ impl Window {
             seats: Vec::new(alloc),
             nodes: Vec::new(alloc),
             fanouts: Vec::new(alloc),
-            frontier: BinaryHeap::new(alloc),
+            frontier: Frontier::new(alloc),
             gates: 0,
+            highest: 0,
+            order: Vec::new(alloc),
+            ordered: 0,
+            last: u64::MAX,
+            is_arranged: false,
+            edge: Vec::new(alloc),
         }
     }
 
@@ -92,8 +126,9 @@ impl Window {
             };
             let seat = self.seat(node);
             write(&mut self.seats, node, Seat { height, ..seat });
+            self.highest = self.highest.max(height);
         }
-        Ok(())
+        self.frontier.grow(nodes, self.highest)
     }
 
     #[inline(always)]
@@ -102,8 +137,26 @@ impl Window {
     }
 
     #[inline(always)]
-    pub(crate) fn height(&self, node: u32) -> u32 {
+    fn height(&self, node: u32) -> u32 {
         self.seat(node).height
+    }
+
+    /// The node by its height.
+    #[inline(always)]
+    pub(crate) fn ranked(&self, node: u32) -> u64 {
+        ranked(self.height(node), node)
+    }
+
+    /// The place of a node among those that are in order, or none: the node of a lesser one is higher.
+    #[inline(always)]
+    pub(crate) fn place(&self, node: u32) -> u32 {
+        self.seat(node).place
+    }
+
+    /// The node of a place.
+    #[inline(always)]
+    pub(crate) fn node_at(&self, place: u32) -> u32 {
+        read(&self.order, place, 0)
     }
 
     /// Whether the node is a gate that is propagated.
@@ -144,7 +197,7 @@ impl Window {
         write(&mut self.seats, node, Seat { part, ..seat });
         match node_at(graph, node) {
             Node::And(_, _) | Node::Xor(_, _) => {
-                self.frontier.push(ranked(seat.height, node))?;
+                self.frontier.push(node, seat.height);
             }
             Node::Constant | Node::Input(_) => {}
         }
@@ -173,35 +226,110 @@ impl Window {
     ) -> Result<(), AllocError> {
         self.enter(graph, node_of(a))?;
         self.enter(graph, node_of(b))?;
-        let first = Fanout {
-            gate,
-            side: 0,
-            is_xor,
+        let code = gate.wrapping_mul(4) | u32::from(is_xor);
+        self.link(Fanout {
+            code,
             own: a,
             other: b,
             next: NONE,
-        };
-        self.link(first)?;
+        })?;
         self.link(Fanout {
-            side: 1,
+            code: code | 2,
             own: b,
             other: a,
-            ..first
+            next: NONE,
         })?;
+        self.gates = self.gates.saturating_add(1);
+        self.seat_gate(gate)
+    }
+
+    /// Lets a node at the edge be a gate that is propagated, and gives it the next place if it is lower than the gates that have one.
+    fn seat_gate(&mut self, gate: u32) -> Result<(), AllocError> {
         let part = Part::Gate;
         let seat = self.seat(gate);
-        write(&mut self.seats, gate, Seat { part, ..seat });
-        self.gates = self.gates.saturating_add(1);
+        let rank = ranked(seat.height, gate);
+        let place = if rank < self.last {
+            self.last = rank;
+            self.order.push(gate)?;
+            let place = self.ordered;
+            self.ordered = place.wrapping_add(1);
+            place
+        } else {
+            NONE
+        };
+        write(
+            &mut self.seats,
+            gate,
+            Seat {
+                part,
+                place,
+                ..seat
+            },
+        );
         Ok(())
+    }
+
+    /// Takes the places of the nodes at the edge from them.
+    fn disarrange(&mut self) {
+        for place in self.ordered..number(self.order.len()) {
+            let node = self.node_at(place);
+            let seat = self.seat(node);
+            write(
+                &mut self.seats,
+                node,
+                Seat {
+                    place: NONE,
+                    ..seat
+                },
+            );
+        }
+        self.order.truncate(self.ordered as usize);
+    }
+
+    /// Gives the nodes at the edge places too, behind those of the gates: that pays in a long search.
+    pub(crate) fn arrange(&mut self) -> Result<(), AllocError> {
+        self.disarrange();
+        self.is_arranged = true;
+        self.edge.clear();
+        for at in 0..self.nodes.len() {
+            let node = read(&self.nodes, number(at), 0);
+            let rank = self.ranked(node);
+            if rank < self.last {
+                self.edge.push(rank)?;
+            }
+        }
+        self.edge.sort_unstable();
+        for at in (0..number(self.edge.len())).rev() {
+            let node = node_in(read(&self.edge, at, 0));
+            let place = number(self.order.len());
+            self.order.push(node)?;
+            let seat = self.seat(node);
+            write(&mut self.seats, node, Seat { place, ..seat });
+        }
+        Ok(())
+    }
+
+    /// Whether the nodes at the edge have places.
+    pub(crate) fn is_arranged(&self) -> bool {
+        self.is_arranged
     }
 
     /// Takes in the highest gates at the edge until there are so many.
     pub(crate) fn expand(&mut self, graph: &Graph, most: u32) -> Result<(), AllocError> {
+        self.disarrange();
+        self.take_in_highest(graph, most)?;
+        if self.is_arranged {
+            return self.arrange();
+        }
+        Ok(())
+    }
+
+    /// Takes in the highest gates at the edge until there are so many. None at the edge has a place.
+    fn take_in_highest(&mut self, graph: &Graph, most: u32) -> Result<(), AllocError> {
         for _ in self.gates..most {
-            let Some(candidate) = self.frontier.pop() else {
+            let Some(gate) = self.frontier.pop()? else {
                 return Ok(());
             };
-            let gate = node_in(candidate);
             match node_at(graph, gate) {
                 Node::And(a, b) => self.take_in(graph, gate, a, b, false)?,
                 Node::Xor(a, b) => self.take_in(graph, gate, a, b, true)?,
@@ -232,5 +360,9 @@ impl Window {
         self.fanouts.clear();
         self.frontier.clear();
         self.gates = 0;
+        self.order.clear();
+        self.ordered = 0;
+        self.last = u64::MAX;
+        self.is_arranged = false;
     }
 }
