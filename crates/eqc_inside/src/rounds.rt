@@ -127,6 +127,7 @@ impl Rounds {
         effort
             .within(self.in_proportion(node), self.in_proportion(whole))
             .by(self.workers)
+            .in_two_ways()
     }
 
     /// From now on rounds may cost so much. Where the last one gave no question up there is none.

@@ -71,6 +71,8 @@ const MUCH: Budget = Budget {
     conflicts: 10_000,
     visits: 100_000_000,
     work: 1_000_000_000,
+    growth: 8,
+    ordered_from: u64::MAX,
 };
 
 /// Whether all assumptions are true under an assignment of nodes' values, in which the others are false.

@@ -1,5 +1,6 @@
 //! What a conflict teaches: a clause, and the hints that show it.
 use crate::engine::{Engine, WORK_RESOLVED};
+use crate::heights::{node_in, ranked};
 use crate::learned::Learned;
 use crate::reads::{NONE, lengthen, literal_of, node_at, number, read, write};
 use crate::values::{Reason, Value, Values};
@@ -13,6 +14,8 @@ pub(crate) struct Analysis {
     /// By node: whether it is among those that led to the conflict.
     seen: Vec<bool>,
     touched: Vec<u32>,
+    /// The same by when they last were in a conflict, while they are put in that order.
+    stamped: Vec<u64>,
     /// How many of them are of the last level and not resolved.
     open: u32,
     /// The clause that is learned, its first literal the one that becomes true.
@@ -32,6 +35,7 @@ impl Analysis {
         Analysis {
             seen: Vec::new(alloc),
             touched: Vec::new(alloc),
+            stamped: Vec::new(alloc),
             open: 0,
             clause: Vec::new(alloc),
             resolved: Vec::new(alloc),
@@ -155,7 +159,9 @@ impl Engine {
         }
         self.analysis.touched.push(node)?;
         write(&mut self.analysis.seen, node, true);
-        self.decisions.bump(node);
+        if !self.restarts.is_hard() {
+            self.decisions.bump(node);
+        }
         if self.values.level_of(node) == self.values.level() {
             self.analysis.open = self.analysis.open.saturating_add(1);
             return Ok(());
@@ -257,6 +263,22 @@ impl Engine {
         Ok(())
     }
 
+    /// Notes that the nodes that led to the conflict were in one, in the order in which they last were.
+    fn bump_in_order(&mut self) -> Result<(), AllocError> {
+        self.analysis.stamped.clear();
+        for at in 0..number(self.analysis.touched.len()) {
+            let node = read(&self.analysis.touched, at, 0);
+            let stamped = ranked(self.decisions.stamp(node), node);
+            self.analysis.stamped.push(stamped)?;
+        }
+        self.analysis.stamped.sort_unstable();
+        for at in 0..number(self.analysis.stamped.len()) {
+            let stamped = read(&self.analysis.stamped, at, 0);
+            self.decisions.bump(node_in(stamped));
+        }
+        Ok(())
+    }
+
     /// Learns from a clause that is false while decisions hold: `analysis` has the clause and its hints afterwards.
     /// Gives the level to go back to, and the number of levels of the clause.
     pub(crate) fn analyze(
@@ -265,6 +287,9 @@ impl Engine {
         conflict: Reason,
     ) -> Result<(u32, u32), AllocError> {
         let last = self.resolve(graph, conflict, 1)?;
+        if self.restarts.is_hard() {
+            self.bump_in_order()?;
+        }
         write(&mut self.analysis.clause, 0, last ^ 1);
         self.minimize(graph)?;
         self.analysis

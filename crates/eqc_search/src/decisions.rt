@@ -98,6 +98,11 @@ impl Decisions {
         read(&self.links, node, ENTERED)
     }
 
+    /// When a node was last in a conflict, or 0 where it wasn't.
+    pub(crate) fn stamp(&self, node: u32) -> u32 {
+        self.link(node).stamp
+    }
+
     /// Lets a node be decided.
     #[inline]
     pub(crate) fn insert(&mut self, node: u32, window: &Window) {

@@ -10,11 +10,11 @@ use crate::window::Window;
 use eqc_graph::{Graph, Node, node_of};
 use std::alloc::{AllocError, Global};
 
-/// So many gates are in the first window, and so many times more in each further one. To lay out a window takes as long as
-/// most refutations, so the first one is small.
+/// So many gates are in the first window. To lay out a window takes as long as most refutations, so the first one is small.
 const FIRST_WINDOW: u32 = 20;
 
-const WINDOW_GROWTH: u32 = 8;
+/// A window that is made larger has at least so many times as many gates.
+const LEAST_GROWTH: u32 = 2;
 
 /// To take a gate into the window counts as so many visits.
 const TAKEN_IN: u64 = 4;
@@ -40,8 +40,9 @@ pub(crate) struct Engine {
     /// The literals visited that aren't charged yet, and the work besides.
     pub(crate) visits: u64,
     work: u64,
-    /// So many gates the window may have.
+    /// So many gates the window may have, and so many times as many when it is made larger.
     aim: u32,
+    growth: u32,
 }
 
 impl Engine {
@@ -56,6 +57,7 @@ impl Engine {
             visits: 0,
             work: 0,
             aim: FIRST_WINDOW,
+            growth: LEAST_GROWTH,
         }
     }
 
@@ -114,9 +116,11 @@ impl Engine {
         &mut self,
         graph: &Graph,
         assumptions: &[u32],
+        budget: &Budget,
     ) -> Result<Option<u32>, AllocError> {
         self.grow(graph)?;
-        self.restarts = self.restarts.again();
+        self.restarts = self.restarts.again(budget.ordered_from);
+        self.growth = budget.growth.max(LEAST_GROWTH);
         for literal in assumptions {
             self.window.enter(graph, node_of(*literal))?;
         }
@@ -193,7 +197,7 @@ impl Engine {
             return Ok(false);
         }
         self.back_to(0);
-        self.expand(graph, self.aim.saturating_mul(WINDOW_GROWTH))?;
+        self.expand(graph, self.aim.saturating_mul(self.growth))?;
         self.values.propagate_anew();
         Ok(true)
     }

@@ -3,7 +3,8 @@ use crate::reads::{NONE, lengthen, read, write};
 use crate::window::Window;
 use std::alloc::{AllocError, Global};
 
-/// A node of a height as one number: that of the higher node is greater, and of two of one height that of the later one.
+/// A node with its height, or another number, as one number: of two nodes that of the higher one is greater, and of two of one height that of
+/// the later one.
 pub(crate) fn ranked(height: u32, node: u32) -> u64 {
     u64::from(height) << 32 | u64::from(node)
 }

@@ -16,6 +16,9 @@ pub(crate) struct Restarts {
     place: u32,
     factor: u32,
     conflicts: u32,
+    /// The conflicts of the question, and with how many it is a hard one.
+    all: u64,
+    hard_from: u64,
     /// How many learned clauses may be there.
     limit: u32,
 }
@@ -26,20 +29,29 @@ impl Restarts {
             place: 1,
             factor: 1,
             conflicts: 0,
+            all: 0,
+            hard_from: u64::MAX,
             limit: FIRST_LIMIT,
         }
     }
 
     /// The account of a question that comes after others, whose clauses may stay.
-    pub(crate) fn again(self) -> Restarts {
+    pub(crate) fn again(self, hard_from: u64) -> Restarts {
         Restarts {
             limit: self.limit,
+            hard_from,
             ..Restarts::new()
         }
     }
 
     pub(crate) fn count_conflict(&mut self) {
         self.conflicts = self.conflicts.saturating_add(1);
+        self.all = self.all.saturating_add(1);
+    }
+
+    /// Whether the question is a hard one by now.
+    pub(crate) fn is_hard(&self) -> bool {
+        self.all >= self.hard_from
     }
 
     pub(crate) fn is_due(&self) -> bool {

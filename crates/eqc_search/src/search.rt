@@ -45,6 +45,10 @@ pub struct Budget {
     /// What takes time, one for each literal visited, and as much more as the rest takes: to lay out windows, to order decisions
     /// and to learn from conflicts.
     pub work: u64,
+    /// How many times as many gates a window may have each time that it is made larger: two at least.
+    pub growth: u32,
+    /// From so many conflicts on, the nodes of each are noted in the order in which they last were in one, and before that as they are met.
+    pub ordered_from: u64,
 }
 
 /// A search, with the memory that it needs for graphs of the largest size that it met. Contracts see the clauses that it learned.
@@ -137,7 +141,7 @@ impl Search {
         ensures answer { IfOk result (λ answer. answer ≡ Answer.Refuted → IsRefuted graph.now assumptions.now) }
         ensures sound { IsSound graph.now self.new }
     {
-        if let Some(l) = self.engine.begin(graph, assumptions)? {
+        if let Some(l) = self.engine.begin(graph, assumptions, budget)? {
             let is_shown = contradict(graph, assumptions, l);
             return Ok(Answer::refuted_where(is_shown));
         }

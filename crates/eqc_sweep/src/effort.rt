@@ -14,6 +14,8 @@ pub struct Effort {
     pub(crate) work: u64,
     /// So many threads ask side by side.
     pub(crate) workers: u32,
+    /// Whether hard questions may be asked in a second way.
+    pub(crate) orders: bool,
 }
 
 impl Effort {
@@ -27,6 +29,7 @@ impl Effort {
             whole: 0,
             work: 0,
             workers: 0,
+            orders: false,
         }
     }
 
@@ -42,6 +45,16 @@ impl Effort {
             whole: work,
             work,
             workers: 1,
+            orders: false,
+        }
+    }
+
+    /// The same where questions with many conflicts are asked in two ways, of which more and more that which finds more nodes equal for
+    /// its work: whether the nodes of a conflict are noted as they are met, or in the order in which they last were in one.
+    pub fn in_two_ways(self) -> Effort {
+        Effort {
+            orders: true,
+            ..self
         }
     }
 

@@ -8,6 +8,7 @@ pub(crate) mod carries;
 pub(crate) mod classes;
 pub(crate) mod comparison;
 pub(crate) mod counterexamples;
+pub(crate) mod hard;
 pub(crate) mod patterns;
 pub(crate) mod random;
 pub(crate) mod team;

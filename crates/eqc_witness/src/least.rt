@@ -23,6 +23,9 @@ const WITHOUT: u64 = 100;
 /// Visits of each node for each position, besides.
 const EACH: u64 = 16;
 
+/// How many times as many gates a window has each time that it is made larger.
+const GROWTH: u32 = 8;
+
 /// So many visits, or nodes below the literal, count as a conflict, where there were fewer conflicts.
 const WORTH: u64 = 2_000;
 
@@ -42,6 +45,8 @@ fn budget_of(conflicts: u64, cone: &Cone) -> Budget {
             .saturating_mul(VISITS)
             .saturating_add(questions.saturating_mul(nodes).saturating_mul(EACH)),
         work: u64::MAX,
+        growth: GROWTH,
+        ordered_from: u64::MAX,
     }
 }
 

@@ -2,6 +2,7 @@
 ghost use Rattle.std.specs.Prelude.{◌<◌};
 
 use crate::effort::{Effort, Tally};
+use crate::finder::hard::Hard;
 use eqc_search::{Answer, Budget};
 
 /// Conflicts that there are at the start, in questions that take all that they may, and what each question adds.
@@ -18,6 +19,11 @@ const FEWEST: u64 = 100;
 const VISITS: u64 = 1_000;
 
 const WITHOUT: u64 = 100;
+
+/// How many times as many gates a window has each time that it is made larger. Most nodes are told equal or unequal by what lies near them.
+const GROWTH: u32 = 8;
+
+const GROWTH_FOR_OUTPUTS: u32 = 4;
 
 /// So many visits count as a conflict, where there were fewer conflicts.
 const WORTH: u64 = 1_000;
@@ -72,14 +78,17 @@ pub(crate) struct Account {
     doubted_open: u32,
     /// Whether questions about such nodes may have as much as others.
     is_patient: bool,
+    hard: Hard,
 }
 
-/// What a question may spend that may have so many conflicts, and so much work.
+/// What a question about outputs may spend that may have so many conflicts, and so much work.
 pub(crate) fn budget_of(conflicts: u64, work: u64) -> Budget {
     Budget {
         conflicts,
         visits: conflicts.saturating_add(WITHOUT).saturating_mul(VISITS),
         work,
+        growth: GROWTH_FOR_OUTPUTS,
+        ordered_from: u64::MAX,
     }
 }
 
@@ -118,6 +127,7 @@ impl Account {
             doubted_found: 0,
             doubted_open: 0,
             is_patient: false,
+            hard: Hard::new(effort.orders),
         }
     }
 
@@ -174,6 +184,8 @@ impl Account {
             conflicts: doubted(conflicts, doubt),
             visits: doubted(conflicts.saturating_add(WITHOUT), doubt).saturating_mul(VISITS),
             work: self.left(nodes).min(doubted(most, doubt)),
+            growth: GROWTH,
+            ordered_from: self.hard.ordered_from(),
         }
     }
 
@@ -187,6 +199,7 @@ impl Account {
         let conflicts = given.conflicts.saturating_sub(left.conflicts);
         self.conflicts = self.conflicts.saturating_sub(conflicts);
         let work = given.work.saturating_sub(left.work);
+        self.hard.count(given, conflicts, is_equal, work);
         if is_equal {
             self.hardest = self.hardest.max(work);
             self.found = self.found.saturating_add(1);
