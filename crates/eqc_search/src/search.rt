@@ -52,7 +52,6 @@ pub struct Budget {
 }
 
 /// A search, with the memory that it needs for graphs of the largest size that it met. Contracts see the clauses that it learned.
-#[derive(Drop)]
 pub struct Search {
     engine: Engine,
     store: Clauses,
@@ -66,6 +65,18 @@ impl Model for Search {
     ghost Value = { List (List ℕ) };
 
     ghost view = { λ s. s.store };
+}
+
+/// It stands here for the sake of proofs: where a search is let go there is a call in place of all its parts.
+impl Drop for Search {
+    fn drop(self) {
+        let Search {
+            engine: _,
+            store: _,
+            marks: _,
+            model: _,
+        } = self;
+    }
 }
 
 impl Search {

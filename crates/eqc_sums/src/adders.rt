@@ -228,6 +228,17 @@ impl Adders {
         }
     }
 
+    /// How many inputs there are.
+    pub(crate) fn inputs(&self) -> usize {
+        let mut inputs = 0usize;
+        for known in &self.nodes {
+            if let Node::Input(_) = known.gate {
+                inputs = inputs.saturating_add(1);
+            }
+        }
+        inputs
+    }
+
     /// Whether a node is a gate.
     pub(crate) fn is_gate(&self, node: u32) -> bool {
         match self.nodes.get(node as usize) {

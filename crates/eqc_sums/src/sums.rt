@@ -78,6 +78,12 @@ const LEAST: usize = 2;
 /// What a column is compared with may take this part of a pair's conflicts.
 const MEETINGS: u64 = 5;
 
+/// A graph of so many nodes is large.
+const LARGE: u32 = 16_000;
+
+/// An attempt that may well be in vain has this part of the looks.
+const BRIEF: u64 = 4;
+
 /// The work of a look at whether a sum or a carry is among the nodes.
 const LOOK: u64 = 10;
 
@@ -248,6 +254,9 @@ impl Sums {
         if self.attempt(ps, qs, (FEW, false), limits)? {
             return Ok(true);
         }
+        if self.is_of_several(ps) && self.attempt_briefly(ps, qs, limits)? {
+            return Ok(true);
+        }
         self.take_kind((LEAST, true), limits)?;
         if self.shown(ps, qs, Way::AsSecond, limits)? || self.shown(ps, qs, Way::AsFirst, limits)? {
             return Ok(true);
@@ -259,6 +268,33 @@ impl Sums {
             return Ok(true);
         }
         self.attempt(ps, qs, (FEWER, true), limits)
+    }
+
+    /// Whether a word looks like a sum of several products, in a graph so large that attempts in vain take long: one product has as
+    /// many literals as its factors have together, of which some may be known to be equal.
+    fn is_of_several(&self, word: &[u32]) -> bool {
+        let inputs = self.adders.inputs();
+        self.reduction.sweep().graph().len() >= LARGE
+            && inputs > word.len().saturating_add(word.len() / 4)
+    }
+
+    #[tactic(auto, using(crate::proofs::GateLemmas::extends_both))]
+    /// Whether two words are shown equal where it is asked for many carries, with a part of the looks that are left, which are left behind it too.
+    fn attempt_briefly(
+        &mut self,
+        ps: &[u32],
+        qs: &[u32],
+        limits: Limits,
+    ) -> Result<bool, AllocError>
+        ensures extends { Extends self.old.reduction.sweep self.new.reduction.sweep }
+        ensures equal { IfOk result (λ is. IsTrue is → AreEqualWords self.new.reduction.sweep ps.now qs.now) }
+    {
+        let looks = self.looks;
+        self.looks = looks / BRIEF;
+        let is_shown = self.attempt(ps, qs, (FEW, true), limits)?;
+        self.looks = looks;
+        let _ = self.reduction.sweep().graph().len();
+        Ok(is_shown)
     }
 
     /// Looks for adders anew where others are known than those for which so many inputs are few, and it is asked for many carries or not.

@@ -38,7 +38,6 @@ const FLIPPED: usize = 4;
 const MORE_ROWS: usize = 16;
 
 /// What is known of the nodes by simulation, and the search.
-#[derive(Drop)]
 pub(crate) struct Finder {
     alloc: Global,
     effort: Effort,
@@ -56,6 +55,26 @@ pub(crate) struct Finder {
     waits: bool,
     waiting: Vec<Waiting>,
     searches: Vec<Search>,
+}
+
+/// It stands here for the sake of proofs, as that of a search.
+impl Drop for Finder {
+    fn drop(self) {
+        let Finder {
+            alloc: _,
+            effort: _,
+            patterns: _,
+            classes: _,
+            counterexamples: _,
+            account: _,
+            search: _,
+            inputs: _,
+            doubts: _,
+            waits: _,
+            waiting: _,
+            searches: _,
+        } = self;
+    }
 }
 
 /// Asks whether two literals differ: either may be true where the other is false. The second question looks at the window of the first,

@@ -23,7 +23,6 @@ use std::marker::Model;
 use std::thread::Threads;
 
 /// A graph, seen as its nodes, in which a node that is found equal to an older one is not made.
-#[derive(Drop)]
 pub struct Sweep {
     graph: Graph,
     table: Table,
@@ -40,6 +39,17 @@ impl Model for Sweep {
     ghost view = { λ s. s.graph };
 
     ghost invariant = { λ s. AreKnown s.graph s.table.entries.items };
+}
+
+/// It stands here for the sake of proofs: where a sweep is let go there is a call in place of all its parts.
+impl Drop for Sweep {
+    fn drop(self) {
+        let Sweep {
+            graph: _,
+            table: _,
+            finder: _,
+        } = self;
+    }
 }
 
 impl Sweep {
