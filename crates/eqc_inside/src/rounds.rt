@@ -66,6 +66,7 @@ pub enum Span {
 pub struct Rounds {
     conflicts: u64,
     workers: u32,
+    inputs: usize,
     /// Whether every output that differs is looked for, or the first alone.
     pub(crate) every: bool,
     level: usize,
@@ -91,6 +92,7 @@ impl Rounds {
         Rounds {
             conflicts,
             workers,
+            inputs: pair.first().inputs().len(),
             every,
             level: usize::from(steps < MANY_STEPS),
             left: conflicts.saturating_mul(WORK),
@@ -127,6 +129,7 @@ impl Rounds {
         effort
             .within(self.in_proportion(node), self.in_proportion(whole))
             .by(self.workers)
+            .over(self.inputs)
             .in_two_ways()
     }
 

@@ -1,5 +1,8 @@
 //! What a sweep may cost.
 
+/// Of so many inputs two or more are true in each pattern in which one of 256 is. So others are simulated too.
+const MANY_INPUTS: usize = 512;
+
 /// How much a sweep does to find nodes equal.
 #[derive(Clone, Copy, PartialEq, Eq, Debug)]
 pub struct Effort {
@@ -16,6 +19,8 @@ pub struct Effort {
     pub(crate) workers: u32,
     /// Whether hard questions may be asked in a second way.
     pub(crate) orders: bool,
+    /// Whether there are so many inputs that more patterns are simulated.
+    pub(crate) has_many_inputs: bool,
 }
 
 impl Effort {
@@ -30,6 +35,7 @@ impl Effort {
             work: 0,
             workers: 0,
             orders: false,
+            has_many_inputs: false,
         }
     }
 
@@ -46,6 +52,7 @@ impl Effort {
             work,
             workers: 1,
             orders: false,
+            has_many_inputs: false,
         }
     }
 
@@ -54,6 +61,14 @@ impl Effort {
     pub fn in_two_ways(self) -> Effort {
         Effort {
             orders: true,
+            ..self
+        }
+    }
+
+    /// The same over so many inputs: where they are many, more patterns are simulated in which few are true.
+    pub fn over(self, inputs: usize) -> Effort {
+        Effort {
+            has_many_inputs: inputs >= MANY_INPUTS,
             ..self
         }
     }

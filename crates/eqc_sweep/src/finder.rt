@@ -102,7 +102,7 @@ pub(crate) fn ask_both(
 
 impl Finder {
     pub(crate) fn new(alloc: Global, effort: Effort) -> Result<Finder, AllocError> {
-        Finder::by(alloc, effort, Patterns::new(alloc)?)
+        Finder::by(alloc, effort, Patterns::new(alloc, effort.has_many_inputs)?)
     }
 
     /// One for another graph whose inputs are those of this one, in the same order: it simulates the same patterns, if this one does.

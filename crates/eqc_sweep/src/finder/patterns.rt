@@ -4,7 +4,7 @@ pub(crate) mod carry;
 pub(crate) mod fixed;
 pub(crate) mod uneven;
 
-use crate::finder::patterns::fixed::{FIXED, draws, input_word};
+use crate::finder::patterns::fixed::{FIXED, FIXED_FOR_MANY, draws, input_word};
 use crate::finder::random::Random;
 use crate::finder::words::{
     TOGETHER, Words, share_of, shares_of, word_at, word_by, words_at, words_by, words_of,
@@ -12,11 +12,11 @@ use crate::finder::words::{
 use eqc_graph::{Graph, Node};
 use std::alloc::{AllocError, Global};
 
-/// How many rows there may be, with those of counterexamples.
-const MOST: usize = FIXED + 32;
+/// How many rows of counterexamples there may be.
+const MOST: usize = 32;
 
 /// How many there may be in a graph of fewer nodes than so many.
-const MOST_IN_SMALL: usize = FIXED + 128;
+const MOST_IN_SMALL: usize = 128;
 
 const SMALL: u32 = 65_536;
 
@@ -28,6 +28,8 @@ pub(crate) struct Patterns {
     /// those of its operands in all rows.
     blocks: Vec<Vec<Words>>,
     rows: usize,
+    /// How many rows there are before those of counterexamples.
+    fixed: usize,
     /// The words of inputs, in their order, in the first rows: of those of another graph.
     kept: Vec<Vec<u64>>,
     /// By node.
@@ -66,18 +68,24 @@ fn put_words(block: &mut Vec<Words>, lane: usize, row: &[u64]) {
 }
 
 impl Patterns {
-    /// The rows that are there before counterexamples, without nodes.
-    pub(crate) fn new(alloc: Global) -> Result<Patterns, AllocError> {
+    /// The rows that are there before counterexamples, without nodes, for few inputs or for many.
+    pub(crate) fn new(alloc: Global, has_many_inputs: bool) -> Result<Patterns, AllocError> {
+        let fixed = if has_many_inputs {
+            FIXED_FOR_MANY
+        } else {
+            FIXED
+        };
         Ok(Patterns {
             alloc,
-            blocks: empty_blocks(alloc, FIXED)?,
-            rows: FIXED,
+            blocks: empty_blocks(alloc, fixed)?,
+            rows: fixed,
+            fixed,
             kept: Vec::new(alloc),
             phases: Vec::new(alloc),
             signatures: Vec::new(alloc),
             random: Random::new(),
             inputs: 0,
-            oldest: FIXED,
+            oldest: fixed,
         })
     }
 
@@ -99,6 +107,7 @@ impl Patterns {
             alloc,
             blocks: empty_blocks(alloc, self.rows)?,
             rows: self.rows,
+            fixed: self.fixed,
             kept,
             phases: Vec::new(alloc),
             signatures: Vec::new(alloc),
@@ -172,9 +181,11 @@ impl Patterns {
             let kept = kept_at(self.kept.as_slice(), self.inputs, row);
             words[lane] = match (kept, node) {
                 (Some(word), _) => word,
-                (None, Node::Input(_)) => input_word(&mut self.random, self.inputs, row),
+                (None, Node::Input(_)) => {
+                    input_word(&mut self.random, self.inputs, row, self.fixed)
+                }
                 (None, _) => {
-                    for _ in 0..draws(row) {
+                    for _ in 0..draws(row, self.fixed) {
                         self.random.next();
                     }
                     0
@@ -264,7 +275,7 @@ impl Patterns {
         } else {
             MOST
         };
-        if self.rows < most {
+        if self.rows < self.fixed.saturating_add(most) {
             let at = self.rows;
             self.make_room(at)?;
             self.rows = at.wrapping_add(1);
@@ -273,7 +284,7 @@ impl Patterns {
         }
         let at = self.oldest;
         let next = at.wrapping_add(1);
-        self.oldest = if next < self.rows { next } else { FIXED };
+        self.oldest = if next < self.rows { next } else { self.fixed };
         self.discount(at);
         self.put(at, row.as_slice());
         Ok(())
@@ -293,15 +304,16 @@ impl Patterns {
     /// Forgets the rows that a graph of as many nodes has no room for, and answers whether there were some: nodes have other signatures
     /// then.
     pub(crate) fn shorten(&mut self) -> bool {
-        if self.signatures.len() < SMALL as usize || self.rows <= MOST {
+        let most = self.fixed.saturating_add(MOST);
+        if self.signatures.len() < SMALL as usize || self.rows <= most {
             return false;
         }
-        for at in MOST..self.rows {
+        for at in most..self.rows {
             self.discount(at);
         }
-        self.rows = MOST;
-        self.blocks.truncate(MOST.div_ceil(TOGETHER));
-        self.oldest = FIXED;
+        self.rows = most;
+        self.blocks.truncate(most.div_ceil(TOGETHER));
+        self.oldest = self.fixed;
         true
     }
 

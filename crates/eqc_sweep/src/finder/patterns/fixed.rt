@@ -19,8 +19,18 @@ const FIRST_INTERVAL: usize = RANDOM + 2 * ALL_BUT_ONE;
 
 const INTERVALS: usize = 4;
 
-/// How many rows there are before those of counterexamples.
+/// How many rows there are before those of counterexamples, where inputs are few.
 pub(crate) const FIXED: usize = FIRST_INTERVAL + INTERVALS;
+
+/// How far the inputs are from one another that are true in a pattern of a row behind these, and how many such rows there are, one for
+/// each 64 of it. They tell apart what goes along a chain of more than 256 inputs, as the number of the last one that is true: a bit of
+/// it changes where the one before is as far away as the bit is worth.
+const APART: [usize; 3] = [64, 128, 1_024];
+
+const SPACED: usize = (APART[0] + APART[1] + APART[2]) / 64;
+
+/// How many rows there are before those of counterexamples, where inputs are many.
+pub(crate) const FIXED_FOR_MANY: usize = FIXED + SPACED;
 
 /// The word of an input of this number in a row in which each input but one has the same value.
 fn turn_of(input: u32, row: usize) -> u64 {
@@ -67,6 +77,22 @@ fn interval_word(random: &mut Random, input: u32, row: usize) -> u64 {
     }
 }
 
+/// The word of an input of this number in a row in which inputs are true that are far apart.
+fn spaced_word(input: u32, row: usize) -> u64 {
+    let mut before = FIXED;
+    for apart in APART {
+        let place = input as usize % apart;
+        if before.wrapping_add(place / 64) == row {
+            return 1 << (input % 64);
+        }
+        before = before.wrapping_add(apart / 64);
+        if row < before {
+            return 0;
+        }
+    }
+    0
+}
+
 /// A random word, of whose places so many halves are taken: with two of them a quarter are true.
 fn sparse(random: &mut Random, halves: u32) -> u64 {
     let mut word = u64::MAX;
@@ -88,24 +114,27 @@ fn random_word(random: &mut Random, row: usize) -> u64 {
     }
 }
 
-/// The word of an input of this number in a row. In those of counterexamples it is random.
-pub(crate) fn input_word(random: &mut Random, input: u32, row: usize) -> u64 {
-    if row < RANDOM || row >= FIXED {
+/// The word of an input of this number in a row, where there are so many before those of counterexamples. In these it is random.
+pub(crate) fn input_word(random: &mut Random, input: u32, row: usize, fixed: usize) -> u64 {
+    if row < RANDOM || row >= fixed {
         return random_word(random, row);
     }
     if row < FIRST_INTERVAL {
         turn_of(input, row)
-    } else {
+    } else if row < FIXED {
         interval_word(random, input, row)
+    } else {
+        spaced_word(input, row)
     }
 }
 
-/// How many random words are drawn for the word of an input in a row.
-pub(crate) fn draws(row: usize) -> u32 {
+/// How many random words are drawn for the word of an input in a row, where there are so many before those of counterexamples.
+pub(crate) fn draws(row: usize, fixed: usize) -> u32 {
     match row {
         3 | 5 => 2,
         4 | 6 => 4,
         _ if row >= RANDOM && row < FIRST_INTERVAL => 0,
+        _ if row >= FIXED && row < fixed => 0,
         _ => 1,
     }
 }
