@@ -271,7 +271,6 @@ fn sweep_more<R: Threads + Wait + Sync, P: Progress<R> + Sync>(
         ..
     } = *comparison;
     for _ in 0..MOST_ROUNDS {
-        ask_while_found(comparison, inside, alike);
         if !rounds.has_next() || known_outcome(alloc, pair, &alike.equal).is_some() {
             return;
         }
@@ -286,6 +285,7 @@ fn sweep_more<R: Threads + Wait + Sync, P: Progress<R> + Sync>(
         if let Ok(more) = inside.known(alloc, alike) {
             *alike = more;
         }
+        ask_while_found(comparison, inside, alike);
     }
 }
 
@@ -312,6 +312,7 @@ fn by_short_rounds<R: Threads + Wait + Sync, P: Progress<R> + Sync>(
         *alike = more;
     }
     rounds.count(inside.tally());
+    ask_while_found(comparison, inside, alike);
     sweep_more(comparison, inside, alike, rounds);
     if !inside.sees_difference(alike) {
         return Err(Stop::NodeLimit);
