@@ -4,6 +4,7 @@ ghost use Rattle.eqc_report.specs.ReportView.{report_of};
 ghost use Rattle.eqc_report.specs.Options.{options_code};
 ghost use Rattle.eqc_report.specs.Written.{IsWritten, IsCutShort};
 ghost use Rattle.eqc_case.specs.Running.{unnamed, IsReportFor, IsAnswered, IsCutOff};
+ghost use Rattle.eqc_case.specs.Sources.{HasTextOf};
 ghost use Rattle.eqc_case.specs.Warning.{warnings_at, IsWarned, WarnsOfKnown};
 
 use crate::decide::decide;
@@ -53,7 +54,8 @@ impl<'a> Reported<'a> {
     }
 }
 
-/// The report of a run with its warnings: a refusal of its options before any text is read, else that on its texts.
+/// The report of a run with its warnings: a refusal of its options before any text is read, else that on its texts. A read that fails
+/// is that of a text that is given.
 fn report_for<'a, RT: Threads + Wait + Sync, R: Read + Drop, P: Progress<RT> + Sync>(
     rt: &RT,
     alloc: Global,
@@ -63,6 +65,7 @@ fn report_for<'a, RT: Threads + Wait + Sync, R: Read + Drop, P: Progress<RT> + S
     ensures report { IfOk result (λ reported. IsReportFor R.remaining given.entry (report_of reported.told.report)) }
     ensures warned { IfOk result (λ reported. WarnsOfKnown R.remaining given.entry (report_of reported.told.report) reported.told.warnings) }
     ensures read { OnErr result (options_code given.entry.options ≡ None) }
+    ensures side { IfErr result (λ failed. HasTextOf given.entry failed.side) }
 {
     match options_fault(&given.options) {
         None => {}

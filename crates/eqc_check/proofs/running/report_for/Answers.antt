@@ -16,18 +16,19 @@ returns-in-Err g c =
       report = rw (within, c.alone-in-Err.ensures) (memory_reports g.R.Read.remaining c.args.given);
       warned = λ compares. absurd (subst (λ (r : Report). IsComparison (report_of r)) c.alone-in-Err.ensures compares);
       read = tt;
+      side = tt;
     }
 
 pub decide-requires-clause-options : goal.decide-requires-clause-options
 decide-requires-clause-options g c κs lent =
     let within : options_code c.args.given.options ≡ None = sym c.options_fault.ensures ∙ c.in-None.is in
-    let read = rw c.in-Ok.is at (c.read_given.ensures (bytes_in_range c.args.given.options within)) in
+    let read = rw c.in-Ok.is at (c.read_given.ensures.read (bytes_in_range c.args.given.options within)) in
     ap options_code read.options ∙ within
 
 pub returns-clause-report : goal.returns-clause-report
 returns-clause-report g c =
     let within : options_code c.args.given.options ≡ None = sym c.options_fault.ensures ∙ c.in-None.is in
-    let read = rw c.in-Ok.is at (c.read_given.ensures (bytes_in_range c.args.given.options within)) in
+    let read = rw c.in-Ok.is at (c.read_given.ensures.read (bytes_in_range c.args.given.options within)) in
     rw within
     (read_reports g.R.Read.remaining c.args.given c.in-Ok.case _ read
     (told_or_stopped (given_of c.in-Ok.case) c.decide.result c.of-told.result c.decide.ensures c.of-told.ensures.told c.of-told.ensures.stop))
@@ -35,6 +36,6 @@ returns-clause-report g c =
 pub returns-clause-warned : goal.returns-clause-warned
 returns-clause-warned g c =
     let within : options_code c.args.given.options ≡ None = sym c.options_fault.ensures ∙ c.in-None.is in
-    let read = rw c.in-Ok.is at (c.read_given.ensures (bytes_in_range c.args.given.options within)) in
+    let read = rw c.in-Ok.is at (c.read_given.ensures.read (bytes_in_range c.args.given.options within)) in
     read_warns g.R.Read.remaining c.args.given c.in-Ok.case _ _ read
     (warned_or_stopped (given_of c.in-Ok.case) c.decide.result c.of-told.result c.decide.ensures c.of-told.ensures.told c.of-told.ensures.stop)
