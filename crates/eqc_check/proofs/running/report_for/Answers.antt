@@ -31,11 +31,11 @@ returns-clause-report g c =
     let read = rw c.in-Ok.is at (c.read_given.ensures.read (bytes_in_range c.args.given.options within)) in
     rw within
     (read_reports g.R.Read.remaining c.args.given c.in-Ok.case _ read
-    (told_or_stopped (given_of c.in-Ok.case) c.decide.result c.of-told.result c.decide.ensures c.of-told.ensures.told c.of-told.ensures.stop))
+    (told_or_stopped (given_of c.in-Ok.case) c.decide.result c.of-told.result c.decide.ensures.tells c.of-told.ensures.told c.of-told.ensures.stop))
 
 pub returns-clause-warned : goal.returns-clause-warned
 returns-clause-warned g c =
     let within : options_code c.args.given.options ≡ None = sym c.options_fault.ensures ∙ c.in-None.is in
     let read = rw c.in-Ok.is at (c.read_given.ensures.read (bytes_in_range c.args.given.options within)) in
     read_warns g.R.Read.remaining c.args.given c.in-Ok.case _ _ read
-    (warned_or_stopped (given_of c.in-Ok.case) c.decide.result c.of-told.result c.decide.ensures c.of-told.ensures.told c.of-told.ensures.stop)
+    (warned_or_stopped (given_of c.in-Ok.case) c.decide.result c.of-told.result c.decide.ensures.tells c.of-told.ensures.told c.of-told.ensures.stop)
