@@ -1,6 +1,7 @@
 pub mod ReadLemmas
 pub mod ReportsLaws
 pub mod TellingLaws
+pub mod LeftLaws
 pub mod RunLaws
 pub mod CheckLemmas
 pub mod AcceptedLemmas

@@ -7,3 +7,4 @@ pub mod Running
 pub mod AnswerLaws
 pub mod Warning
 pub mod Telling
+pub mod Left

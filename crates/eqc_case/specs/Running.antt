@@ -1,16 +1,24 @@
 -- A run over readers whose bytes are known, and what it has written.
-use Rattle.std.specs.Prelude.{◌≡◌, ℕ, List, [], Option, Some, None, IfSome}
+use Rattle.std.specs.Prelude.{◌≡◌, ◌≢◌, ◌⊎◌, ℕ, List, [], Option, Some, None, IfSome}
 use Rattle.std.specs.Option.{option_map}
 use Rattle.eqc_report.specs.declared.report.Status.{Status}
 use Rattle.eqc_case.specs.declared.given.Given.{Given}
 use Rattle.eqc_case.specs.declared.given.Texts.{Texts}
 use Rattle.eqc_case.specs.declared.given.Texts.TheVariants.{One, Two}
 use Rattle.eqc_report.specs.Report.{ReportOf, refused}
+use Rattle.eqc_report.specs.ReportView.{report_of}
+use Rattle.eqc_report.specs.declared.report.Report.{Report}
+use Rattle.eqc_report.specs.declared.report.Report.TheVariants.{Stopped}
+use Rattle.eqc_report.specs.declared.undecided.Undecided.{Undecided}
 use Rattle.eqc_report.specs.Written.{IsWritten, IsCutShort}
 use Rattle.eqc_report.specs.Options.{options_code}
 use Rattle.eqc_report.specs.declared.options.Options.{Options}
 use Rattle.eqc_pair.specs.declared.refused.Side.TheVariants as side
 use Rattle.eqc_case.specs.Answer.{NamesOf, no_names, TextsOf, one_text, two_texts, GivenOf, texts_answer, Answers}
+use Rattle.eqc_case.specs.declared.given.Case.{Case}
+use Rattle.eqc_case.specs.Left.{IsNoneTold, IsToldBeside}
+use Rattle.eqc_case.specs.Sources.{given_of, AreRead}
+use Rattle.eqc_tree.specs.declared.stopping.Stop.TheVariants.{Memory}
 
 abbrev pub two_known : NamesOf → Option (List ℕ) → Option (List ℕ) → Option TextsOf
 two_known names None second = None
@@ -65,3 +73,20 @@ pub record IsCutOff {R : Type 0} (remaining : R → Option (List ℕ)) (given : 
   pub report : ReportOf
   pub answers : IsReportFor remaining given report
   pub written : IsCutShort report old new
+
+-- what was read for a report, of which it is, and what is told beside it
+pub record IsOfCase {R : Type 0} (remaining : R → Option (List ℕ)) (given : Given R) (report : Report) (left : Undecided) (case : Case) : Type 0 where
+  pub options : options_code given.options ≡ None
+  pub read : AreRead given.options.bytes remaining given case
+  pub answers : Answers (texts_answer (given_of case)) (report_of report)
+  pub told : IsToldBeside (given_of case) report left
+
+-- where nothing was, the options were refused, or memory for the reading, and nothing is told
+pub record IsOfNone {R : Type 0} (given : Given R) (report : Report) (left : Undecided) : Type 0 where
+  pub reason : (options_code given.options ≢ None) ⊎ (report ≡ Stopped Memory)
+  pub told : IsNoneTold left
+
+-- what was read for a report is kept with it, if anything was
+abbrev pub IsKept : {R : Type 0} → (R → Option (List ℕ)) → Given R → Report → Undecided → Option Case → Type 0
+IsKept remaining given report left None = IsOfNone given report left
+IsKept remaining given report left (Some case) = IsOfCase remaining given report left case

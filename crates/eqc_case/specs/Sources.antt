@@ -1,5 +1,5 @@
 -- What is read of what a run is given.
-use Rattle.std.specs.Prelude.{◌≡◌, ℕ, List, Option, Some, None, IfSome, Vec}
+use Rattle.std.specs.Prelude.{◌≡◌, ◌≢◌, ℕ, List, Option, Some, None, IfSome, Vec}
 use Rattle.std.specs.declared.alloc.Global.{Global}
 use Rattle.std.specs.Option.{option_map}
 use Rattle.eqc_case.specs.Answer.{GivenOf, read_texts}
@@ -8,6 +8,8 @@ use Rattle.eqc_case.specs.declared.given.Given.{Given}
 use Rattle.eqc_case.specs.declared.given.Texts.{Texts}
 use Rattle.eqc_case.specs.declared.given.Texts.TheVariants.{One, Two}
 use Rattle.eqc_case.specs.declared.given.Case.{Case}
+use Rattle.eqc_pair.specs.declared.refused.Side.{Side}
+use Rattle.eqc_pair.specs.declared.refused.Side.TheVariants as side
 
 -- the bytes of a text that may be missing
 abbrev pub items_of : Option (Vec ℕ Global) → Option (List ℕ)
@@ -46,3 +48,17 @@ pub record AreRead {R : Type 0} (limit : ℕ) (remaining : R → Option (List �
   pub names : case.names ≡ given.names
   pub outputs : case.outputs ≡ given.outputs
   pub options : case.options ≡ given.options
+
+-- a second text is given
+abbrev pub AreTwo : {R : Type 0} → Texts R → Type 0
+AreTwo (One text) = ⊥
+AreTwo (Two text other) = Unit {0}
+
+-- a run is given a text of this side, which may fail to be read
+abbrev pub HasTextOf : {R : Type 0} → Given R → Side → Type 0
+HasTextOf given side.First = Unit {0}
+HasTextOf given side.Second = AreTwo given.texts
+HasTextOf given side.Pair = ⊥
+HasTextOf given side.Order = given.order ≢ None
+HasTextOf given side.Assume = given.assume ≢ None
+HasTextOf given side.Options = ⊥

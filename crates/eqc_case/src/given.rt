@@ -1,7 +1,7 @@
 //! What a run is given, and what is read of it.
-ghost use Rattle.std.specs.Prelude.{◌≡◌, ◌<◌, ◌^◌, ◌≤◌, IfOk};
+ghost use Rattle.std.specs.Prelude.{◌≡◌, ◌≢◌, ◌<◌, ◌^◌, ◌≤◌, None, IfOk, IfErr};
 ghost use Rattle.std.specs.Option.{option_copied};
-ghost use Rattle.eqc_case.specs.Sources.{items_of, IsRead, MayBeRead, AreRead};
+ghost use Rattle.eqc_case.specs.Sources.{items_of, IsRead, MayBeRead, AreRead, HasTextOf};
 
 use crate::choice::{ModelNames, OutputNames};
 use crate::reading::{Counted, read_text};
@@ -74,7 +74,8 @@ fn read_side<R: Read + Drop>(
     limit: u32,
 ) -> Result<Vec<u8>, Unread>
     requires { limit < 2 ^ 31 }
-    ensures { IfOk result (λ read. IsRead limit (R.remaining text) read.items) }
+    ensures read { IfOk result (λ read. IsRead limit (R.remaining text) read.items) }
+    ensures unread { IfErr result (λ unread. unread.side ≡ side) }
 {
     let mut reader = Counted::of(text);
     match read_text(alloc, &mut reader, limit) {
@@ -91,7 +92,8 @@ fn read_some<R: Read + Drop>(
     limit: u32,
 ) -> Result<Option<Vec<u8>>, Unread>
     requires { limit < 2 ^ 31 }
-    ensures { IfOk result (λ read. MayBeRead limit R.remaining text (items_of read)) }
+    ensures read { IfOk result (λ read. MayBeRead limit R.remaining text (items_of read)) }
+    ensures unread { IfErr result (λ unread. (unread.side ≡ side) × (text ≢ None)) }
 {
     match text {
         None => Ok(None),
@@ -106,7 +108,8 @@ fn read_within<'a, R: Read + Drop>(
     limit: u32,
 ) -> Result<Case<'a>, Unread>
     requires { limit < 2 ^ 31 }
-    ensures { IfOk result (AreRead limit R.remaining given.entry) }
+    ensures read { IfOk result (AreRead limit R.remaining given.entry) }
+    ensures unread { IfErr result (λ unread. HasTextOf given.entry unread.side) }
 {
     let Given {
         texts,
@@ -137,12 +140,13 @@ fn read_within<'a, R: Read + Drop>(
 
 /// Reads the first text whole, then the second, then the order text, then the assumption's. Of each at most one byte more is read
 /// than it may have: a netlist as many as the options allow, an order text 16,777,216. It fails with the first text that was not
-/// read, and why: memory was refused, or its reader failed.
+/// read, which is one of those that are given, and why: memory was refused, or its reader failed.
 pub fn read_given<'a, R: Read + Drop>(
     alloc: Global,
     given: Given<'a, R>,
 ) -> Result<Case<'a>, Unread>
-    ensures { given.entry.options.bytes ≤ 2147483647 → IfOk result (AreRead given.entry.options.bytes R.remaining given.entry) }
+    ensures read { given.entry.options.bytes ≤ 2147483647 → IfOk result (AreRead given.entry.options.bytes R.remaining given.entry) }
+    ensures unread { IfErr result (λ unread. HasTextOf given.entry unread.side) }
 {
     let limit = given.options.byte_limit();
     read_within(alloc, given, limit)

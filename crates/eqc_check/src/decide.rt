@@ -23,6 +23,7 @@ ghost use Rattle.eqc_report.specs.Options.{options_code};
 ghost use Rattle.eqc_case.specs.Answer.{MainOf, main_of, first_found, assumption_found, assumption_answer, models_answer, texts_answer, MayStop};
 ghost use Rattle.eqc_case.specs.Sources.{given_of, IsSecond};
 ghost use Rattle.eqc_case.specs.Telling.{IsToldRefusal, IsToldWith, Tells};
+ghost use Rattle.eqc_case.specs.Left.{IsPairOfGiven, IsPairOfFound, IsPairOfFlats, IsUnder, IsToldOf, IsToldOfPair};
 
 use eqc_blif::{Library, Refusal};
 use eqc_case::{
@@ -48,7 +49,8 @@ struct Decision<'x, R, P> {
 }
 
 /// The report on what was read, with the warnings where it is a comparison, or the stop in its place. Where a comparison is given
-/// up, the outputs that are left are taken. The watch is told how far the comparison is.
+/// up, the outputs of its pair that are left are taken; before any comparison a stop is for want of memory, and nothing is. The
+/// watch is told how far the comparison is.
 pub(crate) fn decide<R: Threads + Wait + Sync, P: Progress<R> + Sync>(
     rt: &R,
     alloc: Global,
@@ -57,7 +59,8 @@ pub(crate) fn decide<R: Threads + Wait + Sync, P: Progress<R> + Sync>(
     watch: &P,
 ) -> Result<Told, Stop>
     requires options { options_code case.now.options ≡ None }
-    ensures { Tells (given_of case.now) result }
+    ensures tells { Tells (given_of case.now) result }
+    ensures left { IsToldOf (IsPairOfGiven (given_of case.now)) result left.old left.new }
 {
     let decision = Decision {
         rt,
@@ -83,7 +86,8 @@ impl<'x, R: Threads + Wait + Sync, P: Progress<R> + Sync> Decision<'x, R, P> {
         requires first { first_found self.now.case.now.options.bytes (given_of self.now.case.now).texts ≡ Ok (first.now.library, first.now.model) }
         requires read { outcome self.now.case.now.options.bytes self.now.case.now.first.items ≡ Ok first.now.library }
         requires one { self.now.case.now.second ≡ None }
-        ensures { Tells (given_of self.now.case.now) result }
+        ensures tells { Tells (given_of self.now.case.now) result }
+        ensures left { IsToldOf (IsPairOfGiven (given_of self.now.case.now)) result left.old left.new }
     {
         let case = self.case;
         let Main { library, model } = first;
@@ -102,7 +106,8 @@ impl<'x, R: Threads + Wait + Sync, P: Progress<R> + Sync> Decision<'x, R, P> {
         requires m { first.now.model < length first.now.library }
         requires first { first_found self.now.case.now.options.bytes (given_of self.now.case.now).texts ≡ Ok (first.now.library, first.now.model) }
         requires two { IsSecond self.now.case.now second.now }
-        ensures { Tells (given_of self.now.case.now) result }
+        ensures tells { Tells (given_of self.now.case.now) result }
+        ensures left { IsToldOf (IsPairOfGiven (given_of self.now.case.now)) result left.old left.new }
     {
         let case = self.case;
         match self.read(second, case.names.second) {
@@ -133,6 +138,7 @@ impl<'x, R: Threads + Wait + Sync, P: Progress<R> + Sync> Decision<'x, R, P> {
         requires n { n < length library.now }
         ensures report { IfOk result (λ report. report_of report ≡ models_answer (library.now, m) (library.now, n) (given_of self.now.case.now)) }
         ensures stop { IfErr result (MayStop (models_answer (library.now, m) (library.now, n) (given_of self.now.case.now))) }
+        ensures left { IsToldOf (IsPairOfFound (given_of self.now.case.now) (Ok (library.now, m)) (Ok (library.now, n))) result left.old left.new }
     {
         match flatten_two(self.alloc, library, m, n, self.limit()) {
             Ok((f, g)) => {
@@ -161,6 +167,7 @@ impl<'x, R: Threads + Wait + Sync, P: Progress<R> + Sync> Decision<'x, R, P> {
         requires n { second.1 < length second.0.now }
         ensures report { IfOk result (λ report. report_of report ≡ models_answer (first.entry.0.now, first.entry.1) (second.entry.0.now, second.entry.1) (given_of self.now.case.now)) }
         ensures stop { IfErr result (MayStop (models_answer (first.entry.0.now, first.entry.1) (second.entry.0.now, second.entry.1) (given_of self.now.case.now))) }
+        ensures left { IsToldOf (IsPairOfFound (given_of self.now.case.now) (Ok (first.entry.0.now, first.entry.1)) (Ok (second.entry.0.now, second.entry.1))) result left.old left.new }
     {
         match flatten_within(self.alloc, first.0, first.1, self.limit()) {
             Ok(f) => self.flatten_second(&f, second, left),
@@ -180,6 +187,7 @@ impl<'x, R: Threads + Wait + Sync, P: Progress<R> + Sync> Decision<'x, R, P> {
         requires n { second.1 < length second.0.now }
         ensures report { (m : MainOf) → flat_code m.0 m.1 self.now.case.now.options.inputs ≡ None → IsFlatOf m.0 m.1 first.now → IfOk result (λ report. report_of report ≡ models_answer m (second.entry.0.now, second.entry.1) (given_of self.now.case.now)) }
         ensures stop { (m : MainOf) → flat_code m.0 m.1 self.now.case.now.options.inputs ≡ None → IsFlatOf m.0 m.1 first.now → IfErr result (MayStop (models_answer m (second.entry.0.now, second.entry.1) (given_of self.now.case.now))) }
+        ensures left { (m : MainOf) → IsFlatOf m.0 m.1 first.now → IsToldOf (IsPairOfFound (given_of self.now.case.now) (Ok m) (Ok (second.entry.0.now, second.entry.1))) result left.old left.new }
     {
         recall_laws(first);
         match flatten_within(self.alloc, second.0, second.1, self.limit()) {
@@ -201,6 +209,7 @@ impl<'x, R: Threads + Wait + Sync, P: Progress<R> + Sync> Decision<'x, R, P> {
         requires options { options_code self.now.case.now.options ≡ None }
         ensures report { IfOk result (λ report. report_of report ≡ flat_answer first.now second.now (given_of self.now.case.now)) }
         ensures stop { IfErr result (MayStop (flat_answer first.now second.now (given_of self.now.case.now))) }
+        ensures left { IsToldOf (IsPairOfFlats (given_of self.now.case.now) first.now second.now) result left.old left.new }
     {
         let case = self.case;
         let order = bytes_of(&case.order);
@@ -224,6 +233,7 @@ impl<'x, R: Threads + Wait + Sync, P: Progress<R> + Sync> Decision<'x, R, P> {
         requires outputs { pair.chosen ≡ self.now.case.now.outputs }
         ensures report { IfOk result (λ report. report_of report ≡ assumption_answer (given_of self.now.case.now) (netlist_of pair.entry.first) (netlist_of pair.entry.second) (assumption_found self.now.case.now.options.bytes text.now)) }
         ensures stop { IfErr result (MayStop (assumption_answer (given_of self.now.case.now) (netlist_of pair.entry.first) (netlist_of pair.entry.second) (assumption_found self.now.case.now.options.bytes text.now))) }
+        ensures left { IsToldOf (IsUnder (assumption_found self.now.case.now.options.bytes text.now) pair.entry) result left.old left.new }
     {
         match self.read(text, None) {
             Ok(main) => self.flatten_assumption(pair, &main, left),
@@ -243,6 +253,7 @@ impl<'x, R: Threads + Wait + Sync, P: Progress<R> + Sync> Decision<'x, R, P> {
         requires there { assumption.now.model < length assumption.now.library }
         ensures report { IfOk result (λ report. report_of report ≡ assumption_answer (given_of self.now.case.now) (netlist_of pair.entry.first) (netlist_of pair.entry.second) (Ok (assumption.now.library, assumption.now.model))) }
         ensures stop { IfErr result (MayStop (assumption_answer (given_of self.now.case.now) (netlist_of pair.entry.first) (netlist_of pair.entry.second) (Ok (assumption.now.library, assumption.now.model)))) }
+        ensures left { IsToldOf (IsUnder (Ok (assumption.now.library, assumption.now.model)) pair.entry) result left.old left.new }
     {
         let Main { library, model } = assumption;
         match flatten_within(self.alloc, library, *model, self.limit()) {
@@ -265,6 +276,7 @@ impl<'x, R: Threads + Wait + Sync, P: Progress<R> + Sync> Decision<'x, R, P> {
         requires outputs { pair.chosen ≡ self.now.case.now.outputs }
         ensures report { IfOk result (λ report. report_of report ≡ flat_assumed (given_of self.now.case.now) pair.entry.first pair.entry.second assumed.now) }
         ensures stop { IfErr result (MayStop (flat_assumed (given_of self.now.case.now) pair.entry.first pair.entry.second assumed.now)) }
+        ensures left { IsToldOf (λ p. p ≡ record pair.entry { assumes = Some assumed.now }) result left.old left.new }
     {
         match pair.assuming(self.alloc, assumed) {
             Ok(pair) => self.compare(&pair, left),
@@ -295,10 +307,11 @@ impl<'x, R: Threads + Wait + Sync, P: Progress<R> + Sync> Decision<'x, R, P> {
         self.case.options.input_limit()
     }
 
-    /// The report on a pair, behind all checks.
+    /// The report on a pair, behind all checks. Where the comparison is given up, the outputs of the pair that are left are taken.
     fn compare(&self, pair: &Pair<'_>, left: &mut Undecided) -> Result<Report, Stop>
         requires { options_code self.now.case.now.options ≡ None }
-        ensures { IfOk result (λ report. report_of report ≡ pair_report self.now.case.now.options.every pair.now) }
+        ensures report { IfOk result (λ report. report_of report ≡ pair_report self.now.case.now.options.every pair.now) }
+        ensures left { IsToldOfPair pair.now result left.old left.new }
     {
         let asked = self.comparison(pair);
         let mut alike = known_by_structure(&asked);

@@ -3,7 +3,9 @@ ghost use Rattle.std.specs.Prelude.{◌≡◌, ◌≢◌, IfOk, IfErr, OnErr, Ok
 ghost use Rattle.eqc_report.specs.ReportView.{report_of};
 ghost use Rattle.eqc_report.specs.Options.{options_code};
 ghost use Rattle.eqc_report.specs.Written.{IsWritten, IsCutShort};
-ghost use Rattle.eqc_case.specs.Running.{unnamed, IsReportFor, IsAnswered, IsCutOff};
+ghost use Rattle.eqc_case.specs.Left.{IsNoneTold};
+ghost use Rattle.eqc_case.specs.Running.{unnamed, IsReportFor, IsAnswered, IsCutOff, IsKept};
+ghost use Rattle.eqc_case.specs.Sources.{HasTextOf};
 ghost use Rattle.eqc_case.specs.Warning.{warnings_at, IsWarned, WarnsOfKnown};
 
 use crate::decide::decide;
@@ -43,7 +45,9 @@ struct Reported<'a> {
 impl<'a> Reported<'a> {
     /// A report that compares nothing, and for which nothing was read.
     fn alone(alloc: Global, report: Report) -> Reported<'a>
-        ensures { result.told.report ≡ report }
+        ensures report { result.told.report ≡ report }
+        ensures left { IsNoneTold result.left }
+        ensures case { result.case ≡ None }
     {
         Reported {
             told: Told::alone(report),
@@ -53,7 +57,9 @@ impl<'a> Reported<'a> {
     }
 }
 
-/// The report of a run with its warnings: a refusal of its options before any text is read, else that on its texts.
+/// The report of a run with its warnings: a refusal of its options before any text is read, else that on its texts. What was read
+/// is kept with it, and where it is a stop, the outputs of the pair of that which are left. A read that fails is that of a text that
+/// is given.
 fn report_for<'a, RT: Threads + Wait + Sync, R: Read + Drop, P: Progress<RT> + Sync>(
     rt: &RT,
     alloc: Global,
@@ -63,6 +69,8 @@ fn report_for<'a, RT: Threads + Wait + Sync, R: Read + Drop, P: Progress<RT> + S
     ensures report { IfOk result (λ reported. IsReportFor R.remaining given.entry (report_of reported.told.report)) }
     ensures warned { IfOk result (λ reported. WarnsOfKnown R.remaining given.entry (report_of reported.told.report) reported.told.warnings) }
     ensures read { OnErr result (options_code given.entry.options ≡ None) }
+    ensures side { IfErr result (λ failed. HasTextOf given.entry failed.side) }
+    ensures kept { IfOk result (λ reported. IsKept R.remaining given.entry reported.told.report reported.left reported.case) }
 {
     match options_fault(&given.options) {
         None => {}

@@ -1,4 +1,5 @@
 pub mod InsideLaws
 pub mod SearchingLaws
+pub mod AskingLaws
 pub mod RoundLaws
 pub mod AddingLaws

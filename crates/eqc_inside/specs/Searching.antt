@@ -1,13 +1,15 @@
 -- What is found of a pair in the graph of its steps, without a diagram.
-use Rattle.std.specs.Prelude.{◌≡◌, ℕ, ◌<◌, Bool, true, List, [], length, slice_index_or, ⊤}
+use Rattle.std.specs.Prelude.{◌≡◌, ◌⊎◌, ℕ, ◌<◌, Bool, true, List, [], ◌∷◌, length, map, slice_index_or, Contains, Option, ⊤}
 use Rattle.eqc_graph.specs.declared.node.Node.{Node}
 use Rattle.eqc_sweep.specs.Sweeping.{HasValue}
 use Rattle.eqc_witness.specs.declared.witness.Witness.{Witness}
 use Rattle.eqc_witness.specs.declared.witness.Witness.TheVariants.{Unknown}
 use Rattle.eqc_witness.specs.Witnesses.{IsFoundOf}
 use Rattle.eqc_pair.specs.PairOf.{PairOf}
+use Rattle.eqc_build.specs.Steps.{StepsOf, goals_of}
 use Rattle.eqc_compare.specs.Verdict.{allows_none, differs_under}
 use Rattle.eqc_compare.specs.Comparing.{netlist_of, assumption_of, allowed_at, differs_at, is_chosen_at, IsOutcome}
+use Rattle.eqc_inside.specs.Inside.{literal_of}
 use Rattle.eqc_inside.specs.declared.asking.Question.{Question}
 use Rattle.eqc_inside.specs.declared.asking.Answer.{Answer}
 use Rattle.eqc_inside.specs.declared.searching.Searched.{Searched}
@@ -33,6 +35,26 @@ IsWitnessAt p output found = IsFoundOf (length p.first.inputs) (differs_under (n
 pub record IsQuestionOf (p : PairOf) (nodes : List Node) (q : Question) : Type 0 where
   pub within : q.output < length p.first.outputs
   pub says : SaysDifferent p nodes q.output q.literal
+
+-- these are some of the elements of a list, in its order
+abbrev pub AreSomeOf : List ℕ → List ℕ → Type 0
+AreSomeOf some [] = some ≡ []
+AreSomeOf [] (x ∷ xs) = ⊤
+AreSomeOf (y ∷ some) (x ∷ xs) = ((y ≡ x) × AreSomeOf some xs) ⊎ AreSomeOf (y ∷ some) xs
+
+-- the outputs that are asked for
+abbrev pub outputs_asked : List Question → List ℕ
+outputs_asked questions = map (λ (q : Question). q.output) questions
+
+-- a step that the comparison of an output needs has no literal
+pub record LacksLiteral (g : StepsOf) (literals : List (Option ℕ)) (output : ℕ) : Type 0 where
+  pub step : ℕ
+  pub needed : Contains (goals_of g output) step
+  pub none : literal_of literals step ≡ 4294967295
+
+-- an output is asked for, or lacks a literal
+abbrev pub IsAskedIn : StepsOf → List (Option ℕ) → List Question → ℕ → Type 0
+IsAskedIn g literals questions output = Contains (outputs_asked questions) output ⊎ LacksLiteral g literals output
 
 -- what is found of an output that was asked for
 abbrev pub IsAnswerOf : PairOf → Answer → Type 0

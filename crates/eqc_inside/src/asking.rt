@@ -1,11 +1,11 @@
 //! Outputs that are asked for ahead by several threads, each with searches of its own over the one graph.
-ghost use Rattle.std.specs.Prelude.{◌≡◌, ◌<◌, length, IfOk, IfSome};
+ghost use Rattle.std.specs.Prelude.{◌≡◌, ◌<◌, None, length, IfOk, IfSome};
 ghost use Rattle.std.specs.List.{All};
 ghost use Rattle.std.specs.Thread.{IsSync};
 ghost use Rattle.eqc_graph.specs.Graph.{Extends};
 ghost use Rattle.eqc_pair.specs.PairOf.{PairOf};
 ghost use Rattle.eqc_inside.specs.Inside.{IsInside};
-ghost use Rattle.eqc_inside.specs.Searching.{IsAnswerOf, IsQuestionOf};
+ghost use Rattle.eqc_inside.specs.Searching.{AreSomeOf, IsAnswerOf, IsAskedIn, IsQuestionOf, LacksLiteral, outputs_asked};
 
 use crate::searching::{Conflicts, difference_literal, note, seen_true, work_left};
 use eqc_build::Steps;
@@ -80,6 +80,7 @@ pub(crate) fn question_of(
     ensures extends { Extends sweep.old sweep.new }
     ensures question { IfOk result (λ found. IfSome found (IsQuestionOf steps.now.pair sweep.new)) }
     ensures output { IfOk result (λ found. IfSome found (λ question. question.output ≡ output)) }
+    ensures none { IfOk result (λ found. found ≡ None → LacksLiteral steps.now literals.now output) }
 {
     let Some(literal) = difference_literal(steps, sweep, literals, output)? else {
         return Ok(None);
@@ -105,6 +106,8 @@ pub(crate) fn questions_of(
     requires outputs { All (λ o. o < length steps.now.pair.first.outputs) outputs.now }
     ensures inside { IsInside steps.now sweep.new literals.now }
     ensures each { IfOk result (λ all. All (IsQuestionOf steps.now.pair sweep.new) all.items) }
+    ensures outputs { IfOk result (λ all. AreSomeOf (outputs_asked all.items) outputs.now) }
+    ensures asked { IfOk result (λ all. All (IsAskedIn steps.now literals.now all.items) outputs.now) }
 {
     let mut all = Vec::with_capacity(alloc, outputs.len())?;
     for k in 0..outputs.len() {

@@ -1,6 +1,6 @@
 //! What the comparison of a pair finds, found in the graph of its steps without a diagram: the outputs that differ, with their
 //! least assignments, and whether the assumption allows one.
-ghost use Rattle.std.specs.Prelude.{◌≡◌, ◌<◌, false, true, length, slice_set, IfOk, IfSome};
+ghost use Rattle.std.specs.Prelude.{◌≡◌, ℕ, ◌<◌, false, true, None, length, slice_set, IfOk, IfSome};
 ghost use Rattle.std.specs.List.{All};
 ghost use Rattle.eqc_graph.specs.Graph.{Extends, IsWithin};
 ghost use Rattle.eqc_witness.specs.Witnesses.{IsFoundOf};
@@ -8,7 +8,7 @@ ghost use Rattle.eqc_compare.specs.Verdict.{is_allowed};
 ghost use Rattle.eqc_compare.specs.Comparing.{netlist_of, assumption_of};
 ghost use Rattle.eqc_compare.specs.Alike.{AreEqual, IsKnown};
 ghost use Rattle.eqc_inside.specs.Inside.{IsInside, KeepsMarks};
-ghost use Rattle.eqc_inside.specs.Searching.{IsAnswerOf, IsSearched, IsWitnessAt, SaysAllowed, SaysDifferent, TellsVacuous};
+ghost use Rattle.eqc_inside.specs.Searching.{IsAnswerOf, IsSearched, IsWitnessAt, LacksLiteral, SaysAllowed, SaysDifferent, TellsVacuous};
 
 use crate::asking::{Answer, Share, Subject, ask, ask_all, question_of, questions_of};
 use crate::inside::{Inside, NONE, literal_of};
@@ -104,11 +104,13 @@ struct Course {
     ahead: Vec<Answer>,
 }
 
+#[tactic(auto, using(crate::proofs::AskingLaws::lacks_root))]
 /// The literal that is true where the assumption allows the inputs' values: always, if there is none. None where its step has
 /// no literal.
 fn allowed_literal(steps: &Steps<'_>, sweep: &Sweep, literals: &[Option<u32>]) -> Option<u32>
     requires { IsInside steps.now sweep.now literals.now }
-    ensures { IfSome result (SaysAllowed steps.now.pair sweep.now) }
+    ensures allowed { IfSome result (SaysAllowed steps.now.pair sweep.now) }
+    ensures none { result ≡ None → (output : ℕ) → LacksLiteral steps.now literals.now output }
 {
     let Some(root) = steps.assumed_root() else {
         return Some(sweep.constant(true));
@@ -120,6 +122,7 @@ fn allowed_literal(steps: &Steps<'_>, sweep: &Sweep, literals: &[Option<u32>]) -
     Some(literal)
 }
 
+#[tactic(auto, using(crate::proofs::AskingLaws::lacks_first, crate::proofs::AskingLaws::lacks_second))]
 /// The literal that is true where an output differs and the assumption allows it, or none where its steps have no literals.
 /// Fails where memory is refused.
 pub(crate) fn difference_literal(
@@ -133,6 +136,7 @@ pub(crate) fn difference_literal(
     ensures inside { IsInside steps.now sweep.new literals.now }
     ensures extends { Extends sweep.old sweep.new }
     ensures literal { IfOk result (λ found. IfSome found (SaysDifferent steps.now.pair sweep.new output)) }
+    ensures none { IfOk result (λ found. found ≡ None → LacksLiteral steps.now literals.now output) }
 {
     let Some(allowed) = allowed_literal(steps, sweep, literals) else {
         return Ok(None);

@@ -7,4 +7,5 @@ pub mod RuleLemmas
 pub mod TableLemmas
 pub mod FinderLemmas
 pub mod SweepLemmas
+pub mod TwinsLemmas
 pub mod CopyingLemmas

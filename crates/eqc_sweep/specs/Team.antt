@@ -1,6 +1,6 @@
 -- Questions about pairs of literals that may be equal, and what is answered.
 use Rattle.std.specs.Prelude.{◌≡◌, ◌%◌, List, Option, IfSome}
-use Rattle.std.specs.List.{All}
+use Rattle.std.specs.List.{All, Contains}
 use Rattle.eqc_graph.specs.declared.node.Node.{Node}
 use Rattle.eqc_search.specs.declared.search.Answer.TheVariants.{Refuted}
 use Rattle.eqc_sweep.specs.Finding.{AreEqual, IsOlder}
@@ -27,3 +27,11 @@ ArePlacedIn nodes all = All (λ x. IfSome x (IsAnswerIn nodes)) all
 -- the two literals of a pair have the same value under each assignment
 pub record IsTwin (nodes : List Node) (t : Twins) : Type 0 where
   pub equal : AreEqual nodes t.x t.y
+
+-- a pair is one of these, as its caller knows it, whatever it took
+pub record IsAsked (pairs : List Twins) (t : Twins) : Type 0 where
+  pub pair : Twins
+  pub among : Contains pairs pair
+  pub place : t.place ≡ pair.place
+  pub first : t.x ≡ pair.x
+  pub second : t.y ≡ pair.y

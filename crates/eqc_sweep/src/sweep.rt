@@ -4,7 +4,7 @@ ghost use Rattle.eqc_graph.specs.Graph.{differ, literal_value, node_value, IsWit
 ghost use Rattle.eqc_sweep.specs.Sweeping.{HasValue, HasValueOf};
 ghost use Rattle.eqc_sweep.specs.Finding.{IsRight};
 ghost use Rattle.std.specs.List.{All};
-ghost use Rattle.eqc_sweep.specs.Team.{IsMerge, IsTwin};
+ghost use Rattle.eqc_sweep.specs.Team.{IsAsked, IsMerge, IsTwin};
 
 pub(crate) mod views;
 
@@ -274,6 +274,7 @@ impl Sweep {
     ) -> Result<Vec<Twins>, AllocError>
         ensures unchanged { self.new ≡ self.old }
         ensures equal { IfOk result (λ equal. All (IsTwin self.old) equal.items) }
+        ensures asked { IfOk result (λ equal. All (IsAsked pairs.now) equal.items) }
     {
         self.finder.equal_among(rt, &self.graph, pairs, conflicts)
     }

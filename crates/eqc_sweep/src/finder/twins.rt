@@ -1,7 +1,7 @@
 //! Pairs of literals that may be equal, asked about side by side.
-ghost use Rattle.std.specs.Prelude.{IfOk};
+ghost use Rattle.std.specs.Prelude.{◌<◌, length, IfOk};
 ghost use Rattle.std.specs.List.{All};
-ghost use Rattle.eqc_sweep.specs.Team.{IsAnswerIn, IsTwin};
+ghost use Rattle.eqc_sweep.specs.Team.{IsAnswerIn, IsAsked, IsTwin};
 
 use crate::finder::Finder;
 use crate::finder::account::{budget_of, conflicts_left};
@@ -22,31 +22,41 @@ pub struct Twins {
     pub used: u64,
 }
 
-/// Puts a pair with what it took to those that are equal, where the answer says that it is. The question might have so many conflicts.
+#[tactic(auto, using(crate::proofs::TwinsLemmas::asked_more))]
+/// Puts a pair with what it took to those that are equal, where the answer is to it and says that it is. The question might have so many
+/// conflicts.
 fn keep_equal(
     graph: &Graph,
+    pairs: &[Twins],
+    k: usize,
     answered: &Answered,
     conflicts: u64,
     equal: &mut Vec<Twins>,
 ) -> Result<(), AllocError>
+    requires k { k < length pairs.now }
     requires answer { IsAnswerIn graph.now answered.now }
     requires equal { All (IsTwin graph.now) equal.old.items }
+    requires asked { All (IsAsked pairs.now) equal.old.items }
     ensures equal { All (IsTwin graph.now) equal.new.items }
+    ensures asked { All (IsAsked pairs.now) equal.new.items }
 {
     let Question {
-        place,
         new,
         older,
         given,
         ..
     } = answered.question;
+    let Twins { place, x, y, .. } = pairs[k];
     match answered.answer {
         Answer::Refuted => {
+            if new != x || older != y {
+                return Ok(());
+            }
             let left = conflicts_left(given, answered.left, graph.len());
             equal.push(Twins {
                 place,
-                x: new,
-                y: older,
+                x,
+                y,
                 used: conflicts.saturating_sub(left),
             })?;
         }
@@ -65,7 +75,8 @@ impl Finder {
         pairs: &[Twins],
         conflicts: u64,
     ) -> Result<Vec<Twins>, AllocError>
-        ensures { IfOk result (λ equal. All (IsTwin graph.now) equal.items) }
+        ensures equal { IfOk result (λ equal. All (IsTwin graph.now) equal.items) }
+        ensures asked { IfOk result (λ equal. All (IsAsked pairs.now) equal.items) }
     {
         let mut questions = Vec::with_capacity(self.alloc, pairs.len())?;
         for pair in pairs {
@@ -79,9 +90,9 @@ impl Finder {
         }
         let answers = self.answers(rt, graph, &questions)?;
         let mut equal = Vec::new(self.alloc);
-        for answered in &answers {
-            if let Some(answered) = answered {
-                keep_equal(graph, answered, conflicts, &mut equal)?;
+        for k in 0..pairs.len() {
+            if let Some(Some(answered)) = answers.get(k) {
+                keep_equal(graph, pairs, k, answered, conflicts, &mut equal)?;
             }
         }
         Ok(equal)

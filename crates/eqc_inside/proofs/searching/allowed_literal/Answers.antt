@@ -1,8 +1,8 @@
 use Rattle.eqc_inside.proofs.SearchingLaws.{says_allowed, says_always}
 use Rattle.eqc_inside.proofs.searching.allowed_literal.Goals as goal
 
-pub returns-in_default : goal.returns-in_default
-returns-in_default c = says_always c.args.steps.now c.args.sweep.now c.constant.result c.in_default.ensures c.constant.ensures
+pub returns-in_default-clause-allowed : goal.returns-in_default-clause-allowed
+returns-in_default-clause-allowed c = says_always c.args.steps.now c.args.sweep.now c.constant.result c.in_default.ensures c.constant.ensures
 
-pub returns : goal.returns
-returns c = says_allowed c.args.steps.now c.args.sweep.now c.args.literals.now c.in-Some.root c.literal_of-literal.result c.requires c.in-Some.ensures c.literal_of-literal.ensures c.if-literal.false
+pub returns-clause-allowed : goal.returns-clause-allowed
+returns-clause-allowed c = says_allowed c.args.steps.now c.args.sweep.now c.args.literals.now c.in-Some.root c.literal_of-literal.result c.requires c.in-Some.ensures c.literal_of-literal.ensures c.if-literal.false
