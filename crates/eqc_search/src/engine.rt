@@ -2,7 +2,7 @@
 use crate::conflict::Analysis;
 use crate::decisions::Decisions;
 use crate::learned::Learned;
-use crate::reads::{is_gate, literal_of, node_at};
+use crate::reads::{literal_of, node_at};
 use crate::restarts::Restarts;
 use crate::search::Budget;
 use crate::values::{Reason, Value, Values};
@@ -43,8 +43,6 @@ pub(crate) struct Engine {
     /// So many gates the window may have, and so many times as many when it is made larger.
     aim: u32,
     growth: u32,
-    /// Whether only nodes are decided that are needed.
-    only_needed: bool,
 }
 
 impl Engine {
@@ -60,7 +58,6 @@ impl Engine {
             work: 0,
             aim: FIRST_WINDOW,
             growth: LEAST_GROWTH,
-            only_needed: false,
         }
     }
 
@@ -124,7 +121,6 @@ impl Engine {
         self.grow(graph)?;
         self.restarts = self.restarts.again(budget.ordered_from);
         self.growth = budget.growth.max(LEAST_GROWTH);
-        self.only_needed = budget.only_needed;
         for literal in assumptions {
             self.window.enter(graph, node_of(*literal))?;
         }
@@ -160,36 +156,15 @@ impl Engine {
         self.values.end_above(level);
     }
 
-    /// Whether a node may be decided: one that is free, and without which a gate that has a value doesn't have it from its operands, or
-    /// that was in a conflict where that will do.
-    fn may_be_decided(&mut self, node: u32) -> bool {
-        if self.values.value(literal_of(node, true)) != Value::Free {
-            return false;
-        }
-        let will_do = !self.only_needed && self.decisions.stamp(node) > 0;
-        will_do || self.is_needed(node)
-    }
-
     /// The node to be decided next, if there is one.
     fn next_decision(&mut self) -> Option<u32> {
         for _ in 0..u32::MAX {
             let node = self.decisions.pop(&self.window)?;
-            if self.may_be_decided(node) {
+            if self.values.value(literal_of(node, true)) == Value::Free {
                 return Some(node);
             }
         }
         None
-    }
-
-    /// Whether a gate that isn't in the window has a value.
-    fn is_open(&self, graph: &Graph) -> bool {
-        for place in 0..self.values.len() {
-            let node = node_of(self.values.at(place));
-            if !self.window.is_gate(node) && is_gate(graph, node) {
-                return true;
-            }
-        }
-        false
     }
 
     /// Takes back all decisions, and drops learned clauses if there are too many.
@@ -207,7 +182,7 @@ impl Engine {
     }
 
     /// Goes on where all that follows is there: a restart, a decision, or a larger window. Says whether there was
-    /// something to do. If not, all gates that have a value have it from their operands, and so from inputs that have one.
+    /// something to do. If not, all gates that have a value have it from their operands.
     pub(crate) fn go_on(&mut self, graph: &Graph) -> Result<bool, AllocError> {
         if self.restarts.is_due() {
             self.restart()?;
@@ -218,7 +193,7 @@ impl Engine {
             self.values.decide(literal)?;
             return Ok(true);
         }
-        if !self.window.can_expand() || !self.is_open(graph) {
+        if !self.window.can_expand() {
             return Ok(false);
         }
         self.back_to(0);

@@ -49,9 +49,6 @@ pub struct Budget {
     pub growth: u32,
     /// From so many conflicts on, the nodes of each are noted in the order in which they last were in one, and before that as they are met.
     pub ordered_from: u64,
-    /// Whether nodes alone are decided without which a gate that has a value doesn't have it from its operands. Else those that were in
-    /// a conflict are decided as well.
-    pub only_needed: bool,
 }
 
 /// A search, with the memory that it needs for graphs of the largest size that it met. Contracts see the clauses that it learned.

@@ -47,7 +47,6 @@ fn budget_of(conflicts: u64, cone: &Cone) -> Budget {
         work: u64::MAX,
         growth: GROWTH,
         ordered_from: u64::MAX,
-        only_needed: false,
     }
 }
 

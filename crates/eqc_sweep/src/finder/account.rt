@@ -89,7 +89,6 @@ pub(crate) fn budget_of(conflicts: u64, work: u64) -> Budget {
         work,
         growth: GROWTH_FOR_OUTPUTS,
         ordered_from: u64::MAX,
-        only_needed: false,
     }
 }
 
@@ -187,7 +186,6 @@ impl Account {
             work: self.left(nodes).min(doubted(most, doubt)),
             growth: GROWTH,
             ordered_from: self.hard.ordered_from(),
-            only_needed: true,
         }
     }
 
