@@ -3,4 +3,3 @@ pub mod SearchingLaws
 pub mod AskingLaws
 pub mod RoundLaws
 pub mod AddingLaws
-pub mod InnerLaws

@@ -12,7 +12,6 @@
 mod adding;
 mod asking;
 mod entering;
-mod inner;
 mod inside;
 mod outputs;
 mod rounds;

@@ -5,4 +5,3 @@ pub mod WordLemmas
 pub mod KeepLemmas
 pub mod PolynomialLemmas
 pub mod ChainLemmas
-pub mod ShownLaws
